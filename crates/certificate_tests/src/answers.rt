@@ -10,16 +10,18 @@ use cert_checker::Accepted;
 use certificate::Listing;
 use devices::WriteFault;
 use formulas::Plan;
-use solver::{Answer, Limits, solve};
+use solver::{Answer, Exceeded, Limits, solve};
 use std::alloc::Global;
 use std::test::Fail;
 use test_texts::{DONE, FOUR_BALLS, FOUR_BLOCKS, GO, HOP, PAIRS, TIE, Texts, UNTIED, on_task};
 use typing::Task;
 
-/// Tasks, with the most states and the most kept instances: enough for an answer.
-static ANSWERED: [(Texts, u32, u32); 8] = [
+/// Tasks, with the most states and the most kept instances: enough for an answer, or for a bound.
+static ANSWERED: [(Texts, u32, u32); 10] = [
     (DONE, 1, 1),
     (GO, 2, 1),
+    (GO, 1, 1),
+    (HOP, 2, 3),
     (TIE, 100, 1),
     (UNTIED, 1, 1),
     (HOP, 3, 3),
@@ -49,11 +51,26 @@ fn is_no_plan_shown(alloc: Global, task: &Task, cert: &Listing) -> Result<bool, 
     Ok(answer == Ok(Accepted::Unsolvable))
 }
 
+/// Whether the certificate of the bound at a limit is accepted.
+fn is_bound_shown(
+    alloc: Global,
+    task: &Task,
+    cost: u64,
+    cert: &Listing,
+) -> Result<bool, WriteFault> {
+    let answer = check_listing(alloc, task, cert, None, 1_000_000)?;
+    Ok(answer == Ok(Accepted::AtLeast { cost }))
+}
+
 /// Whether there is an answer, and its certificate is accepted.
 fn is_shown(alloc: Global, task: &Task, limits: Limits) -> Result<bool, Fail> {
-    let is_accepted = match solve(alloc, task, limits)? {
-        Answer::Plan { steps, cost, cert } => is_plan_shown(alloc, task, &steps, cost, &cert),
-        Answer::Unsolvable { cert } => is_no_plan_shown(alloc, task, &cert),
+    let answer = solve(alloc, task, limits)?;
+    let is_accepted = match &answer {
+        Answer::Plan { steps, cost, cert } => is_plan_shown(alloc, task, steps, *cost, cert),
+        Answer::Unsolvable { cert } => is_no_plan_shown(alloc, task, cert),
+        Answer::Unknown(Exceeded::States { bound, cert }) => {
+            is_bound_shown(alloc, task, *bound, cert)
+        }
         Answer::Unknown(_) => Ok(false),
     };
     Ok(is_accepted?)

@@ -1,5 +1,8 @@
 //! Hops and leaps: places `a`, `b` and `c`, from each of which to the next a hop leads at 3, and from `a` to `c` a leap at 10.
 //! The numbered atoms are those of being at `a`, `b` and `c`; the kept instances are the two hops, and then the leap.
+ghost use Rattle.std.specs.Prelude.{◌≡◌, length};
+ghost use Rattle.packed_state.specs.Packed.{bits_of};
+
 use faults::NoMemory;
 use grounding::Ground;
 use packed_state::Packed;
@@ -49,6 +52,16 @@ fn told_dead(
     Ok(Some(potentials.dead_fair(alloc, ground)?))
 }
 
+/// Whether the first state is told dead, and the second, which is as wide.
+fn both_dead<D: DeadEnd>(test: &D, first: &Packed, second: &Packed) -> (bool, bool)
+    requires { length (bits_of first.now) ≡ D.width_of test.now }
+{
+    (
+        test.dead(first),
+        second.width() == first.width() && test.dead(second),
+    )
+}
+
 /// Whether these potentials, if they are dead-fair, tell the initial state dead, and the state in which nothing is true.
 fn are_dead(
     alloc: Global,
@@ -62,12 +75,10 @@ fn are_dead(
     if potentials.weights().len() != ground.width() as usize {
         return Ok(None);
     }
-    let (initial, empty) = (
-        ground.initial(alloc)?,
-        Packed::empty(alloc, ground.width())?,
-    );
+    let initial = ground.initial(alloc)?;
+    let empty = Packed::empty(alloc, initial.width())?;
     match DeadFair::new(alloc, potentials, ground)? {
-        Some(test) => Ok(Some((test.dead(&initial), test.dead(&empty)))),
+        Some(test) => Ok(Some(both_dead(&test, &initial, &empty))),
         None => Ok(None),
     }
 }

@@ -1,13 +1,17 @@
 //! The search over a system that stands here alone: what it finds, and in which order, in either store.
-ghost use Rattle.std.specs.Prelude.{◌≡◌, []};
+ghost use Rattle.std.specs.Prelude.{◌≡◌, [], length};
+ghost use Rattle.packed_state.specs.Packed.{bits_of};
 
 use crate::blind_rooms::{Blind, is_blind};
 use crate::packed_states::{set_of, stands_at};
 use crate::rooms::Rooms;
 use crate::signs::Signs;
 use faults::NoMemory;
-use packed_state::{PlainStore, PooledStore, StateStore};
-use search::{FoundStates, MAX_STATES, NoDeadEnd, NoEstimate, Node, Outcome, best_first, value_of};
+use packed_state::{Packed, PlainStore, PooledStore, StateStore};
+use search::{
+    FoundStates, MAX_STATES, NoDeadEnd, NoEstimate, Node, Outcome, TransitionSystem, best_first,
+    value_of,
+};
 use std::alloc::Global;
 use std::test::Fail;
 
@@ -120,6 +124,13 @@ fn are_reached(nodes: &[Node], costs: &[u64]) -> bool {
     nodes.len() == costs.len()
 }
 
+/// Whether nothing is found by expanding the state: no door leads out of its room, or it is the one to be reached.
+fn is_in_vain(rooms: &Rooms, state: &Packed) -> bool
+    requires { length (bits_of state.now) ≡ rooms.now.width }
+{
+    is_blind(rooms, state) || rooms.meets_goal(state)
+}
+
 /// Whether each room that was expanded has a door, and is not the one to be reached.
 fn have_doors(
     alloc: Global,
@@ -129,7 +140,7 @@ fn have_doors(
 ) -> Result<bool, NoMemory> {
     for (&room, node) in found.iter().zip(nodes) {
         let state = set_of(alloc, rooms.width, &[room])?;
-        if node.is_expanded && (is_blind(rooms, &state) || room == rooms.goal) {
+        if state.width() != rooms.width || node.is_expanded && is_in_vain(rooms, &state) {
             return Ok(false);
         }
     }
