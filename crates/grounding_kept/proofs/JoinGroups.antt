@@ -1,20 +1,23 @@
 -- The groups of a join, one atom after another, and what they leave out.
-use Rattle.std.proofs.Common.{◌≡◌, ◌∙◌, ℕ, zero, suc, ◌+◌, ◌<◌, Bool, true, false, not, ◌&&◌, List, [], ◌∷◌, ◌++◌, length, map, get_or, None, Some, refl, sym, ap, subst, arith, true≢false}
+use Rattle.std.proofs.Common.{◌≡◌, ◌∙◌, ◌⊎◌, inl, inr, ⊎_elim, ℕ, zero, suc, ◌+◌, ◌<◌, Bool, true, false, not, ◌&&◌, List, [], ◌∷◌, ◌++◌, length, map, get_or, Option, None, Some, refl, sym, ap, subst, arith, true≢false}
 use Rattle.std.specs.Prelude.{slice_get, slice_index, nat_lt, filter, IfSome}
 use Rattle.std.specs.List.{list_any}
 use Rattle.std.specs.Option.{option_map, option_map_or}
 use Rattle.std.specs.BTreeSet.{BTreeSet}
+use Rattle.std.specs.Borrow.{Bor}
 use Rattle.std.specs.FinSet.{contains, contains-from_list}
 use Rattle.std.proofs.lemmas.Bool.{ltb-true, ltb-false, or_left, or_right}
 use Rattle.std.proofs.lemmas.Option.{slice_get_within, slice_get-map, slice_get_read}
 use Rattle.task_parts.specs.declared.atoms.Atom.{Atom}
 use Rattle.task_parts.specs.declared.atoms.ObjectId.{ObjectId}
+use Rattle.task_parts.specs.declared.schemas.Formula.{Formula}
 use Rattle.typing.specs.TaskParts.{atom_of, object_of, term_of, lifted_atom_of, union_of}
 use Rattle.grounding_kept.specs.declared.joins.Joint.{Joint}
+use Rattle.grounding_kept.specs.declared.joins.Index.{Index}
 use Rattle.grounding_kept.specs.declared.joins.Join.{Join}
 use Rattle.grounding_kept.specs.declared.parameters.Parameter.{Parameter}
-use Rattle.grounding_kept.specs.Parameters.{Choice}
-use Rattle.grounding_kept.specs.Joins.{has, IsJoint, key_in, key_number, IsPlaced, ArePlaced, Grows, IsJoin, IsJoined, AreJoined, IsGroup, AreCandidates}
+use Rattle.grounding_kept.specs.Parameters.{Choice, lent_formula}
+use Rattle.grounding_kept.specs.Joins.{has, IsJoint, key_in, key_number, IsPlaced, ArePlaced, Grows, IsIndex, AreIndexes, AddsIndexes, IsJoin, IsJoined, AreJoined, IsGroupAmong, IsGroup, AreCandidates}
 use Rattle.grounding_kept.proofs.RisingObjects.{rising-objects}
 use Rattle.model.specs.Task as task
 use Rattle.model.specs.Task.{Task, Term}
@@ -63,7 +66,7 @@ any-at p (first ∷ xs) zero x at passes =
     or_left (p first) (list_any p xs) (ap p same ∙ passes)
 any-at p (first ∷ xs) (suc i) x at passes = or_right (p first) (list_any p xs) (any-at p xs i x at passes)
 
-module _ (t : Task) (number : ℕ) (formula : task.Formula) (j : Joint) (joint : IsJoint t formula number j) (objects : List ℕ) (long : length objects ≡ number) (one : ℕ) where
+module _ (t : Task) (number : ℕ) (j : Joint) (joint : IsJoint t number j) (objects : List ℕ) (long : length objects ≡ number) (one : ℕ) where
   abbrev terms : List Term
   terms = map term_of j.atom.now.terms.items
 
@@ -97,7 +100,7 @@ module _ (t : Task) (number : ℕ) (formula : task.Formula) (j : Joint) (joint :
       ] joint.key
 
   pub left_out : (groups : List (BTreeSet ObjectId)) (set : BTreeSet ObjectId) → ArePlaced j groups t.init (length t.init) → slice_get groups (key_number j objects) ≡ Some set → has set one ≡ false
-      → is_closed_off t formula chosen ≡ true
+      → is_closed_off t (task.atom (lifted_atom_of j.atom.now)) chosen ≡ true
   left_out groups set placed at none =
       let absent : contains (initial_state t) ground ≡ false =
       elim (contains (initial_state t) ground) as (λ b. contains (initial_state t) ground ≡ b → b ≡ false) [
@@ -106,8 +109,7 @@ module _ (t : Task) (number : ℕ) (formula : task.Formula) (j : Joint) (joint :
             let place = Contains-place t.init ground (stands_in-Contains t.init ground (sym (contains-from_list atoms_total t.init ground) ∙ there)) in
             absurd (true≢false (sym (placed place.0 ground (slice_get_within t.init place.0 ground place.1) place.1 refl one (key_number j objects) own key set at) ∙ none))
       ] refl in
-      ap (λ f. is_closed_off t f chosen) joint.is ∙ or_false _
-      ∙ (λ i. not (joint.static i) && not (absent i))
+      or_false _ ∙ (λ i. not (joint.static i) && not (absent i))
 
 -- ---- candidates
 
@@ -124,12 +126,62 @@ all-candidates t objects choice candidates same = record {
 
 pub group-candidates : (t : Task) (number : ℕ) (choice : Choice) (j : Join) → IsJoin t number choice j → (objects : List ℕ) → length objects ≡ number → (found : List ObjectId) → IsGroup t j objects found
     → AreCandidates t objects choice (map object_of found)
-group-candidates t number choice j join objects long found group = record {
-  may = has group.set;
-  are = ap (map object_of) group.are ∙ rising-objects t (union_of j.types.now) group.set.keys group.ordered ∙ sym (ap (filter (has group.set)) join.objects);
-  closes = λ one none. any-at (λ f. is_closed_off t f (objects ++ one ∷ [])) choice.literals join.joint.place join.joint.formula join.joint.at
-      (left_out t number join.joint.formula j.joint join.joint.joint objects long one j.groups.items group.set join.placed group.at none);
-}
+group-candidates t number choice j join objects long found those =
+    let group = those.group in
+    let index = join.indexes group.place group.index group.there in
+    record {
+      may = has those.set;
+      are = ap (map object_of) those.are ∙ rising-objects t (union_of j.types.now) those.set.keys those.ordered ∙ sym (ap (filter (has those.set)) join.objects);
+      closes = λ one none. any-at (λ f. is_closed_off t f (objects ++ one ∷ [])) choice.literals index.place (task.atom (lifted_atom_of group.index.joint.atom.now)) index.at
+          (left_out t number group.index.joint index.joint objects long one group.index.groups.items those.set index.placed group.at none);
+    }
+
+-- ---- indexes, one more at a time
+
+pub index-added : (t : Task) (number : ℕ) (before after : List Index) (index : Index) (joint : Joint) → after ≡ before ++ index ∷ [] → index.joint ≡ joint
+    → IsJoint t number joint → ArePlaced index.joint index.groups.items t.init (length t.init) → AddsIndexes t (task.atom (lifted_atom_of joint.atom.now)) number before after
+index-added t number before after index joint push same is placed formulas place at so_far n one there =
+    ⊎_elim (λ old. so_far n one old)
+    (λ last. subst (IsIndex t formulas number) (sym last) (record {
+      place = place;
+      at = at ∙ ap (λ (j : Joint). Some (task.atom (lifted_atom_of j.atom.now))) (sym same);
+      joint = subst (IsJoint t number) (sym same) is;
+      placed = placed;
+    }))
+    (pushed_at before index n one (sym (ap (λ l. slice_get l n) push) ∙ there))
+  where
+    pushed_at : (xs : List Index) (x : Index) (k : ℕ) (y : Index) → slice_get (xs ++ x ∷ []) k ≡ Some y → (slice_get xs k ≡ Some y) ⊎ (y ≡ x)
+    pushed_at [] x zero y is = inr (cc)
+    pushed_at [] x (suc k) y is = absurd (cc)
+    pushed_at (first ∷ xs) x zero y is = inl is
+    pushed_at (first ∷ xs) x (suc k) y is = pushed_at xs x k y is
+
+pub adds-more : (t : Task) (number : ℕ) (formula same : task.Formula) (before between after : List Index) → formula ≡ same
+    → AddsIndexes t formula number before between → AddsIndexes t same number between after → AddsIndexes t formula number before after
+adds-more t number formula same before between after is first second formulas place at so_far = second formulas place (at ∙ ap Some is) (first formulas place at so_far)
+
+-- those of one more literal
+pub indexes-more : (t : Task) (number : ℕ) (before after : List Index) (literals : List (Bor Formula)) (i : ℕ) (literal : Bor Formula) → i < length literals → literal ≡ get_or literals i literal
+    → AddsIndexes t (lent_formula literal) number before after → AreIndexes t (map lent_formula literals) number before → AreIndexes t (map lent_formula literals) number after
+indexes-more t number before after literals i literal below is adds so_far =
+    adds (map lent_formula literals) i (slice_get-map lent_formula literals i ∙ ap (option_map lent_formula) (slice_get_read literals (length literals) i literal refl below is)) so_far
+
+-- ---- the smallest group, one more index
+
+pub smaller-group : (items indexes : List Index) (objects : List ℕ) (first second smallest : Option (Bor (BTreeSet ObjectId))) (i : ℕ) (index : Index) → items ≡ indexes
+    → i < length items → index ≡ get_or items i index
+    → IfSome first (λ group. IsGroupAmong indexes objects group.now)
+    → IfSome second (λ group. slice_get index.groups.items (key_number index.joint objects) ≡ Some group.now)
+    → (smallest ≡ first) ⊎ (smallest ≡ second) → IfSome smallest (λ group. IsGroupAmong indexes objects group.now)
+smaller-group items indexes objects first second smallest i index all below is so_far here either =
+    let there : slice_get indexes i ≡ Some index = ap (λ l. slice_get l i) (sym all) ∙ slice_get_read items (length items) i index refl below is in
+    let among : IfSome second (λ group. IsGroupAmong indexes objects group.now) =
+    elim second as (λ o. IfSome o (λ group. slice_get index.groups.items (key_number index.joint objects) ≡ Some group.now) → IfSome o (λ group. IsGroupAmong indexes objects group.now)) [
+      | None ↦ λ _. tt
+      | Some group ↦ λ at. record { place = i; index = index; there = there; at = at }
+    ] here in
+    ⊎_elim (λ same. subst (λ o. IfSome o (λ group. IsGroupAmong indexes objects group.now)) (sym same) so_far)
+    (λ same. subst (λ o. IfSome o (λ group. IsGroupAmong indexes objects group.now)) (sym same) among) either
 
 -- ---- parameters
 

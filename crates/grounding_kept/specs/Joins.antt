@@ -9,6 +9,7 @@ use Rattle.task_parts.specs.declared.atoms.ObjectId.{ObjectId}
 use Rattle.task_parts.specs.contracts.atoms.ObjectIdOrd.TheImpl as object_ord
 use Rattle.typing.specs.TaskParts.{term_of, lifted_atom_of, union_of}
 use Rattle.grounding_kept.specs.declared.joins.Joint.{Joint}
+use Rattle.grounding_kept.specs.declared.joins.Index.{Index}
 use Rattle.grounding_kept.specs.declared.joins.Join.{Join}
 use Rattle.grounding_kept.specs.declared.parameters.Parameter.{Parameter}
 use Rattle.grounding_kept.specs.Parameters.{Choice, choice_of}
@@ -22,20 +23,12 @@ use Rattle.model.proofs.EnumerationLemmas.{is_bound}
 abbrev pub has : BTreeSet ObjectId → ℕ → Bool
 has set number = sorted.contains (object_ord.ghosts).cmp set (record { 0 = number })
 
--- The formula is an atom of a static predicate, which the parameter of this number stands in, and at the key's place, if
--- there is one, an object or an earlier parameter.
-pub record IsJoint (t : task.Task) (formula : task.Formula) (number : ℕ) (j : Joint) : Type 0 where
-  pub is : formula ≡ task.atom (lifted_atom_of j.atom.now)
+-- The joint's atom is of a static predicate, the parameter of this number stands in it, and at the key's place, if there is
+-- one, an object or an earlier parameter.
+pub record IsJoint (t : task.Task) (number : ℕ) (j : Joint) : Type 0 where
   pub static : is_fluent t j.atom.now.predicate.0 ≡ false
   pub place : slice_get (map term_of j.atom.now.terms.items) j.place ≡ Some (task.variable number)
   pub key : IfSome j.key (λ place. option_map_or (is_bound number) (slice_get (map term_of j.atom.now.terms.items) place) false ≡ true)
-
--- the joint is one of these formulas
-pub record IsJointAmong (t : task.Task) (formulas : List task.Formula) (number : ℕ) (j : Joint) : Type 0 where
-  pub place : ℕ
-  pub formula : task.Formula
-  pub at : slice_get formulas place ≡ Some formula
-  pub joint : IsJoint t formula number j
 
 -- the object at the key's place, and 0 where there is no key
 abbrev pub key_in : Option ℕ → List ℕ → Option ℕ
@@ -65,23 +58,44 @@ Grows old new =
     (key : ℕ) (set : BTreeSet ObjectId) → slice_get new key ≡ Some set
     → (before : BTreeSet ObjectId) × (slice_get old key ≡ Some before) × ((object : ℕ) → has before object ≡ true → has set object ≡ true)
 
--- The join is of the choice's types, its joint is one of the choice's literals, and each atom of the start has its object
--- in the group of its key.
+-- The index's joint is one of these formulas, and each atom of the start has its object in the group of its key.
+pub record IsIndex (t : task.Task) (formulas : List task.Formula) (number : ℕ) (index : Index) : Type 0 where
+  pub place : ℕ
+  pub at : slice_get formulas place ≡ Some (task.atom (lifted_atom_of index.joint.atom.now))
+  pub joint : IsJoint t number index.joint
+  pub placed : ArePlaced index.joint index.groups.items t.init (length t.init)
+
+-- each of them is
+abbrev pub AreIndexes : task.Task → List task.Formula → ℕ → List Index → Type 0
+AreIndexes t formulas number indexes = (n : ℕ) (index : Index) → slice_get indexes n ≡ Some index → IsIndex t formulas number index
+
+-- those that come to the old ones are of this formula
+abbrev pub AddsIndexes : task.Task → task.Formula → ℕ → List Index → List Index → Type 0
+AddsIndexes t formula number old new =
+    (formulas : List task.Formula) (place : ℕ) → slice_get formulas place ≡ Some formula → AreIndexes t formulas number old → AreIndexes t formulas number new
+
+-- the join is of the choice's types, and its indexes are of the choice's literals
 pub record IsJoin (t : task.Task) (number : ℕ) (choice : Choice) (j : Join) : Type 0 where
   pub objects : choice.objects ≡ meaning.objects_of t (union_of j.types.now)
-  pub joint : IsJointAmong t choice.literals number j.joint
-  pub placed : ArePlaced j.joint j.groups.items t.init (length t.init)
+  pub indexes : AreIndexes t choice.literals number j.indexes.items
 
--- the objects of the join's types in the group of the earlier objects
+-- one of the indexes has this group for the earlier objects
+pub record IsGroupAmong (indexes : List Index) (objects : List ℕ) (group : BTreeSet ObjectId) : Type 0 where
+  pub place : ℕ
+  pub index : Index
+  pub there : slice_get indexes place ≡ Some index
+  pub at : slice_get index.groups.items (key_number index.joint objects) ≡ Some group
+
+-- the objects of the join's types in one of the groups of the earlier objects
 pub record IsGroup (t : task.Task) (j : Join) (objects : List ℕ) (found : List ObjectId) : Type 0 where
   pub set : BTreeSet ObjectId
-  pub at : slice_get j.groups.items (key_number j.joint objects) ≡ Some set
+  pub group : IsGroupAmong j.indexes.items objects set
   pub ordered : IsStrictlySortedBy (object_ord.ghosts).cmp set.keys
   pub are : found ≡ filter (λ (o : ObjectId). meaning.is_of t (union_of j.types.now) o.0) set.keys
 
--- the parameter's join, if it has one, is its own
+-- the parameter's join is its own
 abbrev pub IsJoined : task.Task → ℕ → Parameter → Type 0
-IsJoined t number p = IfSome p.join (IsJoin t number (choice_of p))
+IsJoined t number p = IsJoin t number (choice_of p) p.join
 
 -- each of the parameters, from this number on
 abbrev pub AreJoined : task.Task → ℕ → List Parameter → Type 0

@@ -1,17 +1,24 @@
 //! Which objects the static atoms of the start let stand at a parameter.
-ghost use Rattle.std.specs.Prelude.{◌≡◌, true, false, length, map, filter, slice_get, Some, IfOk, IfSome, OnOk};
+//!
+//! The instances of a schema are a join of relations: each static atom of its precondition is one, which has the atoms of
+//! its predicate at the start. An index of it groups the objects at a parameter's place by the object at another place. One
+//! parameter after another takes its objects from the smallest group, and the other literals are then tested, as in joins
+//! that are optimal in the worst case (Ngo, Ré & Rudra 2013, "Skew Strikes Back: New Developments in the Theory of Join
+//! Algorithms"). That tasks are grounded by joins is from Helmert 2009, "Concise finite-domain representations for PDDL
+//! planning tasks".
+ghost use Rattle.std.specs.Prelude.{◌≡◌, ◌⊎◌, false, length, map, filter, slice_get, Some, IfOk, IfSome, OnOk};
 ghost use Rattle.std.specs.Bool.{OnTrue};
 ghost use Rattle.std.specs.Option.{option_map, option_map_or};
 ghost use Rattle.std.specs.List.Sorted.{IsStrictlySortedBy};
 ghost use Rattle.task_parts.specs.contracts.atoms.ObjectIdOrd.TheImpl as object_ord;
 ghost use Rattle.typing.specs.Task.{task_of};
-ghost use Rattle.typing.specs.TaskParts.{atom_of, object_of, formula_of, term_of, union_of};
+ghost use Rattle.typing.specs.TaskParts.{atom_of, object_of, formula_of, lifted_atom_of, term_of, union_of};
 ghost use Rattle.model.specs.Task as model_task;
 ghost use Rattle.model.specs.Fluents as model_fluents;
 ghost use Rattle.model.specs.Meaning as meaning;
 ghost use Rattle.model.proofs.EnumerationLemmas as enumeration;
 ghost use Rattle.grounding_kept.specs.Parameters.{lent_formula};
-ghost use Rattle.grounding_kept.specs.Joins.{IsJoint, IsJointAmong, IsPlaced, ArePlaced, IsGroup, Grows, HasAt, key_in, key_number};
+ghost use Rattle.grounding_kept.specs.Joins.{IsJoint, AreIndexes, AddsIndexes, IsPlaced, ArePlaced, IsGroupAmong, IsGroup, Grows, HasAt, key_in, key_number};
 
 use crate::parameters::is_bound;
 use crate::statics::Statics;
@@ -32,37 +39,39 @@ pub(crate) struct Joint<'t> {
 /// The objects that stand at a parameter's place in the atoms of the start, by the object at the key's place. Without a
 /// key they are one group.
 #[derive(Drop)]
-pub(crate) struct Join<'t> {
-    types: &'t TypeUnion,
+pub(crate) struct Index<'t> {
     joint: Joint<'t>,
     groups: Vec<BTreeSet<ObjectId>>,
 }
 
+/// The indexes that say which objects of its types a parameter may have: one for each known term of each static atom that
+/// it stands in.
+#[derive(Drop)]
+pub(crate) struct Join<'t> {
+    types: &'t TypeUnion,
+    indexes: Vec<Index<'t>>,
+}
+
 impl<'t> Join<'t> {
-    /// The join of the parameter of this number and of these types, if one of the literals gives one.
+    /// The join of the parameter of this number and of these types, by these literals.
     pub(crate) fn of_literals(
         alloc: Global,
         statics: &Statics<'_>,
         types: &'t TypeUnion,
         literals: &[&'t Formula],
         number: usize,
-    ) -> Result<Option<Join<'t>>, NoMemory>
-        ensures types { IfOk result (λ o. IfSome o (λ j. j.types.now ≡ types.now)) }
-        ensures joint { IfOk result (λ o. IfSome o (λ j. IsJointAmong (task_of statics.now.task.now) (map lent_formula literals.now) number j.joint)) }
-        ensures placed { IfOk result (λ o. IfSome o (λ j. ArePlaced j.joint j.groups.items (task_of statics.now.task.now).init (length (task_of statics.now.task.now).init))) }
+    ) -> Result<Join<'t>, NoMemory>
+        ensures types { IfOk result (λ j. j.types.now ≡ types.now) }
+        ensures indexes { IfOk result (λ j. AreIndexes (task_of statics.now.task.now) (map lent_formula literals.now) number j.indexes.items) }
     {
-        let Some(joint) = joint_among(statics, literals, number) else {
-            return Ok(None);
-        };
-        let groups = groups_of(alloc, statics.task, &joint)?;
-        Ok(Some(Join {
-            types,
-            joint,
-            groups,
-        }))
+        let mut indexes = Vec::new(alloc);
+        for literal in literals {
+            add_indexes(alloc, statics, literal, number, &mut indexes)?;
+        }
+        Ok(Join { types, indexes })
     }
 
-    /// Those of the group of the earlier objects that are of the parameter's types, in order, if there is such a group.
+    /// Those of the smallest group of the earlier objects that are of the parameter's types, in order, if there is a group.
     pub(crate) fn candidates(
         &self,
         alloc: Global,
@@ -71,10 +80,51 @@ impl<'t> Join<'t> {
     ) -> Result<Option<Vec<ObjectId>>, NoMemory>
         ensures { IfOk result (λ o. IfSome o (λ found. IsGroup (task_of task.now) self.now (map object_of binding.now.items) found.items)) }
     {
-        let Some(group) = self.group(binding) else {
+        let Some(group) = self.smallest_group(binding) else {
             return Ok(None);
         };
         Ok(Some(objects_in(alloc, task, group, self.types)?))
+    }
+
+    /// Of the groups of the earlier objects the one of the fewest objects.
+    fn smallest_group(&self, binding: &Binding) -> Option<&BTreeSet<ObjectId>>
+        ensures { IfSome result (λ group. IsGroupAmong self.now.indexes.items (map object_of binding.now.items) group.now) }
+    {
+        let mut smallest = None;
+        for index in &self.indexes {
+            smallest = smaller(smallest, index.group(binding));
+        }
+        smallest
+    }
+}
+
+/// The one of fewer objects, and the other one where one is missing.
+fn smaller<'a>(
+    first: Option<&'a BTreeSet<ObjectId>>,
+    second: Option<&'a BTreeSet<ObjectId>>,
+) -> Option<&'a BTreeSet<ObjectId>>
+    ensures { (result ≡ first.entry) ⊎ (result ≡ second.entry) }
+{
+    let Some(one) = first else {
+        return second;
+    };
+    let Some(other) = second else {
+        return first;
+    };
+    if other.len() < one.len() {
+        return second;
+    }
+    first
+}
+
+impl<'t> Index<'t> {
+    /// The index of the task's initial atoms for the joint.
+    fn new(alloc: Global, task: &Task, joint: Joint<'t>) -> Result<Index<'t>, NoMemory>
+        ensures joint { IfOk result (λ index. index.joint ≡ joint.entry) }
+        ensures placed { IfOk result (λ index. ArePlaced index.joint index.groups.items (task_of task.now).init (length (task_of task.now).init)) }
+    {
+        let groups = groups_of(alloc, task, &joint)?;
+        Ok(Index { joint, groups })
     }
 
     /// The group of the earlier objects.
@@ -127,42 +177,85 @@ fn objects_in(
     Ok(found)
 }
 
-/// The first literal with a key for the parameter of this number, and else the first that it stands in.
-fn joint_among<'t>(
+/// Adds the literal's indexes for the parameter of this number, if the literal is an atom of a static predicate that the
+/// parameter stands in: one for each place of an object or an earlier parameter, and without a key where there is none.
+fn add_indexes<'t>(
+    alloc: Global,
     statics: &Statics<'_>,
-    literals: &[&'t Formula],
+    literal: &'t Formula,
     number: usize,
-) -> Option<Joint<'t>>
-    ensures { IfSome result (λ j. IsJointAmong (task_of statics.now.task.now) (map lent_formula literals.now) number j) }
+    indexes: &mut Vec<Index<'t>>,
+) -> Result<(), NoMemory>
+    ensures { OnOk result (AddsIndexes (task_of statics.now.task.now) (formula_of literal.now) number indexes.old.items indexes.new.items) }
 {
-    for literal in literals {
-        if let Some(joint) = keyed_joint(statics, literal, number) {
-            return Some(joint);
-        }
+    let Some(joint) = joint_in(statics, literal, number) else {
+        return Ok(());
+    };
+    let before = indexes.len();
+    for key in 0..joint.atom.terms.len() {
+        add_keyed(alloc, statics.task, &joint, key, number, indexes)?;
     }
-    for literal in literals {
-        if let Some(joint) = joint_in(statics, literal, number) {
-            return Some(joint);
-        }
+    if indexes.len() > before {
+        return Ok(());
     }
-    None
+    add_index(alloc, statics.task, joint, number, indexes)?;
+    Ok(())
 }
 
-/// The literal's joint, if it has a key.
-fn keyed_joint<'t>(statics: &Statics<'_>, literal: &'t Formula, number: usize) -> Option<Joint<'t>>
-    ensures { IfSome result (λ j. IsJoint (task_of statics.now.task.now) (formula_of literal.now) number j) }
+/// Adds the index of the joint with this place as the key, if an object or an earlier parameter stands there.
+fn add_keyed<'t>(
+    alloc: Global,
+    task: &Task,
+    joint: &Joint<'t>,
+    key: usize,
+    number: usize,
+    indexes: &mut Vec<Index<'t>>,
+) -> Result<(), NoMemory>
+    requires { IsJoint (task_of task.now) number joint.now }
+    ensures { OnOk result (AddsIndexes (task_of task.now) (model_task.atom (lifted_atom_of joint.now.atom.now)) number indexes.old.items indexes.new.items) }
 {
-    let joint = joint_in(statics, literal, number)?;
-    if joint.key.is_none() {
-        return None;
+    if !is_known(joint.atom.terms.as_slice(), key, number) {
+        return Ok(());
     }
-    Some(joint)
+    let keyed = Joint {
+        atom: joint.atom,
+        place: joint.place,
+        key: Some(key),
+    };
+    add_index(alloc, task, keyed, number, indexes)
+}
+
+/// Adds the index of the joint.
+fn add_index<'t>(
+    alloc: Global,
+    task: &Task,
+    joint: Joint<'t>,
+    number: usize,
+    indexes: &mut Vec<Index<'t>>,
+) -> Result<(), NoMemory>
+    requires { IsJoint (task_of task.now) number joint }
+    ensures { OnOk result (AddsIndexes (task_of task.now) (model_task.atom (lifted_atom_of joint.entry.atom.now)) number indexes.old.items indexes.new.items) }
+{
+    let index = Index::new(alloc, task, joint)?;
+    indexes.push(index)?;
+    Ok(())
+}
+
+/// Whether an object stands at this place, or a variable before the one of this number.
+fn is_known(terms: &[Term], place: usize, number: usize) -> bool
+    ensures { result ≡ option_map_or (enumeration.is_bound number) (slice_get (map term_of terms.now) place) false }
+{
+    match terms.get(place) {
+        Some(term) => is_bound(term, number),
+        None => false,
+    }
 }
 
 /// The literal with the place of the parameter of this number, if it is an atom of a static predicate that the parameter
-/// stands in, and the place of an object or an earlier parameter, if one stands in it.
+/// stands in; no term is its key.
 fn joint_in<'t>(statics: &Statics<'_>, literal: &'t Formula, number: usize) -> Option<Joint<'t>>
-    ensures { IfSome result (λ j. IsJoint (task_of statics.now.task.now) (formula_of literal.now) number j) }
+    ensures literal { IfSome result (λ j. formula_of literal.now ≡ model_task.atom (lifted_atom_of j.atom.now)) }
+    ensures joint { IfSome result (IsJoint (task_of statics.now.task.now) number) }
 {
     let Formula::Atom(atom) = literal else {
         return None;
@@ -171,8 +264,11 @@ fn joint_in<'t>(statics: &Statics<'_>, literal: &'t Formula, number: usize) -> O
         return None;
     }
     let place = place_of(atom.terms.as_slice(), number)?;
-    let key = key_of(atom.terms.as_slice(), number);
-    Some(Joint { atom, place, key })
+    Some(Joint {
+        atom,
+        place,
+        key: None,
+    })
 }
 
 /// Whether the predicate is the task's, and no action changes it.
@@ -194,18 +290,6 @@ fn place_of(terms: &[Term], number: usize) -> Option<usize>
             if variable.0 == number {
                 return Some(place);
             }
-        }
-    }
-    None
-}
-
-/// The first place of an object, or of a variable before the one of this number.
-fn key_of(terms: &[Term], number: usize) -> Option<usize>
-    ensures { IfSome result (λ place. option_map_or (enumeration.is_bound number) (slice_get (map term_of terms.now) place) false ≡ true) }
-{
-    for place in 0..terms.len() {
-        if is_bound(&terms[place], number) {
-            return Some(place);
         }
     }
     None

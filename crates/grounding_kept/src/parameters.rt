@@ -23,8 +23,8 @@ pub(crate) struct Parameter<'t> {
     pub(crate) objects: Vec<ObjectId>,
     /// The literals of the precondition that are decided once it has an object, and not before.
     pub(crate) literals: Vec<&'t Formula>,
-    /// Where one of the literals is a static atom that it stands in: the objects that it may be there.
-    join: Option<Join<'t>>,
+    /// The objects that it may be in those of the literals that are static atoms.
+    join: Join<'t>,
 }
 
 impl Parameter<'_> {
@@ -39,10 +39,7 @@ impl Parameter<'_> {
         requires { IsJoined (task_of task.now) (length binding.now.items) self.now }
         ensures { IfOk result (λ candidates. AreCandidates (task_of task.now) (map object_of binding.now.items) (choice_of self.now) (map object_of candidates.items)) }
     {
-        let Some(join) = &self.join else {
-            return Ok(self.objects.clone()?);
-        };
-        match join.candidates(alloc, task, binding)? {
+        match self.join.candidates(alloc, task, binding)? {
             Some(candidates) => Ok(candidates),
             None => Ok(self.objects.clone()?),
         }

@@ -4,24 +4,17 @@ use Rattle.std.proofs.lemmas.List.{length-map}
 use Rattle.typing.specs.Task.{task_of}
 use Rattle.typing.specs.TaskParts.{object_of}
 use Rattle.grounding_kept.specs.Parameters.{choice_of}
-use Rattle.grounding_kept.specs.Joins.{IsJoin, IsGroup}
+use Rattle.grounding_kept.specs.Joins.{IsGroup}
 use Rattle.grounding_kept.proofs.JoinGroups.{all-candidates, group-candidates}
 use Rattle.grounding_kept.proofs.parameters.Parameter.candidates.Goals as goal
 
-pub returns-in_default : goal.returns-in_default
-returns-in_default c =
-    all-candidates (task_of c.args.task.now) (map object_of c.args.binding.now.items) (choice_of c.args.self.now) (map object_of c.in_ok-clone.field-0.items)
-    (ap (map object_of) (each_same c.args.self.now.objects.items c.in_ok-clone.field-0.items c.in_ok-clone.ensures.cases.0))
-
-pub returns-in-Some-2 : goal.returns-in-Some-2
-returns-in-Some-2 c =
+pub returns-in-Some : goal.returns-in-Some
+returns-in-Some c =
     let t = task_of c.args.task.now in
     let objects = map object_of c.args.binding.now.items in
-    let number = length c.args.binding.now.items in
-    let choice = choice_of c.args.self.now in
-    let join = c.in-Some.join in
-    group-candidates t number choice join (subst (λ o. IfSome o (IsJoin t number choice)) c.in-Some.is c.requires) objects (length-map c.args.binding.now.items object_of)
-    c.in-Some-2.candidates.items (subst (λ o. IfSome o (λ found. IsGroup t join objects found.items)) c.in-Some-2.is c.in_ok-candidates.ensures)
+    let join = c.args.self.now.join in
+    group-candidates t (length c.args.binding.now.items) (choice_of c.args.self.now) join c.requires objects (length-map c.args.binding.now.items object_of)
+    c.in-Some.candidates.items (subst (λ o. IfSome o (λ found. IsGroup t join objects found.items)) c.in-Some.is c.in_ok-candidates.ensures)
 
 pub returns-in_ok-clone-in-None : goal.returns-in_ok-clone-in-None
 returns-in_ok-clone-in-None c =
