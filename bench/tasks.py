@@ -172,6 +172,25 @@ def roads(places, degree):
     return Task(f"roads, {places} places", ROADS, text, 1)
 
 
+REGIONS = """(define (domain regions)
+  (:predicates (in ?a ?r) (road ?a ?b) (at ?a) (seen ?a))
+  (:action travel :parameters (?r ?a ?b)
+    :precondition (and (in ?a ?r) (in ?b ?r) (road ?a ?b) (at ?a))
+    :effect (and (not (at ?a)) (at ?b) (seen ?b))))
+"""
+
+
+def regions(places, count, degree):
+    """From each place `degree` roads lead to others of its region: places * degree instances are kept. Of the two atoms
+    that say where a road may lead, the first leaves all places of the region, and the second `degree` of them."""
+    draw = random.Random(1)
+    names = [f"p{k}" for k in range(places)]
+    init = ["(at p0)"] + [f"(in {name} r{k % count})" for k, name in enumerate(names)]
+    init += [f"(road {a} {b})" for k, a in enumerate(names) for b in draw.sample(names[k % count :: count], degree)]
+    objects = " ".join(names + [f"r{k}" for k in range(count)])
+    return Task(f"regions, {places} places", REGIONS, problem("regions", objects, init, ["(seen p0)", "(seen p1)"]), 1)
+
+
 WALK = """(define (domain walk)
   (:predicates (road ?a ?b) (at ?a))
   (:action walk :parameters (?a ?b)
@@ -201,5 +220,6 @@ TASKS = [
     tiles(4, 3, 4_000_000),
     roads(100, 10),
     roads(160, 14),
+    regions(4_000, 4, 5),
     walk(10_000, 10, 10_000),
 ]
