@@ -1,4 +1,8 @@
 //! What a formula asks of a packed state.
+//!
+//! Mostly it is a list of literals by their numbers, as the preconditions of STRIPS are lists of atoms (Fikes & Nilsson 1971,
+//! "STRIPS: A New Approach to the Application of Theorem Proving to Problem Solving"). What a formula says beyond is not
+//! compiled: the formula itself is looked at, and only where its literals are true.
 ghost use Rattle.std.specs.Prelude.{◌≡◌, ◌<◌, length, map, IfOk};
 ghost use Rattle.std.specs.List.{All, list_all};
 ghost use Rattle.typing.specs.TaskParts.{object_of, formula_of};

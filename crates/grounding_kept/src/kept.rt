@@ -1,4 +1,8 @@
-//! The kept instances, in order. Objects that close the precondition off already are not gone on with.
+//! The kept instances, in order.
+//!
+//! A schema's parameters get objects one after another, by backtracking: objects that close the precondition off already
+//! are not gone on with. So does Helmert 2009, "Concise finite-domain representations for PDDL planning tasks", with static
+//! atoms; which atoms the actions can make true is not asked here.
 ghost use Rattle.std.specs.Prelude.{◌≡◌, ◌+◌, ◌≤◌, ◌++◌, [], ◌∷◌, map, filter, length, IfOk, IfErr, OnOk, IsTrue};
 ghost use Rattle.typing.specs.Task.{task_of};
 ghost use Rattle.typing.specs.TaskParts.{object_of};
