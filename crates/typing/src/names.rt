@@ -2,22 +2,13 @@
 ghost use Rattle.std.specs.Prelude.{◌≡◌, ◌≤◌, [], length, IfErr, IfOk};
 
 use crate::{
-    Atom, Formula, Predicate, Schema, TaskFault, TaskFile, TypeId, actions, chains, declarations,
+    Atom, Formula, Predicate, Schema, TaskFault, TaskFile, TypeId, actions, declarations,
     functions, objects, statements,
 };
 use indexmap::IndexMap;
 use std::alloc::Global;
 use syntax_tree::{Domain, Problem};
-use task_parts::typed_lists::collect;
-use task_parts::{Globals, TypeNames, domain};
-
-/// The types of a domain, by name: each in the place of its number.
-#[derive(Drop)]
-pub(crate) struct Types {
-    pub(crate) names: TypeNames,
-    pub(crate) all: IndexMap<Vec<u8>, Vec<TypeId>>,
-    ghost few: { length all.entries ≤ 4096 },
-}
+use task_parts::{Globals, TypeTable};
 
 /// The constants alone, and all objects, the constants first.
 #[derive(Drop)]
@@ -52,30 +43,6 @@ pub(crate) struct Contents {
     pub(crate) start: Start,
 }
 
-impl Types {
-    ghost use Rattle.typing.specs.Task.{TellsLeastOf};
-    ghost use Rattle.typing.specs.Names.{type_faults_of, AreTypesOf};
-    ghost use Rattle.syntax_tree.specs.Tree.{domain_of, problem_of};
-
-    /// The types that a domain declares, where the problem is for it.
-    pub(crate) fn declared(
-        alloc: Global,
-        domain: &Domain<'_>,
-        problem: &Problem<'_>,
-    ) -> Result<Types, TaskFault>
-        ensures ok { IfOk result
-            (λ t. (type_faults_of (domain_of domain.now) (problem_of problem.now) ≡ []) × AreTypesOf (domain_of domain.now) t) }
-        ensures err { IfErr result (TellsLeastOf (type_faults_of (domain_of domain.now) (problem_of problem.now))) }
-    {
-        let groups = domain.types.as_slice();
-        let list = collect(alloc, TaskFile::Domain, groups)?;
-        let declared = list.as_slice();
-        let names = domain::names(alloc, domain, problem, declared)?;
-        let all = chains::types(alloc, &names, declared)?;
-        Ok(Types { names, all })
-    }
-}
-
 impl Contents {
     ghost use Rattle.typing.specs.Task.{TellsLeastOf};
     ghost use Rattle.typing.specs.Names.{contents_faults, AreContents, AreTypesOf};
@@ -84,7 +51,7 @@ impl Contents {
     /// What a domain and a problem declare and state, where these are the types.
     pub(crate) fn over(
         alloc: Global,
-        types: &Types,
+        types: &TypeTable,
         domain: &Domain<'_>,
         problem: &Problem<'_>,
     ) -> Result<Contents, TaskFault>
@@ -92,7 +59,7 @@ impl Contents {
         ensures ok { IfOk result (AreContents (domain_of domain.now) (problem_of problem.now)) }
         ensures err { IfErr result (TellsLeastOf (contents_faults (domain_of domain.now) (problem_of problem.now))) }
     {
-        let objects = objects::of_pair(alloc, &types.names, domain, problem)?;
+        let objects = objects::of_pair(alloc, types, domain, problem)?;
         let names = Names::declared(alloc, types, &objects, domain, problem)?;
         let start = names.stated(alloc, types, &objects, problem)?;
         Ok(Contents {
@@ -114,7 +81,7 @@ impl Names {
     /// The names that a domain declares, where these are its types and the pair's objects.
     fn declared(
         alloc: Global,
-        types: &Types,
+        types: &TypeTable,
         objects: &Objects,
         domain: &Domain<'_>,
         problem: &Problem<'_>,
@@ -125,8 +92,8 @@ impl Names {
             (λ n. (domain_faults (domain_of domain.now) (problem_of problem.now) ≡ []) × AreDeclared (domain_of domain.now) n) }
         ensures err { IfErr result (TellsLeastOf (domain_faults (domain_of domain.now) (problem_of problem.now))) }
     {
-        let predicates = declarations::predicates(alloc, &types.names, domain)?;
-        let functions = functions::functions(alloc, &types.names, domain, problem)?;
+        let predicates = declarations::predicates(alloc, types, domain)?;
+        let functions = functions::functions(alloc, types, domain, problem)?;
         let schemas = Names::schemas(alloc, types, objects, &predicates, &functions, domain)?;
         Ok(Names {
             predicates,
@@ -138,7 +105,7 @@ impl Names {
     /// The actions that a domain declares, over its types, constants, predicates and functions.
     fn schemas(
         alloc: Global,
-        types: &Types,
+        types: &TypeTable,
         objects: &Objects,
         predicates: &IndexMap<Vec<u8>, Predicate>,
         functions: &IndexMap<Vec<u8>, Predicate>,
@@ -149,8 +116,7 @@ impl Names {
     {
         let globals = Globals {
             file: TaskFile::Domain,
-            type_names: &types.names,
-            types: &types.all,
+            types,
             predicates,
             functions,
             objects: &objects.constants,
@@ -162,7 +128,7 @@ impl Names {
     fn stated(
         &self,
         alloc: Global,
-        types: &Types,
+        types: &TypeTable,
         objects: &Objects,
         problem: &Problem<'_>,
     ) -> Result<Start, TaskFault>
@@ -171,8 +137,7 @@ impl Names {
     {
         let globals = Globals {
             file: TaskFile::Problem,
-            type_names: &types.names,
-            types: &types.all,
+            types,
             predicates: &self.predicates,
             functions: &self.functions,
             objects: &objects.all,

@@ -3,10 +3,10 @@ ghost use Rattle.std.specs.Prelude.{IsTrue, ◌≤◌, length};
 ghost use Rattle.task_parts.specs.TaskParts.{task_of_parts};
 ghost use Rattle.model.specs.WellTyped.{is_task};
 
-use crate::names::{Contents, Types};
+use crate::names::Contents;
 use crate::{
     Atom, Formula, MAX_VARIABLES, ObjectId, Predicate, PredicateId, Schema, SchemaId, TaskFault,
-    TypeId, TypeUnion,
+    TypeId, TypeUnion, chains,
 };
 use faults::NoMemory;
 use indexmap::IndexMap;
@@ -63,12 +63,12 @@ impl Task {
         ensures task { IfOk result (λ t. task_of t ≡ task_of_trees (domain_of domain.now) (problem_of problem.now)) }
         ensures least { IfErr result (TellsLeastFault (domain_of domain.now) (problem_of problem.now)) }
     {
-        let types = Types::declared(alloc, domain, problem)?;
+        let types = chains::types(alloc, domain, problem)?;
         let contents = Contents::over(alloc, &types, domain, problem)?;
         let names = contents.names;
         let start = contents.start;
         Ok(Task {
-            types: types.all,
+            types: types.by_name,
             objects: contents.objects.all,
             predicates: names.predicates,
             functions: names.functions,

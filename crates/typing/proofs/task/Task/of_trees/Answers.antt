@@ -19,7 +19,7 @@ returns-in_err-contents-clause-least c =
     passed_on (TellsLeastFault d p) c.from_residual-in_err-contents.result e c.from_residual-in_err-contents.ensures.1
     (told_of_contents d p c.in_ok-types.ensures.ok.0 e c.in_err-contents.ensures.err)
 
-made : (c : After-is_some) → IsMade (domain_of c.args.domain.now) (problem_of c.args.problem.now) (task_of_parts c.in_ok-types.types.all.entries c.in_ok-contents.contents.objects.all.entries c.in_ok-contents.contents.names.predicates.entries c.in_ok-contents.contents.names.functions.entries c.in_ok-contents.contents.names.schemas.entries c.in_ok-contents.contents.start.init.items c.in_ok-contents.contents.start.values.entries c.in_ok-contents.contents.start.goal c.is_some.result)
+made : (c : After-is_some) → IsMade (domain_of c.args.domain.now) (problem_of c.args.problem.now) (task_of_parts c.in_ok-types.types.by_name.entries c.in_ok-contents.contents.objects.all.entries c.in_ok-contents.contents.names.predicates.entries c.in_ok-contents.contents.names.functions.entries c.in_ok-contents.contents.names.schemas.entries c.in_ok-contents.contents.start.init.items c.in_ok-contents.contents.start.values.entries c.in_ok-contents.contents.start.goal c.is_some.result)
 made c =
     made_by_phases (domain_of c.args.domain.now) (problem_of c.args.problem.now) c.in_ok-types.ensures.ok.0 c.in_ok-types.types c.in_ok-types.ensures.ok.1 c.in_ok-contents.contents c.in_ok-contents.ensures.ok
     c.is_some.result (c.is_some.ensures ∙ sym (is_some-map name_of c.args.problem.now.metric))
