@@ -3,7 +3,6 @@ use Rattle.std.specs.Prelude.{◌≡◌, ℕ, List, [], ◌∷◌, ◌++◌, map
 use Rattle.std.specs.Global.{Vec}
 use Rattle.std.specs.List.{flat_map}
 use Rattle.task_parts.specs.declared.atoms.TypeId.{TypeId}
-use Rattle.typing.specs.declared.names.Contents.{Contents}
 use Rattle.typing.specs.declared.names.Names.{Names}
 use Rattle.typing.specs.declared.names.Objects.{Objects}
 use Rattle.typing.specs.declared.names.Start.{Start}
@@ -72,9 +71,9 @@ pub record Starts (file : File) (known : Known) (p : tree.Problem) (s : Start) :
   pub goal : formula_of s.goal ≡ formula_in file known p.goal
 
 -- nothing but the types of the pair has a fault, and these are its objects, its names, and what it states
-pub record AreContents (d : tree.Domain) (p : tree.Problem) (c : Contents) : Type 0 where
+pub record AreContents (d : tree.Domain) (p : tree.Problem) (o : Objects) (n : Names) (s : Start) : Type 0 where
   pub no_object : object_faults d p ≡ []
   pub no_other : domain_faults d p ≡ []
-  pub objects : map object_entry_of c.objects.all.entries ≡ objects_of d p
-  pub names : AreDeclared d c.names
-  pub start : Starts problem_file (known_in_problem d p) p c.start
+  pub objects : map object_entry_of o.all.entries ≡ objects_of d p
+  pub names : AreDeclared d n
+  pub start : Starts problem_file (known_in_problem d p) p s

@@ -3,7 +3,7 @@ ghost use Rattle.std.specs.Prelude.{◌≡◌, ◌≤◌, [], length, IfErr, IfO
 
 use crate::{
     Atom, Formula, Predicate, Schema, TaskFault, TaskFile, TypeId, actions, declarations,
-    functions, objects, statements,
+    functions, statements,
 };
 use indexmap::IndexMap;
 use std::alloc::Global;
@@ -35,41 +35,6 @@ pub(crate) struct Start {
     pub(crate) goal: Formula,
 }
 
-/// What a domain and a problem declare and state over their types.
-#[derive(Drop)]
-pub(crate) struct Contents {
-    pub(crate) objects: Objects,
-    pub(crate) names: Names,
-    pub(crate) start: Start,
-}
-
-impl Contents {
-    ghost use Rattle.typing.specs.Task.{TellsLeastOf};
-    ghost use Rattle.typing.specs.Names.{contents_faults, AreContents, AreTypesOf};
-    ghost use Rattle.syntax_tree.specs.Tree.{domain_of, problem_of};
-
-    /// What a domain and a problem declare and state, where these are the types.
-    pub(crate) fn over(
-        alloc: Global,
-        types: &TypeTable,
-        domain: &Domain<'_>,
-        problem: &Problem<'_>,
-    ) -> Result<Contents, TaskFault>
-        requires { AreTypesOf (domain_of domain.now) types.now }
-        ensures ok { IfOk result (AreContents (domain_of domain.now) (problem_of problem.now)) }
-        ensures err { IfErr result (TellsLeastOf (contents_faults (domain_of domain.now) (problem_of problem.now))) }
-    {
-        let objects = objects::of_pair(alloc, types, domain, problem)?;
-        let names = Names::declared(alloc, types, &objects, domain, problem)?;
-        let start = names.stated(alloc, types, &objects, problem)?;
-        Ok(Contents {
-            objects,
-            names,
-            start,
-        })
-    }
-}
-
 impl Names {
     ghost use Rattle.typing.specs.Task.{TellsLeastOf};
     ghost use Rattle.typing.specs.Names.{domain_faults, known_by, known_in, stated_faults_in, AreDeclared, AreSchemasOf, AreTypesOf, Starts};
@@ -79,7 +44,7 @@ impl Names {
     ghost use Rattle.model.specs.Typing.{action_faults};
 
     /// The names that a domain declares, where these are its types and the pair's objects.
-    fn declared(
+    pub(crate) fn declared(
         alloc: Global,
         types: &TypeTable,
         objects: &Objects,
@@ -125,7 +90,7 @@ impl Names {
     }
 
     /// What the problem states, with numbers for the names.
-    fn stated(
+    pub(crate) fn stated(
         &self,
         alloc: Global,
         types: &TypeTable,
