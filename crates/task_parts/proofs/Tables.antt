@@ -1,5 +1,5 @@
 -- What a look-up in a table of names says of the names.
-use Rattle.std.proofs.Common.{◌==◌, ◌≤◌, arith, slice_get, ◌≡◌, ℕ, Bool, true, false, cond, List, [], ◌∷◌, ◌++◌, map, length, refl, ap, sym, ◌∙◌, Option, None, Some, if◌then◌else◌, nat_eq, not, is_some, ◌||◌, true≢false}
+use Rattle.std.proofs.Common.{◌==◌, ◌≤◌, arith, slice_get, ◌≡◌, ℕ, Bool, true, false, cond, List, [], ◌∷◌, ◌++◌, map, length, refl, ap, sym, ◌∙◌, Option, None, Some, if◌then◌else◌, nat_eq, is_some, ◌||◌, true≢false}
 use Rattle.std.proofs.lemmas.Bool.Decides.{nat_tests}
 use Rattle.std.specs.Option.{option_map, option_map_or}
 use Rattle.std.specs.Global.{Vec}
@@ -8,7 +8,6 @@ use Rattle.std.specs.List.{list_any, position, position_or_len}
 use Rattle.std.specs.Map.{lookup, keys_of}
 use Rattle.std.proofs.lemmas.List.{map-append, length-map}
 use Rattle.std.proofs.lemmas.Option.{slice_get-map, slice_get_past}
-use Rattle.indexmap.specs.IndexSet.{insert_key}
 use Rattle.indexmap.specs.IndexMap.{insert_entry}
 use Rattle.model.specs.Task as task
 use Rattle.model.specs.Trees as tree
@@ -35,18 +34,6 @@ told_of_place name q is keys count all None e =
       all ∙ h.0 ∙ sym (position_or_len-map (is_same q) (λ key. key.items) keys) ∙ ap (λ r. position_or_len (is_same r) (names_in keys)) is,
       sym h.1 ∙ sym (list_any-map (is_same q) (λ key. key.items) keys) ∙ ap (λ r. list_any (is_same r) (names_in keys)) is,
     )
-
--- a set of names after one more is inserted
-pub names_in-insert_key : (name : tree.Name) (key : Vec ℕ) → key.items ≡ folded name → (keys : List (Vec ℕ))
-    → names_in (insert_key (λ x y. pointwise nat_eq x.items y.items) keys key) ≡ with_name (names_in keys) name
-names_in-insert_key name key is keys = by (list_any (key_is key.items) keys) (list_any-map (is_same key.items) (λ k. k.items) keys)
-  where
-    by : (b : Bool) → list_any (is_same key.items) (names_in keys) ≡ b
-        → names_in (if b then keys else keys ++ key ∷ []) ≡ with_name (names_in keys) name
-    by true e = sym (ap (λ c. if c then names_in keys else names_in keys ++ folded name ∷ []) (ap (λ r. list_any (is_same r) (names_in keys)) (sym is) ∙ e))
-    by false e =
-        map-append (λ (k : Vec ℕ). k.items) keys (key ∷ []) ∙ ap (λ r. names_in keys ++ r ∷ []) is
-        ∙ sym (ap (λ c. if c then names_in keys else names_in keys ++ folded name ∷ []) (ap (λ r. list_any (is_same r) (names_in keys)) (sym is) ∙ e))
 
 pub number_in-le : (keys : List (Vec ℕ)) (name : tree.Name) → number_in (names_in keys) name ≤ length keys
 number_in-le keys name = omega (arith, position_or_len-le (is_same (folded name)) (names_in keys), length-map keys (λ (k : Vec ℕ). k.items))
@@ -114,10 +101,6 @@ same_count arity count h = grind (arith, nat_tests)
 pub is_known-folded : (name : tree.Name) (q : List ℕ) → q ≡ folded name → (keys : List (Vec ℕ)) → is_known (names_in keys) name ≡ list_any (key_is q) keys
 is_known-folded name q is keys = ap (λ r. list_any (is_same r) (names_in keys)) (sym is) ∙ list_any-map (is_same q) (λ k. k.items) keys
 
--- whether a name is among those of a set of names
-pub is_known-keys : (name : tree.Name) (key : Vec ℕ) → key.items ≡ folded name → (keys : List (Vec ℕ)) → is_known (names_in keys) name ≡ list_any (key_is key.items) keys
-is_known-keys name key is keys = ap (λ r. list_any (is_same r) (names_in keys)) (sym is) ∙ list_any-map (is_same key.items) (λ k. k.items) keys
-
 -- whether a look-up finds something
 pub lookup-any : {K V : Type 0} (test : K → Bool) (es : List (K × V)) → is_some (lookup test es) ≡ list_any (λ e. test e.0) es
 lookup-any test [] = refl
@@ -178,13 +161,6 @@ module _ {V S : Type 0} (shown : Vec ℕ × V → S) (label : S → List ℕ) (n
       → map shown (insert_entry (λ (x y : Vec ℕ). pointwise nat_eq x.items y.items) es key value) ≡ map shown es ++ made ∷ []
   shown-insert made shows es new =
       ap (map shown) (insert-new es (sym (is_known-entries es) ∙ new)) ∙ map-append shown es ((key, value) ∷ []) ∙ ap (λ s. map shown es ++ s ∷ []) shows
-
--- what a set says of a name that it is given: whether it is new
-pub was_there : (new there : Bool) → new ≡ not there → not new ≡ there
-was_there true true h = absurd (true≢false h)
-was_there true false h = refl
-was_there false true h = refl
-was_there false false h = absurd (true≢false (sym h))
 
 -- whether a name is among those that a table's entries show
 pub is_known-shown : {V S : Type 0} (shown : Vec ℕ × V → S) (label : S → List ℕ) (named : (e : Vec ℕ × V) → label (shown e) ≡ e.0.items)

@@ -10,7 +10,7 @@ use Rattle.task_parts.specs.TaskParts.{object_entry_of, predicate_of, type_entry
 use Rattle.model.specs.Task as task
 use Rattle.model.specs.Trees as tree
 use Rattle.model.specs.Trees.{File}
-use Rattle.model.specs.Typing.{Known, TypingFault, Variable, atom_in, term_faults, misfit_faults}
+use Rattle.model.specs.Typing.{Known, TypingFault, Variable, atom_in, folded, term_faults, misfit_faults}
 
 -- the names that a table has
 abbrev pub names_in : List (Vec ℕ) → List task.Name
@@ -20,13 +20,17 @@ names_in keys = map (λ name. name.items) keys
 abbrev pub keys_in : {V : Type 0} → List (Vec ℕ × V) → List task.Name
 keys_in entries = names_in (keys_of entries)
 
+-- the table has an entry more, by which the name stands for this
+abbrev pub IsAdded : {V : Type 0} → List (Vec ℕ × V) → List (Vec ℕ × V) → tree.Name → V → Type 0
+IsAdded before after name value = (key : Vec ℕ) × (key.items ≡ folded name) × (after ≡ before ++ (key, value) ∷ [])
+
 abbrev pub variable_entry_of : Vec ℕ × TypeUnion → Variable
 variable_entry_of entry = record { name = entry.0.items; types = union_of entry.1 }
 
 abbrev pub known_of : Scope → Known
 known_of s = record {
-  type_names = names_in s.type_names.now.names.keys;
-  types = map type_entry_of s.types.now.entries;
+  type_names = keys_in s.types.now.by_name.entries;
+  types = map type_entry_of s.types.now.by_name.entries;
   predicates = map predicate_of s.predicates.now.entries;
   functions = map predicate_of s.functions.now.entries;
   variables = map variable_entry_of s.variables.now.entries;
@@ -40,8 +44,8 @@ BeginsWith before after = (more : List (Vec ℕ × TypeUnion)) × (after ≡ bef
 -- what may be named in a file where these are the variables in scope
 abbrev pub known_over : Globals → List (Vec ℕ × TypeUnion) → Known
 known_over g variables = record {
-  type_names = names_in g.type_names.now.names.keys;
-  types = map type_entry_of g.types.now.entries;
+  type_names = keys_in g.types.now.by_name.entries;
+  types = map type_entry_of g.types.now.by_name.entries;
   predicates = map predicate_of g.predicates.now.entries;
   functions = map predicate_of g.functions.now.entries;
   variables = map variable_entry_of variables;

@@ -1,7 +1,7 @@
 //! The names of the domain and of its types.
-ghost use Rattle.std.specs.Prelude.{◌≡◌, ◌≤◌, [], ◌∷◌, ◌++◌, codes, fold, if◌then◌else◌, length, map, IfErr, IfOk, OnOk};
+ghost use Rattle.std.specs.Prelude.{◌≡◌, ◌≤◌, [], ◌∷◌, ◌++◌, codes, false, fold, if◌then◌else◌, length, map, IfErr, IfOk, OnOk};
 ghost use Rattle.task_parts.specs.TypedLists.{declared_of};
-ghost use Rattle.task_parts.specs.Scope.{names_in};
+ghost use Rattle.task_parts.specs.Scope.{keys_in, IsAdded};
 ghost use Rattle.syntax_tree.specs.Tree.{file_of};
 ghost use Rattle.task_parts.specs.Refusals.{TellsLeastOf};
 ghost use Rattle.task_parts.specs.Walk.{Finds};
@@ -9,13 +9,13 @@ ghost use Rattle.syntax_tree.specs.Tree as read;
 ghost use Rattle.model.specs.Trees.{problem_file};
 ghost use Rattle.model.specs.Typing as typing;
 
-use crate::type_names::TypeNames;
+use crate::type_names::TypeTable;
 use crate::typed_lists::{Declared, limit};
 use crate::types::check_all;
 use crate::walk::Walk;
-use crate::{TaskFault, TaskFile};
+use crate::{TaskFault, TaskFile, TypeId};
 use faults::{Code, NoMemory};
-use indexmap::IndexSet;
+use indexmap::IndexMap;
 use std::alloc::Global;
 use syntax_tree::{Domain, Name, Problem};
 
@@ -31,7 +31,7 @@ fn compare(walk: &mut Walk, domain: &Name<'_>, wanted: &Name<'_>)
 }
 
 /// Refuses a name that is declared again.
-pub fn refuse_again(walk: &mut Walk, file: TaskFile, name: &Name<'_>, again: bool)
+fn refuse_again(walk: &mut Walk, file: TaskFile, name: &Name<'_>, again: bool)
     ensures { Finds walk.old walk.new (typing.refused 16 (if again then typing.placed (file_of file) (read.name_of name.now) ∷ [] else [])) }
 {
     if again {
@@ -39,30 +39,47 @@ pub fn refuse_again(walk: &mut Walk, file: TaskFile, name: &Name<'_>, again: boo
     }
 }
 
-/// Declares a name. One that is declared before is refused.
-pub fn declare(
+/// Puts what a name stands for into a table. It gives whether the name stood there before.
+pub fn put<V: Drop>(
+    alloc: Global,
+    table: &mut IndexMap<Vec<u8>, V>,
+    name: &Name<'_>,
+    value: V,
+) -> Result<bool, NoMemory>
+    ensures names { OnOk result (keys_in table.new.entries ≡ typing.with_name (keys_in table.old.entries) (read.name_of name.now)) }
+    ensures added { OnOk result (typing.is_known (keys_in table.old.entries) (read.name_of name.now) ≡ false → IsAdded table.old.entries table.new.entries (read.name_of name.now) value) }
+    ensures again { IfOk result (λ again. again ≡ typing.is_known (keys_in table.old.entries) (read.name_of name.now)) }
+{
+    let key = name.text.to_ascii_lowercase(alloc)?;
+    let before = table.insert(key, value)?;
+    Ok(before.is_some())
+}
+
+/// Declares a name, which stands for this. One that is declared before is refused.
+pub fn declare<V: Drop>(
     alloc: Global,
     walk: &mut Walk,
     file: TaskFile,
-    names: &mut IndexSet<Vec<u8>>,
+    table: &mut IndexMap<Vec<u8>, V>,
     name: &Name<'_>,
+    value: V,
 ) -> Result<(), NoMemory>
-    ensures names { OnOk result (names_in names.new.keys ≡ typing.with_name (names_in names.old.keys) (read.name_of name.now)) }
-    ensures finds { OnOk result (Finds walk.old walk.new (typing.refused 16 (if typing.is_known (names_in names.old.keys) (read.name_of name.now) then typing.placed (file_of file) (read.name_of name.now) ∷ [] else []))) }
+    ensures names { OnOk result (keys_in table.new.entries ≡ typing.with_name (keys_in table.old.entries) (read.name_of name.now)) }
+    ensures added { OnOk result (typing.is_known (keys_in table.old.entries) (read.name_of name.now) ≡ false → IsAdded table.old.entries table.new.entries (read.name_of name.now) value) }
+    ensures finds { OnOk result (Finds walk.old walk.new (typing.refused 16 (if typing.is_known (keys_in table.old.entries) (read.name_of name.now) then typing.placed (file_of file) (read.name_of name.now) ∷ [] else []))) }
 {
-    let key = name.text.to_ascii_lowercase(alloc)?;
-    let is_new = names.insert(key)?;
-    refuse_again(walk, file, name, !is_new);
+    let again = put(alloc, table, name, value)?;
+    refuse_again(walk, file, name, again);
     Ok(())
 }
 
 /// The name `object` alone.
-fn root(alloc: Global) -> Result<IndexSet<Vec<u8>>, NoMemory>
-    ensures { IfOk result (λ s. names_in s.keys ≡ codes "object" ∷ []) }
+fn root(alloc: Global) -> Result<IndexMap<Vec<u8>, Vec<TypeId>>, NoMemory>
+    ensures { IfOk result (λ m. keys_in m.entries ≡ codes "object" ∷ []) }
 {
-    let mut names = IndexSet::new(alloc);
-    names.insert(b"object".to_vec(alloc)?)?;
-    Ok(names)
+    let mut types = IndexMap::new(alloc);
+    types.insert(b"object".to_vec(alloc)?, Vec::new(alloc))?;
+    Ok(types)
 }
 
 /// The names of the types, each once, and `object` first.
@@ -70,13 +87,14 @@ fn type_names(
     alloc: Global,
     walk: &mut Walk,
     declared: &[Declared<'_>],
-) -> Result<IndexSet<Vec<u8>>, NoMemory>
-    ensures names { IfOk result (λ s. names_in s.keys ≡ fold typing.with_name (codes "object" ∷ []) (typing.names_of (map declared_of declared.now))) }
+) -> Result<IndexMap<Vec<u8>, Vec<TypeId>>, NoMemory>
+    ensures names { IfOk result (λ m. keys_in m.entries ≡ fold typing.with_name (codes "object" ∷ []) (typing.names_of (map declared_of declared.now))) }
     ensures finds { OnOk result (Finds walk.old walk.new (typing.refused 16 (typing.repeated_after (codes "object" ∷ []) (typing.words_of (map declared_of declared.now))))) }
 {
     let mut names = root(alloc)?;
     for one in declared {
-        declare(alloc, walk, one.file, &mut names, &one.name)?;
+        let none = Vec::new(alloc);
+        declare(alloc, walk, one.file, &mut names, &one.name, none)?;
     }
     Ok(names)
 }
@@ -87,11 +105,11 @@ fn checked_names(
     domain: &Domain<'_>,
     problem: &Problem<'_>,
     declared: &[Declared<'_>],
-) -> Result<IndexSet<Vec<u8>>, TaskFault>
+) -> Result<IndexMap<Vec<u8>, Vec<TypeId>>, TaskFault>
     requires { map declared_of declared.now ≡ typing.declared_types (read.domain_of domain.now) }
-    ensures ok { IfOk result (λ s.
+    ensures ok { IfOk result (λ m.
         (typing.domain_name_faults (read.domain_of domain.now) (read.problem_of problem.now) ++ typing.type_declaration_faults (read.domain_of domain.now) ≡ [])
-        × ((names_in s.keys ≡ typing.type_names (read.domain_of domain.now)) × (length s.keys ≤ 4096))) }
+        × ((keys_in m.entries ≡ typing.type_names (read.domain_of domain.now)) × (length m.entries ≤ 4096))) }
     ensures err { IfErr result (TellsLeastOf (typing.domain_name_faults (read.domain_of domain.now) (read.problem_of problem.now) ++ typing.type_declaration_faults (read.domain_of domain.now))) }
 {
     let mut walk = Walk::new(alloc);
@@ -102,8 +120,8 @@ fn checked_names(
     walk.finish(names)
 }
 
-/// The names of the types of a domain, where the problem is for it, as names become numbers by them. Given is what the
-/// domain declares of types.
+/// The names of the types of a domain, where the problem is for it, as names become numbers by them: what the objects of
+/// each are of is still to be found. Given is what the domain declares of types.
 ///
 /// # Errors
 /// The least fault of the first phase: a problem that is for another domain, a type that is declared again (`object` is
@@ -114,13 +132,13 @@ pub fn names(
     domain: &Domain<'_>,
     problem: &Problem<'_>,
     declared: &[Declared<'_>],
-) -> Result<TypeNames, TaskFault>
+) -> Result<TypeTable, TaskFault>
     requires { map declared_of declared.now ≡ typing.declared_types (read.domain_of domain.now) }
     ensures ok { IfOk result (λ t.
         (typing.domain_name_faults (read.domain_of domain.now) (read.problem_of problem.now) ++ typing.type_declaration_faults (read.domain_of domain.now) ≡ [])
-        × (names_in t.names.keys ≡ typing.type_names (read.domain_of domain.now))) }
+        × (keys_in t.by_name.entries ≡ typing.type_names (read.domain_of domain.now))) }
     ensures err { IfErr result (TellsLeastOf (typing.domain_name_faults (read.domain_of domain.now) (read.problem_of problem.now) ++ typing.type_declaration_faults (read.domain_of domain.now))) }
 {
-    let names = checked_names(alloc, domain, problem, declared)?;
-    Ok(TypeNames { names })
+    let by_name = checked_names(alloc, domain, problem, declared)?;
+    Ok(TypeTable { by_name })
 }

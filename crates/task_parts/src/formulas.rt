@@ -136,10 +136,8 @@ pub fn enter(
     let groups = groups.as_slice();
     let list = collect(alloc, globals.file, groups)?;
     let declared = list.as_slice();
-    let unions = globals
-        .type_names
-        .unions(alloc, &mut walk.folded, declared)?;
-    declare_variables(alloc, walk, globals.type_names, variables, declared)?;
+    let unions = globals.types.unions(alloc, &mut walk.folded, declared)?;
+    declare_variables(alloc, walk, globals.types, variables, declared)?;
     Ok(unions)
 }
 

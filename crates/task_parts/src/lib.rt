@@ -22,5 +22,5 @@ pub use fault::{TaskFault, TaskRefusal};
 pub use schemas::{Effect, EffectLiteral, Formula, Increase, Predicate, Schema, TypeUnion};
 pub use scope::{Globals, Scope, declares_cost};
 pub use syntax_tree::TaskFile;
-pub use type_names::TypeNames;
+pub use type_names::TypeTable;
 pub use walk::Walk;

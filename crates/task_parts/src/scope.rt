@@ -5,7 +5,7 @@ ghost use Rattle.syntax_tree.specs.Tree as read;
 ghost use Rattle.task_parts.specs.TaskParts as parts;
 ghost use Rattle.model.specs.Typing.{names_of_predicates, total_cost, is_same, word_of};
 
-use crate::type_names::TypeNames;
+use crate::type_names::TypeTable;
 use crate::types::{all_below, is_below};
 use crate::walk::Walk;
 use crate::{
@@ -24,10 +24,8 @@ use syntax_tree::{GroundAtom, Name};
 pub struct Globals<'g> {
     /// The file.
     pub file: TaskFile,
-    /// The names of the types.
-    pub type_names: &'g TypeNames,
     /// The types by name, each with all types that its objects are of.
-    pub types: &'g IndexMap<Vec<u8>, Vec<TypeId>>,
+    pub types: &'g TypeTable,
     /// The predicates by name.
     pub predicates: &'g IndexMap<Vec<u8>, Predicate>,
     /// The functions by name.
@@ -44,10 +42,8 @@ pub struct Globals<'g> {
 pub struct Scope<'s> {
     /// The file.
     pub file: TaskFile,
-    /// The names of the types.
-    pub type_names: &'s TypeNames,
     /// The types by name, each with all types that its objects are of.
-    pub types: &'s IndexMap<Vec<u8>, Vec<TypeId>>,
+    pub types: &'s TypeTable,
     /// The predicates by name.
     pub predicates: &'s IndexMap<Vec<u8>, Predicate>,
     /// The functions by name.
@@ -76,7 +72,6 @@ impl Globals<'_> {
     {
         Scope {
             file: self.file,
-            type_names: self.type_names,
             types: self.types,
             predicates: self.predicates,
             functions: self.functions,
@@ -111,7 +106,6 @@ impl Scope<'_> {
     {
         Scope {
             file: self.file,
-            type_names: self.type_names,
             types: self.types,
             predicates: self.functions,
             functions: self.functions,
@@ -197,7 +191,7 @@ impl Scope<'_> {
         ensures { result ≡ fits_in (known_of self.now) (parts.union_of wanted.now) (variable id.0) }
     {
         match self.variables.get_index(id.0) {
-            Some((_, types)) => all_below(self.types, wanted, &types.0),
+            Some((_, types)) => all_below(&self.types.by_name, wanted, &types.0),
             None => true,
         }
     }
@@ -207,7 +201,7 @@ impl Scope<'_> {
         ensures { result ≡ fits_in (known_of self.now) (parts.union_of wanted.now) (object id.0) }
     {
         match self.objects.get_index(id.0 as usize) {
-            Some((_, of_type)) => is_below(self.types, wanted, *of_type),
+            Some((_, of_type)) => is_below(&self.types.by_name, wanted, *of_type),
             None => true,
         }
     }

@@ -6,16 +6,16 @@ use crate::typed_lists::Declared;
 use crate::walk::fold;
 use crate::{TypeId, TypeUnion};
 use faults::NoMemory;
-use indexmap::IndexSet;
+use indexmap::IndexMap;
 use std::alloc::Global;
 use syntax_tree::Name;
 
-/// The names of the types, `object` first: each in the place of its number.
+/// The types by name, `object` first: each in the place of its number.
 #[derive(Drop)]
-pub struct TypeNames {
-    /// The names, in lower case.
-    pub names: IndexSet<Vec<u8>>,
-    ghost few: { length names.keys ≤ 4096 },
+pub struct TypeTable {
+    /// The names, in lower case, each with all types that its objects are of: with none, until these are found.
+    pub by_name: IndexMap<Vec<u8>, Vec<TypeId>>,
+    ghost few: { length by_name.entries ≤ 4096 },
 }
 
 /// The type `object` alone.
@@ -27,26 +27,26 @@ fn object_alone(alloc: Global) -> Result<Vec<TypeId>, NoMemory>
     Ok(alone)
 }
 
-impl TypeNames {
+impl TypeTable {
     ghost use Rattle.task_parts.specs.TypedLists.{declared_of};
-    ghost use Rattle.task_parts.specs.Scope.{names_in};
+    ghost use Rattle.task_parts.specs.Scope.{keys_in, names_in};
     ghost use Rattle.syntax_tree.specs.Tree as read;
     ghost use Rattle.model.specs.Typing as typing;
 
     /// The number of a name: its place, or how many there are where it has none.
     fn number(&self, room: &mut Vec<u8>, name: &Name<'_>) -> Result<TypeId, NoMemory>
-        ensures { IfOk result (λ t. t.0 ≡ typing.number_in (names_in self.now.names.keys) (read.name_of name.now)) }
+        ensures { IfOk result (λ t. t.0 ≡ typing.number_in (keys_in self.now.by_name.entries) (read.name_of name.now)) }
     {
         fold(room, name)?;
-        match self.names.get_index_of(room.as_slice()) {
+        match self.by_name.get_index_of(room.as_slice()) {
             Some(number) => Ok(TypeId(number as u16)),
-            None => Ok(TypeId(self.names.len() as u16)),
+            None => Ok(TypeId(self.by_name.len() as u16)),
         }
     }
 
     /// The type that is written after a `-`, or `object`.
     pub fn declared_type(&self, room: &mut Vec<u8>, types: &[Name<'_>]) -> Result<TypeId, NoMemory>
-        ensures { IfOk result (λ t. t.0 ≡ typing.type_in (names_in self.now.names.keys) (map read.name_of types.now)) }
+        ensures { IfOk result (λ t. t.0 ≡ typing.type_in (keys_in self.now.by_name.entries) (map read.name_of types.now)) }
     {
         match types.first() {
             Some(name) => self.number(room, name),
@@ -61,7 +61,7 @@ impl TypeNames {
         room: &mut Vec<u8>,
         types: &[Name<'_>],
     ) -> Result<Vec<TypeId>, NoMemory>
-        ensures { IfOk result (λ v. map parts.type_of v.items ≡ map (λ n. typing.number_in (names_in self.now.names.keys) (read.name_of n)) types.now) }
+        ensures { IfOk result (λ v. map parts.type_of v.items ≡ map (λ n. typing.number_in (keys_in self.now.by_name.entries) (read.name_of n)) types.now) }
     {
         let mut numbers = Vec::with_capacity(alloc, types.len())?;
         for name in types {
@@ -77,7 +77,7 @@ impl TypeNames {
         room: &mut Vec<u8>,
         types: &[Name<'_>],
     ) -> Result<TypeUnion, NoMemory>
-        ensures { IfOk result (λ u. parts.union_of u ≡ typing.union_in (names_in self.now.names.keys) (map read.name_of types.now)) }
+        ensures { IfOk result (λ u. parts.union_of u ≡ typing.union_in (keys_in self.now.by_name.entries) (map read.name_of types.now)) }
     {
         if types.is_empty() {
             Ok(TypeUnion(object_alone(alloc)?))
@@ -93,7 +93,7 @@ impl TypeNames {
         room: &mut Vec<u8>,
         declared: &[Declared<'_>],
     ) -> Result<Vec<TypeUnion>, NoMemory>
-        ensures { IfOk result (λ v. map parts.union_of v.items ≡ typing.unions_in (names_in self.now.names.keys) (map declared_of declared.now)) }
+        ensures { IfOk result (λ v. map parts.union_of v.items ≡ typing.unions_in (keys_in self.now.by_name.entries) (map declared_of declared.now)) }
     {
         let mut unions = Vec::with_capacity(alloc, declared.len())?;
         for one in declared {
@@ -109,7 +109,7 @@ impl TypeNames {
         room: &mut Vec<u8>,
         declared: &[Declared<'_>],
     ) -> Result<Vec<TypeId>, NoMemory>
-        ensures { IfOk result (λ v. map parts.type_of v.items ≡ typing.parents_in (names_in self.now.names.keys) (map declared_of declared.now)) }
+        ensures { IfOk result (λ v. map parts.type_of v.items ≡ typing.parents_in (keys_in self.now.by_name.entries) (map declared_of declared.now)) }
     {
         let mut parents = object_alone(alloc)?;
         for one in declared {

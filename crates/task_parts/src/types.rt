@@ -2,7 +2,7 @@
 ghost use Rattle.std.specs.Prelude.{◌≡◌, map, OnOk};
 ghost use Rattle.task_parts.specs.TaskParts as parts;
 ghost use Rattle.task_parts.specs.TypedLists.{declared_of};
-ghost use Rattle.task_parts.specs.Scope.{names_in};
+ghost use Rattle.task_parts.specs.Scope.{keys_in};
 ghost use Rattle.syntax_tree.specs.Tree.{file_of};
 ghost use Rattle.task_parts.specs.Walk.{Finds};
 ghost use Rattle.syntax_tree.specs.Tree as read;
@@ -14,21 +14,21 @@ use crate::typed_lists::Declared;
 use crate::walk::Walk;
 use crate::{TaskFile, TypeId, TypeUnion};
 use faults::{Code, NoMemory};
-use indexmap::{IndexMap, IndexSet};
+use indexmap::IndexMap;
 use std::alloc::Global;
 use syntax_tree::Name;
 
 /// A type that is not known is refused.
 fn check_type(
     walk: &mut Walk,
-    names: &IndexSet<Vec<u8>>,
+    names: &IndexMap<Vec<u8>, Vec<TypeId>>,
     file: TaskFile,
     name: &Name<'_>,
 ) -> Result<(), NoMemory>
-    ensures { OnOk result (Finds walk.old walk.new (typing.unknown_faults (file_of file) 14 (names_in names.now.keys) (read.name_of name.now))) }
+    ensures { OnOk result (Finds walk.old walk.new (typing.unknown_faults (file_of file) 14 (keys_in names.now.entries) (read.name_of name.now))) }
 {
     walk.fold(name)?;
-    let known = names.contains(walk.folded.as_slice());
+    let known = names.contains_key(walk.folded.as_slice());
     walk.refuse_unless(known, file, Code::UnknownType, name);
     Ok(())
 }
@@ -36,11 +36,11 @@ fn check_type(
 /// The types of a declaration that are not known are refused.
 fn check_types(
     walk: &mut Walk,
-    names: &IndexSet<Vec<u8>>,
+    names: &IndexMap<Vec<u8>, Vec<TypeId>>,
     file: TaskFile,
     types: &[Name<'_>],
 ) -> Result<(), NoMemory>
-    ensures { OnOk result (Finds walk.old walk.new (flat_map (typing.unknown_faults (file_of file) 14 (names_in names.now.keys)) (map read.name_of types.now))) }
+    ensures { OnOk result (Finds walk.old walk.new (flat_map (typing.unknown_faults (file_of file) 14 (keys_in names.now.entries)) (map read.name_of types.now))) }
 {
     for name in types {
         check_type(walk, names, file, name)?;
@@ -51,10 +51,10 @@ fn check_types(
 /// The types of declarations that are not known are refused.
 pub fn check_all(
     walk: &mut Walk,
-    names: &IndexSet<Vec<u8>>,
+    names: &IndexMap<Vec<u8>, Vec<TypeId>>,
     declared: &[Declared<'_>],
 ) -> Result<(), NoMemory>
-    ensures { OnOk result (Finds walk.old walk.new (typing.type_faults (names_in names.now.keys) (map declared_of declared.now))) }
+    ensures { OnOk result (Finds walk.old walk.new (typing.type_faults (keys_in names.now.entries) (map declared_of declared.now))) }
 {
     for one in declared {
         check_types(walk, names, one.file, one.types)?;

@@ -1,27 +1,27 @@
 //! Variables come into scope: the parameters of an action, and those of a quantifier.
 ghost use Rattle.std.specs.Prelude.{◌≡◌, [], if◌then◌else◌, map, OnOk};
 ghost use Rattle.task_parts.specs.TypedLists.{declared_of};
-ghost use Rattle.task_parts.specs.Scope.{names_in, variable_entry_of, BeginsWith};
+ghost use Rattle.task_parts.specs.Scope.{keys_in, variable_entry_of, BeginsWith};
 ghost use Rattle.task_parts.specs.Walk.{Finds};
 ghost use Rattle.model.specs.Typing as typing;
 
 use crate::domain::declare;
-use crate::type_names::TypeNames;
+use crate::type_names::TypeTable;
 use crate::typed_lists::{Declared, limit};
 use crate::types::check_all;
 use crate::walk::Walk;
 use crate::{MAX_VARIABLES, TypeUnion};
 use faults::{Code, NoMemory};
-use indexmap::{IndexMap, IndexSet};
+use indexmap::IndexMap;
 use std::alloc::Global;
 
 /// The variables that stand in the list before are refused.
 fn check_repeated(alloc: Global, walk: &mut Walk, declared: &[Declared<'_>]) -> Result<(), NoMemory>
     ensures { OnOk result (Finds walk.old walk.new (typing.refused 16 (typing.repeated (typing.words_of (map declared_of declared.now))))) }
 {
-    let mut names = IndexSet::new(alloc);
+    let mut names = IndexMap::new(alloc);
     for one in declared {
-        declare(alloc, walk, one.file, &mut names, &one.name)?;
+        declare(alloc, walk, one.file, &mut names, &one.name, ())?;
     }
     Ok(())
 }
@@ -69,14 +69,14 @@ fn limit_scope(walk: &mut Walk, count: usize, declared: &[Declared<'_>])
 fn check_variables(
     alloc: Global,
     walk: &mut Walk,
-    types: &TypeNames,
+    types: &TypeTable,
     variables: &IndexMap<Vec<u8>, TypeUnion>,
     declared: &[Declared<'_>],
 ) -> Result<(), NoMemory>
     ensures { OnOk result (Finds walk.old walk.new
-        (typing.variable_faults (names_in types.now.names.keys) (map variable_entry_of variables.now.entries) (map declared_of declared.now))) }
+        (typing.variable_faults (keys_in types.now.by_name.entries) (map variable_entry_of variables.now.entries) (map declared_of declared.now))) }
 {
-    check_all(walk, &types.names, declared)?;
+    check_all(walk, &types.by_name, declared)?;
     check_repeated(alloc, walk, declared)?;
     check_shadows(walk, variables, declared)?;
     limit_scope(walk, variables.len(), declared);
@@ -87,12 +87,12 @@ fn check_variables(
 fn add_variable(
     alloc: Global,
     room: &mut Vec<u8>,
-    types: &TypeNames,
+    types: &TypeTable,
     variables: &mut IndexMap<Vec<u8>, TypeUnion>,
     declared: &Declared<'_>,
 ) -> Result<(), NoMemory>
     ensures variables { OnOk result (map variable_entry_of variables.new.entries
-        ≡ typing.with_variable (map variable_entry_of variables.old.entries) (typing.variable_in (names_in types.now.names.keys) (declared_of declared.now))) }
+        ≡ typing.with_variable (map variable_entry_of variables.old.entries) (typing.variable_in (keys_in types.now.by_name.entries) (declared_of declared.now))) }
     ensures kept { OnOk result (BeginsWith variables.old.entries variables.new.entries) }
 {
     let key = declared.name.text.to_ascii_lowercase(alloc)?;
@@ -108,12 +108,12 @@ fn add_variable(
 fn add_variables(
     alloc: Global,
     room: &mut Vec<u8>,
-    types: &TypeNames,
+    types: &TypeTable,
     variables: &mut IndexMap<Vec<u8>, TypeUnion>,
     declared: &[Declared<'_>],
 ) -> Result<(), NoMemory>
     ensures variables { OnOk result (map variable_entry_of variables.new.entries
-        ≡ typing.variables_after (names_in types.now.names.keys) (map variable_entry_of variables.old.entries) (map declared_of declared.now)) }
+        ≡ typing.variables_after (keys_in types.now.by_name.entries) (map variable_entry_of variables.old.entries) (map declared_of declared.now)) }
     ensures kept { OnOk result (BeginsWith variables.old.entries variables.new.entries) }
 {
     for one in declared {
@@ -126,15 +126,15 @@ fn add_variables(
 pub fn declare_variables(
     alloc: Global,
     walk: &mut Walk,
-    types: &TypeNames,
+    types: &TypeTable,
     variables: &mut IndexMap<Vec<u8>, TypeUnion>,
     declared: &[Declared<'_>],
 ) -> Result<(), NoMemory>
     ensures variables { OnOk result (map variable_entry_of variables.new.entries
-        ≡ typing.variables_after (names_in types.now.names.keys) (map variable_entry_of variables.old.entries) (map declared_of declared.now)) }
+        ≡ typing.variables_after (keys_in types.now.by_name.entries) (map variable_entry_of variables.old.entries) (map declared_of declared.now)) }
     ensures kept { OnOk result (BeginsWith variables.old.entries variables.new.entries) }
     ensures finds { OnOk result (Finds walk.old walk.new
-        (typing.variable_faults (names_in types.now.names.keys) (map variable_entry_of variables.old.entries) (map declared_of declared.now))) }
+        (typing.variable_faults (keys_in types.now.by_name.entries) (map variable_entry_of variables.old.entries) (map declared_of declared.now))) }
 {
     check_variables(alloc, walk, types, variables, declared)?;
     add_variables(alloc, &mut walk.folded, types, variables, declared)

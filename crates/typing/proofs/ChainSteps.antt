@@ -1,7 +1,13 @@
 -- How a chain of parents grows step by step, and how types and the faults of their chains go on by their numbers.
-use Rattle.std.proofs.Common.{◌≡◌, ℕ, ◌+◌, ◌-◌, ◌<◌, ◌≤◌, Bool, true, false, not, List, [], ◌∷◌, ◌++◌, map, length, get_or, drop, slice_index, Option, refl, ap, sym, ◌∙◌, arith, zero, suc, if◌then◌else◌}
-use Rattle.std.proofs.lemmas.List.{append_assoc, append-nil, drop_more, drop_all}
-use Rattle.model.specs.Typing.{TypingFault, Declared, chain, comes_back, cycle_faults_from, refused_word}
+use Rattle.std.proofs.Common.{◌≡◌, ℕ, ◌+◌, ◌-◌, ◌<◌, ◌≤◌, Bool, true, false, not, List, [], ◌∷◌, ◌++◌, map, length, get_or, drop, take, slice_index, Option, refl, ap, sym, ◌∙◌, arith, zero, suc, if◌then◌else◌}
+use Rattle.std.specs.Map.{keys_of}
+use Rattle.std.proofs.lemmas.List.{append_assoc, append-nil, drop_more, drop_all, length-map}
+use Rattle.std.specs.Global.{Vec}
+use Rattle.indexmap.specs.IndexMap.{set_value_at}
+use Rattle.task_parts.specs.declared.atoms.TypeId.{TypeId}
+use Rattle.task_parts.specs.TaskParts.{type_entry_of, type_of}
+use Rattle.task_parts.specs.Scope.{keys_in}
+use Rattle.model.specs.Typing.{TypingFault, Declared, chain, comes_back, cycle_faults_from, refused_word, types_from, whole_chain}
 use Rattle.task_parts.specs.Walk.{found}
 use Rattle.task_parts.proofs.Found.{found-append}
 
@@ -52,3 +58,21 @@ pub cycle_end : {X : Type 0} (parents : List ℕ) (seen : X → Declared) (xs : 
     → (least whole : Option TypingFault) → found least (cycle_faults_from parents (i + 1) (map seen (drop i xs))) ≡ whole → least ≡ whole
 cycle_end parents seen xs i l least whole h =
     sym (ap (λ ys. found least (cycle_faults_from parents (i + 1) (map seen ys))) (drop_all i xs l)) ∙ h
+
+-- one type more gets the types that its objects are of
+pub one_filled : (parents : List ℕ) (start i : ℕ) (es : List (Vec ℕ × Vec TypeId)) (supertypes : Vec TypeId) → i < length es → map type_of supertypes.items ≡ whole_chain parents (start + i)
+    → take i (map type_entry_of es) ≡ take i (types_from parents start (keys_in es))
+    → take (suc i) (map type_entry_of (set_value_at es i supertypes)) ≡ take (suc i) (types_from parents start (keys_in es))
+one_filled parents start i [] supertypes l is h = absurd (omega (arith, l))
+one_filled parents start zero (e ∷ es) supertypes l is h =
+    let whole : map type_of supertypes.items ≡ whole_chain parents start = is ∙ ap (whole_chain parents) (omega arith) in
+    λ j. record { name = e.0.items; supertypes = whole j } ∷ []
+one_filled parents start (suc i) (e ∷ es) supertypes l is h =
+    let first : type_entry_of e ≡ record { name = e.0.items; supertypes = whole_chain parents start } = cc in
+    let others : take i (map type_entry_of es) ≡ take i (types_from parents (start + 1) (keys_in es)) = cc in
+    let next : map type_of supertypes.items ≡ whole_chain parents ((start + 1) + i) = is ∙ ap (whole_chain parents) (omega arith) in
+    λ j. first j ∷ one_filled parents (start + 1) i es supertypes (omega (arith, l)) next others j
+
+-- a table has as many names as entries
+pub length_keys : {V : Type 0} (es : List (Vec ℕ × V)) → length (keys_in es) ≡ length es
+length_keys es = length-map (keys_of es) (λ k. k.items) ∙ length-map es (λ e. e.0)

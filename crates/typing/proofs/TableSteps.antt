@@ -1,9 +1,11 @@
 -- A table that is filled along a list, where no name is declared twice.
 use Rattle.std.proofs.Common.{◌≤◌, ◌≡◌, ℕ, ◌+◌, Bool, true, false, List, [], ◌∷◌, ◌++◌, map, fold, length, refl, ap, sym, ◌∙◌, if◌then◌else◌, drop, get_or, ◌<◌}
-use Rattle.std.proofs.lemmas.List.{append_assoc, append-nil, drop_more, drop_all}
+use Rattle.std.specs.Global.{Vec}
+use Rattle.std.proofs.lemmas.List.{append_assoc, append-nil, drop_more, drop_all, map-append}
 use Rattle.model.specs.Task as task
 use Rattle.model.specs.Trees as tree
-use Rattle.model.specs.Typing.{Placed, is_known, with_name, repeated_after}
+use Rattle.model.specs.Typing.{Placed, folded, is_known, with_name, repeated_after}
+use Rattle.task_parts.specs.Scope.{keys_in, IsAdded}
 use Rattle.task_parts.proofs.Found.{got_twice}
 
 -- a name that is not declared again: so are those after it, and it is new
@@ -16,45 +18,30 @@ not_again before w rest e = by (is_known before w.word) e
     by false f = (refl, f)
 
 -- one step of a table that is filled along a list
-pub table_step : {X S : Type 0} (placed_as : X → Placed) (made : X → S) (label : S → task.Name) (xs : List X) (i : ℕ) (x : X) → i < length xs → x ≡ get_or xs i x
-    → (old new whole : List S)
-    → map label new ≡ with_name (map label old) (placed_as x).word
-    → (is_known (map label old) (placed_as x).word ≡ false → new ≡ old ++ made x ∷ [])
-    → (repeated_after (map label old) (map placed_as (drop i xs)) ≡ []) × (old ++ map made (drop i xs) ≡ whole)
-    → (repeated_after (map label new) (map placed_as (drop (i + 1) xs)) ≡ []) × (new ++ map made (drop (i + 1) xs) ≡ whole)
-table_step placed_as made label xs i x l is old new whole labels added h =
-    let rest = drop_more xs i x l in
-    let split : drop i xs ≡ x ∷ drop (i + 1) xs = rest ∙ ap (λ y. y ∷ drop (i + 1) xs) (sym is) in
-    let again = not_again (map label old) (placed_as x) (map placed_as (drop (i + 1) xs)) (ap (λ ys. repeated_after (map label old) (map placed_as ys)) (sym split) ∙ h.0) in (
-      ap (λ ks. repeated_after ks (map placed_as (drop (i + 1) xs))) labels ∙ again.1,
-      ap (λ ss. ss ++ map made (drop (i + 1) xs)) (added again.0) ∙ append_assoc old (made x ∷ []) (map made (drop (i + 1) xs))
-          ∙ ap (λ ys. old ++ map made ys) (sym split) ∙ h.1,
+pub table_step : {X V S : Type 0} (placed_as : X → Placed) (made : X → S) (shown : Vec ℕ × V → S) (xs : List X) (i : ℕ) (x : X) → i < length xs → x ≡ get_or xs i x
+    → (old new : List (Vec ℕ × V)) (value : V) (whole : List S) → ((key : Vec ℕ) → key.items ≡ folded (placed_as x).word → shown (key, value) ≡ made x)
+    → keys_in new ≡ with_name (keys_in old) (placed_as x).word
+    → (is_known (keys_in old) (placed_as x).word ≡ false → IsAdded old new (placed_as x).word value)
+    → (repeated_after (keys_in old) (map placed_as (drop i xs)) ≡ []) × (map shown old ++ map made (drop i xs) ≡ whole)
+    → (repeated_after (keys_in new) (map placed_as (drop (i + 1) xs)) ≡ []) × (map shown new ++ map made (drop (i + 1) xs) ≡ whole)
+table_step placed_as made shown xs i x l is old new value whole shows names added h =
+    let rest = drop (i + 1) xs in
+    let split : drop i xs ≡ x ∷ rest = drop_more xs i x l ∙ ap (λ y. y ∷ rest) (sym is) in
+    let again = not_again (keys_in old) (placed_as x) (map placed_as rest) (ap (λ ys. repeated_after (keys_in old) (map placed_as ys)) (sym split) ∙ h.0) in
+    let one = added again.0 in (
+      ap (λ ks. repeated_after ks (map placed_as rest)) names ∙ again.1,
+      ap (λ es. map shown es ++ map made rest) one.2 ∙ ap (λ ss. ss ++ map made rest) (map-append shown old ((one.0, value) ∷ []))
+          ∙ ap (λ s. (map shown old ++ s ∷ []) ++ map made rest) (shows one.0 one.1) ∙ append_assoc (map shown old) (made x ∷ []) (map made rest)
+          ∙ ap (λ ys. map shown old ++ map made ys) (sym split) ∙ h.1,
     )
 
-pub table_step_at : {X S : Type 0} (placed_as : X → Placed) (made : X → S) (label : S → task.Name) (xs : List X) (i : ℕ) (d : X) → i < length xs
-    → (old new whole : List S)
-    → map label new ≡ with_name (map label old) (placed_as (get_or xs i d)).word
-    → (is_known (map label old) (placed_as (get_or xs i d)).word ≡ false → new ≡ old ++ made (get_or xs i d) ∷ [])
-    → (repeated_after (map label old) (map placed_as (drop i xs)) ≡ []) × (old ++ map made (drop i xs) ≡ whole)
-    → (repeated_after (map label new) (map placed_as (drop (i + 1) xs)) ≡ []) × (new ++ map made (drop (i + 1) xs) ≡ whole)
-table_step_at placed_as made label xs i d l = table_step placed_as made label xs i (get_or xs i d) l (got_twice xs i d l)
-
--- the same where what is made also goes by its place
-pub numbered_step : {X S : Type 0} (placed_as : X → Placed) (made : ℕ → List X → List S) (one : ℕ → X → S) → ((n : ℕ) (x : X) (xs : List X) → made n (x ∷ xs) ≡ one n x ∷ made (n + 1) xs)
-    → (label : S → task.Name) (xs : List X) (i : ℕ) (d : X) → i < length xs
-    → (old new whole : List S)
-    → map label new ≡ with_name (map label old) (placed_as (get_or xs i d)).word
-    → (is_known (map label old) (placed_as (get_or xs i d)).word ≡ false → new ≡ old ++ one (i + 1) (get_or xs i d) ∷ [])
-    → (repeated_after (map label old) (map placed_as (drop i xs)) ≡ []) × (old ++ made (i + 1) (drop i xs) ≡ whole)
-    → (repeated_after (map label new) (map placed_as (drop (i + 1) xs)) ≡ []) × (new ++ made ((i + 1) + 1) (drop (i + 1) xs) ≡ whole)
-numbered_step placed_as made one by_one label xs i d l old new whole labels added h =
-    let x = get_or xs i d in
-    let split : drop i xs ≡ x ∷ drop (i + 1) xs = drop_more xs i d l in
-    let again = not_again (map label old) (placed_as x) (map placed_as (drop (i + 1) xs)) (ap (λ ys. repeated_after (map label old) (map placed_as ys)) (sym split) ∙ h.0) in (
-      ap (λ ks. repeated_after ks (map placed_as (drop (i + 1) xs))) labels ∙ again.1,
-      ap (λ ss. ss ++ made ((i + 1) + 1) (drop (i + 1) xs)) (added again.0) ∙ append_assoc old (one (i + 1) x ∷ []) (made ((i + 1) + 1) (drop (i + 1) xs))
-          ∙ ap (λ ss. old ++ ss) (sym (by_one (i + 1) x (drop (i + 1) xs))) ∙ ap (λ ys. old ++ made (i + 1) ys) (sym split) ∙ h.1,
-    )
+pub table_step_at : {X V S : Type 0} (placed_as : X → Placed) (made : X → S) (shown : Vec ℕ × V → S) (xs : List X) (i : ℕ) (d : X) → i < length xs
+    → (old new : List (Vec ℕ × V)) (value : V) (whole : List S) → ((key : Vec ℕ) → key.items ≡ folded (placed_as (get_or xs i d)).word → shown (key, value) ≡ made (get_or xs i d))
+    → keys_in new ≡ with_name (keys_in old) (placed_as (get_or xs i d)).word
+    → (is_known (keys_in old) (placed_as (get_or xs i d)).word ≡ false → IsAdded old new (placed_as (get_or xs i d)).word value)
+    → (repeated_after (keys_in old) (map placed_as (drop i xs)) ≡ []) × (map shown old ++ map made (drop i xs) ≡ whole)
+    → (repeated_after (keys_in new) (map placed_as (drop (i + 1) xs)) ≡ []) × (map shown new ++ map made (drop (i + 1) xs) ≡ whole)
+table_step_at placed_as made shown xs i d l = table_step placed_as made shown xs i (get_or xs i d) l (got_twice xs i d l)
 
 -- the names of the table, whether or not one is declared twice
 pub names_step : {X : Type 0} (label : X → tree.Name) (xs : List X) (i : ℕ) (x : X) → i < length xs → x ≡ get_or xs i x

@@ -10,8 +10,10 @@ use Rattle.model.specs.Trees.{File, domain_file, problem_file}
 use Rattle.model.specs.Typing.{TypingFault, Declared, Known, folded, names_of, names_of_objects, number_in, type_in, type_names, parents_of, types_of, Descends, whole_chain, comes_back, type_faults, words_of, one_after, refused, repeated, repeated_after, predicate_faults, terms_faults, arguments_in, ground_atom_faults, initial_cost_faults, fact_faults, facts_faults, init_faults, function_faults, formula_faults, domain_name_faults, type_declaration_faults, cycle_faults, object_faults, declaration_faults, action_faults, argument_faults, schema_faults, atom_in, atoms_in, object_in, declared_types, declared_constants, declared, equals_in, in_function, predicate_in, predicates_of, known_in_domain, known_in_problem, task_of_trees, faults_of, first_filled, ListsNoFault}
 use Rattle.model.specs.WellTyped.{is_task}
 use Rattle.model.proofs.Tests.{passes_got}
-use Rattle.typing.specs.declared.names.Contents.{Contents}
-use Rattle.typing.specs.declared.names.Types.{Types}
+use Rattle.typing.specs.declared.names.Names.{Names}
+use Rattle.typing.specs.declared.names.Objects.{Objects}
+use Rattle.typing.specs.declared.names.Start.{Start}
+use Rattle.task_parts.specs.declared.type_names.TypeTable.{TypeTable}
 use Rattle.typing.specs.Names.{type_faults_of, domain_faults, contents_faults, stated_faults_in, AreContents, AreTypesOf}
 use Rattle.task_parts.specs.TaskParts.{task_of_parts}
 use Rattle.typing.specs.Task.{TaskFault, TellsLeastOf, TellsLeastFault}
@@ -195,13 +197,12 @@ module _ (d : tree.Domain) (p : tree.Problem) where
     told_of_contents e h =
         subst (λ fs. TellsLeastOf fs e) (sym (faults_by_parts d p)) (tells_later (type_faults_of d p) _ no_type e (tells_here (contents_faults d p) [] e h))
 
-    pub made_by_phases : (types : Types) → AreTypesOf d types → (contents : Contents) → AreContents d p contents → (has_metric : Bool) → has_metric ≡ is_some p.metric
-        → IsMade d p (task_of_parts types.all.entries contents.objects.all.entries contents.names.predicates.entries contents.names.functions.entries contents.names.schemas.entries contents.start.init.items contents.start.values.entries contents.start.goal has_metric)
-    made_by_phases types are contents hold has_metric metric =
-        let names = contents.names in let start = contents.start in
+    pub made_by_phases : (types : TypeTable) → AreTypesOf d types → (objects : Objects) (names : Names) (start : Start) → AreContents d p objects names start → (has_metric : Bool) → has_metric ≡ is_some p.metric
+        → IsMade d p (task_of_parts types.by_name.entries objects.all.entries names.predicates.entries names.functions.entries names.schemas.entries start.init.items start.values.entries start.goal has_metric)
+    made_by_phases types are objects names start hold has_metric metric =
         let known = known_in_problem d p in
         let same_init = hold.start.init ∙ narrow_is_all problem_file known (low_arguments d p no_type hold.no_other hold.start.right) p.init (no_init d p no_type hold.no_other hold.start.right) in
-        let made : task.Task = task_of_parts types.all.entries contents.objects.all.entries names.predicates.entries names.functions.entries names.schemas.entries start.init.items start.values.entries start.goal has_metric in
+        let made : task.Task = task_of_parts types.by_name.entries objects.all.entries names.predicates.entries names.functions.entries names.schemas.entries start.init.items start.values.entries start.goal has_metric in
         let same : made ≡ task_of_trees d p =
         λ i. record { types = are.all i; objects = hold.objects i; predicates = hold.names.predicates i; functions = hold.names.functions i; schemas = hold.names.schemas i; init = same_init i; values = hold.start.values i; goal = hold.start.goal i; has_metric = metric i } in
         record {

@@ -3,14 +3,13 @@ use Rattle.std.specs.Prelude.{◌≡◌, ℕ, List, [], ◌∷◌, ◌++◌, map
 use Rattle.std.specs.Global.{Vec}
 use Rattle.std.specs.List.{flat_map}
 use Rattle.task_parts.specs.declared.atoms.TypeId.{TypeId}
-use Rattle.typing.specs.declared.names.Contents.{Contents}
 use Rattle.typing.specs.declared.names.Names.{Names}
 use Rattle.typing.specs.declared.names.Objects.{Objects}
-use Rattle.typing.specs.declared.names.Types.{Types}
 use Rattle.typing.specs.declared.names.Start.{Start}
+use Rattle.task_parts.specs.declared.type_names.TypeTable.{TypeTable}
 use Rattle.task_parts.specs.declared.schemas.Predicate.{Predicate}
 use Rattle.task_parts.specs.declared.schemas.Schema.{Schema}
-use Rattle.task_parts.specs.Scope.{names_in, narrow_atoms_in}
+use Rattle.task_parts.specs.Scope.{keys_in, narrow_atoms_in}
 use Rattle.task_parts.specs.TaskParts.{atom_of, formula_of, object_entry_of, predicate_of, schema_of, type_entry_of, value_of}
 use Rattle.model.specs.Trees as tree
 use Rattle.model.specs.Trees.{File, problem_file}
@@ -34,10 +33,10 @@ abbrev pub contents_faults : tree.Domain → tree.Problem → List TypingFault
 contents_faults d p = first_filled (object_faults d p ∷ domain_faults d p ∷ stated_faults_in problem_file (known_in_problem d p) p ∷ [])
 
 -- what may be named where these are the types, the objects, the predicates and the functions
-abbrev pub known_in : Types → List (Vec ℕ × TypeId) → List (Vec ℕ × Predicate) → List (Vec ℕ × Predicate) → Known
+abbrev pub known_in : TypeTable → List (Vec ℕ × TypeId) → List (Vec ℕ × Predicate) → List (Vec ℕ × Predicate) → Known
 known_in t objects predicates functions = record {
-  type_names = names_in t.names.names.keys;
-  types = map type_entry_of t.all.entries;
+  type_names = keys_in t.by_name.entries;
+  types = map type_entry_of t.by_name.entries;
   predicates = map predicate_of predicates;
   functions = map predicate_of functions;
   variables = [];
@@ -45,13 +44,13 @@ known_in t objects predicates functions = record {
 }
 
 -- what may be named in the problem
-abbrev pub known_by : Types → Objects → Names → Known
+abbrev pub known_by : TypeTable → Objects → Names → Known
 known_by t o n = known_in t o.all.entries n.predicates.entries n.functions.entries
 
 -- these are the types that the domain declares
-pub record AreTypesOf (d : tree.Domain) (t : Types) : Type 0 where
-  pub names : names_in t.names.names.keys ≡ type_names d
-  pub all : map type_entry_of t.all.entries ≡ types_of d
+pub record AreTypesOf (d : tree.Domain) (t : TypeTable) : Type 0 where
+  pub names : keys_in t.by_name.entries ≡ type_names d
+  pub all : map type_entry_of t.by_name.entries ≡ types_of d
 
 -- these are the names that the domain declares over its types
 pub record AreDeclared (d : tree.Domain) (n : Names) : Type 0 where
@@ -72,9 +71,9 @@ pub record Starts (file : File) (known : Known) (p : tree.Problem) (s : Start) :
   pub goal : formula_of s.goal ≡ formula_in file known p.goal
 
 -- nothing but the types of the pair has a fault, and these are its objects, its names, and what it states
-pub record AreContents (d : tree.Domain) (p : tree.Problem) (c : Contents) : Type 0 where
+pub record AreContents (d : tree.Domain) (p : tree.Problem) (o : Objects) (n : Names) (s : Start) : Type 0 where
   pub no_object : object_faults d p ≡ []
   pub no_other : domain_faults d p ≡ []
-  pub objects : map object_entry_of c.objects.all.entries ≡ objects_of d p
-  pub names : AreDeclared d c.names
-  pub start : Starts problem_file (known_in_problem d p) p c.start
+  pub objects : map object_entry_of o.all.entries ≡ objects_of d p
+  pub names : AreDeclared d n
+  pub start : Starts problem_file (known_in_problem d p) p s

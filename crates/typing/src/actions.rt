@@ -1,7 +1,6 @@
 //! The actions of a domain.
-ghost use Rattle.std.specs.Prelude.{◌≡◌, [], ◌∷◌, ◌++◌, false, if◌then◌else◌, map, IfErr, IfOk, OnOk};
+ghost use Rattle.std.specs.Prelude.{◌≡◌, [], map, IfErr, IfOk, OnOk};
 ghost use Rattle.task_parts.specs.TaskParts as parts;
-ghost use Rattle.task_parts.specs.TypedLists.{declared_of};
 ghost use Rattle.task_parts.specs.Scope.{known_outside, known_over};
 ghost use Rattle.typing.specs.Task.{file_of, TellsLeastOf};
 ghost use Rattle.task_parts.specs.Walk.{Finds};
@@ -14,13 +13,11 @@ use crate::effects::effect;
 use crate::functions::increase;
 use crate::{Schema, TaskFault, TaskFile, TypeUnion};
 use faults::NoMemory;
-use indexmap::{IndexMap, IndexSet};
+use indexmap::IndexMap;
 use std::alloc::Global;
 use syntax_tree::{Action, Domain};
-use task_parts::domain::declare;
-use task_parts::formulas::formula;
-use task_parts::typed_lists::{Declared, collect};
-use task_parts::variables::declare_variables;
+use task_parts::domain::{declare, put};
+use task_parts::formulas::{enter, formula};
 use task_parts::{Globals, Walk};
 
 /// What an action with these parameters declares, where these variables are in scope.
@@ -51,34 +48,6 @@ fn body(
     })
 }
 
-/// What an action declares, where these are its parameters.
-fn schema_over(
-    alloc: Global,
-    walk: &mut Walk,
-    globals: &Globals<'_>,
-    declared: &[Declared<'_>],
-    action: &Action<'_>,
-) -> Result<Schema, NoMemory>
-    requires { map declared_of declared.now ≡ typing.declared domain_file (read.action_of action.now).parameters }
-    ensures shape { IfOk result (λ s. parts.shape_of s ≡ parts.shape_of_schema (typing.schema_in (known_outside globals.now) (read.action_of action.now))) }
-    ensures finds { OnOk result (Finds walk.old walk.new (typing.schema_faults (known_outside globals.now) (read.action_of action.now))) }
-{
-    let mut variables = IndexMap::new(alloc);
-    declare_variables(alloc, walk, globals.type_names, &mut variables, declared)?;
-    let parameters = globals
-        .type_names
-        .unions(alloc, &mut walk.folded, declared)?;
-    let inner = Globals {
-        file: TaskFile::Domain,
-        type_names: globals.type_names,
-        types: globals.types,
-        predicates: globals.predicates,
-        functions: globals.functions,
-        objects: globals.objects,
-    };
-    body(alloc, walk, &inner, &mut variables, parameters, action)
-}
-
 /// What an action declares.
 fn schema(
     alloc: Global,
@@ -89,45 +58,30 @@ fn schema(
     ensures shape { IfOk result (λ s. parts.shape_of s ≡ parts.shape_of_schema (typing.schema_in (known_outside globals.now) (read.action_of action.now))) }
     ensures finds { OnOk result (Finds walk.old walk.new (typing.schema_faults (known_outside globals.now) (read.action_of action.now))) }
 {
-    let groups = action.parameters.as_slice();
-    let list = collect(alloc, TaskFile::Domain, groups)?;
-    let declared = list.as_slice();
-    schema_over(alloc, walk, globals, declared, action)
+    let inner = Globals {
+        file: TaskFile::Domain,
+        types: globals.types,
+        predicates: globals.predicates,
+        functions: globals.functions,
+        objects: globals.objects,
+    };
+    let mut variables = IndexMap::new(alloc);
+    let parameters = enter(alloc, walk, &inner, &mut variables, &action.parameters)?;
+    body(alloc, walk, &inner, &mut variables, parameters, action)
 }
 
 /// The actions that are declared before are refused.
 fn declare_actions(alloc: Global, walk: &mut Walk, actions: &[Action<'_>]) -> Result<(), NoMemory>
     ensures { OnOk result (Finds walk.old walk.new (typing.refused 16 (typing.repeated (map (λ a. typing.placed domain_file (read.name_of a.name)) actions.now)))) }
 {
-    let mut names = IndexSet::new(alloc);
+    let mut names = IndexMap::new(alloc);
     for action in actions {
-        declare(alloc, walk, TaskFile::Domain, &mut names, &action.name)?;
+        declare(alloc, walk, TaskFile::Domain, &mut names, &action.name, ())?;
     }
     Ok(())
 }
 
-/// Declares an action. That one of its name is declared before is not told here.
-fn declare_schema(
-    alloc: Global,
-    walk: &mut Walk,
-    globals: &Globals<'_>,
-    schemas: &mut IndexMap<Vec<u8>, Schema>,
-    action: &Action<'_>,
-) -> Result<(), NoMemory>
-    ensures names { OnOk result (map (λ s. s.name) (map parts.schema_of schemas.new.entries)
-        ≡ typing.with_name (map (λ s. s.name) (map parts.schema_of schemas.old.entries)) (read.name_of action.now.name)) }
-    ensures added { OnOk result (typing.is_known (map (λ s. s.name) (map parts.schema_of schemas.old.entries)) (read.name_of action.now.name) ≡ false
-        → map parts.schema_of schemas.new.entries
-        ≡ map parts.schema_of schemas.old.entries ++ typing.schema_in (known_outside globals.now) (read.action_of action.now) ∷ []) }
-    ensures finds { OnOk result (Finds walk.old walk.new (typing.schema_faults (known_outside globals.now) (read.action_of action.now))) }
-{
-    let key = action.name.text.to_ascii_lowercase(alloc)?;
-    let schema = schema(alloc, walk, globals, action)?;
-    schemas.insert(key, schema)?;
-    Ok(())
-}
-
-/// The schemas of a list of actions.
+/// The schemas of a list of actions. That one is declared again is not told here.
 fn table(
     alloc: Global,
     walk: &mut Walk,
@@ -140,7 +94,8 @@ fn table(
 {
     let mut schemas = IndexMap::new(alloc);
     for action in actions {
-        declare_schema(alloc, walk, globals, &mut schemas, action)?;
+        let schema = schema(alloc, walk, globals, action)?;
+        put(alloc, &mut schemas, &action.name, schema)?;
     }
     Ok(schemas)
 }

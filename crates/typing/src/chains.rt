@@ -1,20 +1,22 @@
-//! Chains of types, from a type to its parent and on up to `object`.
-ghost use Rattle.std.specs.Prelude.{◌≡◌, ◌≤◌, ◌<◌, ◌+◌, [], ◌∷◌, ◌++◌, false, if◌then◌else◌, codes, length, map, slice_index, IfErr, IfOk, OnOk};
+//! The types of a domain, and their chains, from a type to its parent and on up to `object`.
+ghost use Rattle.std.specs.Prelude.{◌≡◌, ◌≤◌, ◌<◌, ◌+◌, [], if◌then◌else◌, length, map, slice_index, IfErr, IfOk, OnOk};
 ghost use Rattle.task_parts.specs.TaskParts as parts;
 ghost use Rattle.task_parts.specs.TypedLists.{declared_of};
-ghost use Rattle.task_parts.specs.Scope.{names_in};
+ghost use Rattle.task_parts.specs.Scope.{keys_in};
 ghost use Rattle.typing.specs.Task.{TellsLeastOf};
-ghost use Rattle.typing.specs.Chains.{AreTypes, cycles, type_numbered};
+ghost use Rattle.typing.specs.Chains.{AreTypes, cycles};
+ghost use Rattle.typing.specs.Names.{type_faults_of, AreTypesOf};
 ghost use Rattle.task_parts.specs.Walk.{Finds};
 ghost use Rattle.syntax_tree.specs.Tree as read;
 ghost use Rattle.model.specs.Typing as typing;
 
-use crate::{TaskFault, TypeId};
+use crate::{TaskFault, TaskFile, TypeId};
 use faults::{Code, NoMemory};
 use indexmap::IndexMap;
 use std::alloc::Global;
-use task_parts::typed_lists::Declared;
-use task_parts::{TypeNames, Walk};
+use syntax_tree::{Domain, Problem};
+use task_parts::typed_lists::{Declared, collect};
+use task_parts::{TypeTable, Walk, domain};
 
 /// The parent of a type, and `object` where there is no such type.
 fn parent(parents: &[TypeId], id: TypeId) -> TypeId
@@ -82,69 +84,56 @@ fn check_cycles(
     Ok(())
 }
 
-/// Adds a type and all types above it.
-fn add_type(
+/// Finds for each type all types that its objects are of.
+fn fill(
     alloc: Global,
     parents: &[TypeId],
     types: &mut IndexMap<Vec<u8>, Vec<TypeId>>,
-    id: TypeId,
-    declared: &Declared<'_>,
 ) -> Result<(), NoMemory>
-    ensures names { OnOk result (map (λ t. t.name) (map parts.type_entry_of types.new.entries)
-        ≡ typing.with_name (map (λ t. t.name) (map parts.type_entry_of types.old.entries)) (read.name_of declared.now.name)) }
-    ensures added { OnOk result (typing.is_known (map (λ t. t.name) (map parts.type_entry_of types.old.entries)) (read.name_of declared.now.name) ≡ false
-        → map parts.type_entry_of types.new.entries
-        ≡ map parts.type_entry_of types.old.entries ++ type_numbered (map parts.type_of parents.now) id.0 (declared_of declared.now) ∷ []) }
+    requires { length types.old.entries ≤ 4096 }
+    ensures names { OnOk result (keys_in types.new.entries ≡ keys_in types.old.entries) }
+    ensures types { OnOk result (map parts.type_entry_of types.new.entries ≡ typing.types_from (map parts.type_of parents.now) 0 (keys_in types.old.entries)) }
 {
-    let key = declared.name.text.to_ascii_lowercase(alloc)?;
-    let supertypes = chain(alloc, parents, id)?;
-    types.insert(key, supertypes)?;
+    let count = types.len();
+    for index in 0..count {
+        let supertypes = chain(alloc, parents, TypeId(index as u16))?;
+        types[index] = supertypes;
+    }
     Ok(())
 }
 
-/// The type `object` alone.
-fn root(alloc: Global, parents: &[TypeId]) -> Result<IndexMap<Vec<u8>, Vec<TypeId>>, NoMemory>
-    ensures { IfOk result (λ m. map parts.type_entry_of m.entries ≡ typing.types_from (map parts.type_of parents.now) 0 (codes "object" ∷ [])) }
-{
-    let name = b"object".to_vec(alloc)?;
-    let supertypes = chain(alloc, parents, TypeId(0))?;
-    let mut types = IndexMap::new(alloc);
-    types.insert(name, supertypes)?;
-    Ok(types)
-}
-
-/// The types by name, each with all types that its objects are of.
-fn table(
+/// The types of these names, each with all types that its objects are of, where no chain comes back.
+fn filled(
     alloc: Global,
-    parents: &[TypeId],
+    names: TypeTable,
     declared: &[Declared<'_>],
-) -> Result<IndexMap<Vec<u8>, Vec<TypeId>>, NoMemory>
+) -> Result<TypeTable, TaskFault>
     requires { length declared.now ≤ 4095 }
-    ensures { IfOk result (λ m. typing.repeated_after (codes "object" ∷ []) (typing.words_of (map declared_of declared.now)) ≡ []
-        → map parts.type_entry_of m.entries ≡ typing.types_from (map parts.type_of parents.now) 0 (codes "object" ∷ map typing.folded (typing.names_of (map declared_of declared.now)))) }
-{
-    let mut types = root(alloc, parents)?;
-    for index in 0..declared.len() {
-        let id = TypeId((index + 1) as u16);
-        add_type(alloc, parents, &mut types, id, &declared[index])?;
-    }
-    Ok(types)
-}
-
-/// The types by name, where no chain comes back.
-pub(crate) fn types(
-    alloc: Global,
-    names: &TypeNames,
-    declared: &[Declared<'_>],
-) -> Result<IndexMap<Vec<u8>, Vec<TypeId>>, TaskFault>
-    requires { length declared.now ≤ 4095 }
-    ensures ok { IfOk result (λ m. AreTypes (names_in names.now.names.keys) (map declared_of declared.now) m.entries) }
-    ensures err { IfErr result (TellsLeastOf (cycles (names_in names.now.names.keys) (map declared_of declared.now))) }
+    ensures ok { IfOk result (λ t. AreTypes (keys_in names.by_name.entries) (map declared_of declared.now) t.by_name.entries) }
+    ensures err { IfErr result (TellsLeastOf (cycles (keys_in names.by_name.entries) (map declared_of declared.now))) }
 {
     let mut walk = Walk::new(alloc);
     let list = names.parents(alloc, &mut walk.folded, declared)?;
     let parents = list.as_slice();
     check_cycles(alloc, &mut walk, parents, declared)?;
-    let types = table(alloc, parents, declared)?;
-    walk.finish(types)
+    let mut by_name = names.by_name;
+    fill(alloc, parents, &mut by_name)?;
+    walk.finish(TypeTable { by_name })
+}
+
+/// The types that a domain declares, where the problem is for it.
+pub(crate) fn types(
+    alloc: Global,
+    domain: &Domain<'_>,
+    problem: &Problem<'_>,
+) -> Result<TypeTable, TaskFault>
+    ensures ok { IfOk result
+        (λ t. (type_faults_of (read.domain_of domain.now) (read.problem_of problem.now) ≡ []) × AreTypesOf (read.domain_of domain.now) t) }
+    ensures err { IfErr result (TellsLeastOf (type_faults_of (read.domain_of domain.now) (read.problem_of problem.now))) }
+{
+    let groups = domain.types.as_slice();
+    let list = collect(alloc, TaskFile::Domain, groups)?;
+    let declared = list.as_slice();
+    let names = domain::names(alloc, domain, problem, declared)?;
+    filled(alloc, names, declared)
 }

@@ -1,7 +1,7 @@
 //! What a domain declares by names with arguments: its predicates, and its functions.
-ghost use Rattle.std.specs.Prelude.{◌≡◌, [], ◌∷◌, ◌++◌, false, fold, if◌then◌else◌, map, IfErr, IfOk, OnOk};
+ghost use Rattle.std.specs.Prelude.{◌≡◌, [], fold, map, IfErr, IfOk, OnOk};
 ghost use Rattle.task_parts.specs.TaskParts as parts;
-ghost use Rattle.task_parts.specs.Scope.{names_in};
+ghost use Rattle.task_parts.specs.Scope.{keys_in};
 ghost use Rattle.typing.specs.Task.{TellsLeastOf};
 ghost use Rattle.task_parts.specs.Walk.{Finds};
 ghost use Rattle.syntax_tree.specs.Tree as read;
@@ -14,19 +14,19 @@ use faults::NoMemory;
 use indexmap::IndexMap;
 use std::alloc::Global;
 use syntax_tree::{Domain, Predicate as Declaration};
-use task_parts::domain::refuse_again;
+use task_parts::domain::declare;
 use task_parts::typed_lists::{collect, limit};
 use task_parts::types::check_all;
-use task_parts::{TypeNames, Walk};
+use task_parts::{TypeTable, Walk};
 
 /// What each argument of a declaration has to be.
 fn arguments(
     alloc: Global,
     room: &mut Vec<u8>,
-    types: &TypeNames,
+    types: &TypeTable,
     declaration: &Declaration<'_>,
 ) -> Result<Vec<TypeUnion>, NoMemory>
-    ensures { IfOk result (λ v. map parts.union_of v.items ≡ (typing.predicate_in (names_in types.now.names.keys) (read.predicate_of declaration.now)).arguments) }
+    ensures { IfOk result (λ v. map parts.union_of v.items ≡ (typing.predicate_in (keys_in types.now.by_name.entries) (read.predicate_of declaration.now)).arguments) }
 {
     let groups = declaration.parameters.as_slice();
     let list = collect(alloc, TaskFile::Domain, groups)?;
@@ -34,44 +34,24 @@ fn arguments(
     types.unions(alloc, room, declared)
 }
 
-/// Declares a predicate or a function. One that is declared before is refused.
-fn declare_predicate(
-    alloc: Global,
-    walk: &mut Walk,
-    types: &TypeNames,
-    predicates: &mut IndexMap<Vec<u8>, Predicate>,
-    declaration: &Declaration<'_>,
-) -> Result<(), NoMemory>
-    ensures names { OnOk result (typing.names_of_predicates (map parts.predicate_of predicates.new.entries)
-        ≡ typing.with_name (typing.names_of_predicates (map parts.predicate_of predicates.old.entries)) (read.name_of declaration.now.name)) }
-    ensures added { OnOk result (typing.is_known (typing.names_of_predicates (map parts.predicate_of predicates.old.entries)) (read.name_of declaration.now.name) ≡ false
-        → map parts.predicate_of predicates.new.entries
-        ≡ map parts.predicate_of predicates.old.entries ++ typing.predicate_in (names_in types.now.names.keys) (read.predicate_of declaration.now) ∷ []) }
-    ensures finds { OnOk result (Finds walk.old walk.new (typing.refused 16
-        (if typing.is_known (typing.names_of_predicates (map parts.predicate_of predicates.old.entries)) (read.name_of declaration.now.name) then typing.placed domain_file (read.name_of declaration.now.name) ∷ [] else []))) }
-{
-    let key = declaration.name.text.to_ascii_lowercase(alloc)?;
-    let arguments = arguments(alloc, &mut walk.folded, types, declaration)?;
-    let before = predicates.insert(key, Predicate { arguments })?;
-    refuse_again(walk, TaskFile::Domain, &declaration.name, before.is_some());
-    Ok(())
-}
-
 /// The predicates, or functions, that a list declares.
 fn table(
     alloc: Global,
     walk: &mut Walk,
-    types: &TypeNames,
+    types: &TypeTable,
     declarations: &[Declaration<'_>],
 ) -> Result<IndexMap<Vec<u8>, Predicate>, NoMemory>
-    ensures names { IfOk result (λ m. typing.names_of_predicates (map parts.predicate_of m.entries) ≡ fold typing.with_name [] (map (λ q. read.name_of q.name) declarations.now)) }
+    ensures names { IfOk result (λ m. keys_in m.entries ≡ fold typing.with_name [] (map (λ q. read.name_of q.name) declarations.now)) }
     ensures table { IfOk result (λ m. typing.repeated (map (λ q. typing.placed domain_file (read.name_of q.name)) declarations.now) ≡ []
-        → map parts.predicate_of m.entries ≡ map (λ q. typing.predicate_in (names_in types.now.names.keys) (read.predicate_of q)) declarations.now) }
+        → map parts.predicate_of m.entries ≡ map (λ q. typing.predicate_in (keys_in types.now.by_name.entries) (read.predicate_of q)) declarations.now) }
     ensures finds { OnOk result (Finds walk.old walk.new (typing.refused 16 (typing.repeated (map (λ q. typing.placed domain_file (read.name_of q.name)) declarations.now)))) }
 {
     let mut predicates = IndexMap::new(alloc);
     for declaration in declarations {
-        declare_predicate(alloc, walk, types, &mut predicates, declaration)?;
+        let name = &declaration.name;
+        let arguments = arguments(alloc, &mut walk.folded, types, declaration)?;
+        let made = Predicate { arguments };
+        declare(alloc, walk, TaskFile::Domain, &mut predicates, name, made)?;
     }
     Ok(predicates)
 }
@@ -80,15 +60,15 @@ fn table(
 fn check_arguments(
     alloc: Global,
     walk: &mut Walk,
-    types: &TypeNames,
+    types: &TypeTable,
     declaration: &Declaration<'_>,
 ) -> Result<(), NoMemory>
-    ensures { OnOk result (Finds walk.old walk.new (typing.argument_faults (names_in types.now.names.keys) (read.predicate_of declaration.now))) }
+    ensures { OnOk result (Finds walk.old walk.new (typing.argument_faults (keys_in types.now.by_name.entries) (read.predicate_of declaration.now))) }
 {
     let groups = declaration.parameters.as_slice();
     let list = collect(alloc, TaskFile::Domain, groups)?;
     let declared = list.as_slice();
-    check_all(walk, &types.names, declared)?;
+    check_all(walk, &types.by_name, declared)?;
     limit(walk, declared, MAX_ARGUMENTS);
     Ok(())
 }
@@ -97,10 +77,10 @@ fn check_arguments(
 fn check_declarations(
     alloc: Global,
     walk: &mut Walk,
-    types: &TypeNames,
+    types: &TypeTable,
     declarations: &[Declaration<'_>],
 ) -> Result<(), NoMemory>
-    ensures { OnOk result (Finds walk.old walk.new (flat_map (λ q. typing.argument_faults (names_in types.now.names.keys) (read.predicate_of q)) declarations.now)) }
+    ensures { OnOk result (Finds walk.old walk.new (flat_map (λ q. typing.argument_faults (keys_in types.now.by_name.entries) (read.predicate_of q)) declarations.now)) }
 {
     for declaration in declarations {
         check_arguments(alloc, walk, types, declaration)?;
@@ -112,13 +92,13 @@ fn check_declarations(
 pub(crate) fn declared(
     alloc: Global,
     walk: &mut Walk,
-    types: &TypeNames,
+    types: &TypeTable,
     declarations: &[Declaration<'_>],
 ) -> Result<IndexMap<Vec<u8>, Predicate>, NoMemory>
     ensures names { IfOk result (λ m. typing.names_of_predicates (map parts.predicate_of m.entries) ≡ fold typing.with_name [] (map (λ q. q.name) (map read.predicate_of declarations.now))) }
-    ensures table { IfOk result (λ m. typing.declaration_faults (names_in types.now.names.keys) (map read.predicate_of declarations.now) ≡ []
-        → map parts.predicate_of m.entries ≡ map (typing.predicate_in (names_in types.now.names.keys)) (map read.predicate_of declarations.now)) }
-    ensures finds { OnOk result (Finds walk.old walk.new (typing.declaration_faults (names_in types.now.names.keys) (map read.predicate_of declarations.now))) }
+    ensures table { IfOk result (λ m. typing.declaration_faults (keys_in types.now.by_name.entries) (map read.predicate_of declarations.now) ≡ []
+        → map parts.predicate_of m.entries ≡ map (typing.predicate_in (keys_in types.now.by_name.entries)) (map read.predicate_of declarations.now)) }
+    ensures finds { OnOk result (Finds walk.old walk.new (typing.declaration_faults (keys_in types.now.by_name.entries) (map read.predicate_of declarations.now))) }
 {
     let table = table(alloc, walk, types, declarations)?;
     check_declarations(alloc, walk, types, declarations)?;
@@ -128,13 +108,13 @@ pub(crate) fn declared(
 /// The domain's predicates.
 pub(crate) fn predicates(
     alloc: Global,
-    types: &TypeNames,
+    types: &TypeTable,
     domain: &Domain<'_>,
 ) -> Result<IndexMap<Vec<u8>, Predicate>, TaskFault>
     ensures ok { IfOk result
-        (λ m. (typing.declaration_faults (names_in types.now.names.keys) (read.domain_of domain.now).predicates ≡ [])
-        × (map parts.predicate_of m.entries ≡ map (typing.predicate_in (names_in types.now.names.keys)) (read.domain_of domain.now).predicates)) }
-    ensures err { IfErr result (TellsLeastOf (typing.declaration_faults (names_in types.now.names.keys) (read.domain_of domain.now).predicates)) }
+        (λ m. (typing.declaration_faults (keys_in types.now.by_name.entries) (read.domain_of domain.now).predicates ≡ [])
+        × (map parts.predicate_of m.entries ≡ map (typing.predicate_in (keys_in types.now.by_name.entries)) (read.domain_of domain.now).predicates)) }
+    ensures err { IfErr result (TellsLeastOf (typing.declaration_faults (keys_in types.now.by_name.entries) (read.domain_of domain.now).predicates)) }
 {
     let mut walk = Walk::new(alloc);
     let predicates = declared(alloc, &mut walk, types, &domain.predicates)?;

@@ -3,7 +3,7 @@ ghost use Rattle.std.specs.Prelude.{◌≡◌, [], ◌++◌, drop, if◌then◌e
 ghost use Rattle.std.specs.List.{flat_map};
 ghost use Rattle.std.specs.Option.{option_map_or};
 ghost use Rattle.task_parts.specs.TaskParts as parts;
-ghost use Rattle.task_parts.specs.Scope.{known_over, names_in};
+ghost use Rattle.task_parts.specs.Scope.{keys_in, known_over};
 ghost use Rattle.typing.specs.Task.{file_of, TellsLeastOf};
 ghost use Rattle.task_parts.specs.Walk.{Finds};
 ghost use Rattle.syntax_tree.specs.Tree as read;
@@ -18,7 +18,7 @@ use indexmap::IndexMap;
 use std::alloc::Global;
 use syntax_tree as tree;
 use syntax_tree::{Action, Amount, Domain, Name, Problem};
-use task_parts::{Globals, TypeNames, Walk, declares_cost};
+use task_parts::{Globals, TypeTable, Walk, declares_cost};
 
 /// The metric is refused where the total cost is not declared.
 fn check_metric(walk: &mut Walk, has_cost: bool, metric: Option<&Name<'_>>)
@@ -33,11 +33,11 @@ fn check_metric(walk: &mut Walk, has_cost: bool, metric: Option<&Name<'_>>)
 /// The domain's functions, where these are its types, and where the problem's metric is right.
 pub(crate) fn functions(
     alloc: Global,
-    types: &TypeNames,
+    types: &TypeTable,
     domain: &Domain<'_>,
     problem: &Problem<'_>,
 ) -> Result<IndexMap<Vec<u8>, Predicate>, TaskFault>
-    requires { names_in types.now.names.keys ≡ typing.type_names (read.domain_of domain.now) }
+    requires { keys_in types.now.by_name.entries ≡ typing.type_names (read.domain_of domain.now) }
     ensures ok { IfOk result
         (λ m. (typing.function_faults (read.domain_of domain.now) (read.problem_of problem.now) ≡ [])
         × (map parts.predicate_of m.entries ≡ typing.functions_of (read.domain_of domain.now))) }

@@ -2,22 +2,13 @@
 ghost use Rattle.std.specs.Prelude.{◌≡◌, ◌≤◌, [], length, IfErr, IfOk};
 
 use crate::{
-    Atom, Formula, Predicate, Schema, TaskFault, TaskFile, TypeId, actions, chains, declarations,
-    functions, objects, statements,
+    Atom, Formula, Predicate, Schema, TaskFault, TaskFile, TypeId, actions, declarations,
+    functions, statements,
 };
 use indexmap::IndexMap;
 use std::alloc::Global;
 use syntax_tree::{Domain, Problem};
-use task_parts::typed_lists::collect;
-use task_parts::{Globals, TypeNames, domain};
-
-/// The types of a domain, by name: each in the place of its number.
-#[derive(Drop)]
-pub(crate) struct Types {
-    pub(crate) names: TypeNames,
-    pub(crate) all: IndexMap<Vec<u8>, Vec<TypeId>>,
-    ghost few: { length all.entries ≤ 4096 },
-}
+use task_parts::{Globals, TypeTable};
 
 /// The constants alone, and all objects, the constants first.
 #[derive(Drop)]
@@ -44,65 +35,6 @@ pub(crate) struct Start {
     pub(crate) goal: Formula,
 }
 
-/// What a domain and a problem declare and state over their types.
-#[derive(Drop)]
-pub(crate) struct Contents {
-    pub(crate) objects: Objects,
-    pub(crate) names: Names,
-    pub(crate) start: Start,
-}
-
-impl Types {
-    ghost use Rattle.typing.specs.Task.{TellsLeastOf};
-    ghost use Rattle.typing.specs.Names.{type_faults_of, AreTypesOf};
-    ghost use Rattle.syntax_tree.specs.Tree.{domain_of, problem_of};
-
-    /// The types that a domain declares, where the problem is for it.
-    pub(crate) fn declared(
-        alloc: Global,
-        domain: &Domain<'_>,
-        problem: &Problem<'_>,
-    ) -> Result<Types, TaskFault>
-        ensures ok { IfOk result
-            (λ t. (type_faults_of (domain_of domain.now) (problem_of problem.now) ≡ []) × AreTypesOf (domain_of domain.now) t) }
-        ensures err { IfErr result (TellsLeastOf (type_faults_of (domain_of domain.now) (problem_of problem.now))) }
-    {
-        let groups = domain.types.as_slice();
-        let list = collect(alloc, TaskFile::Domain, groups)?;
-        let declared = list.as_slice();
-        let names = domain::names(alloc, domain, problem, declared)?;
-        let all = chains::types(alloc, &names, declared)?;
-        Ok(Types { names, all })
-    }
-}
-
-impl Contents {
-    ghost use Rattle.typing.specs.Task.{TellsLeastOf};
-    ghost use Rattle.typing.specs.Names.{contents_faults, AreContents, AreTypesOf};
-    ghost use Rattle.syntax_tree.specs.Tree.{domain_of, problem_of};
-
-    /// What a domain and a problem declare and state, where these are the types.
-    pub(crate) fn over(
-        alloc: Global,
-        types: &Types,
-        domain: &Domain<'_>,
-        problem: &Problem<'_>,
-    ) -> Result<Contents, TaskFault>
-        requires { AreTypesOf (domain_of domain.now) types.now }
-        ensures ok { IfOk result (AreContents (domain_of domain.now) (problem_of problem.now)) }
-        ensures err { IfErr result (TellsLeastOf (contents_faults (domain_of domain.now) (problem_of problem.now))) }
-    {
-        let objects = objects::of_pair(alloc, &types.names, domain, problem)?;
-        let names = Names::declared(alloc, types, &objects, domain, problem)?;
-        let start = names.stated(alloc, types, &objects, problem)?;
-        Ok(Contents {
-            objects,
-            names,
-            start,
-        })
-    }
-}
-
 impl Names {
     ghost use Rattle.typing.specs.Task.{TellsLeastOf};
     ghost use Rattle.typing.specs.Names.{domain_faults, known_by, known_in, stated_faults_in, AreDeclared, AreSchemasOf, AreTypesOf, Starts};
@@ -112,9 +44,9 @@ impl Names {
     ghost use Rattle.model.specs.Typing.{action_faults};
 
     /// The names that a domain declares, where these are its types and the pair's objects.
-    fn declared(
+    pub(crate) fn declared(
         alloc: Global,
-        types: &Types,
+        types: &TypeTable,
         objects: &Objects,
         domain: &Domain<'_>,
         problem: &Problem<'_>,
@@ -125,8 +57,8 @@ impl Names {
             (λ n. (domain_faults (domain_of domain.now) (problem_of problem.now) ≡ []) × AreDeclared (domain_of domain.now) n) }
         ensures err { IfErr result (TellsLeastOf (domain_faults (domain_of domain.now) (problem_of problem.now))) }
     {
-        let predicates = declarations::predicates(alloc, &types.names, domain)?;
-        let functions = functions::functions(alloc, &types.names, domain, problem)?;
+        let predicates = declarations::predicates(alloc, types, domain)?;
+        let functions = functions::functions(alloc, types, domain, problem)?;
         let schemas = Names::schemas(alloc, types, objects, &predicates, &functions, domain)?;
         Ok(Names {
             predicates,
@@ -138,7 +70,7 @@ impl Names {
     /// The actions that a domain declares, over its types, constants, predicates and functions.
     fn schemas(
         alloc: Global,
-        types: &Types,
+        types: &TypeTable,
         objects: &Objects,
         predicates: &IndexMap<Vec<u8>, Predicate>,
         functions: &IndexMap<Vec<u8>, Predicate>,
@@ -149,8 +81,7 @@ impl Names {
     {
         let globals = Globals {
             file: TaskFile::Domain,
-            type_names: &types.names,
-            types: &types.all,
+            types,
             predicates,
             functions,
             objects: &objects.constants,
@@ -159,10 +90,10 @@ impl Names {
     }
 
     /// What the problem states, with numbers for the names.
-    fn stated(
+    pub(crate) fn stated(
         &self,
         alloc: Global,
-        types: &Types,
+        types: &TypeTable,
         objects: &Objects,
         problem: &Problem<'_>,
     ) -> Result<Start, TaskFault>
@@ -171,8 +102,7 @@ impl Names {
     {
         let globals = Globals {
             file: TaskFile::Problem,
-            type_names: &types.names,
-            types: &types.all,
+            types,
             predicates: &self.predicates,
             functions: &self.functions,
             objects: &objects.all,

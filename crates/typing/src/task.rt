@@ -3,10 +3,10 @@ ghost use Rattle.std.specs.Prelude.{IsTrue, ◌≤◌, length};
 ghost use Rattle.task_parts.specs.TaskParts.{task_of_parts};
 ghost use Rattle.model.specs.WellTyped.{is_task};
 
-use crate::names::{Contents, Types};
+use crate::names::Names;
 use crate::{
     Atom, Formula, MAX_VARIABLES, ObjectId, Predicate, PredicateId, Schema, SchemaId, TaskFault,
-    TypeId, TypeUnion,
+    TypeId, TypeUnion, chains, objects,
 };
 use faults::NoMemory;
 use indexmap::IndexMap;
@@ -63,13 +63,13 @@ impl Task {
         ensures task { IfOk result (λ t. task_of t ≡ task_of_trees (domain_of domain.now) (problem_of problem.now)) }
         ensures least { IfErr result (TellsLeastFault (domain_of domain.now) (problem_of problem.now)) }
     {
-        let types = Types::declared(alloc, domain, problem)?;
-        let contents = Contents::over(alloc, &types, domain, problem)?;
-        let names = contents.names;
-        let start = contents.start;
+        let types = chains::types(alloc, domain, problem)?;
+        let objects = objects::of_pair(alloc, &types, domain, problem)?;
+        let names = Names::declared(alloc, &types, &objects, domain, problem)?;
+        let start = names.stated(alloc, &types, &objects, problem)?;
         Ok(Task {
-            types: types.all,
-            objects: contents.objects.all,
+            types: types.by_name,
+            objects: objects.all,
             predicates: names.predicates,
             functions: names.functions,
             schemas: names.schemas,

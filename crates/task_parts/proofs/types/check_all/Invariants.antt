@@ -1,6 +1,6 @@
 use Rattle.std.proofs.Common.{◌≡◌, drop}
 use Rattle.std.specs.List.{flat_map}
-use Rattle.task_parts.specs.Scope.{names_in}
+use Rattle.task_parts.specs.Scope.{keys_in}
 use Rattle.task_parts.specs.TypedLists.{declared_of}
 use Rattle.task_parts.specs.Walk.{found, least_of}
 use Rattle.model.specs.Typing as typing
@@ -8,5 +8,5 @@ use Rattle.task_parts.proofs.types.check_all.Given as goal
 
 abbrev pub invariant-loop-one : goal.invariant-loop-one
 invariant-loop-one l =
-    found (least_of l.walk) (flat_map (λ x. typing.types_faults (names_in l.names.keys) (declared_of x)) (drop l.one-index l.declared))
-    ≡ found (least_of l.initial.walk) (flat_map (λ x. typing.types_faults (names_in l.names.keys) (declared_of x)) l.declared)
+    found (least_of l.walk) (flat_map (λ x. typing.types_faults (keys_in l.names.entries) (declared_of x)) (drop l.one-index l.declared))
+    ≡ found (least_of l.initial.walk) (flat_map (λ x. typing.types_faults (keys_in l.names.entries) (declared_of x)) l.declared)

@@ -1,15 +1,16 @@
-use Rattle.std.proofs.Common.{◌∙◌, Bool, [], ap, sym, if◌then◌else◌}
+use Rattle.std.proofs.Common.{◌∙◌, Bool, [], ap, refl, sym, if◌then◌else◌}
 use Rattle.std.specs.Option.{option_map}
 use Rattle.syntax_tree.specs.Tree.{name_of}
 use Rattle.model.specs.Typing.{refused_word}
 use Rattle.syntax_tree.specs.Tree.{file_of}
 use Rattle.task_parts.specs.Refusals.{refusal_of}
 use Rattle.task_parts.specs.Walk.{found, least_of}
-use Rattle.task_parts.proofs.Tables.{is_known-folded}
+use Rattle.task_parts.proofs.Tables.{is_known-shown, key_is, lookup-any}
 use Rattle.task_parts.proofs.types.check_type.Goals as goal
 
 pub returns : goal.returns
 returns c =
     let told = λ (b : Bool). if b then [] else refused_word (file_of c.args.file) 14 (name_of c.args.name.now) in
-    c.refuse_unless.ensures ∙ ap (λ o. found (option_map refusal_of o) (told c.contains-known.result)) c.fold.ensures.least
-    ∙ ap (λ b. found (least_of c.args.walk.now) (told b)) (c.contains-known.ensures ∙ sym (is_known-folded (name_of c.args.name.now) _ (c.as_slice.ensures.value ∙ c.in_ok-fold.ensures.folded) c.args.names.now.keys))
+    c.refuse_unless.ensures ∙ ap (λ o. found (option_map refusal_of o) (told c.contains_key-known.result)) c.fold.ensures.least
+    ∙ ap (λ b. found (least_of c.args.walk.now) (told b)) (c.contains_key-known.ensures ∙ lookup-any (key_is c.as_slice.result.now) c.args.names.now.entries
+    ∙ sym (is_known-shown (λ e. e.0) (λ k. k.items) (λ e. refl) (name_of c.args.name.now) _ (c.as_slice.ensures.value ∙ c.in_ok-fold.ensures.folded) c.args.names.now.entries))

@@ -2,7 +2,7 @@ use Rattle.std.proofs.Common.{◌≡◌, ◌∙◌, Bool, List, [], ◌∷◌, �
 use Rattle.std.specs.Map.{lookup}
 use Rattle.std.proofs.lemmas.List.{append-nil}
 use Rattle.task_parts.specs.TypedLists.{declared_of}
-use Rattle.task_parts.specs.Scope.{names_in, variable_entry_of}
+use Rattle.task_parts.specs.Scope.{keys_in, variable_entry_of}
 use Rattle.model.specs.Typing as typing
 use Rattle.task_parts.proofs.Tables as tables
 use Rattle.task_parts.proofs.variables.add_variable.Goals.{After-contains_key}
@@ -22,7 +22,7 @@ pub returns-then-contains_key : goal.returns-then-contains_key
 unfolding pick
 returns-then-contains_key c =
     let vs = map variable_entry_of c.args.variables.now.entries in
-    let v = typing.variable_in (names_in c.args.types.now.names.keys) (declared_of c.args.declared.now) in
+    let v = typing.variable_in (keys_in c.args.types.now.by_name.entries) (declared_of c.args.declared.now) in
     let is = known (goal.at.returns-then-contains_key c).After-contains_key in
     record {
       variables = sym (ap (λ b. pick b vs v) (sym is ∙ c.if-contains_key.true));
@@ -34,7 +34,7 @@ unfolding pick
 returns c =
     let entries = c.args.variables.now.entries in let key = c.in_ok-key.key in let x = declared_of c.args.declared.now in
     let vs = map variable_entry_of entries in
-    let v = typing.variable_in (names_in c.args.types.now.names.keys) x in
+    let v = typing.variable_in (keys_in c.args.types.now.by_name.entries) x in
     let is = known (goal.at.returns c).After-contains_key in
     let new = sym is ∙ c.if-contains_key.false in
     record {

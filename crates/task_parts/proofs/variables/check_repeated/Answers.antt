@@ -2,19 +2,19 @@ use Rattle.std.proofs.Common.{◌∙◌, [], ap, sym, map}
 use Rattle.std.proofs.lemmas.List.{drop_all}
 use Rattle.task_parts.specs.Walk.{found, least_of}
 use Rattle.task_parts.specs.TypedLists.{declared_of, placed_of}
-use Rattle.task_parts.specs.Scope.{names_in}
+use Rattle.task_parts.specs.Scope.{keys_in}
 use Rattle.model.specs.Typing as typing
 use Rattle.task_parts.proofs.Found as finding
 use Rattle.task_parts.proofs.variables.check_repeated.Goals as goal
 
 pub loop-one-preserved : goal.loop-one-preserved
 loop-one-preserved c =
-    finding.found_declared_at placed_of c.args.declared.now c.loop-one.one-index _ c.loop-one-test.true (names_in c.loop-one.names.keys) (names_in c.declare.new.names.keys)
+    finding.found_declared_at placed_of c.args.declared.now c.loop-one.one-index _ c.loop-one-test.true (keys_in c.loop-one.names.entries) (keys_in c.declare.new.table.entries)
     (least_of c.loop-one.walk) (least_of c.declare.new.walk) _ c.in_ok-declare.ensures.names c.in_ok-declare.ensures.finds c.loop-one.invariant
 
 pub returns : goal.returns
 returns c =
     let xs = c.args.declared.now in
-    sym (ap (λ ys. found (least_of c.loop-one.walk) (typing.refused 16 (typing.repeated_after (names_in c.loop-one.names.keys) (map placed_of ys)))) (drop_all c.loop-one.one-index xs c.loop-one-test.false))
+    sym (ap (λ ys. found (least_of c.loop-one.walk) (typing.refused 16 (typing.repeated_after (keys_in c.loop-one.names.entries) (map placed_of ys)))) (drop_all c.loop-one.one-index xs c.loop-one-test.false))
     ∙ c.loop-one.invariant
     ∙ ap (λ ws. found (least_of c.args.walk.now) (typing.refused 16 (typing.repeated_after [] ws))) (sym (finding.map-map (λ (y : typing.Declared). typing.placed y.file y.name) declared_of xs))

@@ -1,7 +1,7 @@
 use Rattle.std.proofs.Common.{◌++◌, ◌∙◌, ap, map, length, sym}
 use Rattle.std.proofs.lemmas.List.{length-map}
 use Rattle.task_parts.specs.TypedLists.{declared_of}
-use Rattle.task_parts.specs.Scope.{names_in, variable_entry_of}
+use Rattle.task_parts.specs.Scope.{keys_in, variable_entry_of}
 use Rattle.task_parts.specs.Walk.{found, least_of}
 use Rattle.model.specs.Typing as typing
 use Rattle.task_parts.proofs.Found.{found_after}
@@ -11,7 +11,7 @@ pub returns : goal.returns
 returns c =
     let xs = map declared_of c.args.declared.now in
     let vs = map variable_entry_of c.args.variables.now.entries in
-    let unknown = typing.type_faults (names_in c.args.types.now.names.keys) xs in
+    let unknown = typing.type_faults (keys_in c.args.types.now.by_name.entries) xs in
     let twice = typing.refused 16 (typing.repeated (typing.words_of xs)) in
     let shadows = typing.refused 20 (typing.known_among (typing.names_of_variables vs) (typing.words_of xs)) in
     let many = typing.refused 25 (typing.one_too_many (length vs) (typing.words_of xs)) in

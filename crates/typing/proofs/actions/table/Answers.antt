@@ -4,7 +4,6 @@ use Rattle.task_parts.specs.TaskParts as parts
 use Rattle.task_parts.specs.Scope.{known_outside}
 use Rattle.syntax_tree.specs.Tree as read
 use Rattle.model.specs.Trees.{domain_file}
-use Rattle.model.specs.Task as task
 use Rattle.model.specs.Typing as typing
 use Rattle.typing.proofs.TableSteps as tables
 use Rattle.task_parts.proofs.Found as finding
@@ -17,11 +16,12 @@ loop-action-preserved c =
     let known = known_outside c.args.globals.now in
     let placed_as = λ (a : Action). typing.placed domain_file (read.name_of a.name) in
     let made = λ (a : Action). typing.schema_in known (read.action_of a) in
-    let before = map parts.schema_of c.loop-action.schemas.entries in
-    let after = map parts.schema_of c.declare_schema.new.schemas.entries in
+    let shape = c.in_ok-schema.ensures.shape in
     record {
       finds = finding.found_step (λ (a : Action). typing.schema_faults known (read.action_of a)) xs i x c.loop-action-test.true c.action-item.is
-          (least_of c.loop-action.walk) (least_of c.declare_schema.new.walk) _ c.in_ok-declare_schema.ensures.finds c.loop-action.invariant.finds;
-      table = λ once. tables.table_step placed_as made (λ (s : task.Schema). s.name) xs i x c.loop-action-test.true c.action-item.is
-          before after (map made xs) c.in_ok-declare_schema.ensures.names c.in_ok-declare_schema.ensures.added (c.loop-action.invariant.table once);
+          (least_of c.loop-action.walk) (least_of c.schema.new.walk) _ c.in_ok-schema.ensures.finds c.loop-action.invariant.finds;
+      table = λ once. tables.table_step placed_as made parts.schema_of xs i x c.loop-action-test.true c.action-item.is
+          c.loop-action.schemas.entries c.put.new.table.entries c.in_ok-schema.schema (map made xs)
+          (λ key is j. record { name = is j; parameters = (shape j).0; precondition = (shape j).1; effect = (shape j).2; increase = (shape j).3 })
+          c.in_ok-put.ensures.names c.in_ok-put.ensures.added (c.loop-action.invariant.table once);
     }

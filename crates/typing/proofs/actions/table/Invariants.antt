@@ -2,7 +2,7 @@ use Rattle.std.proofs.Common.{◌≡◌, [], ◌++◌, map, drop}
 use Rattle.std.specs.List.{flat_map}
 use Rattle.task_parts.specs.Walk.{found, least_of}
 use Rattle.task_parts.specs.TaskParts as parts
-use Rattle.task_parts.specs.Scope.{known_outside}
+use Rattle.task_parts.specs.Scope.{keys_in, known_outside}
 use Rattle.syntax_tree.specs.Tree as read
 use Rattle.model.specs.Trees.{domain_file}
 use Rattle.model.specs.Typing as typing
@@ -13,7 +13,7 @@ invariant-loop-action l = record {
   finds : found (least_of l.walk) (flat_map (λ a. typing.schema_faults (known_outside l.globals) (read.action_of a)) (drop l.action-index l.actions))
       ≡ found (least_of l.initial.walk) (flat_map (λ a. typing.schema_faults (known_outside l.globals) (read.action_of a)) l.actions);
   table : typing.repeated_after [] (map (λ a. typing.placed domain_file (read.name_of a.name)) l.actions) ≡ []
-      → (typing.repeated_after (map (λ s. s.name) (map parts.schema_of l.schemas.entries)) (map (λ a. typing.placed domain_file (read.name_of a.name)) (drop l.action-index l.actions)) ≡ [])
+      → (typing.repeated_after (keys_in l.schemas.entries) (map (λ a. typing.placed domain_file (read.name_of a.name)) (drop l.action-index l.actions)) ≡ [])
       × (map parts.schema_of l.schemas.entries ++ map (λ a. typing.schema_in (known_outside l.globals) (read.action_of a)) (drop l.action-index l.actions)
       ≡ map (λ a. typing.schema_in (known_outside l.globals) (read.action_of a)) l.actions);
 }

@@ -1,5 +1,5 @@
 use Rattle.std.proofs.Common.{◌≡◌, ◌∙◌, map, ap}
-use Rattle.task_parts.specs.Scope.{names_in}
+use Rattle.task_parts.specs.Scope.{keys_in}
 use Rattle.task_parts.specs.TypedLists.{declared_of}
 use Rattle.task_parts.specs.TaskParts as parts
 use Rattle.syntax_tree.specs.Tree as read
@@ -10,7 +10,7 @@ use Rattle.typing.proofs.declarations.arguments.Goals as goal
 
 pub returns : goal.returns
 returns c =
-    let names = names_in c.args.types.now.names.keys in
+    let names = keys_in c.args.types.now.by_name.entries in
     let same = ap (map declared_of) c.as_slice-declared.ensures.value ∙ c.in_ok-list.ensures ∙ ap (λ gs. typing.declared domain_file (map read.group_of gs)) c.as_slice-groups.ensures.value in
     IfOk-weaker c.unions.result _ (λ v. map parts.union_of v.items ≡ typing.unions_in names (typing.declared domain_file (read.groups_of c.args.declaration.now.parameters)))
     (λ v is. is ∙ ap (typing.unions_in names) same) c.unions.ensures

@@ -1,7 +1,7 @@
 use Rattle.std.proofs.Common.{◌∙◌, ◌++◌, List, ap, map}
 use Rattle.task_parts.specs.TypedLists.{declared_of}
 use Rattle.task_parts.specs.Walk.{found, least_of}
-use Rattle.task_parts.specs.Scope.{names_in}
+use Rattle.task_parts.specs.Scope.{keys_in}
 use Rattle.syntax_tree.specs.Tree as read
 use Rattle.model.specs.Trees.{domain_file}
 use Rattle.model.specs.Typing as typing
@@ -10,7 +10,7 @@ use Rattle.typing.proofs.declarations.check_arguments.Goals as goal
 
 pub returns : goal.returns
 returns c =
-    let faults = λ (xs : List typing.Declared). typing.type_faults (names_in c.args.types.now.names.keys) xs in
+    let faults = λ (xs : List typing.Declared). typing.type_faults (keys_in c.args.types.now.by_name.entries) xs in
     let many = λ (xs : List typing.Declared). typing.refused 25 (typing.one_after 8 (typing.words_of xs)) in
     let xs = map declared_of c.as_slice-declared.result.now in
     let same = ap (map declared_of) c.as_slice-declared.ensures.value ∙ c.in_ok-list.ensures ∙ ap (λ gs. typing.declared domain_file (map read.group_of gs)) c.as_slice-groups.ensures.value in

@@ -1,11 +1,13 @@
-use Rattle.std.proofs.Common.{◌≡◌, ◌∙◌, List, [], ◌++◌, map, fold, ap, sym}
+use Rattle.std.proofs.Common.{◌≡◌, ◌∙◌, List, [], ◌++◌, map, fold, refl, ap, sym}
 use Rattle.std.specs.List.{flat_map}
 use Rattle.task_parts.specs.Walk.{found, least_of}
-use Rattle.task_parts.specs.Scope.{names_in}
+use Rattle.task_parts.specs.Scope.{keys_in}
 use Rattle.syntax_tree.specs.Tree as read
 use Rattle.model.specs.Trees.{domain_file}
 use Rattle.model.specs.Typing as typing
+use Rattle.task_parts.specs.TaskParts as parts
 use Rattle.task_parts.proofs.Found as finding
+use Rattle.task_parts.proofs.Tables.{keys_in-named}
 use Rattle.task_parts.proofs.Empty as empty
 use Rattle.syntax_tree.specs.declared.tree.Predicate.{Predicate}
 use Rattle.model.specs.Task as task
@@ -29,12 +31,12 @@ all_faults names qs =
 
 pub returns-clause-names : goal.returns-clause-names
 returns-clause-names c =
-    c.in_ok-table.ensures.names ∙ ap (fold typing.with_name []) (sym (finding.map-map (λ (q : tree.Predicate). q.name) read.predicate_of c.args.declarations.now))
+    sym (keys_in-named parts.predicate_of (λ p. p.name) (λ e. refl) c.in_ok-table.table.entries) ∙ c.in_ok-table.ensures.names ∙ ap (fold typing.with_name []) (sym (finding.map-map (λ (q : tree.Predicate). q.name) read.predicate_of c.args.declarations.now))
 
 pub returns-clause-table : goal.returns-clause-table
 unfolding twice inner
 returns-clause-table c none =
-    let xs = c.args.declarations.now in let names = names_in c.args.types.now.names.keys in
+    let xs = c.args.declarations.now in let names = keys_in c.args.types.now.by_name.entries in
     let once = empty.nil_left (twice xs) (inner names xs) (all_faults names xs ∙ none) in
     c.in_ok-table.ensures.table (empty.not_refused 16 (typing.repeated (map (λ (q : Predicate). typing.placed domain_file (read.name_of q.name)) xs)) once)
     ∙ sym (finding.map-map (typing.predicate_in names) read.predicate_of xs)
@@ -42,6 +44,6 @@ returns-clause-table c none =
 pub returns-clause-finds : goal.returns-clause-finds
 unfolding twice inner
 returns-clause-finds c =
-    let xs = c.args.declarations.now in let names = names_in c.args.types.now.names.keys in
+    let xs = c.args.declarations.now in let names = keys_in c.args.types.now.by_name.entries in
     finding.found_after (least_of c.args.walk.now) (least_of c.table.new.walk) _ (twice xs) (inner names xs) c.in_ok-table.ensures.finds c.in_ok-check_declarations.ensures
     ∙ ap (found (least_of c.args.walk.now)) (all_faults names xs)

@@ -1,7 +1,7 @@
 use Rattle.std.proofs.Common.{◌≡◌, ◌∙◌, [], map, None, ap}
 use Rattle.task_parts.specs.Walk.{found, least_of}
 use Rattle.task_parts.specs.TaskParts as parts
-use Rattle.task_parts.specs.Scope.{names_in}
+use Rattle.task_parts.specs.Scope.{keys_in}
 use Rattle.syntax_tree.specs.Tree as read
 use Rattle.model.specs.Typing as typing
 use Rattle.task_parts.proofs.Tells as telling
@@ -10,7 +10,7 @@ use Rattle.typing.proofs.declarations.predicates.Goals as goal
 pub returns : goal.returns
 returns c =
     let ys = c.args.domain.now.predicates.items in
-    let names = names_in c.args.types.now.names.keys in
+    let names = keys_in c.args.types.now.by_name.entries in
     let predicates = c.in_ok-predicates.predicates in
     let faults = typing.declaration_faults names (map read.predicate_of ys) in
     let whole = map (typing.predicate_in names) (map read.predicate_of ys) in

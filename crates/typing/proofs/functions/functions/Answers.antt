@@ -1,7 +1,7 @@
 use Rattle.std.proofs.Common.{◌≡◌, ◌∙◌, [], ◌++◌, if◌then◌else◌, map, fold, None, ap}
 use Rattle.std.specs.List.{list_any}
 use Rattle.std.specs.Option.{option_map_or}
-use Rattle.task_parts.specs.Scope.{names_in}
+use Rattle.task_parts.specs.Scope.{keys_in}
 use Rattle.task_parts.specs.Walk.{found, least_of}
 use Rattle.task_parts.specs.TaskParts as parts
 use Rattle.syntax_tree.specs.Tree as read
@@ -28,7 +28,7 @@ returns c =
     let metric = metric_told has c.as_ref.result c.args.problem.now.metric c.as_ref.ensures.value ∙ ap (λ b. metric_faults b p.metric) is in
     let total : least_of c.check_metric.new.walk ≡ found None (typing.function_faults d p) =
     finding.found_after (least_of c.new-walk.result) (least_of c.declared.new.walk) _
-    (typing.declaration_faults (names_in c.args.types.now.names.keys) (map read.predicate_of c.deref.result.now))
+    (typing.declaration_faults (keys_in c.args.types.now.by_name.entries) (map read.predicate_of c.deref.result.now))
     (option_map_or (λ n. if has then [] else typing.refused_word problem_file 22 (read.name_of n.now)) c.as_ref.result []) c.in_ok-functions.ensures.finds c.check_metric.ensures
     ∙ (λ i. found (c.new-walk.ensures i) (declared i ++ metric i)) in
     let table : typing.function_faults d p ≡ [] → map parts.predicate_of functions.entries ≡ typing.functions_of d =

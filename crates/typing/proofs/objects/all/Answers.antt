@@ -2,7 +2,7 @@ use Rattle.std.proofs.Common.{◌≡◌, ◌≤◌, ◌∙◌, [], ◌++◌, map
 use Rattle.task_parts.specs.Walk.{found, least_of}
 use Rattle.task_parts.specs.TaskParts as parts
 use Rattle.task_parts.specs.TypedLists.{declared_of}
-use Rattle.task_parts.specs.Scope.{names_in}
+use Rattle.task_parts.specs.Scope.{keys_in}
 use Rattle.model.specs.Typing as typing
 use Rattle.std.proofs.lemmas.List.{length-map}
 use Rattle.task_parts.proofs.Found as finding
@@ -13,7 +13,7 @@ use Rattle.typing.proofs.objects.all.Goals as goal
 pub returns : goal.returns
 returns c =
     let ys = map declared_of c.args.declared.now in
-    let names = names_in c.args.types.now.names.keys in
+    let names = keys_in c.args.types.now.by_name.entries in
     let objects = c.in_ok-objects.objects in
     let faults = typing.objects_faults names ys in
     let unknown = typing.type_faults names ys in

@@ -2,8 +2,7 @@ use Rattle.std.proofs.Common.{◌∙◌, [], map, ap, sym}
 use Rattle.task_parts.specs.Walk.{found, least_of}
 use Rattle.task_parts.specs.TaskParts as parts
 use Rattle.task_parts.specs.TypedLists.{declared_of, placed_of}
-use Rattle.task_parts.specs.Scope.{names_in}
-use Rattle.model.specs.Task as task
+use Rattle.task_parts.specs.Scope.{keys_in}
 use Rattle.model.specs.Typing as typing
 use Rattle.std.proofs.lemmas.List.{drop_all}
 use Rattle.task_parts.specs.declared.typed_lists.Declared.{Declared}
@@ -14,20 +13,21 @@ use Rattle.typing.proofs.objects.table.Goals as goal
 pub loop-one-preserved : goal.loop-one-preserved
 loop-one-preserved c =
     let xs = c.args.declared.now in let i = c.loop-one.one-index in
-    let made = λ (y : Declared). typing.object_in (names_in c.args.types.now.names.keys) (declared_of y) in
-    let before = map parts.object_entry_of c.loop-one.objects.entries in
-    let after = map parts.object_entry_of c.declare_object.new.objects.entries in
+    let made = λ (y : Declared). typing.object_in (keys_in c.args.types.now.by_name.entries) (declared_of y) in
+    let before = c.loop-one.objects.entries in
+    let after = c.declare.new.table.entries in
     record {
-      finds = finding.found_declared_at placed_of xs i _ c.loop-one-test.true (typing.names_of_objects before) (typing.names_of_objects after)
-          (least_of c.loop-one.walk) (least_of c.declare_object.new.walk) _ c.in_ok-declare_object.ensures.names c.in_ok-declare_object.ensures.finds c.loop-one.invariant.finds;
-      table = λ once. tables.table_step_at placed_of made (λ (o : task.Object). o.name) xs i _ c.loop-one-test.true
-          before after (map made xs) c.in_ok-declare_object.ensures.names c.in_ok-declare_object.ensures.added (c.loop-one.invariant.table once);
+      finds = finding.found_declared_at placed_of xs i _ c.loop-one-test.true (keys_in before) (keys_in after)
+          (least_of c.loop-one.walk) (least_of c.declare.new.walk) _ c.in_ok-declare.ensures.names c.in_ok-declare.ensures.finds c.loop-one.invariant.finds;
+      table = λ once. tables.table_step_at placed_of made parts.object_entry_of xs i _ c.loop-one-test.true
+          before after c.in_ok-of_type.of_type (map made xs) (λ key is j. record { name = is j; type = c.in_ok-of_type.ensures j })
+          c.in_ok-declare.ensures.names c.in_ok-declare.ensures.added (c.loop-one.invariant.table once);
     }
 
 pub returns-clause-table : goal.returns-clause-table
 returns-clause-table c = λ once.
     let xs = c.args.declared.now in
-    let make = typing.object_in (names_in c.args.types.now.names.keys) in
+    let make = typing.object_in (keys_in c.args.types.now.by_name.entries) in
     tables.table_end (λ (y : Declared). make (declared_of y)) xs c.loop-one.one-index c.loop-one-test.false _ _
     (c.loop-one.invariant.table (ap (typing.repeated_after []) (sym (finding.map-map (λ (y : typing.Declared). typing.placed y.file y.name) declared_of xs)) ∙ once)).1
     ∙ sym (finding.map-map make declared_of xs)
@@ -35,6 +35,6 @@ returns-clause-table c = λ once.
 pub returns-clause-finds : goal.returns-clause-finds
 returns-clause-finds c =
     let xs = c.args.declared.now in
-    sym (ap (λ ys. found (least_of c.loop-one.walk) (typing.refused 16 (typing.repeated_after (typing.names_of_objects (map parts.object_entry_of c.loop-one.objects.entries)) (map placed_of ys)))) (drop_all c.loop-one.one-index xs c.loop-one-test.false))
+    sym (ap (λ ys. found (least_of c.loop-one.walk) (typing.refused 16 (typing.repeated_after (keys_in c.loop-one.objects.entries) (map placed_of ys)))) (drop_all c.loop-one.one-index xs c.loop-one-test.false))
     ∙ c.loop-one.invariant.finds
     ∙ ap (λ ws. found (least_of c.args.walk.now) (typing.refused 16 (typing.repeated_after [] ws))) (sym (finding.map-map (λ (y : typing.Declared). typing.placed y.file y.name) declared_of xs))

@@ -2,19 +2,19 @@ use Rattle.std.proofs.Common.{◌∙◌, [], ◌∷◌, ◌++◌, map, refl, ap,
 use Rattle.std.proofs.lemmas.List.{map_push, map_more}
 use Rattle.task_parts.specs.TaskParts as parts
 use Rattle.task_parts.specs.TypedLists.{declared_of}
-use Rattle.task_parts.specs.Scope.{names_in}
+use Rattle.task_parts.specs.Scope.{keys_in}
 use Rattle.syntax_tree.specs.Tree as read
 use Rattle.model.specs.Typing as typing
 use Rattle.task_parts.specs.declared.typed_lists.Declared.{Declared}
 use Rattle.task_parts.proofs.Found.{map_taken}
-use Rattle.task_parts.proofs.type_names.TypeNames.unions.Goals as goal
+use Rattle.task_parts.proofs.type_names.TypeTable.unions.Goals as goal
 
 pub loop-one-preserved : goal.loop-one-preserved
 loop-one-preserved c =
     ap (map parts.union_of) c.in_ok-push.ensures.items ∙ map_push parts.union_of c.loop-one.unions.items _ ∙ (λ i. c.loop-one.invariant i ++ c.in_ok-union.ensures i ∷ [])
-    ∙ sym (map_more (λ (x : Declared). typing.union_in (names_in c.args.self.now.names.keys) (map read.name_of x.types.now)) c.args.declared.now c.loop-one.one-index _ c.loop-one-test.true)
+    ∙ sym (map_more (λ (x : Declared). typing.union_in (keys_in c.args.self.now.by_name.entries) (map read.name_of x.types.now)) c.args.declared.now c.loop-one.one-index _ c.loop-one-test.true)
 
 pub returns : goal.returns
 returns c =
-    map_taken (λ (x : typing.Declared). typing.union_in (names_in c.args.self.now.names.keys) x.types) declared_of c.args.declared.now c.args.declared.now c.loop-one.one-index _
+    map_taken (λ (x : typing.Declared). typing.union_in (keys_in c.args.self.now.by_name.entries) x.types) declared_of c.args.declared.now c.args.declared.now c.loop-one.one-index _
     c.loop-one.invariant c.loop-one-test.false refl

@@ -1,10 +1,10 @@
 use Rattle.std.proofs.Common.{◌≡◌, ◌==◌, ◌∙◌, false, List, [], ◌∷◌, map, length, refl, sym, true≢false}
-use Rattle.task_parts.specs.Scope.{names_in}
+use Rattle.task_parts.specs.Scope.{keys_in}
 use Rattle.syntax_tree.specs.Tree as read
 use Rattle.syntax_tree.specs.declared.name.Name.{Name}
 use Rattle.model.specs.Task as task
 use Rattle.model.specs.Typing as typing
-use Rattle.task_parts.proofs.type_names.TypeNames.union.Goals as goal
+use Rattle.task_parts.proofs.type_names.TypeTable.union.Goals as goal
 
 -- where some are written, they are the union
 some_written : (names : List task.Name) (ns : List Name) → (length ns == 0) ≡ false → map (λ n. typing.number_in names (read.name_of n)) ns ≡ typing.union_in names (map read.name_of ns)
@@ -17,4 +17,4 @@ some_written names (n ∷ ns) e = each (n ∷ ns)
 
 pub returns-in_ok-numbers : goal.returns-in_ok-numbers
 returns-in_ok-numbers c =
-    c.in_ok-numbers.ensures ∙ some_written (names_in c.args.self.now.names.keys) c.args.types.now (sym c.is_empty.ensures ∙ c.if-is_empty.false)
+    c.in_ok-numbers.ensures ∙ some_written (keys_in c.args.self.now.by_name.entries) c.args.types.now (sym c.is_empty.ensures ∙ c.if-is_empty.false)
