@@ -156,18 +156,8 @@ module _ {V S : Type 0} (shown : Vec ℕ × V → S) (label : S → List ℕ) (n
           ∙ ap (λ l. labels es ++ l ∷ []) (named (key, value) ∙ is)
           ∙ sym (ap (λ c. if c then labels es else labels es ++ folded name ∷ []) (is_known-entries es ∙ t))
 
-  -- what the table shows of a new name
-  pub shown-insert : (made : S) → shown (key, value) ≡ made → (es : List (Vec ℕ × V)) → is_known (labels es) name ≡ false
-      → map shown (insert_entry (λ (x y : Vec ℕ). pointwise nat_eq x.items y.items) es key value) ≡ map shown es ++ made ∷ []
-  shown-insert made shows es new =
-      ap (map shown) (insert-new es (sym (is_known-entries es) ∙ new)) ∙ map-append shown es ((key, value) ∷ []) ∙ ap (λ s. map shown es ++ s ∷ []) shows
-
 -- whether a name is among those that a table's entries show
 pub is_known-shown : {V S : Type 0} (shown : Vec ℕ × V → S) (label : S → List ℕ) (named : (e : Vec ℕ × V) → label (shown e) ≡ e.0.items)
     (name : tree.Name) (q : List ℕ) → q ≡ folded name → (es : List (Vec ℕ × V)) → is_known (map label (map shown es)) name ≡ list_any (λ e. key_is q e.0) es
 is_known-shown shown label named name q is es =
     sym (ap (λ ks. is_known ks name) (keys_in-named shown label named es)) ∙ is_known-folded name q is (keys_of es) ∙ list_any-map (key_is q) (λ e. e.0) es
-
-pub is_known-named : {V S : Type 0} (shown : Vec ℕ × V → S) (label : S → List ℕ) (named : (e : Vec ℕ × V) → label (shown e) ≡ e.0.items)
-    (name : tree.Name) (key : Vec ℕ) → key.items ≡ folded name → (es : List (Vec ℕ × V)) → is_known (map label (map shown es)) name ≡ list_any (λ e. key_is key.items e.0) es
-is_known-named shown label named name key is es = is_known-shown shown label named name key.items is es

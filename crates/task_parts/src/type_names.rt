@@ -29,7 +29,7 @@ fn object_alone(alloc: Global) -> Result<Vec<TypeId>, NoMemory>
 
 impl TypeTable {
     ghost use Rattle.task_parts.specs.TypedLists.{declared_of};
-    ghost use Rattle.task_parts.specs.Scope.{keys_in, names_in};
+    ghost use Rattle.task_parts.specs.Scope.{keys_in};
     ghost use Rattle.syntax_tree.specs.Tree as read;
     ghost use Rattle.model.specs.Typing as typing;
 

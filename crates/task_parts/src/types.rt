@@ -15,7 +15,6 @@ use crate::walk::Walk;
 use crate::{TaskFile, TypeId, TypeUnion};
 use faults::{Code, NoMemory};
 use indexmap::IndexMap;
-use std::alloc::Global;
 use syntax_tree::Name;
 
 /// A type that is not known is refused.

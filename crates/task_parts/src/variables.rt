@@ -5,11 +5,11 @@ ghost use Rattle.task_parts.specs.Scope.{keys_in, variable_entry_of, BeginsWith}
 ghost use Rattle.task_parts.specs.Walk.{Finds};
 ghost use Rattle.model.specs.Typing as typing;
 
-use crate::domain::declare;
+use crate::domain::{declare, put};
 use crate::type_names::TypeTable;
 use crate::typed_lists::{Declared, limit};
 use crate::types::check_all;
-use crate::walk::Walk;
+use crate::walk::{Walk, fold};
 use crate::{MAX_VARIABLES, TypeUnion};
 use faults::{Code, NoMemory};
 use indexmap::IndexMap;
@@ -95,12 +95,12 @@ fn add_variable(
         ≡ typing.with_variable (map variable_entry_of variables.old.entries) (typing.variable_in (keys_in types.now.by_name.entries) (declared_of declared.now))) }
     ensures kept { OnOk result (BeginsWith variables.old.entries variables.new.entries) }
 {
-    let key = declared.name.text.to_ascii_lowercase(alloc)?;
-    if variables.contains_key(key.as_slice()) {
+    fold(room, &declared.name)?;
+    if variables.contains_key(room.as_slice()) {
         return Ok(());
     }
     let union = types.union(alloc, room, declared.types)?;
-    variables.insert(key, union)?;
+    put(alloc, variables, &declared.name, union)?;
     Ok(())
 }
 
