@@ -45,6 +45,17 @@ impl Task {
     ///
     /// # Errors
     /// The least fault of the pair, where it has one; [`TaskFault::NoMemory`] where memory is refused.
+    ///
+    /// # Examples
+    /// A domain with `(:constants a)` and a problem for it with `(:objects b)` make a task of two objects, the constant
+    /// first:
+    ///
+    /// ```
+    /// let task = Task::new(alloc, domain, problem)?;
+    /// assert_eq!(rt; task.object_count(), 2);
+    /// ```
+    ///
+    /// With `(:objects a)` the problem is refused by `Duplicate` at its `a`.
     pub fn new(alloc: Global, domain: Domain<'_>, problem: Problem<'_>) -> Result<Task, TaskFault>
         ensures well_typed { OnOk result (typing_faults.IsWellTyped (domain_of domain.entry) (problem_of problem.entry)) }
         ensures task { IfOk result (λ t. task_of t ≡ task_of_trees (domain_of domain.entry) (problem_of problem.entry)) }
