@@ -5,6 +5,7 @@ pub mod Tasks
 pub mod Quantifiers
 pub mod CarriedOut
 pub mod ChangeLists
+pub mod ChangesFit
 pub mod Instances
 pub mod FluentPredicates
 pub mod Pointwise

@@ -115,7 +115,7 @@ pub one_less : (before after rest : List ObjectId) (o : ObjectId) (objects : Lis
 one_less before after rest o objects same is n count so =
     so ∙ (λ i. take (count i) (is i)) ∙ take-append_seam before (o ∷ []) ∙ same
 
-pointwise_push : {A B : Type 0} (p : A → B → Bool) (xs : List A) (ys : List B) (x : A) (y : B) → pointwise p xs ys ≡ true → p x y ≡ true → pointwise p (xs ++ x ∷ []) (ys ++ y ∷ []) ≡ true
+pub pointwise_push : {A B : Type 0} (p : A → B → Bool) (xs : List A) (ys : List B) (x : A) (y : B) → pointwise p xs ys ≡ true → p x y ≡ true → pointwise p (xs ++ x ∷ []) (ys ++ y ∷ []) ≡ true
 pointwise_push p [] [] x y all here = λ i. here i && true
 pointwise_push p [] (z ∷ ys) x y all here = absurd (cc)
 pointwise_push p (z ∷ xs) [] x y all here = absurd (cc)
