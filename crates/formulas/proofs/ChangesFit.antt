@@ -1,5 +1,5 @@
 -- The objects of the changes of an instance may stand for the variables in their conditions.
-use Rattle.std.proofs.Common.{◌≡◌, ℕ, zero, suc, true, false, List, [], ◌∷◌, ◌++◌, length, None, Some, inl, inr, refl, sym, subst, true≢false}
+use Rattle.std.proofs.Common.{◌≡◌, ℕ, true, false, List, [], ◌∷◌, ◌++◌, length, None, Some, inl, inr, refl, sym, subst, true≢false}
 use Rattle.std.specs.Prelude.{Contains, IsTrue, slice_get, nat_lt}
 use Rattle.std.specs.Cmp.{first_so, second_so}
 use Rattle.std.specs.Cmp.Lexicographic.{pointwise}
@@ -11,7 +11,7 @@ use Rattle.model.specs.Task.{Task, Union, Schema, Instance, Effect, Effects, lit
 use Rattle.model.specs.Meaning.{is_of, objects_of, Change, change_under, changes_of, changes_of_all, changes_of_instance, is_instance, fits}
 use Rattle.model.specs.WellTyped.{is_effect, are_effects, is_formula, is_effect_literal, is_schema, is_task, max_variables}
 use Rattle.model.proofs.Tests.{passes_got}
-use Rattle.model.proofs.ListLemmas.{Contains-here, Contains-there, Contains-cases, Contains-none, map-Contains, flat_map-Contains, filter-Contains}
+use Rattle.model.proofs.ListLemmas.{Contains-cases, Contains-none, map-Contains, flat_map-Contains, filter-Contains}
 use Rattle.formulas.proofs.Quantifiers.{pointwise_push}
 
 mutual

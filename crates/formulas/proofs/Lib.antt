@@ -3,6 +3,7 @@ pub mod Equality
 pub mod Trees
 pub mod Tasks
 pub mod Quantifiers
+pub mod ObjectWalk
 pub mod CarriedOut
 pub mod ChangeLists
 pub mod ChangesFit
