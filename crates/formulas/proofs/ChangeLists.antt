@@ -1,5 +1,5 @@
 -- Lists of changes, one after another.
-use Rattle.std.specs.Prelude.{◌≡◌, ℕ, ◌+◌, ◌<◌, ◌≤◌, List, [], ◌∷◌, ◌++◌, length, map, take}
+use Rattle.std.specs.Prelude.{◌≡◌, ℕ, ◌+◌, ◌<◌, ◌≤◌, List, [], ◌∷◌, ◌++◌, length, map, take, refl}
 use Rattle.std.proofs.Common.{sym, ◌∙◌, ap, get_or}
 use Rattle.std.specs.Global.{Vec}
 use Rattle.std.proofs.lemmas.List.{take_all, take_more, map-append, append_assoc}
@@ -8,7 +8,6 @@ use Rattle.task_parts.specs.declared.schemas.Formula.{Formula}
 use Rattle.task_parts.specs.declared.schemas.Effect.{Effect}
 use Rattle.task_parts.specs.declared.schemas.Effect as effect
 use Rattle.typing.specs.TaskParts.{effect_literal_of, effect_of, formula_of}
-use Rattle.formulas.proofs.CarriedOut.{map_twice}
 use Rattle.model.specs.Task as task
 use Rattle.model.specs.Meaning.{change_under, changes_of}
 
@@ -23,6 +22,10 @@ module _ {X Y : Type 0} (f : X → Y) (first : List Y) (xs : List X) (i : ℕ) w
   -- all items
   pub mapped_whole : (after : List Y) → length xs ≤ i → after ≡ first ++ map f (take i xs) → after ≡ first ++ map f xs
   mapped_whole after past so = so ∙ ap (λ l. first ++ map f l) (take_all i xs past)
+
+pub map_twice : {X Y Z : Type 0} (g : Y → Z) (f : X → Y) (xs : List X) → map (λ x. g (f x)) xs ≡ map g (map f xs)
+map_twice g f [] = refl
+map_twice g f (x ∷ xs) = ap (λ l. g (f x) ∷ l) (map_twice g f xs)
 
 -- the changes of an effect under a condition
 pub changes_when : (t : task.Task) (b : List ℕ) (e : Effect) (condition : Formula) (ls : Vec EffectLiteral) (items : List EffectLiteral) → e ≡ effect.When condition ls → items ≡ ls.items

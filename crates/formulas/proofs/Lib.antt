@@ -3,8 +3,10 @@ pub mod Equality
 pub mod Trees
 pub mod Tasks
 pub mod Quantifiers
+pub mod ObjectWalk
 pub mod CarriedOut
 pub mod ChangeLists
+pub mod ChangesFit
 pub mod Instances
 pub mod FluentPredicates
 pub mod Pointwise

@@ -1,8 +1,11 @@
--- The code's changes, in the model's terms.
-use Rattle.std.specs.Prelude.{Bool, List, if◌then◌else◌}
+-- The code's passes, in the model's terms.
+use Rattle.std.specs.Prelude.{List}
 use Rattle.std.specs.FinSet.{from_list, union, difference}
+use Rattle.formulas.specs.declared.change.Pass.{Pass}
+use Rattle.formulas.specs.declared.change.Pass.TheVariants.{Deletes, Adds}
 use Rattle.model.specs.Meaning.{State, GroundLiteral, added_by, deleted_by}
 
--- the state with what the literals add, or else less what they delete
-abbrev pub after_some : Bool → State → List GroundLiteral → State
-after_some adds state literals = if adds then union state (from_list (added_by literals)) else difference state (from_list (deleted_by literals))
+-- the state less what the literals delete, or else with what they add
+abbrev pub after_pass : Pass → State → List GroundLiteral → State
+after_pass Deletes state literals = difference state (from_list (deleted_by literals))
+after_pass Adds state literals = union state (from_list (added_by literals))

@@ -3,3 +3,4 @@ pub mod Equality
 pub mod Literals
 pub mod Changes
 pub mod Effects
+pub mod Objects

@@ -1,5 +1,5 @@
 -- States, instances and plans of the code, in the model's terms, and when objects may stand for variables.
-use Rattle.std.specs.Prelude.{ℕ, Bool, IsTrue, List, map}
+use Rattle.std.specs.Prelude.{ℕ, Bool, IsTrue, List, map, Contains}
 use Rattle.std.specs.Cmp.Lexicographic.{pointwise}
 use Rattle.std.specs.FinSet.{from_list}
 use Rattle.std.specs.List.{list_all}
@@ -46,3 +46,7 @@ FitsLiteral t literal objects = FitsScope t (λ scope. is_effect_literal t scope
 -- and in each of the literals
 abbrev pub FitsLiterals : task.Task → List task.EffectLiteral → List ℕ → Type 0
 FitsLiterals t literals objects = FitsScope t (λ scope. list_all (is_effect_literal t scope) literals) objects
+
+-- the objects of each of these changes may stand for the variables in its condition
+abbrev pub FitsChanges : task.Task → List meaning.Change → Type 0
+FitsChanges t changes = (change : meaning.Change) → Contains changes change → FitsFormula t change.condition change.binding

@@ -1,20 +1,30 @@
 //! Change: the state that an instance leads to.
 ghost use Rattle.std.specs.Prelude.{◌≡◌, ◌∷◌, [], map, IsTrue, IfOk, OnOk};
 ghost use Rattle.std.specs.Option.{option_map};
-ghost use Rattle.typing.specs.TaskParts.{object_of, effect_literal_of, effect_of, union_of};
 ghost use Rattle.typing.specs.Task.{task_of};
-ghost use Rattle.formulas.specs.State.{state_of, instance_of, FitsEffect, FitsLiteral, FitsLiterals};
-ghost use Rattle.formulas.specs.Changes.{after_some};
-ghost use Rattle.model.specs.Task.{each};
-ghost use Rattle.model.specs.Meaning.{is_instance, step, changes_of, literals_in, ground_literal};
+ghost use Rattle.formulas.specs.State.{state_of, instance_of, FitsFormula, FitsChanges};
+ghost use Rattle.formulas.specs.Effects.{change_of, ground_literal_of};
+ghost use Rattle.formulas.specs.Changes.{after_pass};
+ghost use Rattle.model.specs.Meaning as meaning;
+ghost use Rattle.model.specs.Meaning.{is_instance, step, literals_in};
 
 use crate::costs::amount;
-use crate::instance::{Binding, Instance, copied};
+use crate::effects::{Change, GroundLiteral, changes};
+use crate::instance::Instance;
 use crate::state::State;
-use crate::truth::{ground_atom, holds};
+use crate::truth::holds;
 use faults::NoMemory;
 use std::alloc::Global;
-use typing::{Effect, EffectLiteral, ObjectId, Task, TypeUnion};
+use typing::Task;
+
+/// Which literals are carried out.
+#[derive(Clone, Copy)]
+enum Pass {
+    /// Those that make an atom false.
+    Deletes,
+    /// Those that make an atom true.
+    Adds,
+}
 
 /// The state that the instance, which is one of the task's, leads to, and `None` where it is not applicable: where its
 /// precondition does not hold, or what it increases the total cost by has no value. All conditions are read in the state
@@ -23,7 +33,7 @@ use typing::{Effect, EffectLiteral, ObjectId, Task, TypeUnion};
 /// # Errors
 /// Memory was refused, which says nothing of the instance.
 pub fn apply(
-    _alloc: Global,
+    alloc: Global,
     task: &Task,
     instance: &Instance,
     state: &State,
@@ -37,113 +47,55 @@ pub fn apply(
     if amount(task, instance).is_none() {
         return Ok(None);
     }
-    let objects = &instance.objects;
-    if !holds(task, &schema.precondition, objects, state) {
+    if !holds(task, &schema.precondition, &instance.objects, state) {
         return Ok(None);
     }
+    let found = changes(alloc, task, instance)?;
     let mut next = state.try_clone()?;
-    carry_out(task, &schema.effect, objects, state, false, &mut next)?;
-    carry_out(task, &schema.effect, objects, state, true, &mut next)?;
+    carry_out(task, &found, state, Pass::Deletes, &mut next)?;
+    carry_out(task, &found, state, Pass::Adds, &mut next)?;
     Ok(Some(next))
 }
 
-/// Makes true what the effect adds, or else makes false what it deletes, where the conditions hold in the state before.
-#[cycle(carry_out)]
+/// Carries out the literals of the pass, of those changes whose condition holds in the state before.
 fn carry_out(
     task: &Task,
-    effect: &Effect,
-    binding: &Binding,
+    changes: &[Change],
     before: &State,
-    adds: bool,
+    pass: Pass,
     next: &mut State,
 ) -> Result<(), NoMemory>
-    requires { FitsEffect (task_of task.now) (effect_of effect.now) (map object_of binding.now.items) }
-    ensures { OnOk result (state_of next.new ≡ after_some adds (state_of next.old) (literals_in (task_of task.now) (state_of before.now) (changes_of (task_of task.now) (effect_of effect.now) (map object_of binding.now.items)))) }
+    requires { FitsChanges (task_of task.now) (map change_of changes.now) }
+    ensures { OnOk result (state_of next.new ≡ after_pass pass (state_of next.old) (literals_in (task_of task.now) (state_of before.now) (map change_of changes.now))) }
 {
-    match effect {
-        Effect::Literal(literal) => carry_out_one(task, literal, binding, adds, next)?,
-        Effect::And(parts) => {
-            for part in parts {
-                carry_out(task, part, binding, before, adds, next)?;
-            }
-        }
-        Effect::Forall(types, part) => {
-            carry_out_for_each(task, types, part, binding, before, adds, next)?
-        }
-        Effect::When(condition, literals) => {
-            if holds(task, condition, binding, before) {
-                carry_out_literals(task, literals, binding, adds, next)?
-            }
+    for change in changes {
+        if is_made(task, change, before) {
+            carry_out_one(&change.literal, pass, next)?;
         }
     }
     Ok(())
 }
 
-/// The same of the effect for each object of these types, as that of the next variable.
-#[cycle(carry_out)]
-fn carry_out_for_each(
-    task: &Task,
-    types: &TypeUnion,
-    part: &Effect,
-    binding: &Binding,
-    before: &State,
-    adds: bool,
-    next: &mut State,
-) -> Result<(), NoMemory>
-    requires { FitsEffect (task_of task.now) (each (union_of types.now) (effect_of part.now)) (map object_of binding.now.items) }
-    ensures { OnOk result (state_of next.new ≡ after_some adds (state_of next.old) (literals_in (task_of task.now) (state_of before.now) (changes_of (task_of task.now) (each (union_of types.now) (effect_of part.now)) (map object_of binding.now.items)))) }
+/// Whether the condition of the change holds in the state.
+fn is_made(task: &Task, change: &Change, before: &State) -> bool
+    requires { FitsFormula (task_of task.now) (change_of change.now).condition (change_of change.now).binding }
+    ensures { result ≡ meaning.holds (task_of task.now) (change_of change.now).condition (change_of change.now).binding (state_of before.now) }
 {
-    let mut extended = copied(binding);
-    for number in 0..task.object_count() {
-        let object = ObjectId(number as u32);
-        if task.is_of(object, types) {
-            extended.push(object);
-            carry_out(task, part, &extended, before, adds, next)?;
-            extended.pop();
-        }
+    match change.condition {
+        Some(condition) => holds(task, condition, &change.binding, before),
+        None => true,
     }
-    Ok(())
 }
 
-/// Makes true what the literals add, or else makes false what they delete.
-fn carry_out_literals(
-    task: &Task,
-    literals: &[EffectLiteral],
-    binding: &Binding,
-    adds: bool,
-    next: &mut State,
-) -> Result<(), NoMemory>
-    requires { FitsLiterals (task_of task.now) (map effect_literal_of literals.now) (map object_of binding.now.items) }
-    ensures { OnOk result (state_of next.new ≡ after_some adds (state_of next.old) (map (λ l. ground_literal (map object_of binding.now.items) (effect_literal_of l)) literals.now)) }
+/// Carries out the literal, if it is one of the pass.
+fn carry_out_one(literal: &GroundLiteral, pass: Pass, next: &mut State) -> Result<(), NoMemory>
+    ensures { OnOk result (state_of next.new ≡ after_pass pass (state_of next.old) (ground_literal_of literal.now ∷ [])) }
 {
-    for literal in literals {
-        carry_out_one(task, literal, binding, adds, next)?;
-    }
-    Ok(())
-}
-
-/// Makes true what the literal adds, or else makes false what it deletes.
-fn carry_out_one(
-    task: &Task,
-    literal: &EffectLiteral,
-    binding: &Binding,
-    adds: bool,
-    next: &mut State,
-) -> Result<(), NoMemory>
-    requires { FitsLiteral (task_of task.now) (effect_literal_of literal.now) (map object_of binding.now.items) }
-    ensures { OnOk result (state_of next.new ≡ after_some adds (state_of next.old) (ground_literal (map object_of binding.now.items) (effect_literal_of literal.now) ∷ [])) }
-{
-    match literal {
-        EffectLiteral::Add(atom) => {
-            if adds {
-                next.insert(ground_atom(atom, binding))?
-            }
-        }
-        EffectLiteral::Delete(atom) => {
-            if !adds {
-                next.remove(&ground_atom(atom, binding))
-            }
-        }
+    match (pass, literal) {
+        (Pass::Deletes, GroundLiteral::Deletes(atom)) => next.remove(atom),
+        (Pass::Adds, GroundLiteral::Adds(atom)) => next.insert(atom.clone()?)?,
+        (Pass::Deletes, GroundLiteral::Adds(_)) => {}
+        (Pass::Adds, GroundLiteral::Deletes(_)) => {}
     }
     Ok(())
 }

@@ -1,17 +1,17 @@
 //! What an instance changes, and under which conditions.
 ghost use Rattle.std.specs.Prelude.{◌≡◌, ◌++◌, ◌∷◌, [], map, IsTrue, IfOk, OnOk};
-ghost use Rattle.typing.specs.TaskParts.{object_of, formula_of, effect_literal_of, effect_of, union_of};
+ghost use Rattle.typing.specs.TaskParts.{object_of, formula_of, effect_literal_of, effect_of};
 ghost use Rattle.typing.specs.Task.{task_of};
 ghost use Rattle.formulas.specs.State.{instance_of, FitsEffect, FitsLiteral, FitsLiterals};
 ghost use Rattle.formulas.specs.Effects.{ground_literal_of, condition_of, change_of};
-ghost use Rattle.model.specs.Task.{each};
 ghost use Rattle.model.specs.Meaning.{is_instance, changes_of, changes_of_instance, change_under, ground_literal};
 
-use crate::instance::{Binding, Instance, copied};
+use crate::instance::{Binding, Instance, copied, with_object};
+use crate::objects::objects_of;
 use crate::truth::ground_atom;
 use faults::NoMemory;
 use std::alloc::Global;
-use typing::{Atom, Effect, EffectLiteral, Formula, ObjectId, Task, TypeUnion};
+use typing::{Atom, Effect, EffectLiteral, Formula, Task};
 
 /// An atom that becomes true, or false.
 #[derive(Debug, Drop)]
@@ -55,7 +55,6 @@ pub fn changes<'t>(
 }
 
 /// Adds the changes of the effect.
-#[cycle(changes)]
 fn add_changes<'t>(
     task: &Task,
     effect: &'t Effect,
@@ -72,33 +71,13 @@ fn add_changes<'t>(
                 add_changes(task, part, binding, found)?;
             }
         }
-        Effect::Forall(types, part) => add_changes_for_each(task, types, part, binding, found)?,
+        Effect::Forall(types, part) => {
+            for object in objects_of(task, types) {
+                add_changes(task, part, &with_object(binding, object), found)?;
+            }
+        }
         Effect::When(condition, literals) => {
             add_changes_under(task, condition, literals, binding, found)?
-        }
-    }
-    Ok(())
-}
-
-/// Adds the changes of the effect for each object of these types, as that of the next variable.
-#[cycle(changes)]
-fn add_changes_for_each<'t>(
-    task: &Task,
-    types: &TypeUnion,
-    part: &'t Effect,
-    binding: &Binding,
-    found: &mut Vec<Change<'t>>,
-) -> Result<(), NoMemory>
-    requires { FitsEffect (task_of task.now) (each (union_of types.now) (effect_of part.now)) (map object_of binding.now.items) }
-    ensures { OnOk result (map change_of found.new.items ≡ map change_of found.old.items ++ changes_of (task_of task.now) (each (union_of types.now) (effect_of part.now)) (map object_of binding.now.items)) }
-{
-    let mut extended = copied(binding);
-    for number in 0..task.object_count() {
-        let object = ObjectId(number as u32);
-        if task.is_of(object, types) {
-            extended.push(object);
-            add_changes(task, part, &extended, found)?;
-            extended.pop();
         }
     }
     Ok(())

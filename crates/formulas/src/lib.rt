@@ -8,6 +8,7 @@ mod fluents;
 mod instance;
 mod laws;
 mod literals;
+mod objects;
 mod plan;
 mod state;
 mod truth;

@@ -1,17 +1,17 @@
 //! What a formula says outright.
 ghost use Rattle.std.specs.Prelude.{◌≡◌, ◌++◌, map, IfOk, OnOk};
-ghost use Rattle.typing.specs.TaskParts.{object_of, formula_of, union_of};
+ghost use Rattle.typing.specs.TaskParts.{object_of, formula_of};
 ghost use Rattle.typing.specs.Task.{task_of};
 ghost use Rattle.formulas.specs.State.{FitsFormula};
 ghost use Rattle.formulas.specs.Literals.{literal_of};
-ghost use Rattle.model.specs.Task.{forall};
 ghost use Rattle.model.specs.SureLiterals as literals;
 
-use crate::instance::{Binding, copied};
+use crate::instance::{Binding, with_object};
+use crate::objects::objects_of;
 use crate::truth::{ground_atom, named_by};
 use faults::NoMemory;
 use std::alloc::Global;
-use typing::{Atom, Formula, ObjectId, Task, TypeUnion};
+use typing::{Atom, Formula, ObjectId, Task};
 
 /// What a formula says outright of an atom, or of two objects.
 #[derive(Debug, Drop)]
@@ -44,7 +44,6 @@ pub fn sure(
 }
 
 /// Adds the sure literals of the formula.
-#[cycle(sure)]
 fn add_sure(
     task: &Task,
     formula: &Formula,
@@ -66,7 +65,11 @@ fn add_sure(
                 add_sure(task, part, binding, found)?;
             }
         }
-        Formula::Forall(types, part) => add_sure_of_each(task, types, part, binding, found)?,
+        Formula::Forall(types, part) => {
+            for object in objects_of(task, types) {
+                add_sure(task, part, &with_object(binding, object), found)?;
+            }
+        }
         Formula::Or(_) | Formula::Imply(_, _) | Formula::Exists(_, _) => {}
     }
     Ok(())
@@ -89,30 +92,6 @@ fn add_sure_not(
             named_by(second, binding),
         ))?,
         _ => {}
-    }
-    Ok(())
-}
-
-/// Adds the sure literals of the formula for each object of these types, as that of the next variable.
-#[cycle(sure)]
-fn add_sure_of_each(
-    task: &Task,
-    types: &TypeUnion,
-    part: &Formula,
-    binding: &Binding,
-    found: &mut Vec<Literal>,
-) -> Result<(), NoMemory>
-    requires { FitsFormula (task_of task.now) (forall (union_of types.now) (formula_of part.now)) (map object_of binding.now.items) }
-    ensures { OnOk result (map literal_of found.new.items ≡ map literal_of found.old.items ++ literals.sure (task_of task.now) (forall (union_of types.now) (formula_of part.now)) (map object_of binding.now.items)) }
-{
-    let mut extended = copied(binding);
-    for number in 0..task.object_count() {
-        let object = ObjectId(number as u32);
-        if task.is_of(object, types) {
-            extended.push(object);
-            add_sure(task, part, &extended, found)?;
-            extended.pop();
-        }
     }
     Ok(())
 }

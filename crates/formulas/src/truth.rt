@@ -8,6 +8,7 @@ ghost use Rattle.model.specs.Task.{exists, forall};
 ghost use Rattle.model.specs.Meaning as meaning;
 
 use crate::instance::{Binding, copied};
+use crate::objects::objects_of;
 use crate::state::State;
 use crate::valuation::Valuation;
 use arrayvec::ArrayVec;
@@ -75,15 +76,12 @@ fn holds_for_all<V: Valuation>(
     ensures { result ≡ meaning.holds (task_of task.now) (forall (union_of types.now) (formula_of part.now)) (map object_of binding.now.items) (V.facts state.now) }
 {
     let mut extended = copied(binding);
-    for number in 0..task.object_count() {
-        let object = ObjectId(number as u32);
-        if task.is_of(object, types) {
-            extended.push(object);
-            if !holds(task, part, &extended, state) {
-                return false;
-            }
-            extended.pop();
+    for object in objects_of(task, types) {
+        extended.push(object);
+        if !holds(task, part, &extended, state) {
+            return false;
         }
+        extended.pop();
     }
     true
 }
@@ -101,15 +99,12 @@ fn holds_for_some<V: Valuation>(
     ensures { result ≡ meaning.holds (task_of task.now) (exists (union_of types.now) (formula_of part.now)) (map object_of binding.now.items) (V.facts state.now) }
 {
     let mut tried = copied(binding);
-    for candidate in 0..task.object_count() {
-        let object = ObjectId(candidate as u32);
-        if task.is_of(object, types) {
-            tried.push(object);
-            if holds(task, part, &tried, state) {
-                return true;
-            }
-            tried.pop();
+    for candidate in objects_of(task, types) {
+        tried.push(candidate);
+        if holds(task, part, &tried, state) {
+            return true;
         }
+        tried.pop();
     }
     false
 }

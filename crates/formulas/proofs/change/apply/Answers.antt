@@ -1,7 +1,10 @@
-use Rattle.std.proofs.Common.{map}
+use Rattle.std.proofs.Common.{map, sym, subst, ap, ◌∙◌}
 use Rattle.typing.specs.TaskParts.{shape_of, object_of}
 use Rattle.typing.specs.Task.{task_of}
-use Rattle.formulas.proofs.Instances.{precondition_fits, effect_fits}
+use Rattle.formulas.specs.State.{instance_of, FitsChanges}
+use Rattle.formulas.specs.Effects.{change_of}
+use Rattle.formulas.proofs.ChangesFit.{instance-changes-fit}
+use Rattle.formulas.proofs.Instances.{precondition_fits}
 use Rattle.formulas.proofs.change.apply.Goals as goal
 
 pub holds-requires : goal.holds-requires
@@ -11,10 +14,10 @@ holds-requires c =
 
 pub carry_out-requires : goal.carry_out-requires
 carry_out-requires c =
-    effect_fits (task_of c.args.task.now) c.args.instance.now.schema.0 (shape_of c.in-Some.schema.now) c.in-Some.ensures.shape
-    (map object_of c.args.instance.now.objects.items) c.requires c.args.task.now.well_typed
+    let task = task_of c.args.task.now in
+    subst (FitsChanges task) (sym c.in_ok-found.ensures ∙ ap (map change_of) (sym c.deref.ensures.value)) (instance-changes-fit task c.args.task.now.well_typed (instance_of c.args.instance.now) c.requires)
 
 pub carry_out-requires-2 : goal.carry_out-requires-2
 carry_out-requires-2 c =
-    effect_fits (task_of c.args.task.now) c.args.instance.now.schema.0 (shape_of c.in-Some.schema.now) c.in-Some.ensures.shape
-    (map object_of c.args.instance.now.objects.items) c.requires c.args.task.now.well_typed
+    let task = task_of c.args.task.now in
+    subst (FitsChanges task) (sym c.in_ok-found.ensures ∙ ap (map change_of) (sym c.deref-2.ensures.value)) (instance-changes-fit task c.args.task.now.well_typed (instance_of c.args.instance.now) c.requires)

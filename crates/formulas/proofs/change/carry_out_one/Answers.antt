@@ -1,35 +1,35 @@
-use Rattle.std.proofs.Common.{◌∙◌, ap, sym, map}
-use Rattle.std.specs.FinSet.{insert, remove}
-use Rattle.typing.specs.Task.{task_of}
-use Rattle.typing.specs.TaskParts.{object_of}
+use Rattle.std.proofs.Common.{◌∙◌, ap, sym, ◌∷◌, []}
+use Rattle.std.specs.List.{each_same}
+use Rattle.std.specs.FinSet.{insert}
+use Rattle.typing.specs.TaskParts.{atom_of}
 use Rattle.formulas.specs.State.{state_of}
-use Rattle.formulas.proofs.CarriedOut.{add_few, delete_few, add_added, add_left, delete_deleted, delete_left}
+use Rattle.formulas.specs.Changes.{after_pass}
+use Rattle.formulas.specs.Effects.{ground_literal_of}
+use Rattle.model.proofs.Atoms.{difference-none, difference-one, union-none, union-one}
+use Rattle.formulas.proofs.States.{copied}
 use Rattle.formulas.proofs.change.carry_out_one.Goals as goal
 
-pub ground_atom-requires : goal.ground_atom-requires
-ground_atom-requires c =
-    add_few (task_of c.args.task.now) c.args.literal.now c.in-Add.atom c.args.binding.now.items c.requires c.in-Add.is c.args.task.now.well_typed
-
-pub ground_atom-requires-then-not-adds : goal.ground_atom-requires-then-not-adds
-ground_atom-requires-then-not-adds c =
-    delete_few (task_of c.args.task.now) c.args.literal.now c.in-Delete.atom c.args.binding.now.items c.requires c.in-Delete.is c.args.task.now.well_typed
-
-pub returns-in_ok-insert-in-Add : goal.returns-in_ok-insert-in-Add
-returns-in_ok-insert-in-Add c =
-    let binding = map object_of c.args.binding.now.items in
+pub returns-in-Deletes-Deletes : goal.returns-in-Deletes-Deletes
+returns-in-Deletes-Deletes c =
     let s = state_of c.args.next.now in
-    c.in_ok-insert-in-Add.ensures.ok ∙ ap (insert s) c.ground_atom.ensures ∙ sym (add_added binding s c.args.literal.now c.in-Add.atom c.args.adds c.if-adds.true c.in-Add.is)
+    c.remove.ensures
+    ∙ sym ((λ i. after_pass (c.in-Deletes-Deletes.is-0 i) s (ground_literal_of (c.in-Deletes-Deletes.is-1 i) ∷ [])) ∙ difference-one s (atom_of c.in-Deletes-Deletes.atom))
 
-pub returns-else-adds : goal.returns-else-adds
-returns-else-adds c =
-    sym (add_left (map object_of c.args.binding.now.items) (state_of c.args.next.now) c.args.literal.now c.in-Add.atom c.args.adds c.if-adds.false c.in-Add.is)
-
-pub returns-then-not-adds : goal.returns-then-not-adds
-returns-then-not-adds c =
-    let binding = map object_of c.args.binding.now.items in
+pub returns-in-Deletes-Adds : goal.returns-in-Deletes-Adds
+returns-in-Deletes-Adds c =
     let s = state_of c.args.next.now in
-    c.remove.ensures ∙ ap (remove s) c.ground_atom-then-not-adds.ensures ∙ sym (delete_deleted binding s c.args.literal.now c.in-Delete.atom c.args.adds c.if-not-adds.true c.in-Delete.is)
+    sym ((λ i. after_pass (c.in-Deletes-Adds.is-0 i) s (ground_literal_of (c.in-Deletes-Adds.is-1 i) ∷ [])) ∙ difference-none s)
 
-pub returns-else-not-adds : goal.returns-else-not-adds
-returns-else-not-adds c =
-    sym (delete_left (map object_of c.args.binding.now.items) (state_of c.args.next.now) c.args.literal.now c.in-Delete.atom c.args.adds c.if-not-adds.false c.in-Delete.is)
+pub returns-in_ok-insert-in-Adds-Adds : goal.returns-in_ok-insert-in-Adds-Adds
+returns-in_ok-insert-in-Adds-Adds c =
+    let s = state_of c.args.next.now in
+    let atom = c.in-Adds-Adds.atom in
+    let copy = c.in_ok-clone-in-Adds-Adds.field-0 in
+    let same = copied atom copy c.in_ok-clone-in-Adds-Adds.ensures.cases.0 (each_same atom.objects.items copy.objects.items c.in_ok-clone-in-Adds-Adds.ensures.cases.1) in
+    c.in_ok-insert-in-Adds-Adds.ensures.ok ∙ ap (insert s) same
+    ∙ sym ((λ i. after_pass (c.in-Adds-Adds.is-0 i) s (ground_literal_of (c.in-Adds-Adds.is-1 i) ∷ [])) ∙ union-one s (atom_of atom))
+
+pub returns-in-Adds-Deletes : goal.returns-in-Adds-Deletes
+returns-in-Adds-Deletes c =
+    let s = state_of c.args.next.now in
+    sym ((λ i. after_pass (c.in-Adds-Deletes.is-0 i) s (ground_literal_of (c.in-Adds-Deletes.is-1 i) ∷ [])) ∙ union-none s)

@@ -1,5 +1,5 @@
-use Rattle.std.proofs.Common.{rules, arith, ℕ, Bool, ◌∙◌, ap, sym, subst, map, length, ◌++◌, ◌∷◌, []}
-use Rattle.task_parts.specs.declared.atoms.ObjectId.{ObjectId}
+use Rattle.std.proofs.Common.{rules, arith, ℕ, Bool, refl, ◌∙◌, ap, sym, subst, map, ◌++◌, ◌∷◌, []}
+use Rattle.std.specs.List.{list_all, list_any}
 use Rattle.task_parts.specs.declared.schemas.Formula.{the_lemmas}
 use Rattle.typing.specs.Task.{task_of}
 use Rattle.formulas.specs.State.{FitsFormula}
@@ -11,8 +11,9 @@ use Rattle.formulas.proofs.Tasks.{atom_few}
 use Rattle.model.proofs.Tests.{passes_at, passes_not, passes_whole, passes_map}
 use Rattle.formulas.proofs.FluentPredicates.{any_here, any_nowhere}
 use Rattle.formulas.proofs.Trees.{list_any_map, holds_by_all, typed_by_all, holds_by_some, typed_by_some}
-use Rattle.formulas.proofs.Quantifiers.{fails_below, passes_below, all_with, all_without, none_with, none_without, one_more, one_less, extended_fits}
-use Rattle.formulas.proofs.truth.+holds.Goals.{holds_for_all-then-is_of+else-not-holds, holds_for_all-else-is_of, holds_for_some-then-is_of+else-holds, holds_for_some-else-is_of}
+use Rattle.formulas.specs.Objects.{objects_left}
+use Rattle.formulas.proofs.ObjectWalk.{rest_among, next_of, all_next, fails_here, any_next, passes_here}
+use Rattle.formulas.proofs.Quantifiers.{one_more, one_less, extended_fits}
 use Rattle.formulas.proofs.truth.+holds.Goals as goal
 
 -- ---- formulas
@@ -121,17 +122,23 @@ some_holds-returns g t c =
 
 -- ---- their objects
 
+pub holds_for_all-loop-object-init : goal.holds_for_all-loop-object-init
+holds_for_all-loop-object-init g t c = (c.copied-extended.ensures, λ _ so. so, refl)
+
 pub holds_for_all-holds-requires : goal.holds_for_all-holds-requires
 holds_for_all-holds-requires g t c κs within =
     let task = task_of c.args.task.now in
+    let types = union_of c.args.types.now in
     let part = formula_of c.args.part.now in
-    let one : ObjectId = record { 0 = c.loop-number.number } in
-    let objects = one_more c.loop-number.extended.items c.push.new.self.items one c.args.binding.now.items c.loop-number.invariant.0 c.push.ensures.items in (
+    let at = c.loop-object in
+    let one = c.in-Some.object in
+    let objects = one_more at.extended.items c.push.new.self.items one c.args.binding.now.items at.invariant.0 c.push.ensures.items in
+    let all = ap objects_left c.into_iter-object-iterator.ensures.into_iter_gives ∙ c.objects_of-object-items.ensures in (
       search (rules, the_lemmas),
       (
         within,
         subst (FitsFormula task part) (sym objects)
-            (extended_fits task (union_of c.args.types.now) part c.args.binding.now.items c.requires c.loop-number.number (sym c.is_of.ensures ∙ c.if-is_of.true)),
+            (extended_fits task types part c.args.binding.now.items c.requires one.0 (next_of _ _ one.0 c.in-Some.ensures.steps task types _ all at.invariant.1)),
       ),
     )
 
@@ -141,50 +148,56 @@ holds_for_all-returns-then-not-holds g t c =
     let part = formula_of c.args.part.now in
     let state = g.V.Valuation.facts c.args.state.now in
     let binding = c.args.binding.now.items in
-    let one : ObjectId = record { 0 = c.loop-number.number } in
-    let objects = one_more c.loop-number.extended.items c.push.new.self.items one binding c.loop-number.invariant.0 c.push.ensures.items in
-    fails_below (meaning.is_of task (union_of c.args.types.now)) (λ n. meaning.holds task part (map object_of binding ++ n ∷ []) state) c.loop-number.number (length task.objects)
-    (omega (arith, c.loop-number-test.true, c.object_count-number-end.ensures))
-    (sym c.is_of.ensures ∙ c.if-is_of.true)
-    (ap (λ l. meaning.holds task part l state) (sym objects) ∙ sym c.holds.ensures ∙ c.if-not-holds.true)
+    let at = c.loop-object in
+    let one = c.in-Some.object in
+    let objects = one_more at.extended.items c.push.new.self.items one binding at.invariant.0 c.push.ensures.items in
+    let test : ℕ → Bool = λ n. meaning.holds task part (map object_of binding ++ n ∷ []) state in
+    let all = ap objects_left c.into_iter-object-iterator.ensures.into_iter_gives ∙ c.objects_of-object-items.ensures in
+    fails_here _ _ one.0 c.in-Some.ensures.steps test _ (ap (λ l. meaning.holds task part l state) (sym objects) ∙ sym c.holds.ensures ∙ c.if-not-holds.true) at.invariant.2
+    ∙ ap (list_all test) all
 
-pub holds_for_all-loop-number-preserved : goal.holds_for_all-loop-number-preserved
-holds_for_all-loop-number-preserved g t c =
+pub holds_for_all-loop-object-preserved : goal.holds_for_all-loop-object-preserved
+holds_for_all-loop-object-preserved g t c =
     let task = task_of c.args.task.now in
     let part = formula_of c.args.part.now in
     let state = g.V.Valuation.facts c.args.state.now in
     let binding = c.args.binding.now.items in
-    let before = c.loop-number.extended.items in
-    let number = c.loop-number.number in
-    let one : ObjectId = record { 0 = number } in
-    let among = meaning.is_of task (union_of c.args.types.now) in
-    let test : ℕ → Bool = λ n. meaning.holds task part (map object_of binding ++ n ∷ []) state in
-    elim c.if-is_of.branch [
-      | holds_for_all-then-is_of+else-not-holds w ↦ (
-        ap (λ v. v.items) w.extended-is
-            ∙ one_less before w.push.new.self.items w.pop.new.self.items one binding c.loop-number.invariant.0 w.push.ensures.items _ (omega (arith, w.push.ensures.len)) w.pop.ensures.rest,
-        all_with among test number (sym c.is_of.ensures ∙ w.if-is_of.true)
-            (ap (λ l. meaning.holds task part l state) (sym (one_more before w.push.new.self.items one binding c.loop-number.invariant.0 w.push.ensures.items))
-            ∙ sym w.holds.ensures ∙ w.if-not-holds.false)
-            c.loop-number.invariant.1,
-      )
-      | holds_for_all-else-is_of w ↦ (
-        ap (λ v. v.items) w.extended-is ∙ c.loop-number.invariant.0,
-        all_without among test number (sym c.is_of.ensures ∙ w.if-is_of.false) c.loop-number.invariant.1,
-      )
-    ]
+    let at = c.loop-object in
+    let one = c.in-Some.object in
+    let objects = one_more at.extended.items c.push.new.self.items one binding at.invariant.0 c.push.ensures.items in
+    let test : ℕ → Bool = λ n. meaning.holds task part (map object_of binding ++ n ∷ []) state in (
+      one_less at.extended.items c.push.new.self.items c.pop.new.self.items one binding at.invariant.0 c.push.ensures.items _ (omega (arith, c.push.ensures.len)) c.pop.ensures.rest,
+      rest_among _ _ one.0 c.in-Some.ensures.steps _ at.invariant.1,
+      all_next _ _ one.0 c.in-Some.ensures.steps test _ (ap (λ l. meaning.holds task part l state) (sym objects) ∙ sym c.holds.ensures ∙ c.if-not-holds.false) at.invariant.2,
+    )
+
+pub holds_for_all-returns : goal.holds_for_all-returns
+holds_for_all-returns g t c =
+    let task = task_of c.args.task.now in
+    let part = formula_of c.args.part.now in
+    let state = g.V.Valuation.facts c.args.state.now in
+    let binding = map object_of c.args.binding.now.items in
+    let test : ℕ → Bool = λ n. meaning.holds task part (binding ++ n ∷ []) state in
+    let all = ap objects_left c.into_iter-object-iterator.ensures.into_iter_gives ∙ c.objects_of-object-items.ensures in
+    sym (ap (list_all test) c.in-None.ensures.steps.0) ∙ c.loop-object.invariant.2 ∙ ap (list_all test) all
+
+pub holds_for_some-loop-candidate-init : goal.holds_for_some-loop-candidate-init
+holds_for_some-loop-candidate-init g t c = (c.copied-tried.ensures, λ _ so. so, refl)
 
 pub holds_for_some-holds-requires : goal.holds_for_some-holds-requires
 holds_for_some-holds-requires g t c κs within =
     let task = task_of c.args.task.now in
+    let types = union_of c.args.types.now in
     let part = formula_of c.args.part.now in
-    let one : ObjectId = record { 0 = c.loop-candidate.candidate } in
-    let objects = one_more c.loop-candidate.tried.items c.push.new.self.items one c.args.binding.now.items c.loop-candidate.invariant.0 c.push.ensures.items in (
+    let at = c.loop-candidate in
+    let one = c.in-Some.candidate in
+    let objects = one_more at.tried.items c.push.new.self.items one c.args.binding.now.items at.invariant.0 c.push.ensures.items in
+    let all = ap objects_left c.into_iter-candidate-iterator.ensures.into_iter_gives ∙ c.objects_of-candidate-items.ensures in (
       search (rules, the_lemmas),
       (
         within,
         subst (FitsFormula task part) (sym objects)
-            (extended_fits task (union_of c.args.types.now) part c.args.binding.now.items c.requires c.loop-candidate.candidate (sym c.is_of.ensures ∙ c.if-is_of.true)),
+            (extended_fits task types part c.args.binding.now.items c.requires one.0 (next_of _ _ one.0 c.in-Some.ensures.steps task types _ all at.invariant.1)),
       ),
     )
 
@@ -194,12 +207,13 @@ holds_for_some-returns-then-holds g t c =
     let part = formula_of c.args.part.now in
     let state = g.V.Valuation.facts c.args.state.now in
     let binding = c.args.binding.now.items in
-    let one : ObjectId = record { 0 = c.loop-candidate.candidate } in
-    let objects = one_more c.loop-candidate.tried.items c.push.new.self.items one binding c.loop-candidate.invariant.0 c.push.ensures.items in
-    passes_below (meaning.is_of task (union_of c.args.types.now)) (λ n. meaning.holds task part (map object_of binding ++ n ∷ []) state) c.loop-candidate.candidate (length task.objects)
-    (omega (arith, c.loop-candidate-test.true, c.object_count-candidate-end.ensures))
-    (sym c.is_of.ensures ∙ c.if-is_of.true)
-    (ap (λ l. meaning.holds task part l state) (sym objects) ∙ sym c.holds.ensures ∙ c.if-holds.true)
+    let at = c.loop-candidate in
+    let one = c.in-Some.candidate in
+    let objects = one_more at.tried.items c.push.new.self.items one binding at.invariant.0 c.push.ensures.items in
+    let test : ℕ → Bool = λ n. meaning.holds task part (map object_of binding ++ n ∷ []) state in
+    let all = ap objects_left c.into_iter-candidate-iterator.ensures.into_iter_gives ∙ c.objects_of-candidate-items.ensures in
+    passes_here _ _ one.0 c.in-Some.ensures.steps test _ (ap (λ l. meaning.holds task part l state) (sym objects) ∙ sym c.holds.ensures ∙ c.if-holds.true) at.invariant.2
+    ∙ ap (list_any test) all
 
 pub holds_for_some-loop-candidate-preserved : goal.holds_for_some-loop-candidate-preserved
 holds_for_some-loop-candidate-preserved g t c =
@@ -207,22 +221,21 @@ holds_for_some-loop-candidate-preserved g t c =
     let part = formula_of c.args.part.now in
     let state = g.V.Valuation.facts c.args.state.now in
     let binding = c.args.binding.now.items in
-    let before = c.loop-candidate.tried.items in
-    let number = c.loop-candidate.candidate in
-    let one : ObjectId = record { 0 = number } in
-    let among = meaning.is_of task (union_of c.args.types.now) in
-    let test : ℕ → Bool = λ n. meaning.holds task part (map object_of binding ++ n ∷ []) state in
-    elim c.if-is_of.branch [
-      | holds_for_some-then-is_of+else-holds w ↦ (
-        ap (λ v. v.items) w.tried-is
-            ∙ one_less before w.push.new.self.items w.pop.new.self.items one binding c.loop-candidate.invariant.0 w.push.ensures.items _ (omega (arith, w.push.ensures.len)) w.pop.ensures.rest,
-        none_with among test number (sym c.is_of.ensures ∙ w.if-is_of.true)
-            (ap (λ l. meaning.holds task part l state) (sym (one_more before w.push.new.self.items one binding c.loop-candidate.invariant.0 w.push.ensures.items))
-            ∙ sym w.holds.ensures ∙ w.if-holds.false)
-            c.loop-candidate.invariant.1,
-      )
-      | holds_for_some-else-is_of w ↦ (
-        ap (λ v. v.items) w.tried-is ∙ c.loop-candidate.invariant.0,
-        none_without among test number (sym c.is_of.ensures ∙ w.if-is_of.false) c.loop-candidate.invariant.1,
-      )
-    ]
+    let at = c.loop-candidate in
+    let one = c.in-Some.candidate in
+    let objects = one_more at.tried.items c.push.new.self.items one binding at.invariant.0 c.push.ensures.items in
+    let test : ℕ → Bool = λ n. meaning.holds task part (map object_of binding ++ n ∷ []) state in (
+      one_less at.tried.items c.push.new.self.items c.pop.new.self.items one binding at.invariant.0 c.push.ensures.items _ (omega (arith, c.push.ensures.len)) c.pop.ensures.rest,
+      rest_among _ _ one.0 c.in-Some.ensures.steps _ at.invariant.1,
+      any_next _ _ one.0 c.in-Some.ensures.steps test _ (ap (λ l. meaning.holds task part l state) (sym objects) ∙ sym c.holds.ensures ∙ c.if-holds.false) at.invariant.2,
+    )
+
+pub holds_for_some-returns : goal.holds_for_some-returns
+holds_for_some-returns g t c =
+    let task = task_of c.args.task.now in
+    let part = formula_of c.args.part.now in
+    let state = g.V.Valuation.facts c.args.state.now in
+    let binding = map object_of c.args.binding.now.items in
+    let test : ℕ → Bool = λ n. meaning.holds task part (binding ++ n ∷ []) state in
+    let all = ap objects_left c.into_iter-candidate-iterator.ensures.into_iter_gives ∙ c.objects_of-candidate-items.ensures in
+    sym (ap (list_any test) c.in-None.ensures.steps.0) ∙ c.loop-candidate.invariant.2 ∙ ap (list_any test) all

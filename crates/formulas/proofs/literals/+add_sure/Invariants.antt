@@ -1,0 +1,22 @@
+use Rattle.std.proofs.Common.{◌≡◌, ℕ, List, map, take, ◌++◌, ◌∷◌, []}
+use Rattle.std.specs.List.{flat_map}
+use Rattle.typing.specs.Task.{task_of}
+use Rattle.typing.specs.TaskParts.{object_of, formula_of}
+use Rattle.formulas.specs.Literals.{literal_of}
+use Rattle.formulas.specs.Objects.{objects_left}
+use Rattle.formulas.proofs.ObjectWalk.{AreAmong}
+use Rattle.model.specs.SureLiterals as literals
+use Rattle.formulas.proofs.literals.+add_sure.Given as goal
+
+-- the literals of the parts so far are added
+abbrev pub invariant-loop-part : goal.invariant-loop-part
+invariant-loop-part l =
+    map literal_of l.found.items
+    ≡ map literal_of l.initial.found.items ++ flat_map (λ part. literals.sure (task_of l.task) (formula_of part) (map object_of l.binding.items)) (take l.part-index l.part-items)
+
+-- with those for the objects that are left, all are added
+abbrev pub invariant-loop-object : goal.invariant-loop-object
+invariant-loop-object l =
+    let gives : ℕ → List literals.Literal = λ one. literals.sure (task_of l.task) (formula_of l.part.value) (map object_of l.binding.items ++ one ∷ []) in
+    AreAmong (objects_left l.initial.object-iterator) (objects_left l.object-iterator)
+    × (map literal_of l.found.items ++ flat_map gives (objects_left l.object-iterator) ≡ map literal_of l.initial.found.items ++ flat_map gives (objects_left l.initial.object-iterator))

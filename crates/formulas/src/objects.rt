@@ -1,0 +1,50 @@
+//! The objects that a variable goes over.
+ghost use Rattle.std.specs.Prelude.{◌≡◌};
+ghost use Rattle.typing.specs.TaskParts.{object_of, union_of};
+ghost use Rattle.typing.specs.Task.{task_of};
+ghost use Rattle.formulas.specs.Objects.{objects_left};
+ghost use Rattle.model.specs.Meaning as meaning;
+
+use typing::{ObjectId, Task, TypeUnion};
+
+/// The objects of some types, one after another.
+#[derive(Drop)]
+pub(crate) struct Objects<'t> {
+    task: &'t Task,
+    types: &'t TypeUnion,
+    /// The number from which on they are looked for.
+    next: usize,
+}
+
+/// The objects of these types, in order, each once.
+pub(crate) fn objects_of<'t>(task: &'t Task, types: &'t TypeUnion) -> Objects<'t>
+    ensures { objects_left result ≡ meaning.objects_of (task_of task.now) (union_of types.now) }
+{
+    Objects {
+        task,
+        types,
+        next: 0,
+    }
+}
+
+impl<'t> Iterator for Objects<'t> {
+    ghost use Rattle.std.specs.Iterator.{YieldsFirstBy, item_count};
+
+    type Item = ObjectId;
+
+    ghost next_gives = { YieldsFirstBy object_of objects_left };
+
+    ghost remaining = { item_count objects_left };
+
+    fn next(&mut self) -> Option<ObjectId> {
+        for number in self.next..self.task.object_count() {
+            let object = ObjectId(number as u32);
+            if self.task.is_of(object, self.types) {
+                self.next = number + 1;
+                return Some(object);
+            }
+        }
+        self.next = self.task.object_count();
+        None
+    }
+}
