@@ -38,9 +38,9 @@ distinct-push {S} states s distinct is_new j k x at_j at_k =
         is_new (subst (λ y. Contains states y) (sym is_s) (Contains-got states before x (sym (get-push_other states s before other) ∙ at_before)))
 
 -- what may have to be found is reachable
-reachable-of_precedes : {S A : Type 0} (t : System S A) (value : S → ℕ) (s : S) → PrecedesPlans t value s → IsReachable t s
-reachable-of_precedes t value s (is_initial is) = ([], ap Some (sym is))
-reachable-of_precedes t value s (is_next actions before a runs no_goal no_dearer step) = (actions ++ a ∷ [], run-push t t.initial actions a before s runs step)
+reachable-of_precedes : {S A : Type 0} (t : System S A) (value : S → ℕ) (is_dead : S → Bool) (s : S) → PrecedesPlans t value is_dead s → IsReachable t s
+reachable-of_precedes t value is_dead s (is_initial is) = ([], ap Some (sym is))
+reachable-of_precedes t value is_dead s (is_next actions before a runs no_goal alive no_dearer step) = (actions ++ a ∷ [], run-push t t.initial actions a before s runs step)
 
 module _ {S : Type 0} (t : System S ℕ) (value : S → ℕ) (is_dead : S → Bool) (states : List S) (all : List Node) (queue : List Waiting)
     (one_each : length all ≡ length states) (nodes : AreNodes t value is_dead (found_of states all) queue) where
@@ -56,13 +56,13 @@ module _ {S : Type 0} (t : System S ℕ) (value : S → ℕ) (is_dead : S → Bo
       nodes.distinct j k m n there_m there_n (same_m ∙ sym same_n)
 
   -- an action leads to the state from an expanded one
-  precedes-next : (k : ℕ) (n : Found S) → slice_get (found_of states all) k ≡ Some n → n.node.is_expanded ≡ true → (a : ℕ) (x : S) → t.step n.state a ≡ Some x → PrecedesPlans t value x
+  precedes-next : (k : ℕ) (n : Found S) → slice_get (found_of states all) k ≡ Some n → n.node.is_expanded ≡ true → (a : ℕ) (x : S) → t.step n.state a ≡ Some x → PrecedesPlans t value is_dead x
   precedes-next k n there expanded a x leads =
       let (actions, runs, costs) = nodes.reachable k n there in
-      is_next actions n.state a runs (nodes.no_goal k n there expanded) (subst (λ c. CostsAtLeast t (c + value n.state)) (sym costs) (nodes.no_dearer k n there expanded)) leads
+      is_next actions n.state a runs (nodes.no_goal k n there expanded) (nodes.alive k n there expanded) (subst (λ c. CostsAtLeast t (c + value n.state)) (sym costs) (nodes.no_dearer k n there expanded)) leads
 
   -- a found state is the initial one, or has a parent
-  precedes-found : (k : ℕ) (n : Found S) → slice_get (found_of states all) k ≡ Some n → PrecedesPlans t value n.state
+  precedes-found : (k : ℕ) (n : Found S) → slice_get (found_of states all) k ≡ Some n → PrecedesPlans t value is_dead n.state
   precedes-found k n there =
       elim (cases_eq k 0) [
         | inl first ↦
@@ -73,12 +73,12 @@ module _ {S : Type 0} (t : System S ℕ) (value : S → ℕ) (is_dead : S → Bo
             precedes-next (parent_of n.node) leads.parent leads.stands leads.is_expanded n.node.action n.state leads.step
       ]
 
-  with_reach : (x : S) → PrecedesPlans t value x → IsReachable t x × PrecedesPlans t value x
-  with_reach x precedes = (reachable-of_precedes t value x precedes, precedes)
+  with_reach : (x : S) → PrecedesPlans t value is_dead x → IsReachable t x × PrecedesPlans t value is_dead x
+  with_reach x precedes = (reachable-of_precedes t value is_dead x precedes, precedes)
 
   -- the listed states are as many as the limit allows, and an action leads to a new one from the state whose turn it is
   pub more_reachable : (i : ℕ) (turn : IsTurn value (found_of states all) i) (a : ℕ) (s : S) → t.step turn.found.state a ≡ Some s → (¬ Contains states s)
-      → (max_states : ℕ) → length states ≡ max_states → AreMoreReachable t value max_states
+      → (max_states : ℕ) → length states ≡ max_states → AreMoreReachable t value is_dead max_states
   more_reachable i turn a s step is_new max_states full = (
     states ++ s ∷ [],
     distinct-push states s states_distinct is_new,
@@ -88,7 +88,7 @@ module _ {S : Type 0} (t : System S ℕ) (value : S → ℕ) (is_dead : S → Bo
           | inl among ↦
               let (k, stands) = Contains-place states x among in
               let (n, there, same) = node_there k x stands in
-              subst (λ y. PrecedesPlans t value y) same (precedes-found k n there)
+              subst (λ y. PrecedesPlans t value is_dead y) same (precedes-found k n there)
           | inr is ↦ precedes-next i turn.found turn.stands turn.is_expanded a x (step ∙ ap Some is)
         ])),
     omega (arith, length-append states (s ∷ []), full),

@@ -53,18 +53,18 @@ AreExpandedWithin {S} value most states nodes =
 
 -- A search by this estimate may have to find the state before any plan is sure to be cheapest: the state is the initial
 -- one, or an action leads to it from one that does not meet the goal, at the end of a list that costs, with the estimate
--- of what is still to pay, no more than any list that solves. (Russell & Norvig, Artificial Intelligence, section 3.5.3,
+-- of what is still to pay, no more than any list that solves, and that is not told dead. (Russell & Norvig, Artificial Intelligence, section 3.5.3,
 -- on search contours: no state is expanded whose cost and estimate are more than a cheapest plan costs. Some whose sum is
 -- as much may be; this leaves open which.)
-pub data PrecedesPlans {S A : Type 0} (t : System S A) (value : S → ℕ) (s : S) : Type 0 where
-  is_initial : s ≡ t.initial → PrecedesPlans t value s
-  is_next : (actions : List A) (before : S) (a : A) → run t t.initial actions ≡ Some before → t.meets_goal before ≡ false
-      → CostsAtLeast t (cost_of_all t actions + value before) → t.step before a ≡ Some s → PrecedesPlans t value s
+pub data PrecedesPlans {S A : Type 0} (t : System S A) (value : S → ℕ) (is_dead : S → Bool) (s : S) : Type 0 where
+  is_initial : s ≡ t.initial → PrecedesPlans t value is_dead s
+  is_next : (actions : List A) (before : S) (a : A) → run t t.initial actions ≡ Some before → t.meets_goal before ≡ false → is_dead before ≡ false
+      → CostsAtLeast t (cost_of_all t actions + value before) → t.step before a ≡ Some s → PrecedesPlans t value is_dead s
 
 -- More states than the limit are reachable, and may have to be found before any plan is sure to be cheapest.
-abbrev pub AreMoreReachable : {S A : Type 0} → System S A → (S → ℕ) → ℕ → Type 0
-AreMoreReachable {S} t value max_states =
-    (states : List S) × AreDistinct states × ((s : S) → Contains states s → IsReachable t s × PrecedesPlans t value s) × (max_states < length states)
+abbrev pub AreMoreReachable : {S A : Type 0} → System S A → (S → ℕ) → (S → Bool) → ℕ → Type 0
+AreMoreReachable {S} t value is_dead max_states =
+    (states : List S) × AreDistinct states × ((s : S) → Contains states s → IsReachable t s × PrecedesPlans t value is_dead s) × (max_states < length states)
 
 -- the found state is a cut: it was not expanded, and it is not told dead
 abbrev pub IsCut : {S : Type 0} → (S → Bool) → S → Node → Type 0
@@ -92,4 +92,4 @@ IsTrueOutcome t value is_dead states_of max_states (Found steps cost found) =
 IsTrueOutcome t value is_dead states_of max_states (Exhausted found) =
     IsUnsolvable t × AreFound t value is_dead none max_states (states_of found.store) found.nodes.items
 IsTrueOutcome t value is_dead states_of max_states (States least found) =
-    AreMoreReachable t value max_states × IsAtLimit t value is_dead max_states least (states_of found.store) found.nodes.items
+    AreMoreReachable t value is_dead max_states × IsAtLimit t value is_dead max_states least (states_of found.store) found.nodes.items

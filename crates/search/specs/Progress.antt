@@ -73,8 +73,8 @@ pub record Reaches {S Store : Type 0} (t : System S ℕ) (value : S → ℕ) (is
   pub listed : IsListed t (nodes_in states_of new) i a s
 
 -- The limit allows no state more, and nothing has changed.
-pub record IsFull {S Store : Type 0} (t : System S ℕ) (value : S → ℕ) (states_of : Store → List S) (old new : Progress Store) (max_states : ℕ) : Type 0 where
-  pub more : AreMoreReachable t value max_states
+pub record IsFull {S Store : Type 0} (t : System S ℕ) (value : S → ℕ) (is_dead : S → Bool) (states_of : Store → List S) (old new : Progress Store) (max_states : ℕ) : Type 0 where
+  pub more : AreMoreReachable t value is_dead max_states
   pub full : length (states_of old.store) ≡ max_states
   pub store : states_of new.store ≡ states_of old.store
   pub nodes : new.nodes.items ≡ old.nodes.items

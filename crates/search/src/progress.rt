@@ -215,7 +215,7 @@ impl<S: StateStore> Progress<S> {
         ensures width { S.width_of self.new.store ≡ S.width_of self.old.store }
         ensures listed { IfOk result (λ is_listed. MatchBool is_listed
             (Reaches (T.means system.now) (value_by (E.score_of guide.now.estimate.now)) (D.is_dead guide.now.dead_ends.now) S.states self.old self.new parent.now.id.0 max_states action (bits_of state.now))
-            (IsFull (T.means system.now) (value_by (E.score_of guide.now.estimate.now)) S.states self.old self.new max_states)) }
+            (IsFull (T.means system.now) (value_by (E.score_of guide.now.estimate.now)) (D.is_dead guide.now.dead_ends.now) S.states self.old self.new max_states)) }
     {
         let before = self.nodes[parent.id.0 as usize];
         let cost = before.cost + u64::from(system.cost(action));
@@ -265,7 +265,7 @@ impl<S: StateStore> Progress<S> {
         ensures buffers { IfOk result (λ _. AreWide (T.width_of system.now) buffers.new) }
         ensures listed { IfOk result (λ is_listed. MatchBool is_listed
             (Expands (T.means system.now) (value_by (E.score_of guide.now.estimate.now)) (D.is_dead guide.now.dead_ends.now) S.states self.old self.new max_states)
-            (AreMoreReachable (T.means system.now) (value_by (E.score_of guide.now.estimate.now)) max_states
+            (AreMoreReachable (T.means system.now) (value_by (E.score_of guide.now.estimate.now)) (D.is_dead guide.now.dead_ends.now) max_states
             × IsAtLimit (T.means system.now) (value_by (E.score_of guide.now.estimate.now)) (D.is_dead guide.now.dead_ends.now) max_states turn.sum (S.states self.new.store) self.new.nodes.items)) }
     {
         system.applicable(&buffers.state, &mut buffers.applicable)?;

@@ -183,10 +183,11 @@ module _ (task : Task) (atoms : List Atom) (numbered : atoms ≡ numbered_atoms 
       bound_forth ground (system_of task) (StandsFor task (numbered_atoms task [])) (NamesKept task) (ground_task_is_bisimilar task [] none_more) least
       (subst (λ (l : List Atom). CostsAtLeast (ground_system task l) least) numbered lower)
 
-  pub more_of_task : (value : List Bool → ℕ) (max_states : ℕ) → search.AreMoreReachable (ground_system task atoms) value max_states → AreMoreReachable (system_of task) max_states
-  more_of_task value max_states more =
+  pub more_of_task : (value : List Bool → ℕ) (is_dead : List Bool → Bool) (max_states : ℕ) → search.AreMoreReachable (ground_system task atoms) value is_dead max_states
+      → AreMoreReachable (system_of task) max_states
+  more_of_task value is_dead max_states more =
       more_reachable task max_states
-      (subst (λ (l : List Atom). AreMoreReachable (ground_system task l) max_states) numbered (more_by_cost (ground_system task atoms) value max_states more))
+      (subst (λ (l : List Atom). AreMoreReachable (ground_system task l) max_states) numbered (more_by_cost (ground_system task atoms) value is_dead max_states more))
 
 -- as many instances as numbers
 pub plan_length : (task : Task) (numbers : List ℕ) (plan : List code.Instance) → AllZip (NamesKept task) numbers (map instance_of plan) → length plan ≡ length numbers

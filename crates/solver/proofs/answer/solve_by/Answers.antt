@@ -197,13 +197,13 @@ returns-in_ok-cert-in-States c =
     let cert = certificate_in c.in_ok-cert-in-States.cert in
     let numbered = c.requires.ground.atoms in
     let told = outcome_by (ground_system task atoms) p (is_dead_by q) pooled_states most _ _ c.in-States.is c.in_ok-outcome.ensures in
-    let more = subst (λ (count : ℕ). AreMoreReachable (ground_system task atoms) (value p) count) c.states.ensures told.0 in
+    let more = subst (λ (count : ℕ). AreMoreReachable (ground_system task atoms) (value p) (is_dead_by q) count) c.states.ensures told.0 in
     let many : length p.weights ≡ length atoms = subst (λ (h : Ground). length p.weights ≡ length (atoms_in h)) c.requires.fair.ground f.width in
     let dead_many : length q.weights ≡ length atoms = subst (λ (h : Ground). length q.weights ≡ length (atoms_in h)) c.requires.dead_ends.ground d.width in
     let fair : AreFair task atoms p = subst (λ (h : Ground). AreFair (task_in h) (atoms_in h) p) c.requires.fair.ground f.fair in
     let made : cert ≡ found_certificate (bound least) atoms p q states nodes =
     c.in_ok-cert-in-States.ensures ∙ ap (λ (h : Ground). found_certificate (bound least) (atoms_in h) p q states nodes) c.requires.fair.ground in (
-      more_of_task task atoms numbered (value p) c.args.limits.states more,
+      more_of_task task atoms numbered (value p) (is_dead_by q) c.args.limits.states more,
       c.requires.ground.within,
       task_costs_at_least task atoms numbered least told.1.costs_at_least,
       shown task (bound least) most p q states nodes atoms numbered told.1.found cert made c.args.limits.states (omega (arith, told.1.found.within_limit, c.states.ensures)) c.requires.typed many dead_many fair c.requires.dead_fair
