@@ -1,3 +1,3 @@
 mod EstimateLemmas
 mod ClimbLemmas
-mod TouchingLemmas
+mod FairAtLemmas

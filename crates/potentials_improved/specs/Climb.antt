@@ -1,10 +1,12 @@
 -- Fair potentials on the way to better ones.
-use Rattle.std.specs.Prelude.{◌≡◌, ℕ, ◌<◌, Bool, true, false, ℤ, pos, ◌+ℤ◌, ◌≤ℤ◌, List, set, length}
-use Rattle.model.specs.Task.{Atom, Task}
+use Rattle.std.specs.Prelude.{◌≡◌, ℕ, ◌<◌, Bool, true, false, ℤ, pos, ◌+ℤ◌, ◌≤ℤ◌, List, Some, set, length, slice_get, Contains}
+use Rattle.model.specs.Task.{Atom, Task, Instance}
+use Rattle.model.specs.Meaning.{cost_of}
+use Rattle.model.specs.ClosedOff.{kept_instances}
 use Rattle.model.specs.NumberedLiterals.{literals_of_goal}
 use Rattle.model.specs.Grounding.{ground_system}
-use Rattle.potential_functions.specs.PotentialFunctions.{score, or_zero, IsInRange}
-use Rattle.potential_functions.specs.Fair.{goal_gives_at_most, AreFair}
+use Rattle.potential_functions.specs.PotentialFunctions.{PotentialFunction, score, or_zero, IsInRange}
+use Rattle.potential_functions.specs.Fair.{goal_gives_at_most, AreFair, IsFairAt}
 use Rattle.potential_functions.specs.Settled.{initial_value}
 use Rattle.potential_functions.proofs.Settling.{potentials, IsNoneBetter, IsTried}
 use Rattle.potentials.specs.Potentials.{potentials_of}
@@ -20,6 +22,11 @@ pub record IsClimb (task : Task) (atoms : List Atom) (c : Climb) : Type 0 where
   pub goal : c.goal ≡ goal_gives_at_most (length atoms) c.potentials.weights.items (literals_of_goal task atoms)
   pub score : c.score ≡ score (potentials_of c.potentials) (ground_system task atoms).initial
   pub greatest : (k : ℤ) → IsInRange k → (k +ℤ c.goal) ≤ℤ pos 0 → k ≤ℤ c.potentials.constant
+
+-- each of the instances of these numbers is fair
+abbrev pub AreFairAt : Task → List Atom → PotentialFunction → List ℕ → Type 0
+AreFairAt task atoms p numbers =
+    (n : ℕ) (i : Instance) → Contains numbers n → slice_get (kept_instances task) n ≡ Some i → IsFairAt (cost_of task i) task atoms p.weights i
 
 -- what the changed weight gives, with the greatest constant that goes with it: better than what there is
 pub record IsNext (task : Task) (atoms : List Atom) (c : Climb) (n : ℕ) (w : ℤ) (next : Next) : Type 0 where

@@ -1,5 +1,5 @@
 //! Steps from fair potentials to better ones.
-ghost use Rattle.std.specs.Prelude.{◌≡◌, ◌<◌, ◌≤◌, ◌||◌, ℤ, ◌+ℤ◌, ◌≤ℤ◌, neg_ℤ, pos, set, if◌then◌else◌, IfSome, IfNone, length};
+ghost use Rattle.std.specs.Prelude.{◌≡◌, ◌<◌, ◌≤◌, ◌||◌, ◌↔◌, ℤ, ◌+ℤ◌, ◌≤ℤ◌, neg_ℤ, pos, set, if◌then◌else◌, All, IfSome, IfNone, IsTrue, length, map};
 ghost use Rattle.packed_state.specs.Packed.{bits_of};
 ghost use Rattle.grounding.specs.Ground.{task_in, atoms_in};
 ghost use Rattle.model.specs.ClosedOff.{kept_instances};
@@ -12,15 +12,15 @@ ghost use Rattle.potential_functions.specs.Fair.{AreFair};
 ghost use Rattle.potential_functions.specs.Settled.{initial_value};
 ghost use Rattle.potential_functions.proofs.Settling.{IsNoneBetter};
 ghost use Rattle.potentials.specs.Potentials.{potentials_of};
-ghost use Rattle.potentials_improved.specs.Touching.{IsTouching};
-ghost use Rattle.potentials_improved.specs.Climb.{IsClimb, IsNext, IsWeightTried, IsAtomTried, IsPass, worth};
+ghost use Rattle.potentials_drafted.specs.Touching.{number_of, IsTouching};
+ghost use Rattle.potentials_improved.specs.Climb.{AreFairAt, IsClimb, IsNext, IsWeightTried, IsAtomTried, IsPass, worth};
 
-use crate::touching::{Touching, are_fair_at};
 use grounding::Ground;
 use packed_state::Packed;
 use potentials::{
     MAX_WEIGHT, Potentials, goal_gives, goal_gives_at_most, is_in_range, or_zero, says,
 };
+use potentials_drafted::{Touch, Touching};
 
 /// Fair potentials of the greatest constant, with what they give at most at a goal, and with their score in the initial
 /// state.
@@ -229,6 +229,20 @@ impl Climb {
         }
         raised
     }
+}
+
+/// Whether each of these instances is fair by the potentials.
+pub(crate) fn are_fair_at(potentials: &Potentials, ground: &Ground<'_>, instances: &[Touch]) -> bool
+    requires width { length (potentials_of potentials.now).weights ≡ length (atoms_in ground.now) }
+    requires within { All (λ n. n < length (kept_instances (task_in ground.now))) (map number_of instances.now) }
+    ensures { IsTrue result ↔ AreFairAt (task_in ground.now) (atoms_in ground.now) (potentials_of potentials.now) (map number_of instances.now) }
+{
+    for place in 0..instances.len() {
+        if !potentials.is_fair_at(ground, instances[place].number) {
+            return false;
+        }
+    }
+    true
 }
 
 /// The sum with one of its parts exchanged.

@@ -5,13 +5,14 @@ ghost use Rattle.potential_functions.specs.PotentialFunctions.{PotentialFunction
 ghost use Rattle.potential_functions.specs.Fair.{AreFair};
 ghost use Rattle.potential_functions.specs.Settled.{IsImproved};
 ghost use Rattle.potentials.specs.Potentials.{potentials_of};
+ghost use Rattle.potentials_drafted.specs.Tables.{AreTablesOf};
 
 use crate::climb::Climb;
 use crate::drafted::drafted;
-use crate::tables::Tables;
 use faults::NoMemory;
 use grounding::Ground;
 use potentials::Potentials;
+use potentials_drafted::Tables;
 use std::alloc::Global;
 
 /// What can be made better of potentials.
@@ -32,6 +33,19 @@ pub trait Improve: Sized {
         requires width { length (potentials_in self).weights ≡ length (atoms_in ground.now) }
         requires fair { AreFair (task_in ground.now) (atoms_in ground.now) (potentials_in self) }
         ensures { IfOk result (λ p. IsImproved (task_in ground.now) (atoms_in ground.now) rounds (potentials_in self) (potentials_of p)) };
+
+    /// The same by tables that are at hand.
+    fn improve_by(
+        self,
+        alloc: Global,
+        ground: &Ground<'_>,
+        tables: &Tables,
+        rounds: u32,
+    ) -> Result<Potentials, NoMemory>
+        requires tables { AreTablesOf ground.now tables.now }
+        requires width { length (potentials_in self).weights ≡ length (atoms_in ground.now) }
+        requires fair { AreFair (task_in ground.now) (atoms_in ground.now) (potentials_in self) }
+        ensures { IfOk result (λ p. IsImproved (task_in ground.now) (atoms_in ground.now) rounds (potentials_in self) (potentials_of p)) };
 }
 
 impl Improve for Potentials {
@@ -43,13 +57,22 @@ impl Improve for Potentials {
         ground: &Ground<'_>,
         rounds: u32,
     ) -> Result<Potentials, NoMemory> {
-        let initial = ground.initial(alloc)?;
         let tables = Tables::new(alloc, ground)?;
-        let drafted = drafted(alloc, self, ground, &tables, &initial)?;
-        let touching = tables.into_touching();
+        self.improve_by(alloc, ground, &tables, rounds)
+    }
+
+    fn improve_by(
+        self,
+        alloc: Global,
+        ground: &Ground<'_>,
+        tables: &Tables,
+        rounds: u32,
+    ) -> Result<Potentials, NoMemory> {
+        let initial = ground.initial(alloc)?;
+        let drafted = drafted(alloc, self, ground, tables, &initial)?;
         let mut climb = Climb::new(drafted, ground, &initial);
         for _ in 0..rounds {
-            if !climb.pass(ground, &touching, &initial) {
+            if !climb.pass(ground, tables.touching(), &initial) {
                 return Ok(climb.potentials);
             }
         }

@@ -9,12 +9,12 @@ ghost use Rattle.potential_functions.specs.Settled.{IsDeadImproved};
 ghost use Rattle.potentials.specs.Potentials.{potentials_of};
 ghost use Rattle.potentials_improved.specs.Drafted.{IsDeadNoWorse};
 
-use crate::dead_drafts::DeadDrafts;
 use crate::drafted::if_no_lower;
 use faults::NoMemory;
 use grounding::Ground;
 use packed_state::Packed;
 use potentials::{Fairness, Potentials};
+use potentials_drafted::{DeadDrafts, Tables};
 use std::alloc::Global;
 
 /// What can be made better of potentials that tell dead ends.
@@ -35,6 +35,18 @@ pub trait ImproveDead: Sized {
         requires width { length (potentials_in self).weights ≡ length (atoms_in ground.now) }
         requires dead_fair { AreDeadFair (task_in ground.now) (atoms_in ground.now) (potentials_in self) }
         ensures { IfOk result (λ p. IsDeadImproved (task_in ground.now) (atoms_in ground.now) (potentials_in self) (potentials_of p)) };
+
+    /// The same by tables that are at hand. What they say is not relied on.
+    fn improve_dead_by(
+        self,
+        alloc: Global,
+        ground: &Ground<'_>,
+        tables: &Tables,
+        rounds: u32,
+    ) -> Result<Potentials, NoMemory>
+        requires width { length (potentials_in self).weights ≡ length (atoms_in ground.now) }
+        requires dead_fair { AreDeadFair (task_in ground.now) (atoms_in ground.now) (potentials_in self) }
+        ensures { IfOk result (λ p. IsDeadImproved (task_in ground.now) (atoms_in ground.now) (potentials_in self) (potentials_of p)) };
 }
 
 impl ImproveDead for Potentials {
@@ -46,8 +58,19 @@ impl ImproveDead for Potentials {
         ground: &Ground<'_>,
         rounds: u32,
     ) -> Result<Potentials, NoMemory> {
+        let tables = Tables::new(alloc, ground)?;
+        self.improve_dead_by(alloc, ground, &tables, rounds)
+    }
+
+    fn improve_dead_by(
+        self,
+        alloc: Global,
+        ground: &Ground<'_>,
+        tables: &Tables,
+        rounds: u32,
+    ) -> Result<Potentials, NoMemory> {
         let initial = ground.initial(alloc)?;
-        let mut drafts = DeadDrafts::new(alloc, ground, &initial)?;
+        let mut drafts = DeadDrafts::new(alloc, tables)?;
         let mut best = self;
         for _ in 0..rounds {
             let Some(weights) = drafts.next(alloc, best.weights())? else {

@@ -1,13 +1,11 @@
 //! Better potentials: fair ones of a greater value in the initial state, and as an estimate by which a search chooses; and
 //! dead-fair ones, as a test for dead ends.
 //!
-//! Weights are drafted first, by a linear program and rounded, for the initial state and for others on the way from it.
-//! Nothing is claimed of a draft, which is taken where it is tested to be fair and no worse. Then single weights are moved.
+//! Weights are drafted first, by a linear program and rounded, for the initial state and for others on the way from it. A draft
+//! is taken where it is tested to be fair and no worse. Then single weights are moved.
 #![tactic(auto)]
 
-mod aims;
 mod climb;
-mod dead_drafts;
 mod dead_end;
 mod dead_fair_potentials;
 mod drafted;
@@ -15,15 +13,10 @@ mod estimate;
 mod fair_potentials;
 mod improve;
 mod improve_dead;
-mod linear_program;
-mod mending;
-mod samples;
-mod simplex;
-mod tables;
-mod touching;
 
 pub use dead_fair_potentials::DeadFair;
 pub use fair_potentials::Fair;
 pub use improve::Improve;
 pub use improve_dead::ImproveDead;
 pub use potentials::{Fairness, Potentials};
+pub use potentials_drafted::Tables;

@@ -20,7 +20,7 @@ use faults::{NoMemory, Refused};
 use formulas::Plan;
 use grounding::{Ground, GroundLimit};
 use packed_state::PooledStore;
-use potentials_improved::{DeadFair, Fair};
+use potentials_improved::{DeadFair, Fair, Tables};
 use search::{Outcome, best_first};
 use std::alloc::Global;
 use typing::Task;
@@ -101,8 +101,10 @@ fn solve_ground(alloc: Global, ground: &Ground<'_>, limits: Limits) -> Result<An
     requires ground { IsGroundOf (task_in ground.now) [] limits.instances ground.now }
     ensures { IfOk result (IsTrueAnswer (task_in ground.now) limits.states limits.instances) }
 {
-    let estimate = improved_potentials(alloc, ground)?;
-    let dead_ends = improved_dead_ends(alloc, ground)?;
+    let tables = Tables::new(alloc, ground)?;
+    let estimate = improved_potentials(alloc, ground, &tables)?;
+    let dead_ends = improved_dead_ends(alloc, ground, &tables)?;
+    drop(tables);
     solve_by(alloc, ground, &estimate, &dead_ends, limits)
 }
 

@@ -6,7 +6,7 @@ ghost use Rattle.potentials_improved.specs.DeadFairPotentials as dead;
 
 use faults::NoMemory;
 use grounding::Ground;
-use potentials_improved::{DeadFair, ImproveDead, Potentials};
+use potentials_improved::{DeadFair, ImproveDead, Potentials, Tables};
 use std::alloc::Global;
 
 /// In how many rounds dead-fair potentials are made better, at most.
@@ -16,11 +16,12 @@ const IMPROVING_ROUNDS: u32 = 8;
 pub(crate) fn improved_dead_ends<'g, 't>(
     alloc: Global,
     ground: &'g Ground<'t>,
+    tables: &Tables,
 ) -> Result<DeadFair<'g, 't>, NoMemory>
     ensures tell { IfOk result (λ d. dead.AreOf ground.now (dead.potentials_in d) d) }
     ensures dead_fair { IfOk result (λ d. AreDeadFair (task_in ground.now) (atoms_in ground.now) (dead.potentials_in d)) }
 {
     let zero = Potentials::zero(alloc, ground)?;
-    let potentials = zero.improve_dead(alloc, ground, IMPROVING_ROUNDS)?;
+    let potentials = zero.improve_dead_by(alloc, ground, tables, IMPROVING_ROUNDS)?;
     Ok(DeadFair::known(potentials, ground))
 }

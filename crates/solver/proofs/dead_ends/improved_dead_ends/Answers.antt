@@ -7,11 +7,11 @@ use Rattle.potentials_improved.specs.DeadFairPotentials as dead
 use Rattle.solver.proofs.PotentialLemmas.{zero-width}
 use Rattle.solver.proofs.dead_ends.improved_dead_ends.Goals as goal
 
-pub improve_dead-requires-clause-width : goal.improve_dead-requires-clause-width
-improve_dead-requires-clause-width c = zero-width (potentials_of c.in_ok-zero.zero) (length (atoms_in c.args.ground.now)) c.in_ok-zero.ensures.zero
+pub improve_dead_by-requires-clause-width : goal.improve_dead_by-requires-clause-width
+improve_dead_by-requires-clause-width c = zero-width (potentials_of c.in_ok-zero.zero) (length (atoms_in c.args.ground.now)) c.in_ok-zero.ensures.zero
 
-pub improve_dead-requires-clause-dead_fair : goal.improve_dead-requires-clause-dead_fair
-improve_dead-requires-clause-dead_fair c =
+pub improve_dead_by-requires-clause-dead_fair : goal.improve_dead_by-requires-clause-dead_fair
+improve_dead_by-requires-clause-dead_fair c =
     let t = task_in c.args.ground.now in
     let a = atoms_in c.args.ground.now in
     subst (AreDeadFair t a) (sym c.in_ok-zero.ensures.zero) (zero-dead_fair t a)

@@ -6,8 +6,8 @@ use Rattle.solver.specs.Improved.{AreSettledOrHigh}
 use Rattle.solver.proofs.PotentialLemmas.{zero-width, improved_end}
 use Rattle.solver.proofs.estimate.improved_potentials.Goals as goal
 
-pub improve-requires-clause-width : goal.improve-requires-clause-width
-improve-requires-clause-width c = zero-width (potentials_of c.in_ok-zero.zero) (length (atoms_in c.args.ground.now)) c.in_ok-zero.ensures.zero
+pub improve_by-requires-clause-width : goal.improve_by-requires-clause-width
+improve_by-requires-clause-width c = zero-width (potentials_of c.in_ok-zero.zero) (length (atoms_in c.args.ground.now)) c.in_ok-zero.ensures.zero
 
 pub known-requires-clause-width : goal.known-requires-clause-width
 known-requires-clause-width c = c.in_ok-potentials.ensures.as_many ∙ zero-width (potentials_of c.in_ok-zero.zero) (length (atoms_in c.args.ground.now)) c.in_ok-zero.ensures.zero

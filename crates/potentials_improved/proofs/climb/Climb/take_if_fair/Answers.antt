@@ -6,9 +6,10 @@ use Rattle.grounding.specs.Ground.{task_in, atoms_in}
 use Rattle.potential_functions.specs.PotentialFunctions.{PotentialFunction}
 use Rattle.potential_functions.proofs.Settling.{potentials}
 use Rattle.potentials.specs.Potentials.{potentials_of}
-use Rattle.potentials_improved.specs.Touching.{number_of, row_of, AreFairAt}
+use Rattle.potentials_drafted.specs.Touching.{number_of, row_of}
+use Rattle.potentials_improved.specs.Climb.{AreFairAt}
 use Rattle.potentials_improved.proofs.ClimbLemmas.{back-again, set-long, tried-kept, tried-raised}
-use Rattle.potentials_improved.proofs.TouchingLemmas.{fair-by_touching, none-unfair_among, row-below}
+use Rattle.potentials_improved.proofs.FairAtLemmas.{fair-by_touching, none-unfair_among, row-below}
 use Rattle.potentials_improved.proofs.climb.Climb.take_if_fair.Goals as goal
 
 pub weight-old-requires : goal.weight-old-requires

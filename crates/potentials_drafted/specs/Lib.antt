@@ -1,0 +1,2 @@
+pub mod Touching
+pub mod Tables

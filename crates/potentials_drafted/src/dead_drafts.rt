@@ -1,0 +1,198 @@
+//! Weights that may tell dead ends.
+//!
+//! Where no instance may lose anything, each multiple of fair weights is fair, so that the linear program has edges without an
+//! end. Along one on which a state gains, its value comes to at least 1, and the state is told a dead end.
+use crate::aims::{Aim, Aims};
+use crate::linear_program::LinearProgram;
+use crate::mending::is_whole;
+use crate::simplex::{Allowance, Vertex};
+use crate::tables::Tables;
+use faults::NoMemory;
+use std::alloc::Global;
+use std::num::{nearest_i64_to_f64, saturating_f64_to_i64};
+
+/// For how many states weights are drafted, at most: the initial one, and sampled ones.
+const MAX_STATES: usize = 17;
+
+/// How many numbers the simplex algorithm may look at: in all, and of these behind the initial state, for the sampled ones.
+const MAX_WORK: u64 = 524_288;
+
+const MAX_WORK_SAMPLED: u64 = 131_072;
+
+/// By how much the least weight may be multiplied, so that all are whole numbers.
+const MAX_FACTOR: i64 = 60;
+
+/// What is no more than this is no weight.
+const NOTHING: f64 = 1e-9;
+
+/// The states for which weights are drafted, and what is read for that.
+#[derive(Drop)]
+pub struct DeadDrafts<'a> {
+    tables: &'a Tables,
+    program: LinearProgram,
+    vertex: Vertex,
+    /// The true atoms of the initial state, and then of the sampled ones.
+    states: &'a [Vec<u32>],
+    /// How many of them had their turn.
+    done: usize,
+}
+
+/// Which states weights tell dead: whether the initial one, and how many of all.
+#[derive(Clone, Copy)]
+struct Told {
+    is_initial: bool,
+    states: usize,
+}
+
+impl<'a> DeadDrafts<'a> {
+    /// Those for the initial state, and for some on the way from it.
+    pub fn new(alloc: Global, tables: &'a Tables) -> Result<DeadDrafts<'a>, NoMemory> {
+        let all = tables.states();
+        let states = &all[..all.len().min(MAX_STATES)];
+        let width = tables.width();
+        let aims = Aims::new(Aim::none(alloc, width)?, Aim::all(alloc, width, states)?);
+        let program = LinearProgram::new(alloc, tables, &aims)?;
+        let vertex = Vertex::new(alloc, tables, &program, Allowance::Nothing, MAX_WORK)?;
+        Ok(DeadDrafts {
+            tables,
+            program,
+            vertex,
+            states,
+            done: 0,
+        })
+    }
+
+    /// Weights that may tell more of the states dead than these, if some are found for one of those left. Where the initial
+    /// state is told dead, no more is to be told.
+    pub fn next(&mut self, alloc: Global, weights: &[i64]) -> Result<Option<Vec<i64>>, NoMemory> {
+        if self.is_told(0, weights) {
+            return Ok(None);
+        }
+        for place in self.done..self.states.len() {
+            self.done = place.saturating_add(1);
+            if !self.is_told(place, weights) {
+                let draft = self.draft(alloc, place, weights)?;
+                if place == 0 {
+                    self.vertex.limit_work(MAX_WORK_SAMPLED);
+                }
+                if draft.is_some() {
+                    return Ok(draft);
+                }
+            }
+        }
+        Ok(None)
+    }
+
+    /// Weights that may tell more of the states dead than these, if some are found for the one at this place: either alone, or
+    /// added to these.
+    fn draft(
+        &mut self,
+        alloc: Global,
+        place: usize,
+        weights: &[i64],
+    ) -> Result<Option<Vec<i64>>, NoMemory> {
+        let Some(found) = self.found(alloc, place)? else {
+            return Ok(None);
+        };
+        let mut both = Vec::with_capacity(alloc, found.len())?;
+        for (more, weight) in found.iter().zip(weights) {
+            both.push(more.saturating_add(*weight))?;
+        }
+        let before = self.told(weights);
+        let alone = self.told(&found);
+        let together = self.told(&both);
+        if together.is_more_than(before) && !alone.is_more_than(together) {
+            return Ok(Some(both));
+        }
+        Ok(if alone.is_more_than(before) {
+            Some(found)
+        } else {
+            None
+        })
+    }
+
+    /// Weights along an edge without an end on which the state at this place gains, if there are some.
+    fn found(&mut self, alloc: Global, place: usize) -> Result<Option<Vec<i64>>, NoMemory> {
+        let Some(atoms) = self.states.get(place) else {
+            return Ok(None);
+        };
+        let width = self.tables.width();
+        let aims = Aims::new(Aim::one(alloc, width, atoms)?, Aim::none(alloc, width)?);
+        let Some(along) = self.vertex.endless(self.tables, &self.program, &aims)? else {
+            return Ok(None);
+        };
+        let weights = self.program.weights(alloc, along)?;
+        whole(alloc, &weights)
+    }
+
+    /// Which of the states these weights tell dead, with the greatest constant that the goal allows.
+    fn told(&self, weights: &[i64]) -> Told {
+        let constant = self.tables.constant(weights);
+        let mut states = 0usize;
+        for atoms in self.states {
+            if score(constant, weights, atoms) > 0 {
+                states = states.saturating_add(1);
+            }
+        }
+        Told {
+            is_initial: self.is_told(0, weights),
+            states,
+        }
+    }
+
+    /// Whether they tell the one at this place dead.
+    fn is_told(&self, place: usize, weights: &[i64]) -> bool {
+        match self.states.get(place) {
+            Some(atoms) => score(self.tables.constant(weights), weights, atoms) > 0,
+            None => false,
+        }
+    }
+}
+
+impl Told {
+    /// Whether the initial state is told only here, or in both or neither and here more states are told.
+    fn is_more_than(self, other: Told) -> bool {
+        if self.is_initial == other.is_initial {
+            self.states > other.states
+        } else {
+            self.is_initial
+        }
+    }
+}
+
+/// The score of a state of these true atoms.
+fn score(constant: i64, weights: &[i64], atoms: &[u32]) -> i64 {
+    let mut score = constant;
+    for atom in atoms {
+        if let Some(weight) = weights.get(*atom as usize) {
+            score = score.saturating_add(*weight);
+        }
+    }
+    score
+}
+
+/// Whole numbers in the proportions of these, if small multiples of the least one are.
+fn whole(alloc: Global, weights: &[f64]) -> Result<Option<Vec<i64>>, NoMemory> {
+    let mut least = f64::INFINITY;
+    for weight in weights {
+        if weight.abs() > NOTHING {
+            least = least.min(weight.abs());
+        }
+    }
+    for factor in 1..=MAX_FACTOR {
+        let scale = nearest_i64_to_f64(factor) / least;
+        if weights.iter().all(|weight| is_whole(*weight * scale)) {
+            return Ok(Some(scaled(alloc, weights, scale)?));
+        }
+    }
+    Ok(None)
+}
+
+/// The whole numbers nearest to so many times these.
+fn scaled(alloc: Global, weights: &[f64], scale: f64) -> Result<Vec<i64>, NoMemory> {
+    let mut whole = Vec::with_capacity(alloc, weights.len())?;
+    for weight in weights {
+        whole.push(saturating_f64_to_i64((*weight * scale).round()))?;
+    }
+    Ok(whole)
+}

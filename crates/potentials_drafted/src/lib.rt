@@ -1,0 +1,20 @@
+//! Drafts of potentials: weights by which states may have greater values, or be told dead ends.
+//!
+//! Nothing is claimed of a draft, so that whoever takes one tests it. What is claimed is which instances touch an atom: of
+//! that the moves of single weights behind the drafts make use.
+#![tactic(auto)]
+
+mod aims;
+mod dead_drafts;
+mod drafts;
+mod linear_program;
+mod mending;
+mod samples;
+mod simplex;
+mod tables;
+mod touching;
+
+pub use dead_drafts::DeadDrafts;
+pub use drafts::drafted_weights;
+pub use tables::Tables;
+pub use touching::{Touch, Touching};

@@ -1,0 +1,477 @@
+//! The simplex algorithm (Dantzig 1951), for fair potentials whose weights need not be whole numbers.
+//!
+//! It goes from vertex to vertex of the fair potentials, and begins where all weights are 0, so that what it has come to is
+//! fair wherever it stops. Where nothing costs anything, the edges without an end are of use: along them no instance loses.
+//! At a vertex as many limits are tight as there are variables, and with each goes an edge, along
+//! which it alone loosens. The next edge is the steepest one (Goldfarb & Reid 1977), and costs are taken for a little higher
+//! than they are, each by a part of its own, so that hardly two vertices are in one place (Charnes 1952).
+use crate::aims::Aims;
+use crate::linear_program::LinearProgram;
+use crate::samples::Chance;
+use crate::tables::Tables;
+use faults::NoMemory;
+use std::alloc::Global;
+use std::num::nearest_i64_to_f64;
+
+/// The most steps.
+const MAX_STEPS: u32 = 65_536;
+
+/// What is no more than this is nothing: a gain, or how fast a limit gets nearer.
+const NOTHING: f64 = 1e-9;
+
+/// What is no more than this is an error of rounding.
+const ERROR: f64 = 1e-12;
+
+/// By which part of the greatest cost a limit may be higher than it is.
+const RISE: f64 = 1e-6;
+
+/// What a tight limit has left, which is met again only once it has loosened.
+const TIGHT: f64 = f64::INFINITY;
+
+/// What an instance may lose.
+#[derive(Clone, Copy)]
+pub(crate) enum Allowance {
+    /// What it costs.
+    Cost,
+    /// Nothing, whatever it costs.
+    Nothing,
+}
+
+/// A limit that is tight, and the edge along which it alone loosens: how far each variable grows along it, what the states
+/// gain by that, and the square of its length.
+#[derive(Drop)]
+struct Edge {
+    limit: usize,
+    /// The variable that alone grows, as long as the edge was never bent, and has nothing in `along`.
+    alone: usize,
+    along: Vec<f64>,
+    gain: f64,
+    square: f64,
+}
+
+/// A limit that is met along an edge, how far it is, and how fast it gets nearer.
+#[derive(Clone, Copy)]
+struct Stop {
+    limit: usize,
+    far: f64,
+    rate: f64,
+}
+
+/// What comes of a step.
+#[derive(Clone, Copy, PartialEq, Eq)]
+enum Step {
+    /// The next vertex.
+    Taken,
+    /// No edge along which anything is gained.
+    AtBest,
+    /// An edge without an end, the last one now.
+    Endless,
+}
+
+/// A vertex. Its limits are those of the instances, which lose no more than they may, and then those of the variables, which
+/// are at least 0.
+#[derive(Drop)]
+pub(crate) struct Vertex {
+    edges: Vec<Edge>,
+    instances: usize,
+    variables: usize,
+    /// What each limit has left.
+    slacks: Vec<f64>,
+    /// How fast each limit gets nearer along the edge that is taken, and which do.
+    rates: Vec<f64>,
+    nearing: Vec<usize>,
+    /// How many numbers were looked at, and may be before no further step is taken.
+    work: u64,
+    max_work: u64,
+}
+
+impl Allowance {
+    /// What an instance of this cost may lose.
+    fn of(self, cost: i64) -> i64 {
+        match self {
+            Allowance::Cost => cost,
+            Allowance::Nothing => 0,
+        }
+    }
+}
+
+impl Vertex {
+    /// That of weights that are all 0, where each instance may lose this. So many numbers may be looked at.
+    pub(crate) fn new(
+        alloc: Global,
+        tables: &Tables,
+        program: &LinearProgram,
+        allowance: Allowance,
+        max_work: u64,
+    ) -> Result<Vertex, NoMemory> {
+        let instances = tables.costs().len();
+        let variables = program.variables().len();
+        let mut vertex = Vertex {
+            edges: Vec::new(alloc),
+            instances,
+            variables,
+            slacks: Vec::new(alloc),
+            rates: vec![in alloc; 0.0; instances.saturating_add(variables)]?,
+            nearing: Vec::new(alloc),
+            work: 0,
+            max_work,
+        };
+        vertex.fill_slacks(tables.costs(), allowance)?;
+        for variable in 0..variables {
+            vertex.add_edge(alloc, variable)?;
+        }
+        Ok(vertex)
+    }
+
+    /// Notes what the limits of the instances have left, and a little more.
+    fn fill_slacks(&mut self, costs: &[i64], allowance: Allowance) -> Result<(), NoMemory> {
+        let mut most = 1;
+        for cost in costs {
+            most = most.max(allowance.of(*cost));
+        }
+        let rise = RISE * nearest_i64_to_f64(most);
+        let mut chance = Chance::new();
+        for cost in costs {
+            let more = rise * (1.0 + chance.part());
+            self.slacks
+                .push(nearest_i64_to_f64(allowance.of(*cost)) + more)?;
+        }
+        Ok(())
+    }
+
+    /// Adds the limit of a variable, and the edge along which it alone grows.
+    fn add_edge(&mut self, alloc: Global, variable: usize) -> Result<(), NoMemory> {
+        self.slacks.push(TIGHT)?;
+        self.edges.push(Edge {
+            limit: self.instances.saturating_add(variable),
+            alone: variable,
+            along: Vec::new(alloc),
+            gain: 0.0,
+            square: 1.0,
+        })?;
+        Ok(())
+    }
+
+    /// Goes on as long as the initial state gains by it, and by this share the sampled ones; tells whether it took a step.
+    pub(crate) fn climb(
+        &mut self,
+        tables: &Tables,
+        program: &LinearProgram,
+        aims: &Aims,
+        share: f64,
+    ) -> Result<bool, NoMemory> {
+        self.aim_at(tables, program, aims, share);
+        let before = self.work;
+        for _ in 0..MAX_STEPS {
+            if self.work > self.max_work || self.step(tables, program)? != Step::Taken {
+                return Ok(self.work > before);
+            }
+        }
+        Ok(true)
+    }
+
+    /// Goes on until it comes to an edge without an end along which the initial state gains: how far each variable grows
+    /// along it.
+    pub(crate) fn endless(
+        &mut self,
+        tables: &Tables,
+        program: &LinearProgram,
+        aims: &Aims,
+    ) -> Result<Option<&[f64]>, NoMemory> {
+        self.aim_at(tables, program, aims, 0.0);
+        for _ in 0..MAX_STEPS {
+            if self.work > self.max_work {
+                return Ok(None);
+            }
+            match self.step(tables, program)? {
+                Step::Taken => {}
+                Step::AtBest => return Ok(None),
+                Step::Endless => {
+                    return Ok(match self.edges.last() {
+                        Some(edge) => Some(edge.along.as_slice()),
+                        None => None,
+                    });
+                }
+            }
+        }
+        Ok(None)
+    }
+
+    /// Lets no more than so many numbers be looked at from now on.
+    pub(crate) fn limit_work(&mut self, more: u64) {
+        self.max_work = self.max_work.min(self.work.saturating_add(more));
+    }
+
+    /// Notes what is gained along each edge.
+    fn aim_at(&mut self, tables: &Tables, program: &LinearProgram, aims: &Aims, share: f64) {
+        let mut read = self.edges.len();
+        for edge in self.edges.iter_mut() {
+            edge.aim_at(tables, program, aims, share);
+            read = read.saturating_add(edge.along.len());
+        }
+        self.count(read);
+    }
+
+    /// Goes to the next vertex, if there is one.
+    fn step(&mut self, tables: &Tables, program: &LinearProgram) -> Result<Step, NoMemory> {
+        let Some(place) = self.steepest() else {
+            return Ok(Step::AtBest);
+        };
+        if place >= self.edges.len() {
+            return Ok(Step::AtBest);
+        }
+        let mut edge = self.edges.swap_remove(place);
+        edge.fill(self.variables)?;
+        self.fill_rates(tables, program, &edge)?;
+        let stop = self.first_stop();
+        self.advance(stop);
+        let mut came_of_it = Step::Endless;
+        if let Some(stop) = stop {
+            self.set_slack(edge.limit, stop.far);
+            self.set_slack(stop.limit, TIGHT);
+            edge.turn(stop);
+            self.bend(tables, program, &edge)?;
+            came_of_it = Step::Taken;
+        }
+        self.edges.push(edge)?;
+        Ok(came_of_it)
+    }
+
+    /// The place of the edge along which most is gained for its length.
+    fn steepest(&self) -> Option<usize> {
+        let mut best = None;
+        let mut most = 0.0;
+        for (place, edge) in self.edges.iter().enumerate() {
+            let gain = edge.gain * edge.gain;
+            if edge.gain > NOTHING && gain > most * edge.square {
+                most = gain / edge.square;
+                best = Some(place);
+            }
+        }
+        best
+    }
+
+    /// Notes how fast each limit gets nearer along the edge.
+    fn fill_rates(
+        &mut self,
+        tables: &Tables,
+        program: &LinearProgram,
+        edge: &Edge,
+    ) -> Result<(), NoMemory> {
+        let mut limit = self.instances;
+        for (step, far) in program.variables().iter().zip(&edge.along) {
+            if *far != 0.0 {
+                self.add_rate(limit, -*far)?;
+                for touch in tables.instances_of(step.atom) {
+                    let loss = touch.loss(step.by);
+                    if loss != 0 {
+                        self.add_rate(touch.number as usize, nearest_i64_to_f64(loss) * *far)?;
+                    }
+                }
+            }
+            limit = limit.saturating_add(1);
+        }
+        self.count(edge.along.len());
+        Ok(())
+    }
+
+    /// The limit gets nearer so much faster.
+    fn add_rate(&mut self, limit: usize, more: f64) -> Result<(), NoMemory> {
+        self.count(1);
+        if limit < self.rates.len() {
+            if self.rates[limit] == 0.0 {
+                self.nearing.push(limit)?;
+            }
+            self.rates[limit] += more;
+        }
+        Ok(())
+    }
+
+    /// Of the limits that get nearer along the edge, the first.
+    fn first_stop(&self) -> Option<Stop> {
+        let mut first = None;
+        for limit in &self.nearing {
+            let rate = at(&self.rates, *limit);
+            let slack = at(&self.slacks, *limit);
+            if rate > NOTHING && slack < TIGHT {
+                let far = slack.max(0.0) / rate;
+                let stop = Stop {
+                    limit: *limit,
+                    far,
+                    rate,
+                };
+                first = Some(stop.or_earlier(first));
+            }
+        }
+        first
+    }
+
+    /// Goes along the edge to where it stops, if it does, and forgets it.
+    fn advance(&mut self, stop: Option<Stop>) {
+        let far = match stop {
+            Some(stop) => stop.far,
+            None => 0.0,
+        };
+        for limit in &self.nearing {
+            if *limit < self.slacks.len() && *limit < self.rates.len() {
+                self.slacks[*limit] -= far * self.rates[*limit];
+                self.rates[*limit] = 0.0;
+            }
+        }
+        self.nearing.clear();
+    }
+
+    /// Bends the other edges so that the limit of this one stays tight along them.
+    fn bend(
+        &mut self,
+        tables: &Tables,
+        program: &LinearProgram,
+        by: &Edge,
+    ) -> Result<(), NoMemory> {
+        let variable = by.limit.checked_sub(self.instances);
+        let mut bent = 0usize;
+        for edge in self.edges.iter_mut() {
+            let rate = edge.rate(tables, program, by.limit, variable);
+            if rate.abs() > ERROR {
+                edge.fill(by.along.len())?;
+                edge.add(rate, by);
+                bent = bent.saturating_add(1);
+            }
+        }
+        let read = tables.atoms_at(by.limit).len().saturating_add(1);
+        let edges = self.edges.len();
+        self.count(read.saturating_mul(edges));
+        self.count(bent.saturating_mul(by.along.len()));
+        Ok(())
+    }
+
+    /// How far each variable has grown, by the costs as they are.
+    pub(crate) fn grown(&self, alloc: Global, tables: &Tables) -> Result<Vec<f64>, NoMemory> {
+        let mut grown = vec![in alloc; 0.0; self.variables]?;
+        for edge in &self.edges {
+            if let Some(cost) = tables.costs().get(edge.limit) {
+                let back = nearest_i64_to_f64(*cost);
+                for (sum, far) in grown.iter_mut().zip(&edge.along) {
+                    *sum -= back * *far;
+                }
+            }
+        }
+        Ok(grown)
+    }
+
+    /// So many numbers more were looked at.
+    fn count(&mut self, more: usize) {
+        self.work = self.work.saturating_add(more as u64);
+    }
+
+    /// Notes what the limit has left.
+    fn set_slack(&mut self, limit: usize, slack: f64) {
+        if limit < self.slacks.len() {
+            self.slacks[limit] = slack;
+        }
+    }
+}
+
+impl Edge {
+    /// Notes what is gained along it.
+    fn aim_at(&mut self, tables: &Tables, program: &LinearProgram, aims: &Aims, share: f64) {
+        self.gain = match program.variables().get(self.alone) {
+            Some(step) if self.along.is_empty() => aims.shared_gain(tables, *step, share),
+            _ => 0.0,
+        };
+        for (step, far) in program.variables().iter().zip(&self.along) {
+            if *far != 0.0 {
+                self.gain += *far * aims.shared_gain(tables, *step, share);
+            }
+        }
+    }
+
+    /// Goes with the limit that was met, from now on.
+    fn turn(&mut self, stop: Stop) {
+        self.limit = stop.limit;
+        self.gain /= -stop.rate;
+        self.square /= stop.rate * stop.rate;
+        for far in self.along.iter_mut() {
+            *far /= -stop.rate;
+        }
+    }
+
+    /// How fast a limit gets nearer along it: that of a variable, or of the instance at this place.
+    fn rate(
+        &self,
+        tables: &Tables,
+        program: &LinearProgram,
+        place: usize,
+        variable: Option<usize>,
+    ) -> f64 {
+        if let Some(variable) = variable {
+            return -self.growth(variable);
+        }
+        let mut rate = 0.0;
+        for touch in tables.atoms_at(place) {
+            for by in [-1, 1] {
+                if let Some(variable) = program.variable(touch.number, by) {
+                    rate += nearest_i64_to_f64(touch.loss(by)) * self.growth(variable);
+                }
+            }
+        }
+        rate
+    }
+
+    /// How far the variable grows along it.
+    fn growth(&self, variable: usize) -> f64 {
+        if self.along.is_empty() {
+            return if variable == self.alone { 1.0 } else { 0.0 };
+        }
+        at(&self.along, variable)
+    }
+
+    /// Makes room for how far each of so many variables grows along it.
+    fn fill(&mut self, variables: usize) -> Result<(), NoMemory> {
+        if self.along.is_empty() {
+            for variable in 0..variables {
+                self.along
+                    .push(if variable == self.alone { 1.0 } else { 0.0 })?;
+            }
+        }
+        Ok(())
+    }
+
+    /// So many times the other edge comes to it.
+    fn add(&mut self, times: f64, other: &Edge) {
+        self.gain += times * other.gain;
+        let mut square = NOTHING;
+        for (far, more) in self.along.iter_mut().zip(&other.along) {
+            *far += times * *more;
+            if far.abs() < ERROR {
+                *far = 0.0;
+            }
+            square += *far * *far;
+        }
+        self.square = square;
+    }
+}
+
+impl Stop {
+    /// The earlier one of the first so far and this one; of two, the one that gets nearer faster.
+    fn or_earlier(self, first: Option<Stop>) -> Stop {
+        match first {
+            Some(first) => {
+                if self.far < first.far || self.far == first.far && self.rate > first.rate {
+                    self
+                } else {
+                    first
+                }
+            }
+            None => self,
+        }
+    }
+}
+
+/// The number at this place.
+fn at(numbers: &[f64], place: usize) -> f64 {
+    match numbers.get(place) {
+        Some(number) => *number,
+        None => 0.0,
+    }
+}

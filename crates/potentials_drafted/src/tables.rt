@@ -1,0 +1,156 @@
+//! What drafts of potentials read again and again of a ground task.
+ghost use Rattle.std.specs.Prelude.{◌≡◌, IfOk};
+ghost use Rattle.potentials_drafted.specs.Tables.{AreTablesOf};
+
+use crate::samples::{sampled, true_atoms};
+use crate::touching::{Touch, Touching};
+use faults::NoMemory;
+use grounding::Ground;
+use potentials::{goal_gives, instance_count, is_in_range};
+use std::alloc::Global;
+
+/// How many states are sampled.
+const SAMPLES: u32 = 32;
+
+/// What the goal says of an atom.
+#[derive(Clone, Copy)]
+pub(crate) struct AtGoal {
+    is_true: bool,
+    is_false: bool,
+}
+
+/// What drafts of potentials read of a ground task, for values and for dead ends alike: for each atom what the goal says of it
+/// and the instances that touch it, for each instance what it costs and the atoms that it touches, and states on the way from
+/// the initial one.
+#[derive(Drop)]
+pub struct Tables {
+    width: u32,
+    at_goal: Vec<AtGoal>,
+    costs: Vec<i64>,
+    touching: Touching,
+    /// The true atoms of the initial state, and then of those that were sampled on the way from it.
+    states: Vec<Vec<u32>>,
+}
+
+impl AtGoal {
+    /// Nothing.
+    const OPEN: AtGoal = AtGoal {
+        is_true: false,
+        is_false: false,
+    };
+
+    /// By how much the constant has to fall, where the atom's weight becomes another.
+    pub(crate) fn less(self, before: i64, after: i64) -> i64 {
+        self.gives(after).saturating_sub(self.gives(before))
+    }
+
+    /// The most that the atom may give at a goal by this weight.
+    fn gives(self, weight: i64) -> i64 {
+        if is_in_range(weight) {
+            goal_gives(self.is_false, self.is_true, weight)
+        } else {
+            0
+        }
+    }
+}
+
+impl Tables {
+    /// Those of the ground task.
+    pub fn new(alloc: Global, ground: &Ground<'_>) -> Result<Tables, NoMemory>
+        ensures { IfOk result (AreTablesOf ground.now) }
+    {
+        Ok(Tables {
+            width: ground.width(),
+            at_goal: told_at_goal(alloc, ground)?,
+            costs: costs(alloc, ground)?,
+            touching: Touching::new(alloc, ground)?,
+            states: states(alloc, ground)?,
+        })
+    }
+
+    /// How many atoms there are.
+    pub(crate) fn width(&self) -> u32 {
+        self.width
+    }
+
+    /// What the goal says of the atom.
+    pub(crate) fn at_goal(&self, atom: u32) -> AtGoal {
+        match self.at_goal.get(atom as usize) {
+            Some(at_goal) => *at_goal,
+            None => AtGoal::OPEN,
+        }
+    }
+
+    /// What each instance costs.
+    pub(crate) fn costs(&self) -> &[i64] {
+        &self.costs
+    }
+
+    /// The true atoms of the initial state, and then of those that were sampled on the way from it.
+    pub(crate) fn states(&self) -> &[Vec<u32>] {
+        &self.states
+    }
+
+    /// The greatest constant by which these weights give at most 0 at a goal.
+    pub(crate) fn constant(&self, weights: &[i64]) -> i64 {
+        let mut constant = 0i64;
+        let mut atom = 0u32;
+        for weight in weights {
+            constant = constant.saturating_sub(self.at_goal(atom).gives(*weight));
+            atom = atom.saturating_add(1);
+        }
+        constant
+    }
+
+    /// The instances that touch the atom.
+    pub(crate) fn instances_of(&self, atom: u32) -> &[Touch] {
+        self.touching.of(atom)
+    }
+
+    /// The atoms that the instance touches.
+    pub(crate) fn atoms_of(&self, number: u32) -> &[Touch] {
+        self.atoms_at(number as usize)
+    }
+
+    /// The atoms that the instance at this place touches.
+    pub(crate) fn atoms_at(&self, place: usize) -> &[Touch] {
+        self.touching.atoms_at(place)
+    }
+
+    /// Which instances touch which atoms.
+    pub fn touching(&self) -> &Touching
+        ensures { result.now ≡ self.now.touching }
+    {
+        &self.touching
+    }
+}
+
+/// What the goal says of each atom.
+fn told_at_goal(alloc: Global, ground: &Ground<'_>) -> Result<Vec<AtGoal>, NoMemory> {
+    let mut told = vec![in alloc; AtGoal::OPEN; ground.width() as usize]?;
+    for literal in ground.goal_literals() {
+        let place = literal.atom as usize;
+        if place < told.len() {
+            told[place].is_true |= literal.value;
+            told[place].is_false |= !literal.value;
+        }
+    }
+    Ok(told)
+}
+
+/// What each instance costs.
+fn costs(alloc: Global, ground: &Ground<'_>) -> Result<Vec<i64>, NoMemory> {
+    let mut costs = Vec::new(alloc);
+    for number in 0..instance_count(ground) {
+        costs.push(i64::from(ground.cost(number)))?;
+    }
+    Ok(costs)
+}
+
+/// The true atoms of the initial state, and of those that are sampled on the way from it.
+fn states(alloc: Global, ground: &Ground<'_>) -> Result<Vec<Vec<u32>>, NoMemory> {
+    let initial = ground.initial(alloc)?;
+    let mut states = sampled(alloc, ground, &initial, SAMPLES)?;
+    states.insert(0, true_atoms(alloc, &initial)?)?;
+    Ok(states)
+}

@@ -1,0 +1,33 @@
+use Rattle.std.proofs.Common.{length, subst, arith}
+use Rattle.grounding.specs.Ground.{task_in, atoms_in}
+use Rattle.potentials.specs.Potentials.{potentials_of}
+use Rattle.potentials_improved.specs.Climb.{IsPass}
+use Rattle.potentials_improved.proofs.ClimbLemmas.{improved-settled, improved-rounds, pass-gained}
+use Rattle.potentials_improved.proofs.improve.PotentialsImprove.improve_by.Goals as goal
+
+pub loop-init : goal.loop-init
+loop-init c =
+    let drafted = c.in_ok-drafted.ensures.no_lower in
+    let least = c.new-climb.ensures.no_lower in
+    record { climb = c.new-climb.ensures.climb; gained = omega arith }
+
+pub pass-requires-clause-climb : goal.pass-requires-clause-climb
+pass-requires-clause-climb c = c.loop.invariant.climb
+
+pub returns-then-not-pass : goal.returns-then-not-pass
+returns-then-not-pass c =
+    let t = task_in c.args.ground.now in
+    let a = atoms_in c.args.ground.now in
+    improved-settled t a c.args.rounds c.loop.counter (potentials_of c.args.self) c.loop.climb c.pass.new.self c.requires.width c.loop.invariant.gained c.loop.invariant.climb
+    (subst (IsPass t a (length a) c.loop.climb c.pass.new.self) c.if-not-pass.true c.pass.ensures)
+
+pub loop-preserved : goal.loop-preserved
+loop-preserved c =
+    let t = task_in c.args.ground.now in
+    let a = atoms_in c.args.ground.now in
+    record { climb = c.pass.ensures.climb; gained = pass-gained t a c.loop.counter (potentials_of c.args.self) c.loop.climb c.pass.new.self c.loop.invariant.gained (subst (IsPass t a (length a) c.loop.climb c.pass.new.self) c.if-not-pass.false c.pass.ensures) }
+
+pub returns : goal.returns
+returns c =
+    let past = c.loop-test.false in
+    improved-rounds (task_in c.args.ground.now) (atoms_in c.args.ground.now) c.args.rounds c.loop.counter (potentials_of c.args.self) c.loop.climb c.requires.width (omega arith) c.loop.invariant.gained c.loop.invariant.climb
