@@ -1,7 +1,9 @@
-//! Tests of what the whole program cannot show of words, trees and tasks, of plans' texts over devices, and of states,
-//! instances and plans in memory.
+//! Tests of what the whole program cannot show of words, trees and tasks, of plans' texts over devices, of states,
+//! instances and plans in memory, and of what is said of plans.
 #![tactic(auto)]
 
+#[cfg(test)]
+mod explained;
 #[cfg(test)]
 mod laws;
 #[cfg(test)]

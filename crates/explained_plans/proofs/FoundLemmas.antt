@@ -1,0 +1,180 @@
+-- False parts that are found one after another.
+use Rattle.std.specs.Prelude.{◌≡◌, ℕ, ◌+◌, ◌<◌, ◌≤◌, Bool, true, false, nat_lt, if◌then◌else◌, List, [], ◌∷◌, ◌++◌, length, map, take, get_or, All, refl}
+use Rattle.std.proofs.Common.{sym, ◌∙◌, ap, subst, inl, inr, arith}
+use Rattle.std.specs.Global.{Vec}
+use Rattle.std.specs.List.{flat_map}
+use Rattle.std.proofs.lemmas.Bool.{cases_lt}
+use Rattle.std.proofs.lemmas.Bool.Decides.{nat_tests}
+use Rattle.std.proofs.lemmas.Grind.{flat_map-append}
+use Rattle.std.proofs.lemmas.List.{append-nil, append_assoc, length-append, length-map, length-take-le, length_push, map_push, take_all, take_more, take-append-le}
+use Rattle.std.proofs.lemmas.List.Elements.{All-nil, All-push}
+use Rattle.task_parts.specs.declared.schemas.Formula.{Formula}
+use Rattle.task_parts.specs.declared.schemas.Formula as formula
+use Rattle.explained_plans.specs.declared.false_parts.Part as part
+use Rattle.explained_plans.specs.declared.false_parts.Found.{Found}
+use Rattle.explained_plans.specs.FalseParts.{Part, false_parts, false_parts_of_all, itself_if_false}
+use Rattle.explained_plans.specs.Parts.{AreFirst, AreFound, Finds, FitsPart, IsFalseIn, most_told, part_of}
+use Rattle.typing.specs.TaskParts.{formula_of}
+use Rattle.formulas.proofs.Trees.{formulas_in, formula_of-And}
+use Rattle.formulas.proofs.Quantifiers.{among, among-with, among-without}
+use Rattle.model.specs.Task as task
+use Rattle.model.specs.Meaning.{State, holds}
+
+abbrev pub as_part : task.Formula → List ℕ → Part
+as_part f objects = record { formula = f; objects = objects }
+
+-- ---- the first of some parts, and one more
+
+below : (count : ℕ) → nat_lt most_told count ≡ true → most_told < count
+below count lt = grind (arith, nat_tests)
+
+is_below : (count : ℕ) → most_told < count → nat_lt most_told count ≡ true
+is_below count lt = grind (arith, nat_tests)
+
+is_not_below : (count : ℕ) → count ≤ most_told → nat_lt most_told count ≡ false
+is_not_below count le = grind (arith, nat_tests)
+
+module _ (before : List Part) (told : List part.Part) (more : Bool) (is : AreFirst before told more) where
+  -- where there are more already, others change nothing
+  pub first_of_more : (xs : List Part) → more ≡ true → AreFirst (before ++ xs) told more
+  first_of_more xs full =
+      let over = below (length before) (sym is.others ∙ full) in
+      let counts = length-append before xs in
+      record {
+        first = is.first ∙ sym (take-append-le most_told before xs (omega (arith, over)));
+        others = full ∙ sym (is_below (length (before ++ xs)) (omega (arith, over, counts)));
+      }
+
+  -- where there is no room
+  pub first_without : (x : Part) → length told ≡ most_told → AreFirst (before ++ x ∷ []) told true
+  first_without x full =
+      elim (cases_lt (length before) most_told) [
+        | inl short ↦
+            let counts = sym (length-map told part_of) ∙ ap length (is.first ∙ take_all most_told before (omega (arith, short))) in
+            absurd (omega (arith, short, counts, full))
+        | inr enough ↦
+            let counts = length_push before x in
+            record {
+              first = is.first ∙ sym (take-append-le most_told before (x ∷ []) enough);
+              others = sym (is_below (length (before ++ x ∷ [])) (omega (arith, enough, counts)));
+            }
+      ]
+
+  -- where there is room
+  pub first_with : (p : part.Part) (new : List part.Part) → new ≡ told ++ p ∷ [] → (length told ≡ most_told → ⊥) → AreFirst (before ++ part_of p ∷ []) new more
+  first_with p new here room =
+      elim (cases_lt (length before) most_told) [
+        | inl short ↦
+            let counts = length_push before (part_of p) in
+            let all = is.first ∙ take_all most_told before (omega (arith, short)) in
+            record {
+              first = ap (map part_of) here ∙ map_push part_of told p ∙ ap (λ l. l ++ part_of p ∷ []) all
+                  ∙ sym (take_all most_told (before ++ part_of p ∷ []) (omega (arith, short, counts)));
+              others = is.others ∙ is_not_below (length before) (omega (arith, short))
+                  ∙ sym (is_not_below (length (before ++ part_of p ∷ [])) (omega (arith, short, counts)));
+            }
+        | inr enough ↦
+            absurd (room (sym (length-map told part_of) ∙ ap length is.first ∙ length-take-le most_told before enough))
+      ]
+
+-- ---- what is found
+
+module _ (t : task.Task) (s : State) where
+  pub found_none : (found : Found) → found.parts.items ≡ [] → found.more ≡ false → AreFound t s [] found
+  found_none found empty whole = record {
+    told = record { first = ap (map part_of) empty; others = whole };
+    fit = subst (All (FitsPart t)) (sym empty) (All-nil (FitsPart t));
+    are_false = subst (All (IsFalseIn t s)) (sym empty) (All-nil (IsFalseIn t s));
+  }
+
+  pub finds_none : (found : Found) → Finds t s [] found found
+  finds_none found before is = subst (λ l. AreFound t s l found) (sym (append-nil before)) is
+
+  pub finds_more : (xs ys : List Part) (a b c : Found) → Finds t s xs a b → Finds t s ys b c → Finds t s (xs ++ ys) a c
+  finds_more xs ys a b c first second before is =
+      subst (λ l. AreFound t s l c) (append_assoc before xs ys) (second (before ++ xs) (first before is))
+
+  pub finds_when_full : (xs : List Part) (found : Found) → found.more ≡ true → Finds t s xs found found
+  finds_when_full xs found full before is = record {
+    told = first_of_more before found.parts.items found.more is.told xs full;
+    fit = is.fit;
+    are_false = is.are_false;
+  }
+
+  -- one part more, for which there is no room
+  finds_without : (p : Part) (old new : Found) → new.parts ≡ old.parts → new.more ≡ true → length old.parts.items ≡ most_told → Finds t s (p ∷ []) old new
+  finds_without p old new kept full no_room before is =
+      let same = ap (λ (v : Vec part.Part). v.items) kept in
+      record {
+        told = subst (λ l. AreFirst (before ++ p ∷ []) l new.more) (sym same)
+            (subst (AreFirst (before ++ p ∷ []) old.parts.items) (sym full) (first_without before old.parts.items old.more is.told p no_room));
+        fit = subst (All (FitsPart t)) (sym same) is.fit;
+        are_false = subst (All (IsFalseIn t s)) (sym same) is.are_false;
+      }
+
+  -- and one for which there is
+  finds_with : (p : part.Part) (old new : Found) → new.parts.items ≡ old.parts.items ++ p ∷ [] → new.more ≡ old.more → (length old.parts.items ≡ most_told → ⊥)
+      → FitsPart t p → IsFalseIn t s p → Finds t s (part_of p ∷ []) old new
+  finds_with p old new here kept room fits is_false before is = record {
+    told = subst (AreFirst (before ++ part_of p ∷ []) new.parts.items) (sym kept) (first_with before old.parts.items old.more is.told p new.parts.items here room);
+    fit = subst (All (FitsPart t)) (sym here) (All-push (FitsPart t) old.parts.items p is.fit fits);
+    are_false = subst (All (IsFalseIn t s)) (sym here) (All-push (IsFalseIn t s) old.parts.items p is.are_false is_false);
+  }
+
+  -- ---- the formula itself
+
+  module _ (f : task.Formula) (objects : List ℕ) where
+    alone : (b : Bool) → holds t f objects s ≡ b → itself_if_false t f objects s ≡ (if b then [] else record { formula = f; objects = objects } ∷ [])
+    alone b is = ap (λ x. if x then [] else record { formula = f; objects = objects } ∷ []) is
+
+    pub finds_nothing : (found : Found) → holds t f objects s ≡ true → Finds t s (itself_if_false t f objects s) found found
+    finds_nothing found so = subst (λ l. Finds t s l found found) (sym (alone true so)) (finds_none found)
+
+    pub finds_no_room : (old new : Found) → holds t f objects s ≡ false → new.parts ≡ old.parts → new.more ≡ true → length old.parts.items ≡ most_told
+        → Finds t s (itself_if_false t f objects s) old new
+    finds_no_room old new not_so kept full no_room =
+        subst (λ l. Finds t s l old new) (sym (alone false not_so)) (finds_without (record { formula = f; objects = objects }) old new kept full no_room)
+
+    pub finds_itself : (p : part.Part) (old new : Found) → holds t f objects s ≡ false → part_of p ≡ record { formula = f; objects = objects }
+        → new.parts.items ≡ old.parts.items ++ p ∷ [] → new.more ≡ old.more → (length old.parts.items ≡ most_told → ⊥) → FitsPart t p
+        → Finds t s (itself_if_false t f objects s) old new
+    finds_itself p old new not_so same here kept room fits =
+        subst (λ l. Finds t s l old new) (ap (λ x. x ∷ []) same ∙ sym (alone false not_so))
+        (finds_with p old new here kept room fits (ap (λ (q : Part). holds t q.formula q.objects s) same ∙ not_so))
+
+  -- ---- lists
+
+  module _ {X : Type 0} (f : X → List Part) (xs : List X) (i : ℕ) (a b : Found) (so_far : Finds t s (flat_map f (take i xs)) a b) where
+    pub finds_one_more : (x : X) (c : Found) → i < length xs → x ≡ get_or xs i x → Finds t s (f x) b c → Finds t s (flat_map f (take (i + 1) xs)) a c
+    finds_one_more x c lt at next =
+        subst (λ l. Finds t s l a c)
+        (sym (ap (flat_map f) (take_more xs i x lt ∙ ap (λ y. take i xs ++ y ∷ []) (sym at)) ∙ flat_map-append f (take i xs) (x ∷ []) ∙ ap (λ l. flat_map f (take i xs) ++ l) (append-nil (f x))))
+        (finds_more (flat_map f (take i xs)) (f x) a b c so_far next)
+
+    pub finds_whole : length xs ≤ i → Finds t s (flat_map f xs) a b
+    finds_whole past = subst (λ l. Finds t s (flat_map f l) a b) (take_all i xs past) so_far
+
+  -- ---- objects
+
+  module _ (p : ℕ → Bool) (f : ℕ → List Part) (n : ℕ) (a b : Found) (so_far : Finds t s (flat_map f (among p n)) a b) where
+    pub finds_with_object : (c : Found) → p n ≡ true → Finds t s (f n) b c → Finds t s (flat_map f (among p (n + 1))) a c
+    finds_with_object c so next =
+        subst (λ l. Finds t s l a c)
+        (sym (ap (flat_map f) (among-with p n so) ∙ flat_map-append f (among p n) (n ∷ []) ∙ ap (λ l. flat_map f (among p n) ++ l) (append-nil (f n))))
+        (finds_more (flat_map f (among p n)) (f n) a b c so_far next)
+
+    pub finds_without_object : (c : Found) → c ≡ b → p n ≡ false → Finds t s (flat_map f (among p (n + 1))) a c
+    finds_without_object c same not_so = subst (Finds t s (flat_map f (among p (n + 1))) a) (sym same) (subst (λ l. Finds t s (flat_map f l) a b) (sym (among-without p n not_so)) so_far)
+
+-- ---- conjunctions
+
+false_parts_of_all-list : (t : task.Task) (objects : List ℕ) (s : State) (parts : List Formula)
+    → false_parts_of_all t (formulas_in parts) objects s ≡ flat_map (λ part. false_parts t (formula_of part) objects s) parts
+false_parts_of_all-list t objects s [] = refl
+false_parts_of_all-list t objects s (part ∷ rest) = ap (λ l. false_parts t (formula_of part) objects s ++ l) (false_parts_of_all-list t objects s rest)
+
+pub parts_by_all : (f : Formula) (parts : Vec Formula) (items : List Formula) → f ≡ formula.And parts → items ≡ parts.items
+    → (t : task.Task) (objects : List ℕ) (s : State) → false_parts t (formula_of f) objects s ≡ flat_map (λ part. false_parts t (formula_of part) objects s) items
+parts_by_all f parts items is same t objects s =
+    ap (λ g. false_parts t (formula_of g) objects s) is ∙ ap (λ g. false_parts t g objects s) (formula_of-And parts)
+    ∙ false_parts_of_all-list t objects s parts.items ∙ ap (flat_map (λ part. false_parts t (formula_of part) objects s)) (sym same)

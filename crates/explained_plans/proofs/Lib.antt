@@ -1,0 +1,6 @@
+pub mod Running
+pub mod HistoryLemmas
+pub mod FoundLemmas
+pub mod FalsePartsLaws
+pub mod Stopping
+pub mod StepPlaceLemmas

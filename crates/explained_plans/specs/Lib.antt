@@ -1,0 +1,5 @@
+pub mod FalseParts
+pub mod Histories
+pub mod Parts
+pub mod Explanations
+pub mod StepPlaces

@@ -1,0 +1,62 @@
+-- The code's parts of formulas and their histories, in the model's terms.
+use Rattle.std.specs.Prelude.{◌≡◌, ℕ, Bool, false, nat_lt, List, length, map, take, get_or, slice_get, Some, All, ◌++◌, if◌then◌else◌}
+use Rattle.explained_plans.specs.declared.false_parts.Part as part
+use Rattle.explained_plans.specs.declared.false_parts.Found.{Found}
+use Rattle.explained_plans.specs.declared.histories.History as history
+use Rattle.explained_plans.specs.declared.histories.History.TheVariants.{Always, ByStep}
+use Rattle.explained_plans.specs.FalseParts.{Part, part_holds}
+use Rattle.explained_plans.specs.Histories.{History, always, by_step, IsHistory}
+use Rattle.typing.specs.TaskParts.{object_of, formula_of}
+use Rattle.formulas.specs.State.{FitsFormula}
+use Rattle.model.specs.Task as task
+use Rattle.model.specs.Meaning.{State}
+
+abbrev pub part_of : part.Part → Part
+part_of p = record { formula = formula_of p.formula.now; objects = map object_of p.objects.items }
+
+abbrev pub history_of : history.History → History
+history_of Always = always
+history_of (ByStep step) = by_step step
+
+-- how many false parts are told at most
+abbrev pub most_told : ℕ
+most_told = 20
+
+-- these are the first of some false parts, and whether there are more
+pub record AreFirst (all : List Part) (told : List part.Part) (more : Bool) : Type 0 where
+  pub first : map part_of told ≡ take most_told all
+  pub others : more ≡ nat_lt most_told (length all)
+
+-- the history at each part's place is the part's
+abbrev pub AreHistories : task.Task → List task.Instance → List part.Part → List history.History → Type 0
+AreHistories t steps parts histories =
+    (number : ℕ) (one : part.Part) → slice_get parts number ≡ Some one
+    → IsHistory t steps (part_of one) (history_of (get_or histories number Always))
+
+-- ---- on the way
+
+-- the objects may stand for the variables in the part
+abbrev pub FitsPart : task.Task → part.Part → Type 0
+FitsPart t p = FitsFormula t (formula_of p.formula.now) (map object_of p.objects.items)
+
+-- the part is false in the state
+abbrev pub IsFalseIn : task.Task → State → part.Part → Type 0
+IsFalseIn t state p = part_holds t state (part_of p) ≡ false
+
+-- the first of some parts are found, and each of these is false
+pub record AreFound (t : task.Task) (state : State) (all : List Part) (found : Found) : Type 0 where
+  pub told : AreFirst all found.parts.items found.more
+  pub fit : All (FitsPart t) found.parts.items
+  pub are_false : All (IsFalseIn t state) found.parts.items
+
+-- behind the parts that were found before, these are found
+abbrev pub Finds : task.Task → State → List Part → Found → Found → Type 0
+Finds t state parts old new = (before : List Part) → AreFound t state before old → AreFound t state (before ++ parts) new
+
+-- The state before the step of this number is looked at: a part that holds there may be made false by this step, and of any
+-- other all is as it was.
+abbrev pub Looked : task.Task → State → ℕ → List part.Part → List history.History → List history.History → Type 0
+Looked t state step parts old new =
+    (number : ℕ) (one : part.Part) → slice_get parts number ≡ Some one
+    → history_of (get_or new number Always)
+    ≡ (if part_holds t state (part_of one) then by_step step else history_of (get_or old number Always))

@@ -1,0 +1,161 @@
+//! Why a formula does not hold: the smallest of its parts that are false and make it so.
+ghost use Rattle.std.specs.Prelude.{map, IfOk, OnOk};
+ghost use Rattle.std.specs.List.{flat_map};
+ghost use Rattle.typing.specs.Task.{task_of};
+ghost use Rattle.typing.specs.TaskParts.{object_of, formula_of, union_of};
+ghost use Rattle.formulas.specs.State.{state_of, FitsFormula, FitsFormulas};
+ghost use Rattle.explained_plans.specs.FalseParts.{FalsePartsTell, false_parts, itself_if_false};
+ghost use Rattle.explained_plans.specs.Parts.{AreFound, Finds};
+ghost use Rattle.model.specs.Task.{forall};
+
+use faults::NoMemory;
+use formulas::{Binding, State, copied, holds};
+use std::alloc::Global;
+use typing::{Formula, ObjectId, Task, TypeUnion};
+
+/// How many false parts of a formula are told at most.
+pub const MOST_TOLD: usize = 20;
+
+/// A part of a formula, where the variables in its scope have these objects.
+#[derive(Drop)]
+pub struct Part<'t> {
+    /// The part.
+    pub formula: &'t Formula,
+    /// The objects of the variables in its scope, in order.
+    pub objects: Binding,
+}
+
+/// The first of some false parts.
+#[derive(Drop)]
+pub(crate) struct Found<'t> {
+    /// These, from the left.
+    pub parts: Vec<Part<'t>>,
+    /// Whether there are more.
+    pub more: bool,
+}
+
+/// The first of the smallest parts that are false in the state, where the variables in scope have these objects. The formula
+/// is well-typed for variables of some types that the objects are of.
+pub(crate) fn first_false_parts<'t>(
+    alloc: Global,
+    task: &Task,
+    formula: &'t Formula,
+    objects: &Binding,
+    state: &State,
+) -> Result<Found<'t>, NoMemory>
+    requires { FitsFormula (task_of task.now) (formula_of formula.now) (map object_of objects.now.items) }
+    ensures { IfOk result (AreFound (task_of task.now) (state_of state.now) (false_parts (task_of task.now) (formula_of formula.now) (map object_of objects.now.items) (state_of state.now))) }
+{
+    let mut found = Found {
+        parts: Vec::new(alloc),
+        more: false,
+    };
+    find(task, formula, objects, state, &mut found)?;
+    Ok(found)
+}
+
+/// Finds the false parts of the formula, behind those that were found before. Once there are more than are told, none is
+/// looked for.
+#[cycle(find)]
+fn find<'t>(
+    task: &Task,
+    formula: &'t Formula,
+    objects: &Binding,
+    state: &State,
+    found: &mut Found<'t>,
+) -> Result<(), NoMemory>
+    requires { FitsFormula (task_of task.now) (formula_of formula.now) (map object_of objects.now.items) }
+    ensures { OnOk result (Finds (task_of task.now) (state_of state.now) (false_parts (task_of task.now) (formula_of formula.now) (map object_of objects.now.items) (state_of state.now)) found.old found.new) }
+{
+    if found.more {
+        return Ok(());
+    }
+    match formula {
+        Formula::And(parts) => find_in_each(task, parts, objects, state, found),
+        Formula::Imply(premise, conclusion) => {
+            if holds(task, premise, objects, state) {
+                find(task, conclusion, objects, state, found)
+            } else {
+                Ok(())
+            }
+        }
+        Formula::Forall(types, part) => find_for_each(task, types, part, objects, state, found),
+        _ => found.add_if_false(task, formula, objects, state),
+    }
+}
+
+/// The same in each of the formulas.
+#[cycle(find)]
+fn find_in_each<'t>(
+    task: &Task,
+    parts: &'t [Formula],
+    objects: &Binding,
+    state: &State,
+    found: &mut Found<'t>,
+) -> Result<(), NoMemory>
+    requires { FitsFormulas (task_of task.now) (map formula_of parts.now) (map object_of objects.now.items) }
+    ensures { OnOk result (Finds (task_of task.now) (state_of state.now) (flat_map (λ part. false_parts (task_of task.now) (formula_of part) (map object_of objects.now.items) (state_of state.now)) parts.now) found.old found.new) }
+{
+    for part in parts {
+        find(task, part, objects, state, found)?;
+    }
+    Ok(())
+}
+
+/// The same for each object of these types, as that of the next variable.
+#[cycle(find)]
+fn find_for_each<'t>(
+    task: &Task,
+    types: &TypeUnion,
+    part: &'t Formula,
+    objects: &Binding,
+    state: &State,
+    found: &mut Found<'t>,
+) -> Result<(), NoMemory>
+    requires { FitsFormula (task_of task.now) (forall (union_of types.now) (formula_of part.now)) (map object_of objects.now.items) }
+    ensures { OnOk result (Finds (task_of task.now) (state_of state.now) (false_parts (task_of task.now) (forall (union_of types.now) (formula_of part.now)) (map object_of objects.now.items) (state_of state.now)) found.old found.new) }
+{
+    let mut extended = copied(objects);
+    for number in 0..task.object_count() {
+        let object = ObjectId(number as u32);
+        if task.is_of(object, types) {
+            extended.push(object);
+            find(task, part, &extended, state, found)?;
+            extended.pop();
+        }
+    }
+    Ok(())
+}
+
+impl<'t> Found<'t> {
+    /// Adds the formula itself, if it is false in the state and there is room.
+    fn add_if_false(
+        &mut self,
+        task: &Task,
+        formula: &'t Formula,
+        objects: &Binding,
+        state: &State,
+    ) -> Result<(), NoMemory>
+        requires { FitsFormula (task_of task.now) (formula_of formula.now) (map object_of objects.now.items) }
+        ensures { OnOk result (Finds (task_of task.now) (state_of state.now) (itself_if_false (task_of task.now) (formula_of formula.now) (map object_of objects.now.items) (state_of state.now)) self.old self.new) }
+    {
+        if holds(task, formula, objects, state) {
+            return Ok(());
+        }
+        if self.parts.len() == MOST_TOLD {
+            self.more = true;
+            return Ok(());
+        }
+        self.parts.push(Part {
+            formula,
+            objects: copied(objects),
+        })?;
+        Ok(())
+    }
+}
+
+/// A formula holds where it has no false part, and each false part is false. It is stated of all formulas, and proved; the
+/// call does nothing.
+pub fn false_parts_tell()
+    ensures { FalsePartsTell }
+{}

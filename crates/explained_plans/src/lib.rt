@@ -1,0 +1,17 @@
+//! What is said of a plan for people: why it fails, or what each of its steps costs; where its steps stand; what a task holds.
+#![tactic(auto)]
+
+mod explanations;
+mod false_parts;
+mod formula_text;
+mod histories;
+mod step_places;
+mod summary;
+mod telling;
+
+pub use explanations::{PlanExplanation, Reasons, explain_plan};
+pub use false_parts::{MOST_TOLD, Part, false_parts_tell};
+pub use histories::History;
+pub use step_places::step_place;
+pub use summary::{Forms, Summary};
+pub use telling::tell_plan;

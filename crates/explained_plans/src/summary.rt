@@ -1,0 +1,182 @@
+//! What a task holds, in a few lines.
+ghost use Rattle.std.specs.Prelude.{◌≡◌, length};
+ghost use Rattle.typing.specs.Task.{task_of};
+
+use faults::NoMemory;
+use std::alloc::Global;
+use typing::{Effect, Formula, PredicateId, SchemaId, Task};
+
+/// What a task holds.
+#[derive(Clone, Copy, Debug, PartialEq, Eq)]
+pub struct Summary {
+    /// How many types there are, `object` among them.
+    pub types: usize,
+    /// How many objects there are.
+    pub objects: usize,
+    /// How many predicates there are.
+    pub predicates: usize,
+    /// How many functions there are, `total-cost` among them where it is declared.
+    pub functions: usize,
+    /// How many action schemas there are.
+    pub actions: usize,
+    /// Whether the total cost is to be least.
+    pub has_costs: bool,
+    /// What stands in the preconditions, the effects and the goal.
+    pub forms: Forms,
+}
+
+/// Which forms stand in some formulas and effects.
+#[derive(Clone, Copy, Debug, Default, PartialEq, Eq)]
+pub struct Forms {
+    /// An effect under a condition.
+    pub conditional_effects: bool,
+    /// An `exists` or a `forall`, of a formula or of an effect.
+    pub quantifiers: bool,
+    /// A `not` in a formula.
+    pub negations: bool,
+    /// An `or` or an `imply`.
+    pub disjunctions: bool,
+}
+
+impl Summary {
+    /// What the task holds.
+    pub fn of(task: &Task) -> Summary
+        ensures types { result.types ≡ length (task_of task.now).types }
+        ensures objects { result.objects ≡ length (task_of task.now).objects }
+        ensures actions { result.actions ≡ length (task_of task.now).schemas }
+        ensures costs { result.has_costs ≡ (task_of task.now).has_metric }
+    {
+        Summary {
+            types: task.type_count(),
+            objects: task.object_count(),
+            predicates: predicate_count(task),
+            functions: function_count(task),
+            actions: task.schema_count(),
+            has_costs: task.has_metric(),
+            forms: Forms::of(task),
+        }
+    }
+
+    /// The lines that tell it, each with LF, and how many instances are kept and atoms numbered.
+    ///
+    /// # Errors
+    /// Memory was refused.
+    pub fn text(&self, alloc: Global, instances: usize, atoms: usize) -> Result<String, NoMemory> {
+        let mut text = format!(in alloc;
+            "types {}, objects {}, predicates {}, functions {}, actions {}\n",
+            self.types, self.objects, self.predicates, self.functions, self.actions
+        )?;
+        let grounded = format!(in alloc; "instances kept {instances}, atoms numbered {atoms}\n")?;
+        text.push_str(grounded.as_str())?;
+        let costs = yes_or_no(self.has_costs);
+        let forms = self.forms.text(alloc)?;
+        let last = format!(in alloc; "costs {costs}, {}\n", forms.as_str())?;
+        text.push_str(last.as_str())?;
+        Ok(text)
+    }
+}
+
+impl Forms {
+    /// The forms in the task's preconditions and effects and in its goal.
+    fn of(task: &Task) -> Forms {
+        let mut forms = Forms::default();
+        forms.look_at(task.goal());
+        for number in 0..task.schema_count() {
+            if let Some(schema) = task.schema(SchemaId(number)) {
+                forms.look_at(&schema.precondition);
+                forms.look_at_effect(&schema.effect);
+            }
+        }
+        forms
+    }
+
+    /// Adds those in the formula.
+    #[cycle(look)]
+    fn look_at(&mut self, formula: &Formula) {
+        match formula {
+            Formula::Atom(_) | Formula::Equal(_, _) => {}
+            Formula::And(parts) => self.look_at_each(parts),
+            Formula::Or(parts) => {
+                self.disjunctions = true;
+                self.look_at_each(parts)
+            }
+            Formula::Not(part) => {
+                self.negations = true;
+                self.look_at(part)
+            }
+            Formula::Imply(premise, conclusion) => {
+                self.disjunctions = true;
+                self.look_at(premise);
+                self.look_at(conclusion)
+            }
+            Formula::Exists(_, part) | Formula::Forall(_, part) => {
+                self.quantifiers = true;
+                self.look_at(part)
+            }
+        }
+    }
+
+    /// Adds those in each of the formulas.
+    #[cycle(look)]
+    fn look_at_each(&mut self, parts: &[Formula]) {
+        for part in parts {
+            self.look_at(part);
+        }
+    }
+
+    /// Adds those in the effect.
+    fn look_at_effect(&mut self, effect: &Effect) {
+        match effect {
+            Effect::Literal(_) => {}
+            Effect::And(parts) => {
+                for part in parts {
+                    self.look_at_effect(part);
+                }
+            }
+            Effect::Forall(_, part) => {
+                self.quantifiers = true;
+                self.look_at_effect(part)
+            }
+            Effect::When(condition, _) => {
+                self.conditional_effects = true;
+                self.look_at(condition)
+            }
+        }
+    }
+
+    /// Which of them there are, in words.
+    fn text(self, alloc: Global) -> Result<String, NoMemory> {
+        let conditional = yes_or_no(self.conditional_effects);
+        let quantifiers = yes_or_no(self.quantifiers);
+        let negations = yes_or_no(self.negations);
+        let disjunctions = yes_or_no(self.disjunctions);
+        Ok(format!(in alloc;
+            "conditional effects {conditional}, quantifiers {quantifiers}, \
+negations {negations}, disjunctions {disjunctions}"
+        )?)
+    }
+}
+
+fn yes_or_no(is_so: bool) -> &'static str {
+    if is_so { "yes" } else { "no" }
+}
+
+/// How many predicates there are.
+fn predicate_count(task: &Task) -> usize {
+    for number in 0..usize::MAX {
+        if task.predicate_name(PredicateId(number)).is_none() {
+            return number;
+        }
+    }
+    usize::MAX
+}
+
+/// How many functions there are.
+fn function_count(task: &Task) -> usize {
+    for number in 0..usize::MAX {
+        if task.function_name(PredicateId(number)).is_none() {
+            return number;
+        }
+    }
+    usize::MAX
+}

@@ -1,0 +1,118 @@
+//! What is said of plans that solve, stop or miss the goal.
+use explained_plans::{Summary, explain_plan, false_parts_tell, step_place, tell_plan};
+use faults::Span;
+use plan_file::read_plan;
+use std::alloc::Global;
+use std::process::Abort;
+use std::test::Fail;
+use test_texts::{Texts, on_task};
+use typing::Task;
+
+/// Three places, of which the last is closed, and ways between the first two.
+const ROAD: Texts = [
+    "(define (domain road) (:predicates (at ?x) (closed ?x) (seen ?x))
+ (:functions (total-cost) (distance ?x ?y))
+ (:action hop :parameters (?x ?y) :precondition (and (at ?x) (not (closed ?y)))
+  :effect (and (not (at ?x)) (at ?y) (seen ?y) (increase (total-cost) (distance ?x ?y))))
+ (:action close :parameters (?x) :precondition (and) :effect (closed ?x)))",
+    "(define (problem r) (:domain road) (:objects a b c)
+ (:init (at a) (closed c) (= (total-cost) 0) (= (distance a b) 4) (= (distance b a) 2))
+ (:goal (and (at b) (forall (?x) (or (seen ?x) (= ?x a) (closed ?x)))))
+ (:metric minimize (total-cost)))",
+];
+
+/// Plans, and what is said of them.
+#[rattlefmt::skip]
+static TOLD: [(&str, &str); 8] = [
+    ("(hop a b)(hop b a)(hop a b)",
+        "1  (hop a b)  cost 4, 4 so far\n2  (hop b a)  cost 2, 6 so far\n3  (hop a b)  cost 4, 10 so far\nvalid, cost 10\n"),
+    ("", "the plan runs, and the goal is missed\n(at b) is false: it was never true.\n\
+(or (seen b) (= b a) (closed b)) is false.\n"),
+    ("(hop a b)(hop b a)", "the plan runs, and the goal is missed\n(at b) is false: step 2, (hop b a), deleted it.\n"),
+    ("(hop a b)(hop b a)(hop a b)(hop a b)",
+        "step 4, (hop a b), is not applicable\n(at a) is false: step 3, (hop a b), deleted it.\n"),
+    ("(close b)(close b)(hop a b)",
+        "step 3, (hop a b), is not applicable\n(not (closed b)) is false: step 1, (close b), added (closed b).\n"),
+    ("(hop a c)", "step 1, (hop a c), is not applicable\n\
+(not (closed c)) is false: (closed c) was true from the start.\n(distance a c) has no value.\n"),
+    ("(hop a a)", "step 1, (hop a a), is not applicable\n(distance a a) has no value.\n"),
+    ("(hop b c)", "step 1, (hop b c), is not applicable\n(at b) is false: it was never true.\n\
+(not (closed c)) is false: (closed c) was true from the start.\n(distance b c) has no value.\n"),
+];
+
+/// What is said of the plan of this text.
+fn told(alloc: Global, task: &Task, text: &str) -> Result<Vec<u8>, Fail> {
+    let plan = read_plan(alloc, task, text.as_bytes())?;
+    let explanation = explain_plan(alloc, task, &plan)?;
+    Ok(tell_plan(alloc, task, &plan, &explanation)?)
+}
+
+fn are_told(rt: &impl Abort, alloc: Global, task: &Task) -> Result<(), Fail> {
+    for (plan, wanted) in &TOLD {
+        let text = told(alloc, task, *plan)?;
+        assert_eq!(rt; text.as_slice(), wanted.as_bytes());
+    }
+    Ok(())
+}
+
+#[test]
+fn plans_are_explained(rt: HostRuntime) -> Result<(), Fail> {
+    false_parts_tell();
+    on_task(&rt, rt.alloc(), &ROAD, are_told)
+}
+
+/// A hundred hops to and fro, of which the one in the middle leaves where the plan is not.
+fn hundred_hops(alloc: Global) -> Result<String, Fail> {
+    let mut text = String::new(alloc);
+    for step in 1..=100u32 {
+        let hop = if step == 51 || step % 2 == 0 {
+            "(hop b a)\n"
+        } else {
+            "(hop a b)\n"
+        };
+        text.push_str(hop)?;
+    }
+    Ok(text)
+}
+
+#[test]
+fn one_wrong_step_of_a_hundred_is_told(rt: HostRuntime) -> Result<(), Fail> {
+    on_task(&rt, rt.alloc(), &ROAD, |rt, alloc, task| {
+        let hops = hundred_hops(alloc)?;
+        let text = told(alloc, task, hops.as_str())?;
+        assert_eq!(rt;
+            text.as_slice(),
+            b"step 51, (hop b a), is not applicable\n\
+(at b) is false: step 50, (hop b a), deleted it.\n"
+                .as_slice()
+        );
+        Ok(())
+    })
+}
+
+/// What the task of the places holds, where 12 instances were kept and 9 atoms numbered.
+const HOLDS: &str = "types 1, objects 3, predicates 3, functions 2, actions 2\n\
+instances kept 12, atoms numbered 9\n\
+costs yes, conditional effects no, quantifiers yes, negations yes, disjunctions yes\n";
+
+#[test]
+fn what_a_task_holds_is_told(rt: HostRuntime) -> Result<(), Fail> {
+    on_task(&rt, rt.alloc(), &ROAD, |rt, alloc, task| {
+        let text = Summary::of(task).text(alloc, 12, 9)?;
+        assert_eq!(rt; text.as_str(), HOLDS);
+        Ok(())
+    })
+}
+
+#[test]
+fn steps_are_placed(rt: HostRuntime) {
+    let text = b"(hop a b) ; (\n(hop b a)";
+    let places = [
+        step_place(text, 1),
+        step_place(text, 2),
+        step_place(text, 3),
+    ];
+    let first = Span { start: 0, end: 9 };
+    let second = Span { start: 14, end: 23 };
+    assert_eq!(rt; places, [Some(first), Some(second), None]);
+}
