@@ -3,6 +3,7 @@ pub mod Closings
 pub mod DecidedLiterals
 pub mod ChosenObjects
 pub mod ObjectLists
+pub mod ObjectsBelow
 pub mod RisingObjects
 pub mod JoinGroups
 pub mod ChangesFit

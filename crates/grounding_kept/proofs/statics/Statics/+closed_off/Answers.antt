@@ -12,7 +12,8 @@ use Rattle.model.proofs.Tests.{passes_at, passes_map}
 use Rattle.formulas.proofs.FluentPredicates.{any_here, any_nowhere}
 use Rattle.formulas.proofs.Trees.{list_any_map, typed_by_all}
 use Rattle.std.specs.List.{list_any}
-use Rattle.formulas.proofs.Quantifiers.{among, passes_below, none_with, none_without, one_more, one_less, extended_fits}
+use Rattle.formulas.proofs.Quantifiers.{among, one_more, one_less, extended_fits}
+use Rattle.grounding_kept.proofs.ObjectsBelow.{passes_below, none_with, none_without}
 use Rattle.grounding_kept.proofs.Closings.{atom-fluent, atom-static, equal-closed, predicate_within, closed_by_parts, closed_by_objects}
 use Rattle.grounding_kept.proofs.statics.Statics.+closed_off.Goals.{closes_off_for_some-then-is_of+else-is_closed_off, closes_off_for_some-else-is_of}
 use Rattle.grounding_kept.proofs.statics.Statics.+closed_off.Goals as goal
