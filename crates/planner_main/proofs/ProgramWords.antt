@@ -24,7 +24,7 @@ use Rattle.validator.specs.Verdict.{verdict_of}
 use Rattle.model.proofs.TaskNames.{task_has_names}
 use Rattle.cert_checker.specs.declared.refusal.Refusal.{Refusal}
 use Rattle.cert_checker.specs.declared.checker.Accepted.{Accepted}
-use Rattle.planner_main.specs.Program.{IsTextIfNamed, OnTwo, OnThree, OnInputs, IsAnswerTo, IsReportOn, Refuses, fault_in, IsFaultFor, IsOneOf, IsToldOn, IsToldOfWords, SaysOfWords, NamesInput, HasFailed, HasNotFailed, CountsFailure, CountsEither, device_failure, inputs_of}
+use Rattle.planner_main.specs.Program.{IsTextIfNamed, OnTwo, OnThree, OnInputs, IsAnswerTo, IsReportOn, Refuses, fault_in, IsFaultFor, IsOneOf, IsToldOn, IsToldOfWords, SaysOfWords, HasFailed, HasNotFailed, CountsFailure, CountsEither, device_failure}
 use Rattle.devices.specs.Texts.{IsText, AreKept}
 use Rattle.planner_main.specs.declared.answers.task_file.File.{File}
 use Rattle.planner_main.specs.declared.answers.task_file.FileFault as file
@@ -66,9 +66,10 @@ module _ (contents : List ℕ → Option (List ℕ)) (words : List (List ℕ)) (
   refuses_of_words (failure.Device device.NoMemory) status (is, line) same h = absurd (omega arith)
 
 -- The files that words name are those of what they ask for.
-pub inputs_named : (words : List (List ℕ)) (wanted : Wanted) (name : List ℕ) → Asks words wanted → NamesInput words name → IsOneOf (inputs_of wanted) name
-inputs_named words wanted name asks (other, others, is) =
-    subst (λ (w : Wanted). IsOneOf (inputs_of w) name) (one_wanted words other wanted others asks) is
+pub files_named : (files_of : Wanted → List (List ℕ)) (words : List (List ℕ)) (wanted : Wanted) (name : List ℕ) → Asks words wanted
+    → (other : Wanted) × Asks words other × IsOneOf (files_of other) name → IsOneOf (files_of wanted) name
+files_named files_of words wanted name asks (other, others, is) =
+    subst (λ (w : Wanted). IsOneOf (files_of w) name) (one_wanted words other wanted others asks) is
 
 -- The status of what is reported is none of a failure.
 verdict_status : (v : Verdict) → is_failure (verdict.status_of v) ≡ false

@@ -47,9 +47,18 @@ inputs_of (to_validate domain problem plan json) = domain ∷ problem ∷ plan �
 inputs_of (to_solve domain problem asked) = domain ∷ problem ∷ []
 inputs_of (to_check domain problem cert asked) = domain ∷ problem ∷ cert ∷ if_named asked.plan
 
--- The words are a command that reads the file of this name.
+-- the names of the files whose texts are read whole: all but that of the certificate
+abbrev pub texts_of : Wanted → List (List ℕ)
+texts_of (to_validate domain problem plan json) = domain ∷ problem ∷ plan ∷ []
+texts_of (to_solve domain problem asked) = domain ∷ problem ∷ []
+texts_of (to_check domain problem cert asked) = domain ∷ problem ∷ if_named asked.plan
+
+-- The words are a command that reads the file of this name; and its text whole.
 abbrev pub NamesInput : List (List ℕ) → List ℕ → Type 0
 NamesInput words name = (wanted : Wanted) × Asks words wanted × IsOneOf (inputs_of wanted) name
+
+abbrev pub NamesText : List (List ℕ) → List ℕ → Type 0
+NamesText words name = (wanted : Wanted) × Asks words wanted × IsOneOf (texts_of wanted) name
 
 -- this is true of the texts of a domain file and a problem file
 abbrev pub OnTwo : (List ℕ → Option (List ℕ)) → (domain problem : List ℕ) → (List ℕ → List ℕ → Type 0) → Type 0
@@ -214,8 +223,9 @@ IsUnread (Ok told) = ⊥
 IsUnread (Err failure) = fault_in failure ≡ None
 
 -- What is found out of what is asked for is true of these files, or the fault is the first of their texts; and where a file that is read
--- is missing, there is neither.
-pub record IsFound (contents : List ℕ → Option (List ℕ)) (is_missing : List ℕ → Bool) (wanted : Wanted) (result : Result Report Failure) : Type 0 where
+-- is missing, or a text cannot be read, there is neither.
+pub record IsFound (contents : List ℕ → Option (List ℕ)) (is_missing is_unreadable : List ℕ → Bool) (wanted : Wanted) (result : Result Report Failure) : Type 0 where
   pub report : IfOk result (IsReportOn contents wanted)
   pub refused : IfErr result (λ failure. IfSome (fault_in failure) (IsFaultFor contents wanted))
   pub unread : (name : List ℕ) → IsOneOf (inputs_of wanted) name → IsTrue (is_missing name) → IsUnread result
+  pub unreadable : (name : List ℕ) → IsOneOf (texts_of wanted) name → IsTrue (is_unreadable name) → IsUnread result

@@ -4,7 +4,7 @@ ghost use Rattle.command_line.specs.Orders.{IsCommand};
 ghost use Rattle.command_line.specs.View.{texts, wanted_of};
 ghost use Rattle.planner_main.specs.Failures.{device_line, no_memory_line};
 ghost use Rattle.planner_main.specs.Failures.{is_failure};
-ghost use Rattle.planner_main.specs.Program.{Tells, TellsFor, TellsPartly, TellsPartlyFor, Refuses, HasFailed, HasNotFailed, CountsEither, CountsFailure, NamesInput, IsFaultFor, IsFound, IsOneOf, IsUnread, SaysOfWords, fault_in, inputs_of};
+ghost use Rattle.planner_main.specs.Program.{Tells, TellsFor, TellsPartly, TellsPartlyFor, Refuses, HasFailed, HasNotFailed, CountsEither, CountsFailure, NamesInput, NamesText, IsFaultFor, IsFound, IsOneOf, IsUnread, SaysOfWords, fault_in, inputs_of, texts_of};
 ghost use Rattle.devices.specs.Texts.{AreKept};
 ghost use Rattle.devices.specs.Devices.{IsWritten};
 
@@ -96,6 +96,9 @@ pub fn run<F: Files, O: Sink, E: Sink>(
     // All files are opened before any fault of their texts is told.
     ensures unread { (name : List ℕ) → NamesInput (texts words.now) name → IsTrue (F.is_missing files.old name)
         → (result ≡ 21) ⊎ (result ≡ 22) }
+    // All texts but the certificate's are read before any fault of them is told.
+    ensures unreadable { (name : List ℕ) → NamesText (texts words.now) name → IsTrue (F.is_unreadable files.old name)
+        → (result ≡ 21) ⊎ (result ≡ 22) }
     ensures memory { result ≡ 22 → TellsPartly (texts words.now) F.is_known (F.contents files.old) (F.contents files.new) (O.taken out.old) (O.taken out.new)
         × IsWritten E.wants_memory (E.failures err.old) (E.failures err.new) (E.taken err.old) (E.taken err.new) no_memory_line }
 {
@@ -122,6 +125,7 @@ fn carry_out<F: Files, O: Sink>(
     ensures unfailed { IfOk result (λ _. HasNotFailed (F.failures files.old) (F.failures files.new) (O.failures out.old) (O.failures out.new)) }
     ensures failures { IfErr result (CountsEither (F.failures files.old) (F.failures files.new) (O.failures out.old) (O.failures out.new)) }
     ensures unread { (name : List ℕ) → IsOneOf (inputs_of (wanted_of order.entry)) name → IsTrue (F.is_missing files.old name) → IsUnread result }
+    ensures unreadable { (name : List ℕ) → IsOneOf (texts_of (wanted_of order.entry)) name → IsTrue (F.is_unreadable files.old name) → IsUnread result }
 {
     let report = report_of(alloc, order, files)?;
     tell_report(alloc, &report, outputs_of(order), files, out)
@@ -129,7 +133,7 @@ fn carry_out<F: Files, O: Sink>(
 
 /// What is found out of what is asked for.
 fn report_of<F: Files>(alloc: Global, order: Order<'_>, files: &mut F) -> Result<Report, Failure>
-    ensures found { IsFound (F.contents files.old) (F.is_missing files.old) (wanted_of order.entry) result }
+    ensures found { IsFound (F.contents files.old) (F.is_missing files.old) (F.is_unreadable files.old) (wanted_of order.entry) result }
     ensures kept { AreKept (F.contents files.old) (F.contents files.new) }
     ensures unfailed { IfOk result (λ _. F.failures files.new ≡ F.failures files.old) }
     ensures failures { IfErr result (CountsFailure (F.failures files.old) (F.failures files.new)) }

@@ -55,6 +55,8 @@ pub(super) fn report_of_check<F: Files>(
     ensures failures { IfErr result (CountsFailure (F.failures files.old) (F.failures files.new)) }
     ensures unread { (name : List ℕ) → IsOneOf (names.entry.domain.now ∷ names.entry.problem.now ∷ names.entry.cert.now ∷ if_named (text_in names.entry.plan)) name
         → IsTrue (F.is_missing files.old name) → IsUnread result }
+    ensures unreadable { (name : List ℕ) → IsOneOf (names.entry.domain.now ∷ names.entry.problem.now ∷ if_named (text_in names.entry.plan)) name
+        → IsTrue (F.is_unreadable files.old name) → IsUnread result }
 {
     let pair = read_pair(alloc, files, names.domain, names.problem)?;
     let input = files.open(names.cert)?;
@@ -76,6 +78,7 @@ fn read_named<F: Files>(
     ensures kept { AreKept (F.contents files.old) (F.contents files.new) }
     ensures failures { CountsDevice (F.failures files.old) (F.failures files.new) result }
     ensures unread { (other : List ℕ) → IsOneOf (if_named (text_in name.entry)) other → IsTrue (F.is_missing files.old other) → IsErr result }
+    ensures unreadable { (other : List ℕ) → IsOneOf (if_named (text_in name.entry)) other → IsTrue (F.is_unreadable files.old other) → IsErr result }
 {
     match name {
         Some(name) => Ok(Some(read_file(alloc, files, name)?)),

@@ -27,6 +27,7 @@ pub(super) fn report_of_solve<F: Files>(
     ensures unfailed { IfOk result (λ _. F.failures files.new ≡ F.failures files.old) }
     ensures failures { IfErr result (CountsFailure (F.failures files.old) (F.failures files.new)) }
     ensures unread { (name : List ℕ) → IsOneOf (domain.now ∷ problem.now ∷ []) name → IsTrue (F.is_missing files.old name) → IsUnread result }
+    ensures unreadable { (name : List ℕ) → IsOneOf (domain.now ∷ problem.now ∷ []) name → IsTrue (F.is_unreadable files.old name) → IsUnread result }
 {
     let pair = read_pair(alloc, files, domain, problem)?;
     Ok(Report::Solve(solve_files(alloc, &pair.domain, &pair.problem, limits)?))

@@ -26,6 +26,7 @@ pub(super) fn report_of_validate<F: Files>(
     ensures unfailed { IfOk result (λ _. F.failures files.new ≡ F.failures files.old) }
     ensures failures { IfErr result (CountsFailure (F.failures files.old) (F.failures files.new)) }
     ensures unread { (name : List ℕ) → IsOneOf (domain.now ∷ problem.now ∷ plan.now ∷ []) name → IsTrue (F.is_missing files.old name) → IsUnread result }
+    ensures unreadable { (name : List ℕ) → IsOneOf (domain.now ∷ problem.now ∷ plan.now ∷ []) name → IsTrue (F.is_unreadable files.old name) → IsUnread result }
 {
     let task = read_pair(alloc, files, domain, problem)?;
     let plan = read_file(alloc, files, plan)?;

@@ -68,3 +68,11 @@ pub returns-in_err-report-clause-unread : goal.returns-in_err-report-clause-unre
 returns-in_err-report-clause-unread g c =
     let p = err_from_is_err_and c.from_residual.result c.from_residual.ensures.1 in
     rw (p.1, p.2) (λ name named missing. c.in_err-report.ensures.found.unread name named missing)
+
+pub returns-clause-unreadable : goal.returns-clause-unreadable
+returns-clause-unreadable g c = λ name named failing. absurd (c.in_ok-report.ensures.found.unreadable name named failing)
+
+pub returns-in_err-report-clause-unreadable : goal.returns-in_err-report-clause-unreadable
+returns-in_err-report-clause-unreadable g c =
+    let p = err_from_is_err_and c.from_residual.result c.from_residual.ensures.1 in
+    rw (p.1, p.2) (λ name named failing. c.in_err-report.ensures.found.unreadable name named failing)
