@@ -1,5 +1,5 @@
 //! Devices: where bytes come from, and where they go. A device may fail at any call.
-ghost use Rattle.std.specs.Prelude.{◌≡◌, ℕ, ◌<◌, Bool, true, List, [], Option, length, Err, IfOk, IfSome, IsTrue, OnErr, OnOk, None};
+ghost use Rattle.std.specs.Prelude.{◌≡◌, ℕ, ◌<◌, Bool, false, true, List, [], Option, length, Err, IfOk, IfSome, IsErr, IsTrue, OnErr, OnOk, None};
 ghost use Rattle.std.specs.Io.{ReadsAtMost, WritesAtMost};
 ghost use Rattle.std.specs.Io.KnownBytes.{Appends, ReadConsumes, WriteAppends};
 ghost use Rattle.devices.specs.Devices.{AppendsBeginning, Counts, CountsDevice};
@@ -67,6 +67,9 @@ pub trait Source {
     /// How many bytes a read that succeeds gives into room of a length, where the device tells it.
     ghost read_count: { Self → ℕ → Option ℕ } = { λ _ _. None };
 
+    /// Whether the next read fails, where that is known.
+    ghost is_failing: { Self → Bool } = { λ _. false };
+
     /// Reads some bytes into the room that is lent, and tells how many. 0 for room that is not empty means
     /// the end. An interrupted call has failed. Where the call fails, the room is as it was.
     fn read(&mut self, into: &mut [u8]) -> Result<usize, DeviceFault>
@@ -74,6 +77,7 @@ pub trait Source {
         ensures unchanged { OnErr result (into.new ≡ into.old) }
         ensures gives { IfOk result (λ count. IfSome (read_count self.old (length into.old)) (λ told. count ≡ told)) }
         ensures bytes { ReadConsumes (remaining self.old) (remaining self.new) result into.new }
+        ensures failing { IsTrue (is_failing self.old) → IsErr result }
         ensures failures { Counts (failures self.old) (failures self.new) result };
 }
 

@@ -32,6 +32,9 @@ pub trait Files {
     /// Whether there is no file of a name, where that is known.
     ghost is_missing: { Self → List ℕ → Bool } = { λ _ _. false };
 
+    /// Whether the first read of the file of a name fails, where that is known.
+    ghost is_unreadable: { Self → List ℕ → Bool } = { λ _ _. false };
+
     /// Whether the bytes of files that are written here are known.
     ghost is_known: { Bool } = { false };
 
@@ -41,15 +44,18 @@ pub trait Files {
         ensures missing { IsTrue (is_missing self.old name.now) → result ≡ Err Device }
         ensures fresh { IfOk result (λ input. Self.Input.failures input ≡ 0) }
         ensures bytes { IfOk result (λ input. IsKept (contents self.old name.now) (Self.Input.remaining input)) }
+        ensures failing { IsTrue (is_unreadable self.old name.now) → IfOk result (λ input. IsTrue (Self.Input.is_failing input)) }
         ensures kept { (other : List ℕ) → contents self.new other ≡ contents self.old other }
-        ensures still { (other : List ℕ) → is_missing self.new other ≡ is_missing self.old other };
+        ensures still { (other : List ℕ) → is_missing self.new other ≡ is_missing self.old other }
+        ensures as_readable { (other : List ℕ) → is_unreadable self.new other ≡ is_unreadable self.old other };
 
     /// Ends the reading of a file. A file of which a read has failed is one failure.
     fn finish(&mut self, input: Self::Input)
         ensures unfailed { Self.Input.failures input ≡ 0 → failures self.new ≡ failures self.old }
         ensures failed { 0 < Self.Input.failures input → failures self.new ≡ one_more (failures self.old) }
         ensures kept { (other : List ℕ) → contents self.new other ≡ contents self.old other }
-        ensures still { (other : List ℕ) → is_missing self.new other ≡ is_missing self.old other };
+        ensures still { (other : List ℕ) → is_missing self.new other ≡ is_missing self.old other }
+        ensures as_readable { (other : List ℕ) → is_unreadable self.new other ≡ is_unreadable self.old other };
 
     /// Makes an empty file of this name, in place of one that is there, and opens it for writing. No write of it has
     /// failed yet. Until it is closed the file is as it was, or empty; each other file is as it was, and where the call

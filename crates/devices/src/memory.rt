@@ -106,7 +106,7 @@ impl<D> InPieces<D> {
 }
 
 impl<S: Source> Source for InPieces<S> {
-    ghost use Rattle.std.specs.Prelude.{IfOk, IfSome, OnErr};
+    ghost use Rattle.std.specs.Prelude.{IfOk, IfSome, IsErr, IsTrue, OnErr};
     ghost use Rattle.std.specs.Io.{ReadsAtMost};
     ghost use Rattle.std.specs.Io.KnownBytes.{ReadConsumes};
     ghost use Rattle.devices.specs.Devices.{Counts};
@@ -118,12 +118,15 @@ impl<S: Source> Source for InPieces<S> {
 
     ghost read_count = { λ device room. S.read_count device.inner (min (piece_length device) room) };
 
+    ghost is_failing = { λ device. S.is_failing device.inner };
+
     fn read(&mut self, into: &mut [u8]) -> Result<usize, DeviceFault>
         ensures bound { ReadsAtMost result into.new }
         ensures at_most { IfOk result (λ count. count ≤ piece_length self.old) }
         ensures unchanged { OnErr result (into.new ≡ into.old) }
         ensures gives { IfOk result (λ count. IfSome (⟦<InPieces<S> as Source>⟧.read_count self.old (length into.old)) (λ told. count ≡ told)) }
         ensures bytes { ReadConsumes (S.remaining self.old.inner) (S.remaining self.new.inner) result into.new }
+        ensures failing { IsTrue (S.is_failing self.old.inner) → IsErr result }
         ensures failures { Counts (S.failures self.old.inner) (S.failures self.new.inner) result }
         ensures length { piece_length self.new ≡ piece_length self.old }
     {
@@ -257,12 +260,15 @@ impl<S: Source> Source for FailsAt<S> {
 
     ghost read_count = { λ device room. S.read_count device.inner room };
 
+    ghost is_failing = { λ device. fails_now (calls_left device) };
+
     fn read(&mut self, into: &mut [u8]) -> Result<usize, DeviceFault>
         ensures bound { ReadsAtMost result into.new }
         ensures unchanged { OnErr result (into.new ≡ into.old) }
         ensures gives { IfOk result (λ count. IfSome (S.read_count self.old.inner (length into.old)) (λ told. count ≡ told)) }
         ensures bytes { ReadConsumes (S.remaining self.old.inner) (S.remaining self.new.inner) result into.new }
         ensures failures { Counts (⟦<FailsAt<S> as Source>⟧.failures self.old) (⟦<FailsAt<S> as Source>⟧.failures self.new) result }
+        ensures failing { IsTrue (⟦<FailsAt<S> as Source>⟧.is_failing self.old) → IsErr result }
         ensures fails { IsTrue (fails_now (calls_left self.old)) → IsErr result × (self.new.inner ≡ self.old.inner) }
         ensures passes { fails_now (calls_left self.old) ≡ false → Counts (S.failures self.old.inner) (S.failures self.new.inner) result }
         ensures calls { calls_left self.new ≡ after_a_call (calls_left self.old) }

@@ -1,6 +1,6 @@
 -- What came of a certificate to a reader, and what it says of the certificate's whole text.
 use Rattle.std.proofs.Common.{◌≡◌, ℕ, inl, inr, List, [], ◌++◌, sym, ap, subst, ◌∙◌, append-nil}
-use Rattle.std.specs.Prelude.{Bool, Option, None, Some, IfSome, Result, Ok, Err, IfOk, IfErr}
+use Rattle.std.specs.Prelude.{Option, None, Some, IfSome, Result, Ok, Err, IfOk, IfErr}
 use Rattle.std.specs.Io.KnownBytes.{Consumes, IsAtEnd}
 use Rattle.devices.specs.Devices.{IsKept}
 use Rattle.certificate_definitions.specs.CertificateChecking.{IsLineFault}
@@ -17,11 +17,18 @@ use Rattle.cert_checker.specs.CertChecker.{IsFirstRefusal, IsShown, IsTrueRefusa
 use Rattle.cert_checker.specs.Checking.{Accepts, Refuses}
 use Rattle.model.specs.Task.{Task, Instance}
 use Rattle.certificate_definitions.specs.Certificates.{Certificate}
-use Rattle.model.specs.Files.{FileFault, IsTaskOf}
+use Rattle.model.specs.Files.{IsTaskOf}
+use Rattle.typing.specs.Task.{task_of}
+use Rattle.devices.specs.Texts.{IsText}
+use Rattle.devices.specs.declared.device.WriteFault.{WriteFault}
+use Rattle.planner_main.specs.declared.answers.checking.Checked.{Checked}
 use Rattle.planner_main.specs.declared.failures.Failure.{Failure}
+use Rattle.planner_main.specs.declared.failures.Failure.TheVariants as failure
+use Rattle.planner_main.specs.declared.telling.reports.Report.{Report}
+use Rattle.planner_main.specs.declared.telling.reports.Report.TheVariants as report
 use Rattle.planner_main.specs.Checked.{IsChecked, IsRefusedAs, IsTrueCheck}
-use Rattle.planner_main.specs.CheckTold.{IsLineOf}
-use Rattle.planner_main.specs.Program.{CountsFailure, IsCheckedIn, fault_in}
+use Rattle.planner_main.specs.CheckTold.{IsToldRefusal, failure_of}
+use Rattle.planner_main.specs.Program.{CountsFailure, IsCheckOn, IsCheckedIn, IsTextIfNamed}
 
 -- What came to the end is all that there was, and what came is a beginning of it.
 whole_known : (known before after : Option (List ℕ)) (text : List ℕ) → IsKept known before → Consumes before after text → IsAtEnd after → IfSome known (λ bytes. text ≡ bytes)
@@ -76,57 +83,70 @@ module _ {R : Type 0} (remaining : R → Option (List ℕ)) (task : Task) (first
     )
 
     -- what is true of what came is true of a text that is the whole, where that is known
-    true_of_text : (json : Bool) (answer : Result Accepted Refusal) (line : List ℕ) (status : ℕ) → IsLineOf json task answer line status → IfOk answer (IsShown task plan)
+    true_of_text : (answer : Result Accepted Refusal) → IsToldRefusal answer → IfOk answer (IsShown task plan)
         → IfOk answer (Accepts remaining task first now plan most) → IfErr answer (Refuses remaining task first now plan most)
         → (text : List ℕ) × IfSome known (λ bytes. text ≡ bytes) × IsTrueCheck task text plan most answer
-    true_of_text json (Ok accepted) line status is shown accepts refuses = (
+    true_of_text (Ok accepted) is shown accepts refuses = (
       accepts.text,
       whole_known known _ _ accepts.text kept accepts.consumed accepts.at_end,
       record { accepted = accepts.accepted; within = accepts.within; answers = accepts.answers; shown = shown },
     )
-    true_of_text json (Err (refusal.Line code number)) line status is shown accepts (inl told) =
+    true_of_text (Err (refusal.Line code number)) is shown accepts (inl told) =
         let (text, whole, fault) = line_of_text code number told in
         (text, whole, inl fault)
-    true_of_text json (Err (refusal.Line code number)) line status is shown accepts (inr (c, read, is_true, is_first)) =
+    true_of_text (Err (refusal.Line code number)) is shown accepts (inr (c, read, is_true, is_first)) =
         of_certificate (refusal.Line code number) c read is_true is_first
-    true_of_text json (Err (refusal.Unfair i)) line status is shown accepts (inl told) = absurd told
-    true_of_text json (Err (refusal.Unfair i)) line status is shown accepts (inr (c, read, is_true, is_first)) =
+    true_of_text (Err (refusal.Unfair i)) is shown accepts (inl told) = absurd told
+    true_of_text (Err (refusal.Unfair i)) is shown accepts (inr (c, read, is_true, is_first)) =
         of_certificate (refusal.Unfair i) c read is_true is_first
-    true_of_text json (Err (refusal.DeadUnfair i)) line status is shown accepts (inl told) = absurd told
-    true_of_text json (Err (refusal.DeadUnfair i)) line status is shown accepts (inr (c, read, is_true, is_first)) =
+    true_of_text (Err (refusal.DeadUnfair i)) is shown accepts (inl told) = absurd told
+    true_of_text (Err (refusal.DeadUnfair i)) is shown accepts (inr (c, read, is_true, is_first)) =
         of_certificate (refusal.DeadUnfair i) c read is_true is_first
-    true_of_text json (Err (refusal.Plain code)) line status is shown accepts (inl told) = absurd told
-    true_of_text json (Err (refusal.Plain code)) line status is shown accepts (inr (c, read, is_true, is_first)) =
+    true_of_text (Err (refusal.Plain code)) is shown accepts (inl told) = absurd told
+    true_of_text (Err (refusal.Plain code)) is shown accepts (inr (c, read, is_true, is_first)) =
         of_certificate (refusal.Plain code) c read is_true is_first
-    true_of_text json (Err refusal.NoMemory) line status is shown accepts refuses = absurd is
-    true_of_text json (Err refusal.Device) line status is shown accepts refuses = absurd is
-    true_of_text json (Err refusal.Failed) line status is shown accepts refuses = absurd is
+    true_of_text (Err refusal.NoMemory) is shown accepts refuses = absurd (cc is)
+    true_of_text (Err refusal.Device) is shown accepts refuses = absurd (cc is)
+    true_of_text (Err refusal.Failed) is shown accepts refuses = absurd (cc is)
 
-  -- the line of a true answer is one of the texts of the files
-  pub checked_in : (domain problem : List ℕ) (plan : Option (List ℕ)) (most : ℕ) (json : Bool) (answer : Result Accepted Refusal) (line : List ℕ) (status : ℕ) → IsTaskOf domain problem task
-      → IsChecked remaining task first now plan most answer → IsLineOf json task answer line status → IsCheckedIn known domain problem plan most json line status
-  checked_in domain problem plan most json answer line status is_task checked is =
-      let (text, whole, is_true) = true_of_text checked.plan most json answer line status is checked.shown checked.accepted checked.refused in
-      (text, whole, (task, checked.plan, answer, is_task, checked.handed_in, is_true, is))
+  -- what is told is true of a text that is the whole, where that is known
+  pub checked_in : (domain problem : List ℕ) (plan : Option (List ℕ)) (most : ℕ) (answer : Result Accepted Refusal) → IsTaskOf domain problem task
+      → IsChecked remaining task first now plan most answer → IsToldRefusal answer → IsCheckedIn known domain problem plan most task answer
+  checked_in domain problem plan most answer is_task checked told =
+      let (text, whole, is_true) = true_of_text checked.plan most answer told checked.shown checked.accepted checked.refused in
+      (text, checked.plan, whole, is_task, checked.handed_in, is_true, told)
 
-  -- the same of what a call told
-  pub checked_in_told : {T : Type 0} (domain problem : List ℕ) (plan : Option (List ℕ)) (most : ℕ) (json : Bool) (answer : Result Accepted Refusal) → IsTaskOf domain problem task
-      → IsChecked remaining task first now plan most answer → (line_of : T → List ℕ) (status_of : T → ℕ) (r : Result T Failure)
-      → IfOk r (λ told. IsLineOf json task answer (line_of told) (status_of told)) → IfOk r (λ told. IsCheckedIn known domain problem plan most json (line_of told) (status_of told))
-  checked_in_told domain problem plan most json answer is_task checked line_of status_of (Ok told) is =
-      checked_in domain problem plan most json answer (line_of told) (status_of told) is_task checked is
-  checked_in_told domain problem plan most json answer is_task checked line_of status_of (Err f) is = tt
+-- What is told of the texts of files is told of the files.
+pub check_on_inputs : (contents : List ℕ → Option (List ℕ)) (domain problem cert : List ℕ) (plan : Option (List ℕ)) (d p : List ℕ) (l : Option (List ℕ))
+    → IsText contents domain d → IsText contents problem p → IsTextIfNamed contents plan l → (most : ℕ) (r : Result Report Failure)
+    → IfOk r (λ found. (c : Checked) × (found ≡ report.Check c) × IsCheckedIn (contents cert) d p l most (task_of c.task) c.answer)
+    → IfOk r (IsCheckOn contents domain problem cert plan most)
+check_on_inputs contents domain problem cert plan d p l d_is p_is l_is most (Ok found) (c, is, checked) = (c, is, (d, p, l, d_is, p_is, l_is, checked))
+check_on_inputs contents domain problem cert plan d p l d_is p_is l_is most (Err f) h = tt
 
--- What a call that tells an answer says of failures, and of faults.
-module _ {T : Type 0} (answer : Result Accepted Refusal) (before after : ℕ) (counts : CountsRefusal before after answer) where
-  pub told_unfailed : (r : Result T Failure) → IfOk r (λ _. (b a : ℕ) → CountsRefusal b a answer → a ≡ b) → IfOk r (λ _. after ≡ before)
-  told_unfailed (Ok told) h = h before after counts
-  told_unfailed (Err f) h = tt
+-- What is counted of an answer: nothing where it is told, and else the failure that stands in place of it.
+pub told_unfailed : (answer : Result Accepted Refusal) (before after : ℕ) → CountsRefusal before after answer → IsToldRefusal answer → after ≡ before
+told_unfailed (Ok accepted) before after counts told = counts
+told_unfailed (Err (refusal.Line code line)) before after counts told = counts
+told_unfailed (Err (refusal.Unfair i)) before after counts told = counts
+told_unfailed (Err (refusal.DeadUnfair i)) before after counts told = counts
+told_unfailed (Err (refusal.Plain code)) before after counts told = counts
+told_unfailed (Err refusal.NoMemory) before after counts told = counts
+told_unfailed (Err refusal.Device) before after counts told = absurd (cc told)
+told_unfailed (Err refusal.Failed) before after counts told = counts
 
-  pub told_failures : (r : Result T Failure) → IfErr r (λ f. (b a : ℕ) → CountsRefusal b a answer → CountsFailure b a f) → IfErr r (CountsFailure before after)
-  told_failures (Ok told) h = tt
-  told_failures (Err f) h = h before after counts
+counted : (answer : Result Accepted Refusal) (before after : ℕ) → CountsRefusal before after answer
+    → IfSome (failure_of answer) (λ fault. CountsFailure before after (failure.Device fault))
+counted (Ok accepted) before after counts = tt
+counted (Err (refusal.Line code line)) before after counts = tt
+counted (Err (refusal.Unfair i)) before after counts = tt
+counted (Err (refusal.DeadUnfair i)) before after counts = tt
+counted (Err (refusal.Plain code)) before after counts = tt
+counted (Err refusal.NoMemory) before after counts = counts
+counted (Err refusal.Device) before after counts = counts
+counted (Err refusal.Failed) before after counts = counts
 
-pub told_no_fault : {T : Type 0} (P : FileFault → Type 0) (r : Result T Failure) → IfErr r (λ f. fault_in f ≡ None) → IfErr r (λ f. IfSome (fault_in f) P)
-told_no_fault P (Ok told) h = tt
-told_no_fault P (Err f) h = subst (λ o. IfSome o P) (sym h) tt
+pub fails_as_counted : (answer : Result Accepted Refusal) (before after : ℕ) → CountsRefusal before after answer
+    → (fault : WriteFault) → failure_of answer ≡ Some fault → CountsFailure before after (failure.Device fault)
+fails_as_counted answer before after counts fault is =
+    subst (λ (o : Option WriteFault). IfSome o (λ fault. CountsFailure before after (failure.Device fault))) is (counted answer before after counts)

@@ -6,6 +6,5 @@ pub mod JsonExampleProofs
 pub mod JsonTold
 pub mod ProgramWords
 pub mod ProgramTold
-pub mod PlanFiles
 pub mod CertificateTold
 pub mod OrderWanted

@@ -3,12 +3,11 @@ use Rattle.std.proofs.Common.{◌≡◌, ℕ, Bool, List, ◌∙◌, sym, ap, ap
 use Rattle.std.specs.Prelude.{Option}
 use Rattle.std.specs.Borrow.{Bor}
 use Rattle.solver.specs.declared.limits.Limits.{Limits}
-use Rattle.command_line.specs.Orders.{Asked, to_solve, to_check}
+use Rattle.command_line.specs.Orders.{Asked, AskedOfCheck, to_solve, to_check}
 use Rattle.command_line.specs.View.{text_in, wanted_of}
 use Rattle.command_line.specs.declared.max_count.MaxCount.{MaxCount}
 use Rattle.command_line.specs.declared.order.Order.{Order}
 use Rattle.command_line.specs.declared.order.Order.TheVariants.{Solve, Check}
-use Rattle.planner_main.specs.Asked.{asked_of_check}
 
 -- this is asked for, with these numbers
 abbrev asked_with : (plan cert : Option (Bor (List ℕ))) (json : Bool) (states instances : ℕ) → Asked
@@ -20,8 +19,11 @@ pub wanted_of_solve : (order : Order) (domain problem : Bor (List ℕ)) (plan ce
 wanted_of_solve order domain problem plan cert states instances json limits is same_states same_instances =
     ap (to_solve domain.now problem.now) (ap₂ (asked_with plan cert json) same_states same_instances) ∙ sym (ap wanted_of is)
 
+abbrev asked_of_check : (plan : Option (Bor (List ℕ))) (json : Bool) (instances : ℕ) → AskedOfCheck
+asked_of_check plan json instances = record { instances = instances; plan = text_in plan; json = json }
+
 pub wanted_of_check : (order : Order) (domain problem cert : Bor (List ℕ)) (plan : Option (Bor (List ℕ))) (instances : MaxCount) (json : Bool) (number : ℕ)
     → order ≡ Check domain problem cert plan instances json → number ≡ instances.number
-    → to_check domain.now problem.now cert.now (asked_of_check number plan json) ≡ wanted_of order
+    → to_check domain.now problem.now cert.now (record { instances = number; plan = text_in plan; json = json }) ≡ wanted_of order
 wanted_of_check order domain problem cert plan instances json number is same =
-    ap (λ (n : ℕ). to_check domain.now problem.now cert.now (asked_of_check n plan json)) same ∙ sym (ap wanted_of is)
+    ap (λ (n : ℕ). to_check domain.now problem.now cert.now (asked_of_check plan json n)) same ∙ sym (ap wanted_of is)

@@ -1,22 +1,21 @@
 -- What the program tells, and which files are written, of an answer, of a command and of the words that ask for it.
-use Rattle.std.proofs.Common.{◌≡◌, ℕ, List, [], ◌∷◌, ◌++◌, ◌∙◌, sym, refl, ap, subst}
+use Rattle.std.proofs.Common.{◌≡◌, ℕ, List, [], ◌∷◌, ◌++◌, ◌∙◌, sym, refl, ap, ap₂, subst}
 use Rattle.std.specs.Prelude.{Option, None, Some, Bool, true, false, IsTrue, if◌then◌else◌, unwrap_or}
+use Rattle.std.specs.Borrow.{Bor}
+use Rattle.std.specs.Option.{option_map}
 use Rattle.std.specs.Str.{bytes_eq}
-use Rattle.std.specs.Io.KnownBytes.{Appends}
-use Rattle.devices.specs.Devices.{AppendsBeginning}
-use Rattle.solver.specs.declared.answer.Answer.{Answer}
-use Rattle.solver.specs.Solver.{IsTrueAnswer}
-use Rattle.command_line.specs.Orders.{Asks, Asked, Wanted}
+use Rattle.command_line.specs.Orders.{Asks, Wanted}
 use Rattle.devices.specs.Written.{NamedText, HoldsBeginning, with_file, with_files, AreWritten, AreWrittenPartly}
 use Rattle.planner_main.specs.Failures.{is_failure}
-use Rattle.planner_main.specs.Objects.{line_of_members, of_answer}
-use Rattle.planner_main.specs.Solution.{TellsAnswer, cert_file, plan_file}
-use Rattle.planner_main.specs.AnswerTold.{status_of, text_of, told_of}
-use Rattle.planner_main.specs.Program.{IsTold, IsToldPartly, nothing, in_a_file, on_the_output, IsAnswer, IsAnswerTo, IsAnswerText, OnTwo, Tells, TellsPartly, TellsFor, TellsPartlyFor}
+use Rattle.planner_main.specs.Asked.{Outputs, outputs_of}
+use Rattle.planner_main.specs.Files.{text_in}
+use Rattle.planner_main.specs.Objects.{line_of_members}
+use Rattle.planner_main.specs.Solution.{IsBegun, TellsReport, cert_text, files_for, in_file, plan_text}
+use Rattle.planner_main.specs.Reported.{of_report, status_of, text_of, told_of}
+use Rattle.planner_main.specs.declared.telling.reports.Report.{Report}
+use Rattle.planner_main.specs.Program.{IsTold, IsToldPartly, nothing, in_a_file, on_the_output, IsAnswer, IsAnswerTo, IsReportOn, Tells, TellsPartly, TellsFor, TellsPartlyFor}
 use Rattle.devices.specs.Texts.{AreKept}
 use Rattle.planner_main.proofs.ProgramWords.{answered_status}
-use Rattle.model.specs.Task.{Task}
-use Rattle.model.specs.Files.{IsTaskOf}
 
 -- What is written over the same files is the same.
 with_files_same : (before now : List ℕ → Option (List ℕ)) (files : List NamedText) → AreKept before now → AreKept (with_files before files) (with_files now files)
@@ -66,45 +65,48 @@ module _ (P Q : List ℕ → ℕ → List NamedText → Type 0) (means : (text :
   partly_as (on_the_output text status written is told held) =
       on_the_output text status written (means text status written is) told (λ is_known. written_since before now after kept written (held is_known))
 
--- What tells an answer that is true of two texts tells what they are asked for.
-pub answer_told : (contents : List ℕ → Option (List ℕ)) (domain problem : List ℕ) (asked : Asked) (task : Task) (a : Answer)
-    → OnTwo contents domain problem (λ d p. IsTaskOf d p task × IsTrueAnswer task asked.states asked.instances a)
-    → (text : List ℕ) (status : ℕ) (written : List NamedText) → TellsAnswer task a asked.json asked.cert asked.plan text status written
-    → IsAnswerText contents domain problem asked text status written
-answer_told contents domain problem asked task a (d, p, d_is, p_is, (is_task, is_true)) text status written tells =
-    (d, p, d_is, p_is, (task, a, is_task, is_true, tells))
+-- What tells what is found out tells what is asked for.
+pub report_told : (contents : List ℕ → Option (List ℕ)) (wanted : Wanted) (found : Report) → IsReportOn contents wanted found
+    → (outputs : Outputs) → outputs ≡ outputs_of wanted
+    → (text : List ℕ) (status : ℕ) (written : List NamedText) → TellsReport found outputs text status written → IsAnswerTo contents wanted text status written
+report_told contents wanted found is outputs same text status written tells =
+    (found, is, subst (λ (o : Outputs). TellsReport found o text status written) same tells)
 
 -- What is told on the standard output: the line of JSON where that is wanted, and else the text.
-pub told_is : (task : Task) (a : Answer) (json : Bool) (line : Option (List ℕ)) (text told : List ℕ)
-    → line ≡ (if json then Some (line_of_members (of_answer task a)) else None) → text ≡ text_of task a → told ≡ unwrap_or line text → told ≡ told_of task a json
-told_is task a true line text told line_is text_is is = is ∙ ap (λ (o : Option (List ℕ)). unwrap_or o text) line_is
-told_is task a false line text told line_is text_is is = is ∙ ap (λ (o : Option (List ℕ)). unwrap_or o text) line_is ∙ text_is
+pub told_is : (r : Report) (json : Bool) (line : Option (List ℕ)) (text told : List ℕ)
+    → line ≡ (if json then Some (line_of_members (of_report r)) else None) → text ≡ text_of r → told ≡ unwrap_or line text → told ≡ told_of json r
+told_is r true line text told line_is text_is is = is ∙ ap (λ (o : Option (List ℕ)). unwrap_or o text) line_is
+told_is r false line text told line_is text_is is = is ∙ ap (λ (o : Option (List ℕ)). unwrap_or o text) line_is ∙ text_is
 
--- An answer is told, whole or in part, by its files and then the standard output.
-module _ (task : Task) (a : Answer) (json : Bool) (cert plan : Option (List ℕ)) (known : Bool) (before : List ℕ → Option (List ℕ)) where
-  pub partly_in_cert : (after : List ℕ → Option (List ℕ)) (out : Option (List ℕ))
-      → (next : NamedText) × (cert_file task a cert ≡ next ∷ []) × (IsTrue known → AreWrittenPartly before after [] next)
-      → IsToldPartly (TellsAnswer task a json cert plan) known before after out out
-  partly_in_cert after out (next, is, held) =
-      in_a_file (told_of task a json) (status_of a) [] (plan_file task a plan) next (refl, refl, sym (ap (λ files. files ++ plan_file task a plan) is)) refl held
+-- The file of a document that is there, where it is named.
+pub one_file : (name : Option (Bor (List ℕ))) (word : Bor (List ℕ)) → name ≡ Some word → {D : Type 0} (text : D → List ℕ) (document : Option D) (d : D) → document ≡ Some d
+    → in_file (text_in name) (option_map text document) ≡ record { name = word.now; text = text d } ∷ []
+one_file name word named text document d is =
+    ap (λ name. in_file (text_in name) (option_map text document)) named ∙ ap (λ document. in_file (Some word.now) (option_map text document)) is
 
-  module _ (now after : List ℕ → Option (List ℕ)) (written : IsTrue known → AreWritten before now (cert_file task a cert)) where
-    pub partly_in_plan : (out : Option (List ℕ))
-        → (next : NamedText) × (plan_file task a plan ≡ next ∷ []) × (IsTrue known → AreWrittenPartly now after [] next)
-        → IsToldPartly (TellsAnswer task a json cert plan) known before after out out
+-- A report is told, whole or in part, by the file of its certificate, then that of its plan and then the standard output.
+module _ (r : Report) (outputs : Outputs) (known : Bool) (before now after : List ℕ → Option (List ℕ)) (cert plan : Option (List ℕ))
+    (cert_is : cert ≡ cert_text r) (plan_is : plan ≡ plan_text r) where
+  are_for : in_file outputs.cert cert ++ in_file outputs.plan plan ≡ files_for r outputs
+  are_for = ap₂ (λ cert plan. in_file outputs.cert cert ++ in_file outputs.plan plan) cert_is plan_is
+
+  module _ (written : IsTrue known → AreWritten before now (in_file outputs.cert cert)) where
+    pub partly_in_plan : (out : Option (List ℕ)) → IsBegun known now after (in_file outputs.plan plan) → IsToldPartly (TellsReport r outputs) known before after out out
     partly_in_plan out (next, is, held) =
-        in_a_file (told_of task a json) (status_of a) (cert_file task a cert) [] next (refl, refl, sym (ap (λ files. cert_file task a cert ++ files) is)) refl
-        (λ is_known. partly_after before now after (cert_file task a cert) (written is_known) next (held is_known))
+        in_a_file (told_of outputs.json r) (status_of r) (in_file outputs.cert cert) [] next
+        (refl, refl, ap (λ files. in_file outputs.cert cert ++ files) (sym is) ∙ are_for) refl
+        (λ is_known. partly_after before now after (in_file outputs.cert cert) (written is_known) next (held is_known))
 
-    both_written : (IsTrue known → AreWritten now after (plan_file task a plan)) → IsTrue known → AreWritten before after (cert_file task a cert ++ plan_file task a plan)
-    both_written saved is_known = written_after before now after (cert_file task a cert) (written is_known) (plan_file task a plan) (saved is_known)
+    pub both_written : (IsTrue known → AreWritten now after (in_file outputs.plan plan)) → IsTrue known → AreWritten before after (files_for r outputs)
+    both_written saved is_known =
+        subst (AreWritten before after) are_for (written_after before now after (in_file outputs.cert cert) (written is_known) (in_file outputs.plan plan) (saved is_known))
 
-    module _ (saved : IsTrue known → AreWritten now after (plan_file task a plan)) (out out_after : Option (List ℕ)) (text : List ℕ) (is : text ≡ told_of task a json) where
-      pub partly_on_output : AppendsBeginning out out_after text → IsToldPartly (TellsAnswer task a json cert plan) known before after out out_after
-      partly_on_output told = on_the_output text (status_of a) (cert_file task a cert ++ plan_file task a plan) (is, refl, refl) told (both_written saved)
-
-      pub told_on_output : (status : ℕ) → status ≡ status_of a → Appends out out_after text → IsTold (TellsAnswer task a json cert plan) known before after out out_after status
-      told_on_output status has told = (text, cert_file task a cert ++ plan_file task a plan, (is, has, refl), told, both_written saved)
+pub partly_in_cert : (r : Report) (outputs : Outputs) (known : Bool) (before after : List ℕ → Option (List ℕ)) (cert : Option (List ℕ)) → cert ≡ cert_text r
+    → {out : Option (List ℕ)} → IsBegun known before after (in_file outputs.cert cert) → IsToldPartly (TellsReport r outputs) known before after out out
+partly_in_cert r outputs known before after cert cert_is (next, is, held) =
+    let rest = in_file outputs.plan (plan_text r) in
+    in_a_file (told_of outputs.json r) (status_of r) [] rest next
+    (refl, refl, ap (λ files. files ++ rest) (sym is) ∙ ap (λ cert. in_file outputs.cert cert ++ rest) cert_is) refl held
 
 -- What is told of what is asked for is told of the words that ask for it.
 module _ (words : List (List ℕ)) (wanted : Wanted) (asks : Asks words wanted) (known : Bool) (files after : List ℕ → Option (List ℕ)) (out out_after : Option (List ℕ)) where

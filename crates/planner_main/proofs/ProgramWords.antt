@@ -1,6 +1,6 @@
 -- What the program tells of what the words ask for.
 use Rattle.std.proofs.Common.{◌≡◌, ℕ, ◌⊎◌, inl, inr, List, take, refl, sym, ap, ◌∙◌, subst, arith}
-use Rattle.std.specs.Prelude.{Result, Ok, Err, Option, None, Some, IfOk, IfSome, OnOk, IsTrue, Bool, true, false}
+use Rattle.std.specs.Prelude.{Result, Ok, Err, Option, None, Some, IfSome, OnOk, IsTrue, Bool, true, false}
 use Rattle.std.specs.Io.KnownBytes.{Appends}
 use Rattle.solver.specs.declared.answer.Answer.{Answer}
 use Rattle.solver.specs.declared.answer.Answer.TheVariants.{Plan, Unsolvable, Unknown}
@@ -14,12 +14,17 @@ use Rattle.command_line.specs.declared.fault.WordsFault.{WordsFault}
 use Rattle.command_line.proofs.OrderLemmas.{one_wanted}
 use Rattle.devices.specs.Written.{NamedText}
 use Rattle.planner_main.specs.Checked.{IsInputFault}
-use Rattle.planner_main.specs.CheckTold.{IsLineOf}
+use Rattle.planner_main.specs.CheckTold as check
+use Rattle.planner_main.specs.Reported as reported
+use Rattle.planner_main.specs.Reported.{HasText, status_of}
+use Rattle.planner_main.specs.declared.telling.reports.Report.{Report}
+use Rattle.planner_main.specs.declared.telling.reports.Report.TheVariants as report
+use Rattle.typing.specs.Task.{task_of}
+use Rattle.validator.specs.Verdict.{verdict_of}
+use Rattle.model.proofs.TaskNames.{task_has_names}
 use Rattle.cert_checker.specs.declared.refusal.Refusal.{Refusal}
-use Rattle.cert_checker.specs.declared.refusal.Refusal.TheVariants as refused
 use Rattle.cert_checker.specs.declared.checker.Accepted.{Accepted}
-use Rattle.model.specs.Task.{Task}
-use Rattle.planner_main.specs.Program.{IsTextIfNamed, OnTwo, OnThree, OnInputs, IsAnswerTo, Refuses, fault_in, IsFaultFor, IsOneOf, IsToldOn, IsToldOfWords, SaysOfWords, NamesInput, HasFailed, HasNotFailed, CountsFailure, CountsEither, device_failure, inputs_of}
+use Rattle.planner_main.specs.Program.{IsTextIfNamed, OnTwo, OnThree, OnInputs, IsAnswerTo, IsReportOn, Refuses, fault_in, IsFaultFor, IsOneOf, IsToldOn, IsToldOfWords, SaysOfWords, HasFailed, HasNotFailed, CountsFailure, CountsEither, device_failure}
 use Rattle.devices.specs.Texts.{IsText, AreKept}
 use Rattle.planner_main.specs.declared.answers.task_file.File.{File}
 use Rattle.planner_main.specs.declared.answers.task_file.FileFault as file
@@ -61,11 +66,12 @@ module _ (contents : List ℕ → Option (List ℕ)) (words : List (List ℕ)) (
   refuses_of_words (failure.Device device.NoMemory) status (is, line) same h = absurd (omega arith)
 
 -- The files that words name are those of what they ask for.
-pub inputs_named : (words : List (List ℕ)) (wanted : Wanted) (name : List ℕ) → Asks words wanted → NamesInput words name → IsOneOf (inputs_of wanted) name
-inputs_named words wanted name asks (other, others, is) =
-    subst (λ (w : Wanted). IsOneOf (inputs_of w) name) (one_wanted words other wanted others asks) is
+pub files_named : (files_of : Wanted → List (List ℕ)) (words : List (List ℕ)) (wanted : Wanted) (name : List ℕ) → Asks words wanted
+    → (other : Wanted) × Asks words other × IsOneOf (files_of other) name → IsOneOf (files_of wanted) name
+files_named files_of words wanted name asks (other, others, is) =
+    subst (λ (w : Wanted). IsOneOf (files_of w) name) (one_wanted words other wanted others asks) is
 
--- The statuses of verdicts, answers and checks are none of a failure.
+-- The status of what is reported is none of a failure.
 verdict_status : (v : Verdict) → is_failure (verdict.status_of v) ≡ false
 verdict_status (valid cost) = refl
 verdict_status (not_applicable step) = refl
@@ -76,24 +82,31 @@ answer_status (Plan steps cost cert) = refl
 answer_status (Unsolvable cert) = refl
 answer_status (Unknown limit) = refl
 
-checked_status : (json : Bool) (task : Task) (answer : Result Accepted Refusal) (text : List ℕ) (status : ℕ) → IsLineOf json task answer text status → is_failure status ≡ false
-checked_status json task (Ok accepted) text status (is_text, is_status) = ap is_failure is_status
-checked_status json task (Err (refused.Line code line)) text status (is_text, is_status) = ap is_failure is_status
-checked_status json task (Err (refused.Unfair i)) text status (is_text, is_status) = ap is_failure is_status
-checked_status json task (Err (refused.DeadUnfair i)) text status (is_text, is_status) = ap is_failure is_status
-checked_status json task (Err (refused.Plain code)) text status (is_text, is_status) = ap is_failure is_status
-checked_status json task (Err refused.NoMemory) text status is = absurd is
-checked_status json task (Err refused.Device) text status is = absurd is
-checked_status json task (Err refused.Failed) text status is = absurd is
+checked_status : (answer : Result Accepted Refusal) → is_failure (check.status_of answer) ≡ false
+checked_status (Ok accepted) = refl
+checked_status (Err refusal) = refl
+
+report_status : (r : Report) → is_failure (status_of r) ≡ false
+report_status (report.Solve solved) = answer_status solved.answer
+report_status (report.Validate v) = verdict_status (verdict_of v)
+report_status (report.Check checked) = checked_status checked.answer
 
 pub answered_status : (contents : List ℕ → Option (List ℕ)) (wanted : Wanted) (text : List ℕ) (status : ℕ) (written : List NamedText)
     → IsAnswerTo contents wanted text status written → is_failure status ≡ false
-answered_status contents (to_validate domain problem plan json) text status written ((d, p, l, d_is, p_is, l_is, (v, is_true, is_line, is_status)), none) =
-    ap is_failure is_status ∙ verdict_status v
-answered_status contents (to_solve domain problem asked) text status written (d, p, d_is, p_is, (task, a, is_task, is_true, (is_text, is_status, files))) =
-    ap is_failure is_status ∙ answer_status a
-answered_status contents (to_check domain problem cert asked) text status written ((d, p, l, d_is, p_is, l_is, (c, c_is, (task, steps, answer, is_task, handed, is_true, line))), none) =
-    checked_status asked.json task answer text status line
+answered_status contents wanted text status written (found, is_found, (is_text, is_status, files)) = ap is_failure is_status ∙ report_status found
+
+-- What is found out of files can be told, as a text and as JSON.
+pub can_be_told : (contents : List ℕ → Option (List ℕ)) (wanted : Wanted) (found : Report) → IsReportOn contents wanted found → HasText found
+can_be_told contents (to_validate domain problem plan json) found (v, is, on) = subst HasText (sym is) tt
+can_be_told contents (to_solve domain problem asked) found (s, is, (d, p, d_is, p_is, (is_task, answer))) =
+    subst HasText (sym is) (task_has_names d p (task_of s.task) is_task)
+can_be_told contents (to_check domain problem cert asked) found (c, is, (d, p, l, d_is, p_is, l_is, (text, steps, whole, is_task, handed, is_true, told))) =
+    subst HasText (sym is) (task_has_names d p (task_of c.task) is_task, told)
+
+pub object_too : (r : Report) → HasText r → reported.IsTold r
+object_too (report.Solve solved) names = names
+object_too (report.Validate v) tells = tells
+object_too (report.Check checked) (names, told) = told
 
 pub no_failure : (n status : ℕ) → is_failure status ≡ false → is_failure n ≡ true → status ≡ n → ⊥
 no_failure n status answers fails same = absurd (cc (ap is_failure same))
@@ -176,6 +189,11 @@ device_counted T before opened after device.NoMemory same counted = counted ∙ 
 pub without_fault : (f : Failure) (P : FileFault → Type 0) → fault_in f ≡ None → IfSome (fault_in f) P
 without_fault f P is = subst (λ (fault : Option FileFault). IfSome fault P) (sym is) tt
 
+-- What is refused is refused where this is so too.
+pub refused_and : (P : FileFault → Type 0) (Q R : Type 0) (o : Option FileFault) → Q → R → IfSome o P → IfSome o (λ fault. P fault × Q × R)
+refused_and P Q R None q r refused = tt
+refused_and P Q R (Some fault) q r refused = (refused, q, r)
+
 -- the same, after a call of the files that counted none
 pub either_since : (before now after out out_after : ℕ) (f : Failure) → now ≡ before → CountsEither now after out out_after f
     → CountsEither before after out out_after f
@@ -210,13 +228,6 @@ module _ (contents : List ℕ → Option (List ℕ)) where
       → IfSome o (λ fault. OnInputs contents domain problem plan (λ d p l. IsInputFault d p l fault))
   refused_on_inputs domain problem plan d p l d_is p_is l_is None h = tt
   refused_on_inputs domain problem plan d p l d_is p_is l_is (Some fault) h = (d, p, l, d_is, p_is, l_is, h)
-
-  -- the same of what a call told
-  pub told_on_inputs : {T : Type 0} (domain problem : List ℕ) (plan : Option (List ℕ)) (d p : List ℕ) (l : Option (List ℕ)) → IsText contents domain d → IsText contents problem p
-      → IsTextIfNamed contents plan l → (Holds : T → List ℕ → List ℕ → Option (List ℕ) → Type 0) → (r : Result T Failure) → IfOk r (λ told. Holds told d p l)
-      → IfOk r (λ told. OnInputs contents domain problem plan (Holds told))
-  told_on_inputs domain problem plan d p l d_is p_is l_is Holds (Ok told) h = (d, p, l, d_is, p_is, l_is, h)
-  told_on_inputs domain problem plan d p l d_is p_is l_is Holds (Err f) h = tt
 
 -- what a call says that writes all of the bytes or tells why not
 pub written_by : {T : Type 0} (wants_memory : Bool) (failures failures_after : ℕ) (before after : Option (List ℕ)) (bytes : List ℕ) (r : Result T WriteFault)

@@ -1,19 +1,27 @@
--- What the code is asked for beyond the files that it reads, as what the words ask for.
-use Rattle.std.specs.Prelude.{ℕ, Bool, List, Option}
-use Rattle.std.specs.Borrow.{Bor}
-use Rattle.command_line.specs.Orders.{Asked, AskedOfCheck}
+-- How what is found out is told, and which files are written of it: as the words ask for it, and as the code has it.
+use Rattle.std.specs.Prelude.{Bool, true, false, List, ℕ, Option, None}
+use Rattle.command_line.specs.Orders.{Wanted, to_solve, to_validate, to_check}
 use Rattle.command_line.specs.View.{text_in}
-use Rattle.solver.specs.declared.limits.Limits.{Limits}
-use Rattle.planner_main.specs.declared.program.solution.Wanted.{Wanted}
+use Rattle.planner_main.specs.declared.telling.reports.Format.{Format}
+use Rattle.planner_main.specs.declared.telling.reports.Format.TheVariants.{Text, Json}
+use Rattle.planner_main.specs.declared.program.outputs.Outputs.{Outputs as Code}
 
-abbrev pub asked_of : Limits → Wanted → Asked
-asked_of limits wanted = record {
-  states = limits.states;
-  instances = limits.instances;
-  plan = text_in wanted.plan;
-  cert = text_in wanted.cert;
-  json = wanted.json;
-}
+-- whether the standard output tells it as JSON, and the files for the certificate and for the plan, if any
+pub record Outputs : Type 0 where
+  pub json : Bool
+  pub cert : Option (List ℕ)
+  pub plan : Option (List ℕ)
 
-abbrev pub asked_of_check : (instances : ℕ) → (plan : Option (Bor (List ℕ))) → (json : Bool) → AskedOfCheck
-asked_of_check instances plan json = record { instances = instances; plan = text_in plan; json = json }
+-- what the words ask for
+abbrev pub outputs_of : Wanted → Outputs
+outputs_of (to_validate domain problem plan json) = record { json = json; cert = None; plan = None }
+outputs_of (to_solve domain problem asked) = record { json = asked.json; cert = asked.cert; plan = asked.plan }
+outputs_of (to_check domain problem cert asked) = record { json = asked.json; cert = None; plan = None }
+
+-- what the code has
+abbrev pub is_json : Format → Bool
+is_json Text = false
+is_json Json = true
+
+abbrev pub outputs_in : Code → Outputs
+outputs_in outputs = record { json = is_json outputs.format; cert = text_in outputs.cert; plan = text_in outputs.plan }

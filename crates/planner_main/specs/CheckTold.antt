@@ -1,5 +1,5 @@
--- What the answer of the checker is told as.
-use Rattle.std.specs.Prelude.{◌≡◌, ℕ, Bool, ◌==◌, if◌then◌else◌, List, ◌++◌, codes, Result, Ok, Err}
+-- What the answer of the checker is told as, and the status beside it.
+use Rattle.std.specs.Prelude.{◌≡◌, ℕ, ◌==◌, if◌then◌else◌, List, [], ◌++◌, codes, Option, None, Some, Result, Ok, Err}
 use Rattle.std.specs.Fmt.{decimal}
 use Rattle.cert_checker.specs.declared.refusal.RefusalCode.{RefusalCode}
 use Rattle.cert_checker.specs.declared.refusal.RefusalCode.TheVariants.{DeadUnfair, Unfair}
@@ -8,8 +8,9 @@ use Rattle.cert_checker.specs.declared.refusal.Refusal.TheVariants as refusal
 use Rattle.cert_checker.specs.RefusalCode.{name_of, number_of}
 use Rattle.cert_checker.specs.declared.checker.Accepted.{Accepted}
 use Rattle.cert_checker.specs.declared.checker.Accepted.TheVariants.{Optimal, AtLeast, Unsolvable}
+use Rattle.devices.specs.declared.device.WriteFault.{WriteFault}
+use Rattle.devices.specs.declared.device.WriteFault.TheVariants as device
 use Rattle.formulas.specs.State.{instance_of}
-use Rattle.planner_main.specs.Objects.{line_of_members, of_accepted, of_refused}
 use Rattle.model.specs.Task.{Task, Instance}
 use Rattle.model.specs.PlanWriting.{step_text}
 
@@ -33,38 +34,33 @@ abbrev pub instance_refused : RefusalCode → Task → Instance → List ℕ
 instance_refused code task i =
     codes "not accepted " ++ (decimal (number_of code) ++ (codes " " ++ (name_of code ++ (codes " " ++ (step_text task i ++ codes "\n")))))
 
--- the same, or as JSON, which tells neither line nor instance
-abbrev pub told_accepted : (json : Bool) → Accepted → List ℕ
-told_accepted json answer = if json then line_of_members (of_accepted answer) else accepted_line answer
+-- the line of the answer to a task; that memory was refused, or that the device failed, is told by none
+abbrev pub line_of : Task → Result Accepted Refusal → List ℕ
+line_of task (Ok answer) = accepted_line answer
+line_of task (Err (refusal.Line code line)) = line_refused code line
+line_of task (Err (refusal.Unfair i)) = instance_refused Unfair task (instance_of i)
+line_of task (Err (refusal.DeadUnfair i)) = instance_refused DeadUnfair task (instance_of i)
+line_of task (Err (refusal.Plain code)) = plain_refused code
+line_of task (Err refusal.NoMemory) = []
+line_of task (Err refusal.Device) = []
+line_of task (Err refusal.Failed) = []
 
-abbrev pub told_line : (json : Bool) → RefusalCode → (line : ℕ) → List ℕ
-told_line json code line = if json then line_of_members (of_refused code) else line_refused code line
+-- the status beside it: 0 where the certificate is accepted, and 12 where it is refused
+abbrev pub status_of : Result Accepted Refusal → ℕ
+status_of (Ok answer) = 0
+status_of (Err refusal) = 12
 
-abbrev pub told_instance : (json : Bool) → RefusalCode → Task → Instance → List ℕ
-told_instance json code task i = if json then line_of_members (of_refused code) else instance_refused code task i
+-- why nothing is told of the certificate: its device failed, or memory was refused; and None where its answer is told
+abbrev pub failure_of : Result Accepted Refusal → Option WriteFault
+failure_of (Ok answer) = None
+failure_of (Err (refusal.Line code line)) = None
+failure_of (Err (refusal.Unfair i)) = None
+failure_of (Err (refusal.DeadUnfair i)) = None
+failure_of (Err (refusal.Plain code)) = None
+failure_of (Err refusal.NoMemory) = Some device.NoMemory
+failure_of (Err refusal.Device) = Some device.Device
+failure_of (Err refusal.Failed) = Some device.NoMemory
 
-abbrev pub told_plain : (json : Bool) → RefusalCode → List ℕ
-told_plain json code = if json then line_of_members (of_refused code) else plain_refused code
-
--- This text tells the answer, and this is its status: 0 where the certificate is accepted, and 12 where it is refused. That
--- memory was refused, or that the device failed, is told by none.
-abbrev pub IsLineOf : (json : Bool) → Task → Result Accepted Refusal → (text : List ℕ) → (status : ℕ) → Type 0
-IsLineOf json task (Ok answer) text status = (text ≡ told_accepted json answer) × (status ≡ 0)
-IsLineOf json task (Err (refusal.Line code line)) text status = (text ≡ told_line json code line) × (status ≡ 12)
-IsLineOf json task (Err (refusal.Unfair i)) text status = (text ≡ told_instance json Unfair task (instance_of i)) × (status ≡ 12)
-IsLineOf json task (Err (refusal.DeadUnfair i)) text status = (text ≡ told_instance json DeadUnfair task (instance_of i)) × (status ≡ 12)
-IsLineOf json task (Err (refusal.Plain code)) text status = (text ≡ told_plain json code) × (status ≡ 12)
-IsLineOf json task (Err refusal.NoMemory) text status = ⊥
-IsLineOf json task (Err refusal.Device) text status = ⊥
-IsLineOf json task (Err refusal.Failed) text status = ⊥
-
--- the refusal is told: it is none of memory or of a device
+-- the answer is told: it is none of memory or of a device
 abbrev pub IsToldRefusal : Result Accepted Refusal → Type 0
-IsToldRefusal (Ok shown) = Unit {0}
-IsToldRefusal (Err (refusal.Line code line)) = Unit {0}
-IsToldRefusal (Err (refusal.Unfair i)) = Unit {0}
-IsToldRefusal (Err (refusal.DeadUnfair i)) = Unit {0}
-IsToldRefusal (Err (refusal.Plain code)) = Unit {0}
-IsToldRefusal (Err refusal.NoMemory) = ⊥
-IsToldRefusal (Err refusal.Device) = ⊥
-IsToldRefusal (Err refusal.Failed) = ⊥
+IsToldRefusal answer = failure_of answer ≡ None

@@ -1,8 +1,14 @@
 -- What the program does: what its words ask for, which texts its files have, and what it tells of them with which status.
-use Rattle.std.specs.Prelude.{◌≡◌, ℕ, ◌⊎◌, Bool, List, [], ◌∷◌, ◌++◌, Option, None, Some, IfSome, IsTrue, Result, Ok, Err}
+use Rattle.std.specs.Prelude.{◌≡◌, ℕ, ◌⊎◌, Bool, List, [], ◌∷◌, ◌++◌, Option, None, Some, IfOk, IfErr, IfSome, IsTrue, Result, Ok, Err}
 use Rattle.std.specs.Io.KnownBytes.{Appends}
-use Rattle.solver.specs.declared.answer.Answer.{Answer}
 use Rattle.solver.specs.Solver.{IsTrueAnswer}
+use Rattle.typing.specs.Task.{task_of}
+use Rattle.validator.specs.declared.verdict.Verdict.{Verdict}
+use Rattle.validator.specs.Verdict.{verdict_of}
+use Rattle.planner_main.specs.declared.answers.checking.Checked.{Checked}
+use Rattle.planner_main.specs.declared.answers.solving.Solved.{Solved}
+use Rattle.planner_main.specs.declared.telling.reports.Report.{Report}
+use Rattle.planner_main.specs.declared.telling.reports.Report.TheVariants as report
 use Rattle.planner_main.specs.declared.failures.Failure.{Failure}
 use Rattle.planner_main.specs.declared.failures.Failure.TheVariants as failure
 use Rattle.planner_main.specs.declared.answers.task_file.FileFault.TheVariants as refusal
@@ -11,16 +17,15 @@ use Rattle.devices.specs.declared.device.WriteFault.TheVariants as device
 use Rattle.devices.specs.Devices.{AppendsBeginning, one_more}
 use Rattle.planner_main.specs.Failures.{line_of_fault, device_line, no_memory_line, nothing_done_line}
 use Rattle.planner_main.specs.Files.{fault_at, told_in}
-use Rattle.command_line.specs.Orders.{Asks, Asked, AskedOfCheck, Wanted, to_solve, to_validate, to_check}
+use Rattle.command_line.specs.Orders.{Asks, Wanted, to_solve, to_validate, to_check}
 use Rattle.command_line.specs.View.{IsOfWords}
 use Rattle.command_line.specs.declared.fault.WordsFault.{WordsFault}
 use Rattle.planner_main.specs.Checked.{IsHandedIn, IsInputFault, IsTrueCheck}
-use Rattle.planner_main.specs.CheckTold.{IsLineOf}
-use Rattle.planner_main.specs.VerdictTold.{told_verdict, status_of}
+use Rattle.planner_main.specs.CheckTold.{IsToldRefusal}
+use Rattle.planner_main.specs.Asked.{outputs_of}
 use Rattle.devices.specs.Texts.{AreKept, IsText}
 use Rattle.devices.specs.Written.{NamedText, AreWritten, AreWrittenPartly}
-use Rattle.planner_main.specs.Solution.{TellsAnswer}
-use Rattle.model.specs.Runs.{Verdict}
+use Rattle.planner_main.specs.Solution.{TellsReport}
 use Rattle.cert_checker.specs.declared.refusal.Refusal.{Refusal}
 use Rattle.cert_checker.specs.declared.checker.Accepted.{Accepted}
 use Rattle.model.specs.Task.{Task, Instance}
@@ -42,9 +47,18 @@ inputs_of (to_validate domain problem plan json) = domain ∷ problem ∷ plan �
 inputs_of (to_solve domain problem asked) = domain ∷ problem ∷ []
 inputs_of (to_check domain problem cert asked) = domain ∷ problem ∷ cert ∷ if_named asked.plan
 
--- The words are a command that reads the file of this name.
+-- the names of the files whose texts are read whole: all but that of the certificate
+abbrev pub texts_of : Wanted → List (List ℕ)
+texts_of (to_validate domain problem plan json) = domain ∷ problem ∷ plan ∷ []
+texts_of (to_solve domain problem asked) = domain ∷ problem ∷ []
+texts_of (to_check domain problem cert asked) = domain ∷ problem ∷ if_named asked.plan
+
+-- The words are a command that reads the file of this name; and its text whole.
 abbrev pub NamesInput : List (List ℕ) → List ℕ → Type 0
 NamesInput words name = (wanted : Wanted) × Asks words wanted × IsOneOf (inputs_of wanted) name
+
+abbrev pub NamesText : List (List ℕ) → List ℕ → Type 0
+NamesText words name = (wanted : Wanted) × Asks words wanted × IsOneOf (texts_of wanted) name
 
 -- this is true of the texts of a domain file and a problem file
 abbrev pub OnTwo : (List ℕ → Option (List ℕ)) → (domain problem : List ℕ) → (List ℕ → List ℕ → Type 0) → Type 0
@@ -68,49 +82,40 @@ abbrev pub OnInputs : (List ℕ → Option (List ℕ)) → (domain problem : Lis
 OnInputs contents domain problem plan Holds =
     (d : List ℕ) × (p : List ℕ) × (l : Option (List ℕ)) × IsText contents domain d × IsText contents problem p × IsTextIfNamed contents plan l × Holds d p l
 
--- this text tells the verdict that is true of three texts, and the status is the verdict's
-abbrev pub IsVerdictLine : (domain problem plan : List ℕ) → (json : Bool) → (text : List ℕ) → (status : ℕ) → Type 0
-IsVerdictLine domain problem plan json text status =
-    (v : Verdict) × IsVerdictOf domain problem plan v × (text ≡ told_verdict json v) × (status ≡ status_of v)
+-- What is found out is true of the texts of these files: it is the verdict on a plan,
+abbrev pub IsVerdictOn : (List ℕ → Option (List ℕ)) → (domain problem plan : List ℕ) → Report → Type 0
+IsVerdictOn contents domain problem plan found =
+    (v : Verdict) × (found ≡ report.Validate v) × OnThree contents domain problem plan (λ d p l. IsVerdictOf d p l (verdict_of v))
 
--- This text is that of an answer to the task of two texts that is true within the asked limits, the status is the answer's,
--- and these files are written.
-abbrev pub IsSolutionText : (domain problem : List ℕ) → Asked → (text : List ℕ) → (status : ℕ) → List NamedText → Type 0
-IsSolutionText domain problem asked text status files =
-    (task : Task) × (a : Answer) × IsTaskOf domain problem task × IsTrueAnswer task asked.states asked.instances a
-    × TellsAnswer task a asked.json asked.cert asked.plan text status files
+-- or an answer to a task within these limits,
+abbrev pub IsSolutionOn : (List ℕ → Option (List ℕ)) → (domain problem : List ℕ) → (states instances : ℕ) → Report → Type 0
+IsSolutionOn contents domain problem states instances found =
+    (s : Solved) × (found ≡ report.Solve s)
+    × OnTwo contents domain problem (λ d p. IsTaskOf d p (task_of s.task) × IsTrueAnswer (task_of s.task) states instances s.answer)
 
--- This text is the line of an answer of the checker that is true of a certificate's text, for the task of two texts and the
--- plan of a third, if that is handed in; and the status is the answer's.
-abbrev pub IsCheckedLine : (domain problem : List ℕ) → (plan : Option (List ℕ)) → (cert : List ℕ) → (most : ℕ) → (json : Bool) → (text : List ℕ) → (status : ℕ) → Type 0
-IsCheckedLine domain problem plan cert most json text status =
-    (task : Task) × (steps : Option (List Instance)) × (answer : Result Accepted Refusal) × IsTaskOf domain problem task × IsHandedIn task plan steps
-    × IsTrueCheck task cert steps most answer × IsLineOf json task answer text status
+-- or what is told of a certificate, for the task of two texts and the plan of a third, if that is handed in. This is known of
+-- the certificate: it is the whole text, where it is known.
+abbrev pub IsCheckedIn : (known : Option (List ℕ)) → (domain problem : List ℕ) → (plan : Option (List ℕ)) → (most : ℕ) → Task → Result Accepted Refusal → Type 0
+IsCheckedIn known domain problem plan most task answer =
+    (cert : List ℕ) × (steps : Option (List Instance)) × IfSome known (λ bytes. cert ≡ bytes) × IsTaskOf domain problem task
+    × IsHandedIn task plan steps × IsTrueCheck task cert steps most answer × IsToldRefusal answer
 
--- the same of a certificate of which this is known: it is the whole text, where it is known
-abbrev pub IsCheckedIn : (known : Option (List ℕ)) → (domain problem : List ℕ) → (plan : Option (List ℕ)) → (most : ℕ) → (json : Bool) → (text : List ℕ) → (status : ℕ) → Type 0
-IsCheckedIn known domain problem plan most json text status =
-    (cert : List ℕ) × IfSome known (λ bytes. cert ≡ bytes) × IsCheckedLine domain problem plan cert most json text status
+abbrev pub IsCheckOn : (List ℕ → Option (List ℕ)) → (domain problem cert : List ℕ) → (plan : Option (List ℕ)) → (most : ℕ) → Report → Type 0
+IsCheckOn contents domain problem cert plan most found =
+    (c : Checked) × (found ≡ report.Check c)
+    × OnInputs contents domain problem plan (λ d p l. IsCheckedIn (contents cert) d p l most (task_of c.task) c.answer)
 
--- This text, with this status and the files that are written before it, is an answer that is true of the texts of these files:
--- a verdict or what is told of a certificate, beside which none is written, or what was found out of a task.
-abbrev pub IsVerdictText : (List ℕ → Option (List ℕ)) → (domain problem plan : List ℕ) → (json : Bool) → (text : List ℕ) → (status : ℕ) → List NamedText → Type 0
-IsVerdictText contents domain problem plan json text status written =
-    OnThree contents domain problem plan (λ d p l. IsVerdictLine d p l json text status) × (written ≡ [])
+-- what is found out is what is asked for, and true
+abbrev pub IsReportOn : (List ℕ → Option (List ℕ)) → Wanted → Report → Type 0
+IsReportOn contents (to_validate domain problem plan json) = IsVerdictOn contents domain problem plan
+IsReportOn contents (to_solve domain problem asked) = IsSolutionOn contents domain problem asked.states asked.instances
+IsReportOn contents (to_check domain problem cert asked) = IsCheckOn contents domain problem cert asked.plan asked.instances
 
-abbrev pub IsAnswerText : (List ℕ → Option (List ℕ)) → (domain problem : List ℕ) → Asked → (text : List ℕ) → (status : ℕ) → List NamedText → Type 0
-IsAnswerText contents domain problem asked text status written =
-    OnTwo contents domain problem (λ d p. IsSolutionText d p asked text status written)
-
-abbrev pub IsCheckText : (List ℕ → Option (List ℕ)) → (domain problem cert : List ℕ) → AskedOfCheck → (text : List ℕ) → (status : ℕ) → List NamedText → Type 0
-IsCheckText contents domain problem cert asked text status written =
-    OnInputs contents domain problem asked.plan (λ d p l. IsCheckedIn (contents cert) d p l asked.instances asked.json text status) × (written ≡ [])
-
--- They are a true answer to what is asked for, and to what the words ask for.
+-- This text, with this status and the files that are written before it, tells what is found out, which is true of the texts of
+-- the files, as it is asked for; and as the words ask for it.
 abbrev pub IsAnswerTo : (List ℕ → Option (List ℕ)) → Wanted → (text : List ℕ) → (status : ℕ) → List NamedText → Type 0
-IsAnswerTo contents (to_validate domain problem plan json) text status written = IsVerdictText contents domain problem plan json text status written
-IsAnswerTo contents (to_solve domain problem asked) text status written = IsAnswerText contents domain problem asked text status written
-IsAnswerTo contents (to_check domain problem cert asked) text status written = IsCheckText contents domain problem cert asked text status written
+IsAnswerTo contents wanted text status written =
+    (found : Report) × IsReportOn contents wanted found × TellsReport found (outputs_of wanted) text status written
 
 abbrev pub IsAnswer : (List ℕ → Option (List ℕ)) → List (List ℕ) → (text : List ℕ) → (status : ℕ) → List NamedText → Type 0
 IsAnswer contents words text status written = (wanted : Wanted) × Asks words wanted × IsAnswerTo contents wanted text status written
@@ -216,3 +221,11 @@ IsToldOfWords fault Says status =
 abbrev pub IsUnread : {T : Type 0} → Result T Failure → Type 0
 IsUnread (Ok told) = ⊥
 IsUnread (Err failure) = fault_in failure ≡ None
+
+-- What is found out of what is asked for is true of these files, or the fault is the first of their texts; and where a file that is read
+-- is missing, or a text cannot be read, there is neither.
+pub record IsFound (contents : List ℕ → Option (List ℕ)) (is_missing is_unreadable : List ℕ → Bool) (wanted : Wanted) (result : Result Report Failure) : Type 0 where
+  pub report : IfOk result (IsReportOn contents wanted)
+  pub refused : IfErr result (λ failure. IfSome (fault_in failure) (IsFaultFor contents wanted))
+  pub unread : (name : List ℕ) → IsOneOf (inputs_of wanted) name → IsTrue (is_missing name) → IsUnread result
+  pub unreadable : (name : List ℕ) → IsOneOf (texts_of wanted) name → IsTrue (is_unreadable name) → IsUnread result

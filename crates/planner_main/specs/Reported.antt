@@ -1,9 +1,12 @@
--- What is reported, as the members of its object.
-use Rattle.std.specs.Prelude.{List, IsTrue}
+-- What is reported: the members of its object, the text that tells it, and the status beside it.
+use Rattle.std.specs.Prelude.{ℕ, Bool, List, IsTrue, if◌then◌else◌}
 use Rattle.planner_main.specs.JsonText.{Member}
 use Rattle.typing.specs.Task.{task_of}
 use Rattle.validator.specs.Verdict.{verdict_of}
-use Rattle.planner_main.specs.Objects.{of_answer, of_checked, of_verdict}
+use Rattle.planner_main.specs.Objects.{line_of_members, of_answer, of_checked, of_verdict}
+use Rattle.planner_main.specs.AnswerTold as answers
+use Rattle.planner_main.specs.VerdictTold as verdicts
+use Rattle.planner_main.specs.CheckTold as checks
 use Rattle.planner_main.specs.CheckTold.{IsToldRefusal}
 use Rattle.planner_main.specs.declared.telling.reports.Report.{Report}
 use Rattle.planner_main.specs.declared.telling.reports.Report.TheVariants as report
@@ -20,3 +23,25 @@ abbrev pub IsTold : Report → Type 0
 IsTold (report.Solve solved) = IsTrue (has_names (task_of solved.task))
 IsTold (report.Validate verdict) = Unit {0}
 IsTold (report.Check checked) = IsToldRefusal checked.answer
+
+-- It can be told as a text too: the names of a task whose certificate was checked are names.
+abbrev pub HasText : Report → Type 0
+HasText (report.Solve solved) = IsTrue (has_names (task_of solved.task))
+HasText (report.Validate verdict) = Unit {0}
+HasText (report.Check checked) = IsTrue (has_names (task_of checked.task)) × IsToldRefusal checked.answer
+
+-- the text that tells it: a plan, or a line
+abbrev pub text_of : Report → List ℕ
+text_of (report.Solve solved) = answers.text_of (task_of solved.task) solved.answer
+text_of (report.Validate verdict) = verdicts.line_of (verdict_of verdict)
+text_of (report.Check checked) = checks.line_of (task_of checked.task) checked.answer
+
+-- what the standard output takes: that text, or the object on a line
+abbrev pub told_of : (json : Bool) → Report → List ℕ
+told_of json r = if json then line_of_members (of_report r) else text_of r
+
+-- the status beside it
+abbrev pub status_of : Report → ℕ
+status_of (report.Solve solved) = answers.status_of solved.answer
+status_of (report.Validate verdict) = verdicts.status_of (verdict_of verdict)
+status_of (report.Check checked) = checks.status_of checked.answer

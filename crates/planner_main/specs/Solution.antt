@@ -1,22 +1,21 @@
--- What stands on the standard output, and in files, once a task was solved, and the status beside it.
-use Rattle.std.specs.Prelude.{◌≡◌, ℕ, Bool, List, [], ◌∷◌, ◌++◌, Option, None, Some}
-use Rattle.std.specs.Option.{option_map_or}
+-- What stands on the standard output, and in files, once something is reported, and the status beside it.
+use Rattle.std.specs.Prelude.{◌≡◌, ℕ, List, [], ◌∷◌, ◌++◌, Option, None, Some, Bool, IsTrue}
+use Rattle.std.specs.Option.{option_map}
 use Rattle.formulas.specs.State.{plan_of}
+use Rattle.typing.specs.Task.{task_of}
 use Rattle.solver.specs.declared.answer.Answer.{Answer}
 use Rattle.solver.specs.declared.answer.Answer.TheVariants.{Plan, Unsolvable, Unknown}
 use Rattle.solver.specs.declared.answer.Exceeded.TheVariants.{Instances, Atoms, States}
 use Rattle.certificate.specs.declared.listing.Listing.{Listing}
 use Rattle.certificate.specs.Listing.{certificate_in}
 use Rattle.certificate_definitions.specs.CertificateNames.{certificate_text}
-use Rattle.devices.specs.Written.{NamedText}
-use Rattle.planner_main.specs.AnswerTold.{status_of, told_of}
+use Rattle.devices.specs.Written.{NamedText, AreWrittenPartly}
+use Rattle.planner_main.specs.Asked.{Outputs}
+use Rattle.planner_main.specs.Reported.{status_of, told_of}
+use Rattle.planner_main.specs.declared.telling.reports.Report.{Report}
+use Rattle.planner_main.specs.declared.telling.reports.Report.TheVariants as report
 use Rattle.model.specs.Task.{Task}
-use Rattle.model.specs.PlanWriting.{plan_text}
-
--- the text for the file of this name, if one is named
-abbrev pub in_file : Option (List ℕ) → List ℕ → List NamedText
-in_file None text = []
-in_file (Some name) text = record { name = name; text = text } ∷ []
+use Rattle.model.specs.PlanWriting as plans
 
 -- the certificate of an answer: of a plan, of there being none, or, where the limit of states is exceeded, of what each plan
 -- costs at least
@@ -27,20 +26,37 @@ cert_of (Unknown Instances) = None
 cert_of (Unknown Atoms) = None
 cert_of (Unknown (States least cert)) = Some cert
 
--- what is written to the file of a certificate, where there is one
-abbrev pub cert_file : Task → Answer → Option (List ℕ) → List NamedText
-cert_file task a name = option_map_or (λ (cert : Listing). in_file name (certificate_text task (certificate_in cert))) (cert_of a) []
+-- the text of the certificate of what is reported, if it has one: an answer to a task has
+abbrev pub cert_text : Report → Option (List ℕ)
+cert_text (report.Solve solved) = option_map (λ (cert : Listing). certificate_text (task_of solved.task) (certificate_in cert)) (cert_of solved.answer)
+cert_text (report.Validate verdict) = None
+cert_text (report.Check checked) = None
 
--- what is written to the file of a plan
-abbrev pub plan_file : Task → Answer → Option (List ℕ) → List NamedText
-plan_file task (Plan steps cost cert) name = in_file name (plan_text task (plan_of steps) cost)
-plan_file task (Unsolvable cert) name = []
-plan_file task (Unknown limit) name = []
+-- the text of the plan that is reported, if one is
+abbrev pub answer_plan : Task → Answer → Option (List ℕ)
+answer_plan task (Plan steps cost cert) = Some (plans.plan_text task (plan_of steps) cost)
+answer_plan task (Unsolvable cert) = None
+answer_plan task (Unknown limit) = None
+
+abbrev pub plan_text : Report → Option (List ℕ)
+plan_text (report.Solve solved) = answer_plan (task_of solved.task) solved.answer
+plan_text (report.Validate verdict) = None
+plan_text (report.Check checked) = None
+
+-- the text, if there is one, for the file of this name, if one is named
+abbrev pub in_file : (name text : Option (List ℕ)) → List NamedText
+in_file None text = []
+in_file (Some name) None = []
+in_file (Some name) (Some text) = record { name = name; text = text } ∷ []
 
 -- the files that are written, in this order, where these are asked for
-abbrev pub files_of : Task → Answer → (cert plan : Option (List ℕ)) → List NamedText
-files_of task a cert plan = cert_file task a cert ++ plan_file task a plan
+abbrev pub files_for : Report → Outputs → List NamedText
+files_for r outputs = in_file outputs.cert (cert_text r) ++ in_file outputs.plan (plan_text r)
 
--- This text, with this status and these files, tells the answer where these files are asked for.
-abbrev pub TellsAnswer : Task → Answer → (json : Bool) → (cert plan : Option (List ℕ)) → (text : List ℕ) → (status : ℕ) → List NamedText → Type 0
-TellsAnswer task a json cert plan text status files = (text ≡ told_of task a json) × (status ≡ status_of a) × (files ≡ files_of task a cert plan)
+-- This text, with this status and these files, tells what is reported as it is asked for.
+abbrev pub TellsReport : Report → Outputs → (text : List ℕ) → (status : ℕ) → List NamedText → Type 0
+TellsReport r outputs text status files = (text ≡ told_of outputs.json r) × (status ≡ status_of r) × (files ≡ files_for r outputs)
+
+-- one of these files is being written, and none before it is asked for
+abbrev pub IsBegun : (known : Bool) → (before after : List ℕ → Option (List ℕ)) → List NamedText → Type 0
+IsBegun known before after files = (next : NamedText) × (files ≡ next ∷ []) × (IsTrue known → AreWrittenPartly before after [] next)

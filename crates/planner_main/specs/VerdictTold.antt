@@ -1,7 +1,6 @@
 -- What a verdict is told as, and the status beside it.
-use Rattle.std.specs.Prelude.{ℕ, Bool, List, ◌++◌, codes, if◌then◌else◌}
+use Rattle.std.specs.Prelude.{ℕ, List, ◌++◌, codes}
 use Rattle.std.specs.Fmt.{decimal}
-use Rattle.planner_main.specs.Objects.{line_of_members, of_verdict}
 use Rattle.model.specs.Runs.{Verdict, valid, not_applicable, goal_missed}
 
 -- the line that tells a verdict
@@ -9,10 +8,6 @@ abbrev pub line_of : Verdict → List ℕ
 line_of (valid cost) = codes "valid cost " ++ (decimal cost ++ codes "\n")
 line_of (not_applicable step) = codes "not applicable step " ++ (decimal step ++ codes "\n")
 line_of goal_missed = codes "goal missed\n"
-
--- the same, or as JSON
-abbrev pub told_verdict : (json : Bool) → Verdict → List ℕ
-told_verdict json v = if json then line_of_members (of_verdict v) else line_of v
 
 -- the status beside it: 0 where the plan solves the task, and 12 where it does not
 abbrev pub status_of : Verdict → ℕ

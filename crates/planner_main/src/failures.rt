@@ -8,22 +8,11 @@ ghost use Rattle.planner_main.specs.Program.{IsToldOfWords, IsToldOn};
 ghost use Rattle.devices.specs.Devices.{IsWritten};
 
 use crate::answers::{File, FileFault};
+use crate::telling::{DEVICE, NO_MEMORY, REFUSED, WRONG_WORDS};
 use command_line::WordsFault;
 use devices::{Sink, WriteFault, write_all};
-use faults::{Code, Span};
+use faults::{Code, NoMemory, Span};
 use std::alloc::{AllocError, Global};
-
-/// The words are no command.
-const WRONG_WORDS: u8 = 2;
-
-/// A file's text is refused.
-const REFUSED: u8 = 20;
-
-/// A file or the standard output could not be opened, read or written.
-const DEVICE: u8 = 21;
-
-/// Memory was refused.
-const NO_MEMORY: u8 = 22;
 
 /// The last line where the words are no command.
 const NOTHING_DONE: &str = "optplan: nothing was done\n";
@@ -59,14 +48,14 @@ impl From<WriteFault> for Failure {
     }
 }
 
-impl From<AllocError> for Failure {
+impl From<NoMemory> for Failure {
     ghost use Rattle.std.specs.Prelude.{◌≡◌};
     ghost use Rattle.devices.specs.declared.device.WriteFault.TheVariants.{NoMemory};
     ghost use Rattle.planner_main.specs.declared.failures.Failure.TheVariants.{Device};
 
     ghost from_gives = { λ _ failure. failure ≡ Device NoMemory };
 
-    fn from(_error: AllocError) -> Failure {
+    fn from(_error: NoMemory) -> Failure {
         Failure::Device(WriteFault::NoMemory)
     }
 }

@@ -4,23 +4,28 @@ ghost use Rattle.command_line.specs.Orders.{IsCommand};
 ghost use Rattle.command_line.specs.View.{texts, wanted_of};
 ghost use Rattle.planner_main.specs.Failures.{device_line, no_memory_line};
 ghost use Rattle.planner_main.specs.Failures.{is_failure};
-ghost use Rattle.planner_main.specs.Program.{Tells, TellsFor, TellsPartly, TellsPartlyFor, Refuses, HasFailed, HasNotFailed, CountsEither, NamesInput, IsFaultFor, IsOneOf, IsUnread, SaysOfWords, fault_in, inputs_of};
+ghost use Rattle.planner_main.specs.Program.{Tells, TellsFor, TellsPartly, TellsPartlyFor, Refuses, HasFailed, HasNotFailed, CountsEither, CountsFailure, NamesInput, NamesText, IsFaultFor, IsFound, IsOneOf, IsUnread, SaysOfWords, fault_in, inputs_of, texts_of};
 ghost use Rattle.devices.specs.Texts.{AreKept};
 ghost use Rattle.devices.specs.Devices.{IsWritten};
 
 mod acceptance;
 mod inputs;
+mod outputs;
 mod solution;
 mod validation;
+mod writing;
 
 use crate::failures::{Failure, tell, tell_words};
-use acceptance::{Names, tell_check};
+use crate::telling::Report;
+use acceptance::{Names, report_of_check};
 use command_line::{MaxCount, Order, read_words};
 use devices::{Files, Sink};
-use solution::{Wanted, tell_solution};
+use outputs::outputs_of;
+use solution::report_of_solve;
 use solver::Limits;
 use std::alloc::Global;
-use validation::tell_verdict;
+use validation::report_of_validate;
+use writing::tell_report;
 
 /// The whole program: what the words ask for, with its answer on the standard output and its faults on the standard
 /// error, and the status that it ends with. What the words ask for is `read_words`' matter.
@@ -91,6 +96,9 @@ pub fn run<F: Files, O: Sink, E: Sink>(
     // All files are opened before any fault of their texts is told.
     ensures unread { (name : List ℕ) → NamesInput (texts words.now) name → IsTrue (F.is_missing files.old name)
         → (result ≡ 21) ⊎ (result ≡ 22) }
+    // All texts but the certificate's are read before any fault of them is told.
+    ensures unreadable { (name : List ℕ) → NamesText (texts words.now) name → IsTrue (F.is_unreadable files.old name)
+        → (result ≡ 21) ⊎ (result ≡ 22) }
     ensures memory { result ≡ 22 → TellsPartly (texts words.now) F.is_known (F.contents files.old) (F.contents files.new) (O.taken out.old) (O.taken out.new)
         × IsWritten E.wants_memory (E.failures err.old) (E.failures err.new) (E.taken err.old) (E.taken err.new) no_memory_line }
 {
@@ -103,7 +111,7 @@ pub fn run<F: Files, O: Sink, E: Sink>(
     }
 }
 
-/// Does what is asked for: the status.
+/// Does what is asked for: it is found out, and then told. The status.
 fn carry_out<F: Files, O: Sink>(
     alloc: Global,
     order: Order<'_>,
@@ -117,26 +125,35 @@ fn carry_out<F: Files, O: Sink>(
     ensures unfailed { IfOk result (λ _. HasNotFailed (F.failures files.old) (F.failures files.new) (O.failures out.old) (O.failures out.new)) }
     ensures failures { IfErr result (CountsEither (F.failures files.old) (F.failures files.new) (O.failures out.old) (O.failures out.new)) }
     ensures unread { (name : List ℕ) → IsOneOf (inputs_of (wanted_of order.entry)) name → IsTrue (F.is_missing files.old name) → IsUnread result }
+    ensures unreadable { (name : List ℕ) → IsOneOf (texts_of (wanted_of order.entry)) name → IsTrue (F.is_unreadable files.old name) → IsUnread result }
+{
+    let report = report_of(alloc, order, files)?;
+    tell_report(alloc, &report, outputs_of(order), files, out)
+}
+
+/// What is found out of what is asked for.
+fn report_of<F: Files>(alloc: Global, order: Order<'_>, files: &mut F) -> Result<Report, Failure>
+    ensures found { IsFound (F.contents files.old) (F.is_missing files.old) (F.is_unreadable files.old) (wanted_of order.entry) result }
+    ensures kept { AreKept (F.contents files.old) (F.contents files.new) }
+    ensures unfailed { IfOk result (λ _. F.failures files.new ≡ F.failures files.old) }
+    ensures failures { IfErr result (CountsFailure (F.failures files.old) (F.failures files.new)) }
 {
     match order {
         Order::Validate {
             domain,
             problem,
             plan,
-            json,
-        } => tell_verdict(alloc, domain, problem, plan, json, files, out),
+            ..
+        } => report_of_validate(alloc, domain, problem, plan, files),
         Order::Solve {
             domain,
             problem,
-            plan,
-            cert,
             states,
             instances,
-            json,
+            ..
         } => {
             let limits = limits_of(states, instances);
-            let wanted = Wanted { plan, cert, json };
-            tell_solution(alloc, domain, problem, limits, wanted, files, out)
+            report_of_solve(alloc, domain, problem, limits, files)
         }
         Order::Check {
             domain,
@@ -144,7 +161,7 @@ fn carry_out<F: Files, O: Sink>(
             cert,
             plan,
             instances,
-            json,
+            ..
         } => {
             let names = Names {
                 domain,
@@ -152,7 +169,7 @@ fn carry_out<F: Files, O: Sink>(
                 cert,
                 plan,
             };
-            tell_check(alloc, names, instances.number(), json, files, out)
+            report_of_check(alloc, names, instances.number(), files)
         }
     }
 }

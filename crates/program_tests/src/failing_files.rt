@@ -76,6 +76,8 @@ impl Files for FailingFiles {
 
     ghost is_missing = { λ files name. ⟦<Table as Files>⟧.is_missing files.table name };
 
+    ghost is_unreadable = { λ files name. ⟦<Table as Files>⟧.is_unreadable files.table name };
+
     ghost is_known = { ⟦<Table as Files>⟧.is_known };
 
     fn open(&mut self, name: &str) -> Result<InPieces<FailsAt<Memory>>, WriteFault> {

@@ -1,5 +1,5 @@
 //! The text of a file.
-ghost use Rattle.std.specs.Prelude.{◌≡◌, ◌+◌, ℕ, Err, IfOk, IsTrue, List, length, vec_len};
+ghost use Rattle.std.specs.Prelude.{◌≡◌, ◌+◌, ℕ, Err, IfOk, IsErr, IsTrue, List, length, vec_len};
 ghost use Rattle.devices.specs.Texts.{AreKept, IsText};
 ghost use Rattle.devices.specs.declared.device.WriteFault.TheVariants.{Device};
 ghost use Rattle.devices.specs.Devices.{CountsDevice, IsReading, ReadsSome};
@@ -20,8 +20,10 @@ pub fn read_file<F: Files>(alloc: Global, files: &mut F, name: &str) -> Result<V
     ensures bytes { IfOk result (λ text. IsText (F.contents files.old) name.now text.items) }
     ensures kept { AreKept (F.contents files.old) (F.contents files.new) }
     ensures still { (other : List ℕ) → F.is_missing files.new other ≡ F.is_missing files.old other }
+    ensures as_readable { (other : List ℕ) → F.is_unreadable files.new other ≡ F.is_unreadable files.old other }
     ensures failures { CountsDevice (F.failures files.old) (F.failures files.new) result }
     ensures missing { IsTrue (F.is_missing files.old name.now) → result ≡ Err Device }
+    ensures failing { IsTrue (F.is_unreadable files.old name.now) → IsErr result }
 {
     let mut input = files.open(name)?;
     let text = read_text(alloc, &mut input);
@@ -32,6 +34,7 @@ pub fn read_file<F: Files>(alloc: Global, files: &mut F, name: &str) -> Result<V
 /// The first 16,777,217 bytes of a source, or all that it has.
 fn read_text<S: Source>(alloc: Global, source: &mut S) -> Result<Vec<u8>, WriteFault>
     ensures ok { IfOk result (λ text. IsReading MAX_READ (S.remaining source.old) (S.remaining source.new) text.items) }
+    ensures failing { IsTrue (S.is_failing source.old) → IsErr result }
     ensures failures { CountsDevice (S.failures source.old) (S.failures source.new) result }
 {
     let mut text = Vec::new(alloc);
@@ -54,6 +57,7 @@ fn read_some<S: Source>(
 ) -> Result<usize, WriteFault>
     ensures ok { IfOk result (λ count. ReadsSome (length room.old) count (S.remaining source.old) (S.remaining source.new) text.old.items text.new.items) }
     ensures len { IfOk result (λ count. vec_len text.new ≡ vec_len text.old + count) }
+    ensures failing { IsTrue (S.is_failing source.old) → IsErr result }
     ensures failures { CountsDevice (S.failures source.old) (S.failures source.new) result }
 {
     let count = source.read(room)?;

@@ -2,7 +2,7 @@
 ghost use Rattle.std.specs.Prelude.{◌≡◌, ℕ, List, None, IfOk, IfSome, IsOkUnless, IsTrue, OnErr, OnOk, Some, [], false, is_none, position, true};
 ghost use Rattle.std.specs.Option.{option_map};
 ghost use Rattle.devices.specs.Devices.{CountsDevice, IsKept};
-ghost use Rattle.devices.specs.Failing.{calls_left};
+ghost use Rattle.devices.specs.Failing.{calls_left, fails_now};
 ghost use Rattle.std.specs.String.{string_bytes};
 ghost use Rattle.devices.specs.Table.{contents_of, draft_name, is_named, KeepsFiles, PutsFile, reads_before};
 
@@ -130,6 +130,8 @@ impl Files for Table {
 
     ghost is_missing = { λ table name. is_none (contents_of table.entries.items name) };
 
+    ghost is_unreadable = { λ table name. fails_now (reads_before table name) };
+
     ghost is_known = { true };
 
     fn open(&mut self, name: &str) -> Result<FailsAt<Memory>, WriteFault>
@@ -139,8 +141,10 @@ impl Files for Table {
         ensures fresh { IfOk result (λ input. ⟦<FailsAt<Memory> as Source>⟧.failures input ≡ 0) }
         ensures bytes { IfOk result (λ input. IsKept (⟦<Table as Files>⟧.contents self.old name.now) (⟦<FailsAt<Memory> as Source>⟧.remaining input)) }
         ensures reads { IfOk result (λ input. calls_left input ≡ reads_before self.old name.now) }
+        ensures failing { IsTrue (⟦<Table as Files>⟧.is_unreadable self.old name.now) → IfOk result (λ input. IsTrue (⟦<FailsAt<Memory> as Source>⟧.is_failing input)) }
         ensures kept { (other : List ℕ) → ⟦<Table as Files>⟧.contents self.new other ≡ ⟦<Table as Files>⟧.contents self.old other }
         ensures still { (other : List ℕ) → ⟦<Table as Files>⟧.is_missing self.new other ≡ ⟦<Table as Files>⟧.is_missing self.old other }
+        ensures as_readable { (other : List ℕ) → ⟦<Table as Files>⟧.is_unreadable self.new other ≡ ⟦<Table as Files>⟧.is_unreadable self.old other }
         ensures unchanged { KeepsFiles self.old self.new }
     {
         for entry in &self.entries {

@@ -10,7 +10,7 @@ ghost use Rattle.model.specs.Trees.{domain_file, problem_file};
 ghost use Rattle.model.specs.Files.{IsDomainText, IsProblemText, IsTextFault, IsTaskOf, IsTaskFault};
 
 use faults::{Code, Fault, NoMemory, Refused, Span, TextRefusal};
-use std::alloc::{AllocError, Global};
+use std::alloc::Global;
 use std::fmt;
 use thiserror::Error;
 use tokens::scan;
@@ -95,17 +95,6 @@ impl From<TaskFault> for FileFault {
             }
             Refused::NoMemory => FileFault::NoMemory,
         }
-    }
-}
-
-impl From<AllocError> for FileFault {
-    ghost use Rattle.std.specs.Prelude.{◌≡◌};
-    ghost use Rattle.planner_main.specs.declared.answers.task_file.FileFault.TheVariants.{NoMemory};
-
-    ghost from_gives = { λ _ e. e ≡ NoMemory };
-
-    fn from(_error: AllocError) -> FileFault {
-        FileFault::NoMemory
     }
 }
 

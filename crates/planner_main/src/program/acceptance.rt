@@ -1,24 +1,22 @@
-//! `check`: what a certificate shows, from files to the standard output.
-ghost use Rattle.std.specs.Prelude.{◌≡◌, ℕ, IfErr, IfOk, IfSome, IsErr, IsTrue, List, ◌∷◌, None, Option};
-ghost use Rattle.cert_checker.specs.Reading.{CountsRefusal, IsFresh};
+//! `check`: what a certificate shows, from files.
+ghost use Rattle.std.specs.Prelude.{◌≡◌, ℕ, IfErr, IfOk, IfSome, IsErr, IsTrue, List, ◌∷◌, Option};
+ghost use Rattle.cert_checker.specs.Reading.{IsFresh};
 ghost use Rattle.typing.specs.Task.{task_of};
-ghost use Rattle.model.specs.PlanWriting.{has_names};
-ghost use Rattle.planner_main.specs.CheckTold.{IsLineOf};
 ghost use Rattle.certificate_reader.specs.Reader.{source_of};
 ghost use Rattle.planner_main.specs.Checked.{IsInputFault};
 ghost use Rattle.planner_main.specs.Files.{text_in};
-ghost use Rattle.devices.specs.Texts.{items_in};
-ghost use Rattle.planner_main.specs.Asked.{asked_of_check};
-ghost use Rattle.planner_main.specs.Program.{CountsEither, CountsFailure, HasNotFailed, IsCheckText, IsCheckedIn, IsOneOf, IsTextIfNamed, IsTold, IsToldPartly, IsUnread, OnInputs, fault_in, if_named};
-ghost use Rattle.devices.specs.Texts.{AreKept};
+ghost use Rattle.planner_main.specs.declared.answers.checking.Checked.{Checked};
+ghost use Rattle.planner_main.specs.declared.telling.reports.Report.TheVariants.{Check};
+ghost use Rattle.devices.specs.Texts.{AreKept, items_in};
+ghost use Rattle.planner_main.specs.Program.{CountsFailure, IsCheckOn, IsCheckedIn, IsOneOf, IsTextIfNamed, IsUnread, OnInputs, fault_in, if_named};
 ghost use Rattle.devices.specs.Devices.{CountsDevice, IsKept};
 
-use crate::answers::{Checked, check_files};
+use crate::answers::check_files;
 use crate::failures::Failure;
 use crate::program::inputs::{Pair, read_pair};
-use crate::telling::checked_text;
+use crate::telling::{Report, failure_of};
 use certificate::CertReader;
-use devices::{Files, Sink, Source, WriteFault, read_file, write_all};
+use devices::{Files, Source, WriteFault, read_file};
 use std::alloc::Global;
 
 /// The names of the files that are read.
@@ -41,42 +39,15 @@ struct Texts {
     plan: Option<Vec<u8>>,
 }
 
-/// Tells what the certificate of a file shows of the task of two files, and of the plan of a third, if it is named: the status.
-pub(super) fn tell_check<F: Files, O: Sink>(
+/// What the certificate of a file shows of the task of two files, and of the plan of a third, if it is named. The certificate is
+/// opened before the plan is read, and read last.
+pub(super) fn report_of_check<F: Files>(
     alloc: Global,
     names: Names<'_>,
     instances: u32,
-    json: bool,
     files: &mut F,
-    out: &mut O,
-) -> Result<u8, Failure>
-    ensures told { IfOk result (IsTold (IsCheckText (F.contents files.old) names.entry.domain.now names.entry.problem.now names.entry.cert.now (asked_of_check instances names.entry.plan json))
-        F.is_known (F.contents files.old) (F.contents files.new) (O.taken out.old) (O.taken out.new)) }
-    ensures refused { IfErr result (λ failure. IfSome (fault_in failure) (λ fault.
-        OnInputs (F.contents files.old) names.entry.domain.now names.entry.problem.now (text_in names.entry.plan) (λ d p l. IsInputFault d p l fault)
-        × (O.taken out.new ≡ O.taken out.old) × AreKept (F.contents files.old) (F.contents files.new))) }
-    ensures partly { IfErr result (λ failure. IsToldPartly (IsCheckText (F.contents files.old) names.entry.domain.now names.entry.problem.now names.entry.cert.now (asked_of_check instances names.entry.plan json))
-        F.is_known (F.contents files.old) (F.contents files.new) (O.taken out.old) (O.taken out.new)) }
-    ensures unfailed { IfOk result (λ _. HasNotFailed (F.failures files.old) (F.failures files.new) (O.failures out.old) (O.failures out.new)) }
-    ensures failures { IfErr result (CountsEither (F.failures files.old) (F.failures files.new) (O.failures out.old) (O.failures out.new)) }
-    ensures unread { (name : List ℕ) → IsOneOf (names.entry.domain.now ∷ names.entry.problem.now ∷ names.entry.cert.now ∷ if_named (text_in names.entry.plan)) name
-        → IsTrue (F.is_missing files.old name) → IsUnread result }
-{
-    let (line, status) = checked_line(alloc, names, instances, json, files)?;
-    write_all(out, &line)?;
-    Ok(status)
-}
-
-/// The line of what the certificate shows, and its status. The certificate is opened before the plan is read, and read last.
-fn checked_line<F: Files>(
-    alloc: Global,
-    names: Names<'_>,
-    instances: u32,
-    json: bool,
-    files: &mut F,
-) -> Result<(Vec<u8>, u8), Failure>
-    ensures answer { IfOk result (λ told. OnInputs (F.contents files.old) names.entry.domain.now names.entry.problem.now (text_in names.entry.plan)
-        (λ d p l. IsCheckedIn (F.contents files.old names.entry.cert.now) d p l instances json told.0.items told.1)) }
+) -> Result<Report, Failure>
+    ensures report { IfOk result (IsCheckOn (F.contents files.old) names.entry.domain.now names.entry.problem.now names.entry.cert.now (text_in names.entry.plan) instances) }
     ensures refused { IfErr result (λ failure. IfSome (fault_in failure) (λ fault.
         OnInputs (F.contents files.old) names.entry.domain.now names.entry.problem.now (text_in names.entry.plan) (λ d p l. IsInputFault d p l fault))) }
     ensures kept { AreKept (F.contents files.old) (F.contents files.new) }
@@ -84,15 +55,17 @@ fn checked_line<F: Files>(
     ensures failures { IfErr result (CountsFailure (F.failures files.old) (F.failures files.new)) }
     ensures unread { (name : List ℕ) → IsOneOf (names.entry.domain.now ∷ names.entry.problem.now ∷ names.entry.cert.now ∷ if_named (text_in names.entry.plan)) name
         → IsTrue (F.is_missing files.old name) → IsUnread result }
+    ensures unreadable { (name : List ℕ) → IsOneOf (names.entry.domain.now ∷ names.entry.problem.now ∷ if_named (text_in names.entry.plan)) name
+        → IsTrue (F.is_unreadable files.old name) → IsUnread result }
 {
     let pair = read_pair(alloc, files, names.domain, names.problem)?;
     let input = files.open(names.cert)?;
     let plan = read_named(alloc, files, names.plan)?;
     let texts = Texts { pair, plan };
     let mut cert = CertReader::new(alloc, input);
-    let told = check_texts(alloc, &texts, &mut cert, instances, json);
+    let report = check_texts(alloc, &texts, &mut cert, instances);
     files.finish(cert.into_source());
-    told
+    report
 }
 
 /// The text of a file, if one is named.
@@ -105,6 +78,7 @@ fn read_named<F: Files>(
     ensures kept { AreKept (F.contents files.old) (F.contents files.new) }
     ensures failures { CountsDevice (F.failures files.old) (F.failures files.new) result }
     ensures unread { (other : List ℕ) → IsOneOf (if_named (text_in name.entry)) other → IsTrue (F.is_missing files.old other) → IsErr result }
+    ensures unreadable { (other : List ℕ) → IsOneOf (if_named (text_in name.entry)) other → IsTrue (F.is_unreadable files.old other) → IsErr result }
 {
     match name {
         Some(name) => Ok(Some(read_file(alloc, files, name)?)),
@@ -112,17 +86,17 @@ fn read_named<F: Files>(
     }
 }
 
-/// The line of what is told of the certificate that comes to a new reader, and its status.
+/// What the certificate that comes to a new reader shows.
 fn check_texts<R: Source>(
     alloc: Global,
     texts: &Texts,
     cert: &mut CertReader<R>,
     instances: u32,
-    json: bool,
-) -> Result<(Vec<u8>, u8), Failure>
+) -> Result<Report, Failure>
     requires { IsFresh cert.old }
-    ensures answer { (known : Option (List ℕ)) → IsKept known (R.remaining (source_of cert.old))
-        → IfOk result (λ told. IsCheckedIn known texts.now.pair.domain.items texts.now.pair.problem.items (items_in texts.now.plan) instances json told.0.items told.1) }
+    ensures report { (known : Option (List ℕ)) → IsKept known (R.remaining (source_of cert.old))
+        → IfOk result (λ found. (c : Checked) × (found ≡ Check c)
+        × IsCheckedIn known texts.now.pair.domain.items texts.now.pair.problem.items (items_in texts.now.plan) instances (task_of c.task) c.answer) }
     ensures refused { IfErr result (λ failure. IfSome (fault_in failure) (IsInputFault texts.now.pair.domain.items texts.now.pair.problem.items (items_in texts.now.plan))) }
     ensures unfailed { IfOk result (λ _. R.failures (source_of cert.new) ≡ R.failures (source_of cert.old)) }
     ensures failures { IfErr result (CountsFailure (R.failures (source_of cert.old)) (R.failures (source_of cert.new))) }
@@ -130,18 +104,10 @@ fn check_texts<R: Source>(
     let plan = slice_in(&texts.plan);
     let (domain, problem) = (&texts.pair.domain, &texts.pair.problem);
     let checked = check_files(alloc, domain, problem, cert, plan, instances)?;
-    told_of_check(alloc, &checked, json)
-}
-
-/// The line of what was told of a certificate, and its status.
-fn told_of_check(alloc: Global, checked: &Checked, json: bool) -> Result<(Vec<u8>, u8), Failure>
-    requires { IsTrue (has_names (task_of checked.now.task)) }
-    ensures line { IfOk result (λ told. IsLineOf json (task_of checked.now.task) checked.now.answer told.0.items told.1) }
-    ensures refused { IfErr result (λ failure. fault_in failure ≡ None) }
-    ensures unfailed { IfOk result (λ _. (before after : ℕ) → CountsRefusal before after checked.now.answer → after ≡ before) }
-    ensures failures { IfErr result (λ failure. (before after : ℕ) → CountsRefusal before after checked.now.answer → CountsFailure before after failure) }
-{
-    Ok(checked_text(alloc, &checked.task, &checked.answer, json)?)
+    match failure_of(&checked.answer) {
+        Some(fault) => Err(Failure::Device(fault)),
+        None => Ok(Report::Check(checked)),
+    }
 }
 
 /// The bytes of a text, if there is one.

@@ -30,6 +30,9 @@ pub(super) fn read_pair<F: Files>(
     ensures failures { CountsDevice (F.failures files.old) (F.failures files.new) result }
     ensures missing { IsTrue (F.is_missing files.old domain.now) → result ≡ Err Device }
     ensures unread { IsTrue (F.is_missing files.old problem.now) → IsErr result }
+    ensures as_readable { (other : List ℕ) → F.is_unreadable files.new other ≡ F.is_unreadable files.old other }
+    ensures domain_failing { IsTrue (F.is_unreadable files.old domain.now) → IsErr result }
+    ensures problem_failing { IsTrue (F.is_unreadable files.old problem.now) → IsErr result }
 {
     let domain = read_file(alloc, files, domain)?;
     let problem = read_file(alloc, files, problem)?;

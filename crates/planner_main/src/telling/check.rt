@@ -1,15 +1,11 @@
-//! What the checker's answer is told as: a line, and the status.
-ghost use Rattle.std.specs.Prelude.{◌≡◌, ℕ, IfOk, IsTrue};
+//! What the checker's answer is told as: a line.
+ghost use Rattle.std.specs.Prelude.{◌≡◌, IfOk, IsTrue};
 ghost use Rattle.std.specs.String.{string_bytes};
 ghost use Rattle.typing.specs.Task.{task_of};
 ghost use Rattle.formulas.specs.State.{instance_of};
-ghost use Rattle.cert_checker.specs.Reading.{CountsRefusal};
-ghost use Rattle.planner_main.specs.CheckTold.{IsLineOf, accepted_line, instance_refused, line_refused, plain_refused, told_accepted, told_instance, told_line, told_plain};
-ghost use Rattle.devices.specs.Devices.{CountsDevice};
+ghost use Rattle.planner_main.specs.CheckTold.{IsToldRefusal, accepted_line, failure_of, instance_refused, line_of, line_refused, plain_refused};
 ghost use Rattle.model.specs.PlanWriting.{has_names};
 
-use crate::telling::objects::{accepted_object, line_of, refused_object};
-use crate::telling::verdict::{NO, YES};
 use cert_checker::{Accepted, Refusal, RefusalCode};
 use devices::WriteFault;
 use faults::NoMemory;
@@ -21,89 +17,39 @@ use typing::Task;
 /// The number of a limit, which is told without a line.
 const LIMIT: u8 = 55;
 
-/// The line that the checker's answer to a task is told as, or its object of JSON on a line, and its status: 0 where the
-/// certificate is accepted, and 12 where it is refused. Where its device failed, or memory was refused, there is none.
-pub(crate) fn checked_text(
+/// Why nothing is told of a certificate: its device failed, or memory was refused. `None` where the answer is told.
+pub(crate) fn failure_of(answer: &Result<Accepted, Refusal>) -> Option<WriteFault>
+    ensures { result ≡ failure_of answer.now }
+{
+    match answer {
+        Ok(_) => None,
+        Err(Refusal::Line { .. } | Refusal::Unfair(_) | Refusal::DeadUnfair(_)) => None,
+        Err(Refusal::Plain(_)) => None,
+        Err(Refusal::Device) => Some(WriteFault::Device),
+        // The reader is a new one, which has told no fault.
+        Err(Refusal::NoMemory | Refusal::Failed) => Some(WriteFault::NoMemory),
+    }
+}
+
+/// The line that the checker's answer to a task is told as. The error is that memory was refused, as in the calls below.
+pub(crate) fn checked_line(
     alloc: Global,
     task: &Task,
     answer: &Result<Accepted, Refusal>,
-    json: bool,
-) -> Result<(Vec<u8>, u8), WriteFault>
-    requires { IsTrue (has_names (task_of task.now)) }
-    ensures line { IfOk result (λ told. IsLineOf json (task_of task.now) answer.now told.0.items told.1) }
-    // A failure of the device that the answer tells of is the one that is counted.
-    ensures failures { (before after : ℕ) → CountsRefusal before after answer.now → CountsDevice before after result }
-{
-    let (line, status) = match answer {
-        Ok(accepted) => (tell_accepted(alloc, *accepted, json), YES),
-        Err(Refusal::Line { code, line }) => (tell_line(alloc, *code, *line, json), NO),
-        Err(Refusal::Unfair(step)) => {
-            let code = RefusalCode::Unfair;
-            (tell_instance(alloc, code, task, step, json), NO)
-        }
-        Err(Refusal::DeadUnfair(step)) => {
-            let code = RefusalCode::DeadUnfair;
-            (tell_instance(alloc, code, task, step, json), NO)
-        }
-        Err(Refusal::Plain(code)) => (tell_plain(alloc, *code, json), NO),
-        Err(Refusal::Device) => return Err(WriteFault::Device),
-        // The reader is a new one, which has told no fault.
-        Err(Refusal::NoMemory | Refusal::Failed) => return Err(WriteFault::NoMemory),
-    };
-    match line {
-        Ok(line) => Ok((line.into_bytes(), status)),
-        Err(AllocError) => Err(WriteFault::NoMemory),
-    }
-}
-
-/// What is told of a certificate that is accepted.
-fn tell_accepted(alloc: Global, accepted: Accepted, json: bool) -> Result<String, AllocError>
-    ensures { IfOk result (λ line. string_bytes line ≡ told_accepted json accepted) }
-{
-    if json {
-        line_of(accepted_object(alloc, accepted)?)
-    } else {
-        accepted_line(alloc, accepted)
-    }
-}
-
-/// What is told of a certificate of which a line is refused.
-fn tell_line(alloc: Global, code: RefusalCode, line: u64, json: bool) -> Result<String, AllocError>
-    ensures { IfOk result (λ told. string_bytes told ≡ told_line json code line) }
-{
-    if json {
-        line_of(refused_object(alloc, code)?)
-    } else {
-        line_refused(alloc, code, line)
-    }
-}
-
-/// What is told of a certificate under which a step may lose more than it is allowed to.
-fn tell_instance(
-    alloc: Global,
-    code: RefusalCode,
-    task: &Task,
-    step: &Instance,
-    json: bool,
 ) -> Result<String, AllocError>
-    requires { IsTrue (has_names (task_of task.now)) }
-    ensures { IfOk result (λ told. string_bytes told ≡ told_instance json code (task_of task.now) (instance_of step.now)) }
+    requires names { IsTrue (has_names (task_of task.now)) }
+    requires told { IsToldRefusal answer.now }
+    ensures { IfOk result (λ line. string_bytes line ≡ line_of (task_of task.now) answer.now) }
 {
-    if json {
-        line_of(refused_object(alloc, code)?)
-    } else {
-        instance_refused(alloc, code, task, step)
-    }
-}
-
-/// What is told of a certificate that is refused for another reason.
-fn tell_plain(alloc: Global, code: RefusalCode, json: bool) -> Result<String, AllocError>
-    ensures { IfOk result (λ told. string_bytes told ≡ told_plain json code) }
-{
-    if json {
-        line_of(refused_object(alloc, code)?)
-    } else {
-        plain_refused(alloc, code)
+    match answer {
+        Ok(accepted) => accepted_line(alloc, *accepted),
+        Err(Refusal::Line { code, line }) => line_refused(alloc, *code, *line),
+        Err(Refusal::Unfair(step)) => instance_refused(alloc, RefusalCode::Unfair, task, step),
+        Err(Refusal::DeadUnfair(step)) => {
+            instance_refused(alloc, RefusalCode::DeadUnfair, task, step)
+        }
+        Err(Refusal::Plain(code)) => plain_refused(alloc, *code),
+        Err(Refusal::NoMemory | Refusal::Device | Refusal::Failed) => unreachable!(),
     }
 }
 

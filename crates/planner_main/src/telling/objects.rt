@@ -1,5 +1,5 @@
 //! What is told where JSON is asked for: an object.
-ghost use Rattle.std.specs.Prelude.{◌≡◌, ◌++◌, IfOk, IsTrue, codes, map};
+ghost use Rattle.std.specs.Prelude.{◌≡◌, IfOk, IsTrue, map};
 ghost use Rattle.std.specs.String.{string_bytes};
 ghost use Rattle.planner_main.specs.JsonText.{object_text};
 ghost use Rattle.formulas.specs.State.{plan_of};
@@ -18,15 +18,6 @@ use solver::{Answer, Exceeded};
 use std::alloc::{AllocError, Global};
 use typing::Task;
 use validator::Verdict;
-
-/// The line of an object.
-pub(crate) fn line_of(object: String) -> Result<String, AllocError>
-    ensures { IfOk result (λ line. string_bytes line ≡ string_bytes object ++ codes "\n") }
-{
-    let mut line = object;
-    line.push('\n')?;
-    Ok(line)
-}
 
 /// The object of a verdict, in compact text. The error is that memory was refused, as in the calls below.
 pub(crate) fn verdict_object(alloc: Global, verdict: Verdict) -> Result<String, AllocError>
@@ -145,7 +136,7 @@ pub(crate) fn checked_object(
 }
 
 /// The object of a certificate that is accepted.
-pub(crate) fn accepted_object(alloc: Global, accepted: Accepted) -> Result<String, AllocError>
+fn accepted_object(alloc: Global, accepted: Accepted) -> Result<String, AllocError>
     ensures { IfOk result (λ text. string_bytes text ≡ object_text (of_accepted accepted)) }
 {
     let command = Member::text("command", "check");
@@ -165,7 +156,7 @@ pub(crate) fn accepted_object(alloc: Global, accepted: Accepted) -> Result<Strin
 }
 
 /// The object of a certificate that is refused.
-pub(crate) fn refused_object(alloc: Global, code: RefusalCode) -> Result<String, AllocError>
+fn refused_object(alloc: Global, code: RefusalCode) -> Result<String, AllocError>
     ensures { IfOk result (λ text. string_bytes text ≡ object_text (of_refused code)) }
 {
     let members = [

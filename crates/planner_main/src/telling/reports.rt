@@ -1,13 +1,19 @@
-//! What is told where JSON is asked for: an object on a line.
-ghost use Rattle.std.specs.Prelude.{◌≡◌, IfOk};
+//! What is found out, and what it is told as: a text, or an object of JSON on a line.
+ghost use Rattle.std.specs.Prelude.{◌≡◌, ◌++◌, IfOk, None, Option, Some, codes, if◌then◌else◌, unwrap_or};
+ghost use Rattle.std.specs.Option.{option_map};
 ghost use Rattle.std.specs.String.{string_bytes};
+ghost use Rattle.planner_main.specs.Asked.{is_json};
 ghost use Rattle.planner_main.specs.JsonText.{object_text};
-ghost use Rattle.planner_main.specs.Reported.{IsTold, of_report};
+ghost use Rattle.planner_main.specs.Objects.{line_of_members};
+ghost use Rattle.planner_main.specs.Reported.{HasText, IsTold, of_report, text_of};
 
 use crate::answers::{Checked, Solved};
+use crate::telling::answer::answer_text;
+use crate::telling::check::checked_line;
 use crate::telling::objects::{answer_object, checked_object, verdict_object};
+use crate::telling::verdict::verdict_line;
 use faults::NoMemory;
-use std::alloc::Global;
+use std::alloc::{AllocError, Global};
 use validator::Verdict;
 
 /// What the program found out.
@@ -21,8 +27,17 @@ pub enum Report {
     Check(Checked),
 }
 
+/// What the standard output takes.
+#[derive(Clone, Copy)]
+pub(crate) enum Format {
+    /// A text: a plan, or a line.
+    Text,
+    /// An object of JSON, on a line.
+    Json,
+}
+
 /// What was found out as an object of JSON, in compact text with its keys in the order of bytes. The refusal of a certificate
-/// is neither want of memory nor a device's.
+/// is neither want of memory nor a device's. It is what the program tells with `--json`, where a line feed stands behind it.
 ///
 /// | what was found out | text |
 /// |---|---|
@@ -44,4 +59,52 @@ pub fn json_line(alloc: Global, report: &Report) -> Result<String, NoMemory>
         Report::Check(checked) => checked_object(alloc, &checked.answer),
     };
     Ok(text?)
+}
+
+/// The text of what was found out: a plan, or a line.
+pub(crate) fn report_text(alloc: Global, report: &Report) -> Result<Vec<u8>, NoMemory>
+    requires { HasText report.now }
+    ensures { IfOk result (λ text. text.items ≡ text_of report.now) }
+{
+    match report {
+        Report::Solve(solved) => Ok(answer_text(alloc, &solved.task, &solved.answer)?),
+        Report::Validate(verdict) => Ok(verdict_line(alloc, *verdict)?.into_bytes()),
+        Report::Check(checked) => {
+            Ok(checked_line(alloc, &checked.task, &checked.answer)?.into_bytes())
+        }
+    }
+}
+
+/// The object of JSON on a line, where that is the format.
+pub(crate) fn json_text(
+    alloc: Global,
+    report: &Report,
+    format: Format,
+) -> Result<Option<String>, NoMemory>
+    requires { IsTold report.now }
+    ensures { IfOk result (λ line. option_map string_bytes line ≡ (if is_json format then Some (line_of_members (of_report report.now)) else None)) }
+{
+    match format {
+        Format::Text => Ok(None),
+        Format::Json => Ok(Some(on_a_line(json_line(alloc, report)?)?)),
+    }
+}
+
+/// The line of an object.
+fn on_a_line(object: String) -> Result<String, AllocError>
+    ensures { IfOk result (λ line. string_bytes line ≡ string_bytes object ++ codes "\n") }
+{
+    let mut line = object;
+    line.push('\n')?;
+    Ok(line)
+}
+
+/// What the standard output takes: the line of JSON, where there is one, and else the text.
+pub(crate) fn told<'a>(json: &'a Option<String>, text: &'a [u8]) -> &'a [u8]
+    ensures { result.now ≡ unwrap_or (option_map string_bytes json.now) text.now }
+{
+    match json {
+        Some(line) => line.as_bytes(),
+        None => text,
+    }
 }

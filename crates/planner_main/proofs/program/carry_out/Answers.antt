@@ -1,71 +1,78 @@
-use Rattle.std.proofs.Common.{◌≡◌, ℕ, List, ap, sym, subst}
-use Rattle.std.specs.Prelude.{IfErr, IfOk, IfSome, IsTrue}
-use Rattle.command_line.specs.Orders.{Wanted}
+use Rattle.std.proofs.Common.{◌≡◌, refl, subst}
+use Rattle.std.specs.Prelude.{IfSome}
+use Rattle.std.proofs.lemmas.Result.{err_from_is_err_and, IfOk-weaker, IfErr-weaker}
 use Rattle.command_line.specs.View.{wanted_of}
-use Rattle.planner_main.specs.Program.{IsFaultFor, IsOneOf, IsUnread, TellsFor, TellsPartlyFor, fault_in, inputs_of}
 use Rattle.devices.specs.Texts.{AreKept}
-use Rattle.planner_main.proofs.OrderWanted.{wanted_of_check, wanted_of_solve}
+use Rattle.faults.proofs.Results.{passed_on}
+use Rattle.planner_main.specs.Program.{HasNotFailed, IsAnswerTo, IsFaultFor, fault_in}
+use Rattle.planner_main.specs.Solution.{TellsReport}
+use Rattle.planner_main.proofs.ProgramWords.{can_be_told, either_since, refused_and, without_fault}
+use Rattle.planner_main.proofs.ProgramTold.{told_as, partly_as, report_told}
 use Rattle.planner_main.proofs.program.carry_out.Goals as goal
 
-pub returns-in-Validate-clause-told : goal.returns-in-Validate-clause-told
-returns-in-Validate-clause-told g c = subst
-    (λ (wanted : Wanted). IfOk c.tell_verdict.result (TellsFor wanted g.F.Files.is_known (g.F.Files.contents c.args.files.now) (g.F.Files.contents c.tell_verdict.new.files) (g.O.Sink.taken c.args.out.now) (g.O.Sink.taken c.tell_verdict.new.out)))
-    (sym (ap wanted_of c.in-Validate.is)) c.tell_verdict.ensures.told
+pub tell_report-requires : goal.tell_report-requires
+tell_report-requires g c = can_be_told (g.F.Files.contents c.args.files.now) (wanted_of c.args.order) c.in_ok-report.report c.in_ok-report.ensures.found.report
 
-pub returns-in-Validate-clause-refused : goal.returns-in-Validate-clause-refused
-returns-in-Validate-clause-refused g c = subst
-    (λ (wanted : Wanted). IfErr c.tell_verdict.result (λ failure. IfSome (fault_in failure) (λ fault. IsFaultFor (g.F.Files.contents c.args.files.now) wanted fault
-    × (g.O.Sink.taken c.tell_verdict.new.out ≡ g.O.Sink.taken c.args.out.now) × AreKept (g.F.Files.contents c.args.files.now) (g.F.Files.contents c.tell_verdict.new.files))))
-    (sym (ap wanted_of c.in-Validate.is)) c.tell_verdict.ensures.refused
+pub returns-clause-told : goal.returns-clause-told
+returns-clause-told g c =
+    let contents = g.F.Files.contents c.args.files.now in
+    let wanted = wanted_of c.args.order in
+    let found = c.in_ok-report.report in
+    IfOk-weaker c.tell_report.result _ _
+    (told_as (TellsReport found _) (IsAnswerTo contents wanted) (report_told contents wanted found c.in_ok-report.ensures.found.report _ c.outputs_of.ensures)
+    g.F.Files.is_known contents _ _ c.in_ok-report.ensures.kept _ _)
+    c.tell_report.ensures.told
 
-pub returns-in-Validate-clause-partly : goal.returns-in-Validate-clause-partly
-returns-in-Validate-clause-partly g c = subst
-    (λ (wanted : Wanted). IfErr c.tell_verdict.result (λ failure. TellsPartlyFor wanted g.F.Files.is_known (g.F.Files.contents c.args.files.now) (g.F.Files.contents c.tell_verdict.new.files) (g.O.Sink.taken c.args.out.now) (g.O.Sink.taken c.tell_verdict.new.out)))
-    (sym (ap wanted_of c.in-Validate.is)) c.tell_verdict.ensures.partly
+pub returns-clause-partly : goal.returns-clause-partly
+returns-clause-partly g c =
+    let contents = g.F.Files.contents c.args.files.now in
+    let wanted = wanted_of c.args.order in
+    let found = c.in_ok-report.report in
+    IfErr-weaker c.tell_report.result _ _
+    (λ _. partly_as (TellsReport found _) (IsAnswerTo contents wanted) (report_told contents wanted found c.in_ok-report.ensures.found.report _ c.outputs_of.ensures)
+    g.F.Files.is_known contents _ _ c.in_ok-report.ensures.kept _ _)
+    c.tell_report.ensures.partly
 
-pub returns-in-Validate-clause-unread : goal.returns-in-Validate-clause-unread
-returns-in-Validate-clause-unread g c = subst
-    (λ (wanted : Wanted). (name : List ℕ) → IsOneOf (inputs_of wanted) name → IsTrue (g.F.Files.is_missing c.args.files.now name) → IsUnread c.tell_verdict.result)
-    (sym (ap wanted_of c.in-Validate.is)) c.tell_verdict.ensures.unread
+pub returns-clause-refused : goal.returns-clause-refused
+returns-clause-refused g c =
+    IfErr-weaker c.tell_report.result _ _ (λ failure is. without_fault failure _ is) c.tell_report.ensures.no_text
 
-pub returns-in-Solve-clause-told : goal.returns-in-Solve-clause-told
-returns-in-Solve-clause-told g c = subst
-    (λ (wanted : Wanted). IfOk c.tell_solution.result (TellsFor wanted g.F.Files.is_known (g.F.Files.contents c.args.files.now) (g.F.Files.contents c.tell_solution.new.files) (g.O.Sink.taken c.args.out.now) (g.O.Sink.taken c.tell_solution.new.out)))
-    (wanted_of_solve c.args.order c.in-Solve.domain c.in-Solve.problem c.in-Solve.plan c.in-Solve.cert c.in-Solve.states c.in-Solve.instances c.in-Solve.json c.limits_of-limits.result c.in-Solve.is c.limits_of-limits.ensures.states c.limits_of-limits.ensures.instances) c.tell_solution.ensures.told
+pub returns-clause-failures : goal.returns-clause-failures
+returns-clause-failures g c =
+    IfErr-weaker c.tell_report.result _ _
+    (λ failure. either_since (g.F.Files.failures c.args.files.now) _ (g.F.Files.failures c.tell_report.new.files) (g.O.Sink.failures c.args.out.now) (g.O.Sink.failures c.tell_report.new.out)
+    failure c.in_ok-report.ensures.unfailed)
+    c.tell_report.ensures.failures
 
-pub returns-in-Solve-clause-refused : goal.returns-in-Solve-clause-refused
-returns-in-Solve-clause-refused g c = subst
-    (λ (wanted : Wanted). IfErr c.tell_solution.result (λ failure. IfSome (fault_in failure) (λ fault. IsFaultFor (g.F.Files.contents c.args.files.now) wanted fault
-    × (g.O.Sink.taken c.tell_solution.new.out ≡ g.O.Sink.taken c.args.out.now) × AreKept (g.F.Files.contents c.args.files.now) (g.F.Files.contents c.tell_solution.new.files))))
-    (wanted_of_solve c.args.order c.in-Solve.domain c.in-Solve.problem c.in-Solve.plan c.in-Solve.cert c.in-Solve.states c.in-Solve.instances c.in-Solve.json c.limits_of-limits.result c.in-Solve.is c.limits_of-limits.ensures.states c.limits_of-limits.ensures.instances) c.tell_solution.ensures.refused
+pub returns-clause-unfailed : goal.returns-clause-unfailed
+returns-clause-unfailed g c =
+    IfOk-weaker c.tell_report.result _ _
+    (λ _. subst (λ files. HasNotFailed files (g.F.Files.failures c.tell_report.new.files) (g.O.Sink.failures c.args.out.now) (g.O.Sink.failures c.tell_report.new.out))
+    c.in_ok-report.ensures.unfailed)
+    c.tell_report.ensures.unfailed
 
-pub returns-in-Solve-clause-partly : goal.returns-in-Solve-clause-partly
-returns-in-Solve-clause-partly g c = subst
-    (λ (wanted : Wanted). IfErr c.tell_solution.result (λ failure. TellsPartlyFor wanted g.F.Files.is_known (g.F.Files.contents c.args.files.now) (g.F.Files.contents c.tell_solution.new.files) (g.O.Sink.taken c.args.out.now) (g.O.Sink.taken c.tell_solution.new.out)))
-    (wanted_of_solve c.args.order c.in-Solve.domain c.in-Solve.problem c.in-Solve.plan c.in-Solve.cert c.in-Solve.states c.in-Solve.instances c.in-Solve.json c.limits_of-limits.result c.in-Solve.is c.limits_of-limits.ensures.states c.limits_of-limits.ensures.instances) c.tell_solution.ensures.partly
+pub returns-clause-unread : goal.returns-clause-unread
+returns-clause-unread g c = λ name named missing. absurd (c.in_ok-report.ensures.found.unread name named missing)
 
-pub returns-in-Solve-clause-unread : goal.returns-in-Solve-clause-unread
-returns-in-Solve-clause-unread g c = subst
-    (λ (wanted : Wanted). (name : List ℕ) → IsOneOf (inputs_of wanted) name → IsTrue (g.F.Files.is_missing c.args.files.now name) → IsUnread c.tell_solution.result)
-    (wanted_of_solve c.args.order c.in-Solve.domain c.in-Solve.problem c.in-Solve.plan c.in-Solve.cert c.in-Solve.states c.in-Solve.instances c.in-Solve.json c.limits_of-limits.result c.in-Solve.is c.limits_of-limits.ensures.states c.limits_of-limits.ensures.instances) c.tell_solution.ensures.unread
+pub returns-in_err-report-clause-refused : goal.returns-in_err-report-clause-refused
+returns-in_err-report-clause-refused g c =
+    let contents = g.F.Files.contents c.args.files.now in
+    let out = g.O.Sink.taken c.args.out.now in
+    let refused = IsFaultFor contents (wanted_of c.args.order) in
+    let kept = AreKept contents (g.F.Files.contents c.report_of.new.files) in
+    passed_on (λ failure. IfSome (fault_in failure) (λ fault. refused fault × (out ≡ out) × kept))
+    c.from_residual.result c.in_err-report.field-0.0 c.from_residual.ensures.1
+    (refused_and refused (out ≡ out) kept (fault_in c.in_err-report.field-0.0) refl c.in_err-report.ensures.kept c.in_err-report.ensures.found.refused)
 
-pub returns-in-Check-clause-told : goal.returns-in-Check-clause-told
-returns-in-Check-clause-told g c = subst
-    (λ (wanted : Wanted). IfOk c.tell_check.result (TellsFor wanted g.F.Files.is_known (g.F.Files.contents c.args.files.now) (g.F.Files.contents c.tell_check.new.files) (g.O.Sink.taken c.args.out.now) (g.O.Sink.taken c.tell_check.new.out)))
-    (wanted_of_check c.args.order c.in-Check.domain c.in-Check.problem c.in-Check.cert c.in-Check.plan c.in-Check.instances c.in-Check.json c.number.result c.in-Check.is c.number.ensures.number) c.tell_check.ensures.told
+pub returns-in_err-report-clause-unread : goal.returns-in_err-report-clause-unread
+returns-in_err-report-clause-unread g c =
+    let p = err_from_is_err_and c.from_residual.result c.from_residual.ensures.1 in
+    rw (p.1, p.2) (λ name named missing. c.in_err-report.ensures.found.unread name named missing)
 
-pub returns-in-Check-clause-refused : goal.returns-in-Check-clause-refused
-returns-in-Check-clause-refused g c = subst
-    (λ (wanted : Wanted). IfErr c.tell_check.result (λ failure. IfSome (fault_in failure) (λ fault. IsFaultFor (g.F.Files.contents c.args.files.now) wanted fault
-    × (g.O.Sink.taken c.tell_check.new.out ≡ g.O.Sink.taken c.args.out.now) × AreKept (g.F.Files.contents c.args.files.now) (g.F.Files.contents c.tell_check.new.files))))
-    (wanted_of_check c.args.order c.in-Check.domain c.in-Check.problem c.in-Check.cert c.in-Check.plan c.in-Check.instances c.in-Check.json c.number.result c.in-Check.is c.number.ensures.number) c.tell_check.ensures.refused
+pub returns-clause-unreadable : goal.returns-clause-unreadable
+returns-clause-unreadable g c = λ name named failing. absurd (c.in_ok-report.ensures.found.unreadable name named failing)
 
-pub returns-in-Check-clause-partly : goal.returns-in-Check-clause-partly
-returns-in-Check-clause-partly g c = subst
-    (λ (wanted : Wanted). IfErr c.tell_check.result (λ failure. TellsPartlyFor wanted g.F.Files.is_known (g.F.Files.contents c.args.files.now) (g.F.Files.contents c.tell_check.new.files) (g.O.Sink.taken c.args.out.now) (g.O.Sink.taken c.tell_check.new.out)))
-    (wanted_of_check c.args.order c.in-Check.domain c.in-Check.problem c.in-Check.cert c.in-Check.plan c.in-Check.instances c.in-Check.json c.number.result c.in-Check.is c.number.ensures.number) c.tell_check.ensures.partly
-
-pub returns-in-Check-clause-unread : goal.returns-in-Check-clause-unread
-returns-in-Check-clause-unread g c = subst
-    (λ (wanted : Wanted). (name : List ℕ) → IsOneOf (inputs_of wanted) name → IsTrue (g.F.Files.is_missing c.args.files.now name) → IsUnread c.tell_check.result)
-    (wanted_of_check c.args.order c.in-Check.domain c.in-Check.problem c.in-Check.cert c.in-Check.plan c.in-Check.instances c.in-Check.json c.number.result c.in-Check.is c.number.ensures.number) c.tell_check.ensures.unread
+pub returns-in_err-report-clause-unreadable : goal.returns-in_err-report-clause-unreadable
+returns-in_err-report-clause-unreadable g c =
+    let p = err_from_is_err_and c.from_residual.result c.from_residual.ensures.1 in
+    rw (p.1, p.2) (λ name named failing. c.in_err-report.ensures.found.unreadable name named failing)

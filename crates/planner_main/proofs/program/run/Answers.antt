@@ -1,8 +1,8 @@
 use Rattle.std.proofs.Common.{inl, inr, refl}
 use Rattle.devices.specs.Devices.{IsWritten}
 use Rattle.command_line.specs.View.{texts, wanted_of}
-use Rattle.planner_main.specs.Program.{nothing}
-use Rattle.planner_main.proofs.ProgramWords.{refuses_of_words, no_failure, failed_status, device_told, memory_told, unread_status, inputs_named, device_has_failed, others_have_not_failed, words_failed, words_status, words_told, words_memory, words_refuse_no_text, words_fail_no_device, unread_words}
+use Rattle.planner_main.specs.Program.{inputs_of, nothing, texts_of}
+use Rattle.planner_main.proofs.ProgramWords.{refuses_of_words, no_failure, failed_status, device_told, memory_told, unread_status, files_named, device_has_failed, others_have_not_failed, words_failed, words_status, words_told, words_memory, words_refuse_no_text, words_fail_no_device, unread_words}
 use Rattle.planner_main.proofs.ProgramTold.{told_of_words, partly_of_words, told_status}
 use Rattle.planner_main.proofs.program.run.Goals as goal
 
@@ -74,7 +74,7 @@ returns-in-Ok-carry_out-clause-no_command g c =
 pub returns-in-Ok-carry_out-clause-unread : goal.returns-in-Ok-carry_out-clause-unread
 returns-in-Ok-carry_out-clause-unread g c =
     λ name named missing.
-    absurd (c.in-Ok-carry_out.ensures.unread name (inputs_named (texts c.args.words.now) (wanted_of c.in-Ok.order) name c.in-Ok.ensures.asks named) missing)
+    absurd (c.in-Ok-carry_out.ensures.unread name (files_named inputs_of (texts c.args.words.now) (wanted_of c.in-Ok.order) name c.in-Ok.ensures.asks named) missing)
 
 pub returns-in-Err-carry_out-clause-words : goal.returns-in-Err-carry_out-clause-words
 returns-in-Err-carry_out-clause-words g c =
@@ -111,4 +111,18 @@ returns-in-Err-carry_out-clause-unfailed g c =
 pub returns-in-Err-carry_out-clause-unread : goal.returns-in-Err-carry_out-clause-unread
 returns-in-Err-carry_out-clause-unread g c =
     λ name named missing.
-    unread_status _ _ c.in-Err-carry_out.failure (c.in-Err-carry_out.ensures.unread name (inputs_named (texts c.args.words.now) (wanted_of c.in-Ok.order) name c.in-Ok.ensures.asks named) missing) c.tell.ensures.told
+    unread_status _ _ c.in-Err-carry_out.failure (c.in-Err-carry_out.ensures.unread name (files_named inputs_of (texts c.args.words.now) (wanted_of c.in-Ok.order) name c.in-Ok.ensures.asks named) missing) c.tell.ensures.told
+
+pub returns-in-Err-clause-unreadable : goal.returns-in-Err-clause-unreadable
+returns-in-Err-clause-unreadable g c =
+    λ name named missing. unread_words c.in-Err.fault (IsWritten g.E.Sink.wants_memory (g.E.Sink.failures c.args.err.now) (g.E.Sink.failures c.tell_words.new.err) (g.E.Sink.taken c.args.err.now) (g.E.Sink.taken c.tell_words.new.err)) _ (texts c.args.words.now) c.tell_words.ensures c.in-Err.ensures.refused (named.0, named.1)
+
+pub returns-in-Ok-carry_out-clause-unreadable : goal.returns-in-Ok-carry_out-clause-unreadable
+returns-in-Ok-carry_out-clause-unreadable g c =
+    λ name named missing.
+    absurd (c.in-Ok-carry_out.ensures.unreadable name (files_named texts_of (texts c.args.words.now) (wanted_of c.in-Ok.order) name c.in-Ok.ensures.asks named) missing)
+
+pub returns-in-Err-carry_out-clause-unreadable : goal.returns-in-Err-carry_out-clause-unreadable
+returns-in-Err-carry_out-clause-unreadable g c =
+    λ name named missing.
+    unread_status _ _ c.in-Err-carry_out.failure (c.in-Err-carry_out.ensures.unreadable name (files_named texts_of (texts c.args.words.now) (wanted_of c.in-Ok.order) name c.in-Ok.ensures.asks named) missing) c.tell.ensures.told

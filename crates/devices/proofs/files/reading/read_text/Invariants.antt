@@ -1,5 +1,6 @@
--- What is in the text was read, and no call has failed.
+-- What is in the text was read, and no call has failed; where the first is to fail, none was made.
 use Rattle.std.proofs.Common.{◌≡◌, ◌≤◌, ◌-◌, vec_len}
+use Rattle.std.specs.Prelude.{IsTrue}
 use Rattle.std.specs.Io.KnownBytes.{Consumes}
 use Rattle.devices.proofs.files.reading.read_text.Given as goal
 
@@ -10,6 +11,7 @@ invariant-reads g l =
       failures : g.S.Source.failures l.source ≡ g.S.Source.failures l.initial.source;
       within : vec_len l.text ≤ 16777217;
       room : vec_len l.piece ≡ 65536;
+      failing : IsTrue (g.S.Source.is_failing l.initial.source) → (l.source ≡ l.initial.source) × (vec_len l.text ≡ 0);
     }
 
 abbrev pub decreases-reads : goal.decreases-reads

@@ -1,25 +1,23 @@
-use Rattle.std.proofs.Common.{ℕ}
-use Rattle.std.specs.Global.{Vec}
+use Rattle.std.proofs.Common.{refl, sym, ◌∙◌}
 use Rattle.typing.specs.Task.{task_of}
-use Rattle.planner_main.specs.Checked.{IsInputFault}
 use Rattle.devices.specs.Texts.{items_in}
-use Rattle.planner_main.proofs.CertificateTold.{checked_in_told, told_failures, told_no_fault, told_unfailed}
+use Rattle.planner_main.proofs.CertificateTold.{checked_in, fails_as_counted, told_unfailed}
 use Rattle.planner_main.proofs.program.acceptance.check_texts.Goals as goal
 
-pub returns-clause-answer : goal.returns-clause-answer
-returns-clause-answer g c = λ known kept.
+pub returns-in-None-clause-report : goal.returns-in-None-clause-report
+returns-in-None-clause-report g c = λ known kept.
+    let checked = c.in_ok-checked.checked in
     let is_task = rw (c.deref.ensures.value, c.deref-2.ensures.value) at c.in_ok-checked.ensures.task in
-    let is_checked = rw (c.slice_in-plan.ensures) at c.in_ok-checked.ensures.answer in
-    checked_in_told g.R.Source.remaining (task_of c.in_ok-checked.checked.task) c.args.cert.now c.check_files.new.cert known kept
-    c.args.texts.now.pair.domain.items c.args.texts.now.pair.problem.items (items_in c.args.texts.now.plan) c.args.instances c.args.json c.in_ok-checked.checked.answer
-    is_task is_checked (λ (told : Vec ℕ × ℕ). told.0.items) (λ (told : Vec ℕ × ℕ). told.1) c.told_of_check.result c.told_of_check.ensures.line
+    let is_checked = rw (c.slice_in-plan.ensures) at c.in_ok-checked.ensures.answer in (
+      checked,
+      refl,
+      checked_in g.R.Source.remaining (task_of checked.task) c.args.cert.now c.check_files.new.cert known kept
+          c.args.texts.now.pair.domain.items c.args.texts.now.pair.problem.items (items_in c.args.texts.now.plan) c.args.instances checked.answer
+          is_task is_checked (sym c.failure_of.ensures ∙ c.in-None.is),
+    )
 
-pub returns-clause-refused : goal.returns-clause-refused
-returns-clause-refused g c =
-    told_no_fault (IsInputFault c.args.texts.now.pair.domain.items c.args.texts.now.pair.problem.items (items_in c.args.texts.now.plan)) c.told_of_check.result c.told_of_check.ensures.refused
+pub returns-in-None-clause-unfailed : goal.returns-in-None-clause-unfailed
+returns-in-None-clause-unfailed g c = told_unfailed c.in_ok-checked.checked.answer _ _ c.in_ok-checked.ensures.failures (sym c.failure_of.ensures ∙ c.in-None.is)
 
-pub returns-clause-unfailed : goal.returns-clause-unfailed
-returns-clause-unfailed g c = told_unfailed c.in_ok-checked.checked.answer _ _ c.in_ok-checked.ensures.failures c.told_of_check.result c.told_of_check.ensures.unfailed
-
-pub returns-clause-failures : goal.returns-clause-failures
-returns-clause-failures g c = told_failures c.in_ok-checked.checked.answer _ _ c.in_ok-checked.ensures.failures c.told_of_check.result c.told_of_check.ensures.failures
+pub returns-in-Some-clause-failures : goal.returns-in-Some-clause-failures
+returns-in-Some-clause-failures g c = fails_as_counted c.in_ok-checked.checked.answer _ _ c.in_ok-checked.ensures.failures c.in-Some.fault (sym c.failure_of.ensures ∙ c.in-Some.is)

@@ -1,0 +1,17 @@
+use Rattle.std.proofs.Common.{sym, subst, ◌∙◌}
+use Rattle.devices.specs.Devices.{IsKept}
+use Rattle.certificate_reader.specs.Reader.{source_of}
+use Rattle.planner_main.specs.Files.{text_in}
+use Rattle.planner_main.proofs.ProgramWords.{text_if_named_kept}
+use Rattle.planner_main.proofs.CertificateTold.{check_on_inputs}
+use Rattle.planner_main.proofs.program.acceptance.report_of_check.Goals as goal
+
+pub returns-clause-report : goal.returns-clause-report
+returns-clause-report g c =
+    let contents = g.F.Files.contents c.args.files.now in
+    let names = c.args.names in
+    let came = subst (λ source. IsKept (g.F.Files.contents c.read_pair.new.files names.cert.now) (g.F.Input.Source.remaining source)) (sym c.new-cert.ensures.source) c.in_ok-input.ensures.bytes in
+    let kept = subst (λ known. IsKept known (g.F.Input.Source.remaining (source_of c.new-cert.result))) (c.in_ok-pair.ensures.kept names.cert.now) came in
+    check_on_inputs contents names.domain.now names.problem.now names.cert.now (text_in names.plan) _ _ _ c.in_ok-pair.ensures.domain c.in_ok-pair.ensures.problem
+    (text_if_named_kept _ _ (λ name. c.in_ok-input.ensures.kept name ∙ c.in_ok-pair.ensures.kept name) _ _ c.in_ok-plan.ensures.text)
+    c.args.instances c.check_texts-report.result (c.check_texts-report.ensures.report (contents names.cert.now) kept)

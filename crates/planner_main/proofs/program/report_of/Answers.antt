@@ -1,0 +1,24 @@
+use Rattle.std.proofs.Common.{ap, sym, subst}
+use Rattle.command_line.specs.Orders.{Wanted}
+use Rattle.command_line.specs.View.{wanted_of}
+use Rattle.planner_main.specs.Program.{IsFound}
+use Rattle.planner_main.proofs.OrderWanted.{wanted_of_check, wanted_of_solve}
+use Rattle.planner_main.proofs.program.report_of.Goals as goal
+
+pub returns-in-Validate-clause-found : goal.returns-in-Validate-clause-found
+returns-in-Validate-clause-found g c = subst
+    (λ (wanted : Wanted). IsFound (g.F.Files.contents c.args.files.now) (g.F.Files.is_missing c.args.files.now) (g.F.Files.is_unreadable c.args.files.now) wanted c.report_of_validate.result)
+    (sym (ap wanted_of c.in-Validate.is))
+    (let told = c.report_of_validate.ensures in record { report = told.report; refused = told.refused; unread = told.unread; unreadable = told.unreadable })
+
+pub returns-in-Solve-clause-found : goal.returns-in-Solve-clause-found
+returns-in-Solve-clause-found g c = subst
+    (λ (wanted : Wanted). IsFound (g.F.Files.contents c.args.files.now) (g.F.Files.is_missing c.args.files.now) (g.F.Files.is_unreadable c.args.files.now) wanted c.report_of_solve.result)
+    (wanted_of_solve c.args.order c.in-Solve.domain c.in-Solve.problem _ _ c.in-Solve.states c.in-Solve.instances _ c.limits_of-limits.result c.in-Solve.is c.limits_of-limits.ensures.states c.limits_of-limits.ensures.instances)
+    (let told = c.report_of_solve.ensures in record { report = told.report; refused = told.refused; unread = told.unread; unreadable = told.unreadable })
+
+pub returns-in-Check-clause-found : goal.returns-in-Check-clause-found
+returns-in-Check-clause-found g c = subst
+    (λ (wanted : Wanted). IsFound (g.F.Files.contents c.args.files.now) (g.F.Files.is_missing c.args.files.now) (g.F.Files.is_unreadable c.args.files.now) wanted c.report_of_check.result)
+    (wanted_of_check c.args.order c.in-Check.domain c.in-Check.problem c.in-Check.cert c.in-Check.plan c.in-Check.instances _ c.number.result c.in-Check.is c.number.ensures.number)
+    (let told = c.report_of_check.ensures in record { report = told.report; refused = told.refused; unread = told.unread; unreadable = told.unreadable })

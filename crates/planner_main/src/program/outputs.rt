@@ -1,0 +1,49 @@
+//! How a report is told, and which files are written of it.
+ghost use Rattle.std.specs.Prelude.{◌≡◌};
+ghost use Rattle.command_line.specs.View.{wanted_of};
+ghost use Rattle.planner_main.specs.Asked.{is_json, outputs_in, outputs_of};
+
+use crate::telling::Format;
+use command_line::Order;
+
+/// How a report is told, and where beside the standard output.
+#[derive(Clone, Copy)]
+pub(super) struct Outputs<'a> {
+    /// What the standard output takes.
+    pub(super) format: Format,
+    /// The file that the certificate is written to, if any.
+    pub(super) cert: Option<&'a str>,
+    /// The file that the plan is written to, if any.
+    pub(super) plan: Option<&'a str>,
+}
+
+/// How the order wants its report told.
+pub(super) fn outputs_of(order: Order<'_>) -> Outputs<'_>
+    ensures { outputs_in result ≡ outputs_of (wanted_of order.entry) }
+{
+    match order {
+        Order::Solve {
+            plan,
+            cert,
+            json,
+            ..
+        } => {
+            let format = format_of(json);
+            Outputs { format, cert, plan }
+        }
+        Order::Validate { json, .. } | Order::Check { json, .. } => {
+            let format = format_of(json);
+            Outputs {
+                format,
+                cert: None,
+                plan: None,
+            }
+        }
+    }
+}
+
+fn format_of(json: bool) -> Format
+    ensures { is_json result ≡ json }
+{
+    if json { Format::Json } else { Format::Text }
+}

@@ -1,0 +1,126 @@
+//! The one way out: what is found out goes to the files that are wanted of it, and then to the standard output.
+ghost use Rattle.std.specs.Prelude.{◌≡◌, IfErr, IfOk, IsErr, IsTrue, None, OnOk};
+ghost use Rattle.std.specs.Option.{option_map};
+ghost use Rattle.planner_main.specs.Asked.{outputs_in};
+ghost use Rattle.planner_main.specs.Reported as reported;
+ghost use Rattle.planner_main.specs.Program.{CountsEither, HasNotFailed, IsTold, IsToldPartly, fault_in};
+ghost use Rattle.planner_main.specs.Files.{text_in};
+ghost use Rattle.planner_main.specs.Solution.{IsBegun, TellsReport, cert_of, cert_text, in_file, plan_text};
+ghost use Rattle.devices.specs.Written.{AreWritten};
+ghost use Rattle.devices.specs.Devices.{CountsDevice};
+ghost use Rattle.typing.specs.Task.{task_of};
+ghost use Rattle.certificate.specs.Listing.{certificate_in};
+ghost use Rattle.certificate_definitions.specs.CertificateNames.{certificate_text};
+
+use crate::failures::Failure;
+use crate::program::outputs::Outputs;
+use crate::telling::{Report, json_text, report_text, status_of, told};
+use certificate::{Listing, write_listing};
+use devices::{Bytes, Document, Files, Sink, WriteFault, write_all, write_file};
+use solver::{Answer, Exceeded};
+use std::alloc::Global;
+use typing::Task;
+
+/// Writes the files that are wanted of a report, first that of the certificate, and then what it is told as to the standard output:
+/// the status. What is told is made before any file is written.
+pub(super) fn tell_report<F: Files, O: Sink>(
+    alloc: Global,
+    report: &Report,
+    outputs: Outputs<'_>,
+    files: &mut F,
+    out: &mut O,
+) -> Result<u8, Failure>
+    requires { reported.HasText report.now }
+    ensures told { IfOk result (IsTold (TellsReport report.now (outputs_in outputs.entry))
+        F.is_known (F.contents files.old) (F.contents files.new) (O.taken out.old) (O.taken out.new)) }
+    ensures partly { IfErr result (λ _. IsToldPartly (TellsReport report.now (outputs_in outputs.entry))
+        F.is_known (F.contents files.old) (F.contents files.new) (O.taken out.old) (O.taken out.new)) }
+    ensures unfailed { IfOk result (λ _. HasNotFailed (F.failures files.old) (F.failures files.new) (O.failures out.old) (O.failures out.new)) }
+    ensures failures { IfErr result (CountsEither (F.failures files.old) (F.failures files.new) (O.failures out.old) (O.failures out.new)) }
+    ensures no_text { IfErr result (λ failure. fault_in failure ≡ None) }
+{
+    let text = report_text(alloc, report)?;
+    let json = json_text(alloc, report, outputs.format)?;
+    let cert = cert_text(alloc, report);
+    save(files, outputs.cert, &cert)?;
+    let plan = plan_text(report, &text);
+    save(files, outputs.plan, &plan)?;
+    write_all(out, told(&json, &text))?;
+    Ok(status_of(report))
+}
+
+/// Writes the document, if there is one, to the file of this name, if one is named.
+fn save<F: Files, D: Document>(
+    files: &mut F,
+    name: Option<&str>,
+    document: &Option<D>,
+) -> Result<(), WriteFault>
+    ensures written { OnOk result (IsTrue F.is_known
+        → AreWritten (F.contents files.old) (F.contents files.new) (in_file (text_in name.entry) (option_map D.text document.now))) }
+    ensures partly { IsErr result → IsBegun F.is_known (F.contents files.old) (F.contents files.new) (in_file (text_in name.entry) (option_map D.text document.now)) }
+    ensures failures { CountsDevice (F.failures files.old) (F.failures files.new) result }
+{
+    let Some(name) = name else { return Ok(()) };
+    let Some(document) = document else {
+        return Ok(());
+    };
+    write_file(files, name, document)
+}
+
+/// The text of the certificate of what is reported, if it has one.
+fn cert_text(alloc: Global, report: &Report) -> Option<CertText<'_>>
+    ensures { option_map (λ it. certificate_text (task_of it.task.now) (certificate_in it.cert.now)) result ≡ cert_text report.now }
+{
+    match report {
+        Report::Solve(solved) => match cert_of(&solved.answer) {
+            Some(cert) => {
+                let task = &solved.task;
+                Some(CertText { alloc, task, cert })
+            }
+            None => None,
+        },
+        Report::Validate(_) | Report::Check(_) => None,
+    }
+}
+
+/// The certificate of an answer, if it has one.
+fn cert_of(answer: &Answer) -> Option<&Listing>
+    ensures { option_map (λ cert. cert.now) result ≡ cert_of answer.now }
+{
+    match answer {
+        Answer::Plan { cert, .. } => Some(cert),
+        Answer::Unsolvable { cert } => Some(cert),
+        Answer::Unknown(Exceeded::States { cert, .. }) => Some(cert),
+        Answer::Unknown(Exceeded::Instances | Exceeded::Atoms) => None,
+    }
+}
+
+/// The text of what is reported, if it is a plan.
+fn plan_text<'a>(report: &Report, text: &'a [u8]) -> Option<Bytes<'a>>
+    requires { text.now ≡ reported.text_of report.now }
+    ensures { option_map (λ bytes. bytes.0.now) result ≡ plan_text report.now }
+{
+    match report {
+        Report::Solve(solved) => match &solved.answer {
+            Answer::Plan { .. } => Some(Bytes(text)),
+            Answer::Unsolvable { .. } | Answer::Unknown(_) => None,
+        },
+        Report::Validate(_) | Report::Check(_) => None,
+    }
+}
+
+/// The text of a certificate of a task, which goes to its device a line at a time.
+#[derive(Clone, Copy)]
+struct CertText<'a> {
+    alloc: Global,
+    task: &'a Task,
+    cert: &'a Listing,
+}
+
+impl Document for CertText<'_> {
+    ghost text = { λ it. certificate_text (task_of it.task.now) (certificate_in it.cert.now) };
+
+    fn write_to<S: Sink>(&self, sink: &mut S) -> Result<(), WriteFault> {
+        write_listing(self.alloc, self.task, self.cert, sink)
+    }
+}
