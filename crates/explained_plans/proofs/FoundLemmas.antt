@@ -1,12 +1,13 @@
 -- False parts that are found one after another.
-use Rattle.std.specs.Prelude.{◌≡◌, ℕ, ◌+◌, ◌<◌, ◌≤◌, Bool, true, false, nat_lt, if◌then◌else◌, List, [], ◌∷◌, ◌++◌, length, map, take, get_or, All, refl}
-use Rattle.std.proofs.Common.{sym, ◌∙◌, ap, subst, inl, inr, arith}
+use Rattle.std.specs.Prelude.{◌≡◌, ℕ, ◌+◌, ◌<◌, ◌≤◌, Bool, true, false, nat_lt, if◌then◌else◌, List, [], ◌∷◌, ◌++◌, length, filter, map, take, get_or, All, refl}
+use Rattle.std.proofs.Common.{cond, sym, ◌∙◌, ap, subst, inl, inr, arith}
 use Rattle.std.specs.Global.{Vec}
-use Rattle.std.specs.List.{flat_map}
+use Rattle.std.specs.List.{flat_map, range_with_len}
 use Rattle.std.proofs.lemmas.Bool.{cases_lt}
 use Rattle.std.proofs.lemmas.Bool.Decides.{nat_tests}
 use Rattle.std.proofs.lemmas.Grind.{flat_map-append}
-use Rattle.std.proofs.lemmas.List.{append-nil, append_assoc, length-append, length-map, length-take-le, length_push, map_push, take_all, take_more, take-append-le}
+use Rattle.std.proofs.lemmas.List.FromFn.{filter_of_map_range_with_len_more}
+use Rattle.std.proofs.lemmas.List.{append-nil, map-id, append_assoc, length-append, length-map, length-take-le, length_push, map_push, take_all, take_more, take-append-le}
 use Rattle.std.proofs.lemmas.List.Elements.{All-nil, All-push}
 use Rattle.task_parts.specs.declared.schemas.Formula.{Formula}
 use Rattle.task_parts.specs.declared.schemas.Formula as formula
@@ -16,12 +17,25 @@ use Rattle.explained_plans.specs.FalseParts.{Part, false_parts, false_parts_of_a
 use Rattle.explained_plans.specs.Parts.{AreFirst, AreFound, Finds, FitsPart, IsFalseIn, most_told, part_of}
 use Rattle.typing.specs.TaskParts.{formula_of}
 use Rattle.formulas.proofs.Trees.{formulas_in, formula_of-And}
-use Rattle.formulas.proofs.Quantifiers.{among, among-with, among-without}
+use Rattle.formulas.proofs.Quantifiers.{among}
 use Rattle.model.specs.Task as task
 use Rattle.model.specs.Meaning.{State, holds}
 
 abbrev pub as_part : task.Formula → List ℕ → Part
 as_part f objects = record { formula = f; objects = objects }
+
+-- ---- the objects of a variable's types below a number, and one more
+
+among-more : (p : ℕ → Bool) (n : ℕ) → among p (n + 1) ≡ among p n ++ cond (p n) (n ∷ []) []
+among-more p n =
+    ap (filter p) (sym (map-id (range_with_len 0 (n + 1)))) ∙ filter_of_map_range_with_len_more p (λ k. k) 0 n n (omega arith)
+    ∙ ap (λ ks. filter p ks ++ cond (p n) (n ∷ []) []) (map-id (range_with_len 0 n))
+
+among-with : (p : ℕ → Bool) (n : ℕ) → p n ≡ true → among p (n + 1) ≡ among p n ++ n ∷ []
+among-with p n so = among-more p n ∙ ap (λ b. among p n ++ cond b (n ∷ []) []) so
+
+among-without : (p : ℕ → Bool) (n : ℕ) → p n ≡ false → among p (n + 1) ≡ among p n
+among-without p n not_so = among-more p n ∙ ap (λ b. among p n ++ cond b (n ∷ []) []) not_so ∙ append-nil (among p n)
 
 -- ---- the first of some parts, and one more
 

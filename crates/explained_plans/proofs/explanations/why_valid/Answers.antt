@@ -1,7 +1,7 @@
 use Rattle.std.proofs.Common.{ap, ◌∙◌, map}
 use Rattle.typing.specs.Task.{task_of}
 use Rattle.formulas.specs.State.{instance_of}
-use Rattle.formulas.proofs.CarriedOut.{map_twice}
+use Rattle.formulas.proofs.ChangeLists.{map_twice}
 use Rattle.model.specs.Meaning.{cost_of}
 use Rattle.explained_plans.proofs.explanations.why_valid.Goals as goal
 
