@@ -1,0 +1,28 @@
+-- What may stand after some words of a file.
+use Rattle.std.specs.Prelude.{◌≡◌, Bool, true, IsTrue, nat_lt, List, [], ◌∷◌, ◌++◌, length, map}
+use Rattle.std.specs.List.{list_all}
+use Rattle.faults.specs.declared.refused.Refused.TheVariants.{At, NoMemory}
+use Rattle.tokens.specs.Told.{Fault}
+use Rattle.tokens.specs.Word.{word_of}
+use Rattle.tokens.specs.declared.word.Word as code
+use Rattle.model.specs.Words as text
+use Rattle.model.specs.Trees.{File}
+use Rattle.model.specs.GrammarWords.{token_of, tokens_of}
+use Rattle.model.specs.Refusals.{Begins}
+
+-- a file of this kind begins with the words and this one
+abbrev pub MayFollow : File → List code.Word → code.Word → Type 0
+MayFollow file words word = Begins file (tokens_of (map word_of words) ++ token_of (word_of word) ∷ [])
+
+-- whether a word has bytes
+abbrev pub has_bytes : text.Word → Bool
+has_bytes word = nat_lt 0 (length word.text)
+
+-- whether what is told of a text is told of a place without bytes
+abbrev pub TellsEnd : Fault → Bool → Type 0
+TellsEnd (At refusal) answer = answer ≡ true → refusal.span.start ≡ refusal.span.end
+TellsEnd NoMemory answer = ⊥
+
+-- each of some words has bytes
+abbrev pub HaveBytes : List code.Word → Type 0
+HaveBytes words = IsTrue (list_all (λ (w : code.Word). has_bytes (word_of w)) words)

@@ -1,0 +1,121 @@
+//! What helps with a fault, by kinds of help, and where it was found.
+use crate::near::Others;
+use crate::texts::{File, Texts};
+use text_places::{Place, place_of};
+use tokens::Word;
+
+/// A place in one of the files.
+#[derive(Clone, Copy)]
+pub struct FilePlace {
+    /// The file.
+    pub file: File,
+    /// The place in it.
+    pub place: Place,
+}
+
+impl FilePlace {
+    /// The place of the byte at an offset of a file.
+    pub(crate) fn of(texts: &Texts<'_>, file: File, offset: usize) -> FilePlace {
+        FilePlace {
+            file,
+            place: place_of(texts.text(file), offset),
+        }
+    }
+}
+
+/// What a name that is not known was to name.
+#[derive(Clone, Copy)]
+pub enum Named {
+    /// A type.
+    Type,
+    /// An object or a constant.
+    Object,
+    /// A variable.
+    Variable,
+    /// A predicate.
+    Predicate,
+    /// A function.
+    Function,
+    /// An action.
+    Action,
+}
+
+/// What there may be only so many of.
+#[derive(Clone, Copy)]
+pub enum Limit {
+    /// Declared types.
+    Types,
+    /// Constants and objects.
+    Objects,
+    /// Arguments of a predicate or a function.
+    Arguments,
+    /// Variables in scope.
+    Variables,
+}
+
+/// What is wrong with a total cost.
+#[derive(Clone, Copy)]
+pub enum CostFault {
+    /// The domain declares none.
+    Undeclared,
+    /// An action increases it twice.
+    IncreasedTwice,
+    /// It does not begin at 0.
+    NotZero,
+    /// Its beginning stands twice.
+    BeginsTwice,
+}
+
+/// A count that differs from the one that is wanted.
+#[derive(Clone, Copy)]
+pub struct Counts {
+    /// How many are wanted.
+    pub wanted: usize,
+    /// How many stand there.
+    pub given: usize,
+}
+
+/// The types of a term, and those that are wanted of it. One that is declared without a type is of `object`.
+#[derive(Drop)]
+pub struct Types<'a> {
+    /// The predicate, the function or the action whose argument it is.
+    pub user: &'a [u8],
+    /// Of one of which types the term is.
+    pub given: Vec<&'a [u8]>,
+    /// Of one of which types it has to be.
+    pub wanted: Vec<&'a [u8]>,
+}
+
+/// What helps with a fault.
+#[derive(Drop)]
+pub enum Detail<'a> {
+    /// Nothing more than the number says.
+    Plain,
+    /// How many bytes the told ones are.
+    Length(usize),
+    /// Where the list begins that is open at the end of the text.
+    Open(FilePlace),
+    /// Where the same stands that may stand only once, or where the list ends behind which nothing may stand.
+    Earlier(FilePlace),
+    /// It is declared by the language.
+    BuiltIn,
+    /// The words that may stand there in its place, one for each kind: a name is told for all names, and so are a variable
+    /// and a number. For a keyword those alone that are like it, if there are any.
+    Expected(Vec<Word<'a>>),
+    /// The sections or parts that are missing.
+    Missing(Vec<&'static [u8]>),
+    /// A name that is not known, and those that may be meant.
+    Unknown(Named, Others<'a>),
+    /// A type, its parent, and so on up to the type itself.
+    Chain(Vec<&'a [u8]>),
+    /// Of arguments or objects.
+    Counts(Counts),
+    /// Of a term and its place.
+    Types(Types<'a>),
+    /// The domain's name.
+    Domain(&'a [u8]),
+    /// A limit that is passed.
+    Limit(Limit),
+    /// What is wrong with a total cost.
+    Cost(CostFault),
+}
