@@ -4,3 +4,4 @@ pub mod FoundLemmas
 pub mod FalsePartsLaws
 pub mod Stopping
 pub mod StepPlaceLemmas
+pub mod Counting

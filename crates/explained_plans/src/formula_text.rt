@@ -1,9 +1,7 @@
 //! Formulas as texts, with objects in place of the variables that have them.
 use faults::NoMemory;
 use std::alloc::Global;
-use typing::{
-    Formula, LiftedAtom, ObjectId, PredicateId, Task, Term, TypeId, TypeUnion, VariableId,
-};
+use typing::{Formula, LiftedAtom, ObjectId, Task, Term, TypeId, TypeUnion};
 
 /// Adds the text of the formula, where the first variables in scope have these objects. A variable of a quantifier in it is
 /// told as `?1`, `?2` and so on, by its place in scope behind those; `inner` counts those that are in scope.
@@ -21,13 +19,7 @@ pub(crate) fn add_formula(
             let name = task.predicate_name(atom.predicate).unwrap_or(b"");
             add_atom(alloc, task, name, atom, objects, text)
         }
-        Formula::Equal(left, right) => {
-            text.extend_from_slice(b"(=")?;
-            add_term(alloc, task, left, objects, text)?;
-            add_term(alloc, task, right, objects, text)?;
-            text.extend_from_slice(b")")?;
-            Ok(())
-        }
+        Formula::Equal(left, right) => add_equality(alloc, task, left, right, objects, text),
         Formula::And(parts) => add_parts(alloc, task, b"(and", parts, objects, inner, text),
         Formula::Or(parts) => add_parts(alloc, task, b"(or", parts, objects, inner, text),
         Formula::Not(part) => {
@@ -45,18 +37,46 @@ pub(crate) fn add_formula(
             Ok(())
         }
         Formula::Exists(types, part) => {
-            add_variable(alloc, task, b"(exists (", types, inner, text)?;
-            add_formula(alloc, task, part, objects, inner.saturating_add(1), text)?;
-            text.extend_from_slice(b")")?;
-            Ok(())
+            add_quantified(alloc, task, b"(exists (", types, part, objects, inner, text)
         }
         Formula::Forall(types, part) => {
-            add_variable(alloc, task, b"(forall (", types, inner, text)?;
-            add_formula(alloc, task, part, objects, inner.saturating_add(1), text)?;
-            text.extend_from_slice(b")")?;
-            Ok(())
+            add_quantified(alloc, task, b"(forall (", types, part, objects, inner, text)
         }
     }
+}
+
+/// Adds an equality.
+fn add_equality(
+    alloc: Global,
+    task: &Task,
+    left: &Term,
+    right: &Term,
+    objects: &[ObjectId],
+    text: &mut Vec<u8>,
+) -> Result<(), NoMemory> {
+    text.extend_from_slice(b"(=")?;
+    add_term(alloc, task, left, objects, text)?;
+    add_term(alloc, task, right, objects, text)?;
+    text.extend_from_slice(b")")?;
+    Ok(())
+}
+
+/// Adds a quantifier of this beginning: its variable, what this has to be, and its part.
+#[cycle(formula)]
+fn add_quantified(
+    alloc: Global,
+    task: &Task,
+    opening: &[u8],
+    types: &TypeUnion,
+    part: &Formula,
+    objects: &[ObjectId],
+    inner: usize,
+    text: &mut Vec<u8>,
+) -> Result<(), NoMemory> {
+    add_variable(alloc, task, opening, types, inner, text)?;
+    add_formula(alloc, task, part, objects, inner.saturating_add(1), text)?;
+    text.extend_from_slice(b")")?;
+    Ok(())
 }
 
 /// Adds the word of a conjunction or a disjunction and its parts.

@@ -1,5 +1,5 @@
 //! What a task holds, in a few lines.
-ghost use Rattle.std.specs.Prelude.{◌≡◌, length};
+ghost use Rattle.std.specs.Prelude.{◌≡◌, ◌<◌, ◌≤◌, ◌-◌, ◌^◌, length};
 ghost use Rattle.typing.specs.Task.{task_of};
 
 use faults::NoMemory;
@@ -43,6 +43,8 @@ impl Summary {
     pub fn of(task: &Task) -> Summary
         ensures types { result.types ≡ length (task_of task.now).types }
         ensures objects { result.objects ≡ length (task_of task.now).objects }
+        ensures predicates { result.predicates < 2 ^ 64 - 1 → result.predicates ≡ length (task_of task.now).predicates }
+        ensures functions { result.functions < 2 ^ 64 - 1 → result.functions ≡ length (task_of task.now).functions }
         ensures actions { result.actions ≡ length (task_of task.now).schemas }
         ensures costs { result.has_costs ≡ (task_of task.now).has_metric }
     {
@@ -161,8 +163,11 @@ fn yes_or_no(is_so: bool) -> &'static str {
     if is_so { "yes" } else { "no" }
 }
 
-/// How many predicates there are.
-fn predicate_count(task: &Task) -> usize {
+/// How many predicates there are, up to the greatest number.
+fn predicate_count(task: &Task) -> usize
+    ensures at_most { result ≤ length (task_of task.now).predicates }
+    ensures all { result < 2 ^ 64 - 1 → result ≡ length (task_of task.now).predicates }
+{
     for number in 0..usize::MAX {
         if task.predicate_name(PredicateId(number)).is_none() {
             return number;
@@ -171,8 +176,11 @@ fn predicate_count(task: &Task) -> usize {
     usize::MAX
 }
 
-/// How many functions there are.
-fn function_count(task: &Task) -> usize {
+/// How many functions there are, up to the greatest number.
+fn function_count(task: &Task) -> usize
+    ensures at_most { result ≤ length (task_of task.now).functions }
+    ensures all { result < 2 ^ 64 - 1 → result ≡ length (task_of task.now).functions }
+{
     for number in 0..usize::MAX {
         if task.function_name(PredicateId(number)).is_none() {
             return number;
