@@ -14,4 +14,4 @@ pub use false_parts::{MOST_TOLD, Part, false_parts_tell};
 pub use histories::History;
 pub use step_places::step_place;
 pub use summary::{Forms, Summary};
-pub use telling::tell_plan;
+pub use telling::{tell_details, tell_verdict};

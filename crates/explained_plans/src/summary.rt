@@ -59,17 +59,15 @@ impl Summary {
         }
     }
 
-    /// The lines that tell it, each with LF, and how many instances are kept and atoms numbered.
+    /// The lines that tell it, each with LF at its end.
     ///
     /// # Errors
     /// Memory was refused.
-    pub fn text(&self, alloc: Global, instances: usize, atoms: usize) -> Result<String, NoMemory> {
+    pub fn text(&self, alloc: Global) -> Result<String, NoMemory> {
         let mut text = format!(in alloc;
             "types {}, objects {}, predicates {}, functions {}, actions {}\n",
             self.types, self.objects, self.predicates, self.functions, self.actions
         )?;
-        let grounded = format!(in alloc; "instances kept {instances}, atoms numbered {atoms}\n")?;
-        text.push_str(grounded.as_str())?;
         let costs = yes_or_no(self.has_costs);
         let forms = self.forms.text(alloc)?;
         let last = format!(in alloc; "costs {costs}, {}\n", forms.as_str())?;

@@ -9,50 +9,83 @@ use plan_file::step_text;
 use std::alloc::Global;
 use typing::{Formula, Increase, ObjectId, Task};
 
-/// The lines that say what is true of the plan, and why, for people: each ends with LF.
-///
-/// A plan that solves the task has a line for each step, with what it costs and what it and those before it cost, and a last
-/// one with the whole cost. Of a step that is not applicable, and of a goal that is missed, each part that is false has a
-/// line, with the step that made it so.
+/// The line that says what is true of the plan, with LF at its end.
 ///
 /// # Errors
 /// Memory was refused.
 ///
 /// # Examples
 /// ```text
+/// valid, cost 10
 /// step 7, (hop a b), is not applicable
-/// (at a) is false: step 3, (hop a b), deleted it.
-/// (not (busy a)) is false: (busy a) was true from the start.
-/// (distance a b) has no value.
+/// the plan runs, and the goal is missed
 /// ```
-pub fn tell_plan(
+pub fn tell_verdict(
     alloc: Global,
     task: &Task,
     plan: &Plan,
     explanation: &PlanExplanation<'_>,
-) -> Result<Vec<u8>, NoMemory> {
+) -> Result<String, NoMemory> {
+    match explanation {
+        PlanExplanation::Solves { total, .. } => {
+            Ok(format!(in alloc; "valid, cost {total}\n")?)
+        }
+        PlanExplanation::NotApplicable { step, .. } => {
+            let words = step_words(alloc, task, plan, *step)?;
+            Ok(format!(in alloc; "{words} is not applicable\n")?)
+        }
+        PlanExplanation::GoalMissed { .. } => Ok(String::from_str(
+            alloc,
+            "the plan runs, and the goal is missed\n",
+        )?),
+    }
+}
+
+/// The lines that say why, each with LF at its end.
+///
+/// A plan that solves the task has a line for each step, with what it costs and what it and those before it cost. Of a step that
+/// is not applicable, and of a goal that is missed, each part that is false has a line, with the step that made it so.
+///
+/// # Errors
+/// Memory was refused.
+///
+/// # Examples
+/// ```text
+/// (at a) is false: step 3, (hop a b), deleted it.
+/// (not (busy a)) is false: (busy a) was true from the start.
+/// (distance a b) has no value.
+/// ```
+pub fn tell_details(
+    alloc: Global,
+    task: &Task,
+    plan: &Plan,
+    explanation: &PlanExplanation<'_>,
+) -> Result<String, NoMemory> {
     let mut text = Vec::new(alloc);
     match explanation {
-        PlanExplanation::Solves { costs, total } => {
-            add_steps(alloc, task, plan, costs, &mut text)?;
-            add_text(&format!(in alloc; "valid, cost {total}\n")?, &mut text)?;
-        }
+        PlanExplanation::Solves { costs, .. } => add_steps(alloc, task, plan, costs, &mut text)?,
         PlanExplanation::NotApplicable {
             step,
             lacks_cost,
             reasons,
         } => {
-            add_step(alloc, task, plan, *step, &mut text)?;
-            text.extend_from_slice(b" is not applicable\n")?;
             add_reasons(alloc, task, plan, reasons, &mut text)?;
             if *lacks_cost {
                 add_lacking_cost(alloc, task, plan, *step, &mut text)?;
             }
         }
         PlanExplanation::GoalMissed { reasons } => {
-            text.extend_from_slice(b"the plan runs, and the goal is missed\n")?;
-            add_reasons(alloc, task, plan, reasons, &mut text)?;
+            add_reasons(alloc, task, plan, reasons, &mut text)?
         }
+    }
+    of_bytes(alloc, &text)
+}
+
+/// The text of bytes that are all ASCII, as names are.
+fn of_bytes(alloc: Global, bytes: &[u8]) -> Result<String, NoMemory> {
+    let mut text = String::with_capacity(alloc, bytes.len())?;
+    for byte in bytes {
+        text.push(char::from(*byte))?;
     }
     Ok(text)
 }
@@ -176,11 +209,17 @@ fn add_step(
     step: usize,
     text: &mut Vec<u8>,
 ) -> Result<(), NoMemory> {
+    let words = step_words(alloc, task, plan, step)?;
+    add_text(&words, text)
+}
+
+/// The words `step 3, (hop a b),`, where steps are counted from 1.
+fn step_words(alloc: Global, task: &Task, plan: &Plan, step: usize) -> Result<String, NoMemory> {
     let words = match plan.steps().get(step.wrapping_sub(1)) {
         Some(instance) => step_text(alloc, task, instance)?,
         None => String::new(alloc),
     };
-    add_text(&format!(in alloc; "step {step}, {words},")?, text)
+    Ok(format!(in alloc; "step {step}, {words},")?)
 }
 
 /// Adds the line that says that what the step's action increases the total cost by has no value.

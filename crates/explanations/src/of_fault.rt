@@ -1,0 +1,54 @@
+//! What is said of a file that is refused.
+ghost use Rattle.std.specs.Prelude.{◌≡◌, IfOk};
+ghost use Rattle.explanations.specs.Explanations.{IsOfFault};
+ghost use Rattle.explanations.specs.declared.explanation.Subject.TheVariants.{Fault};
+
+use crate::explanation::{Explanation, Subject};
+use explained_faults::{TextFault, Texts, explain_fault};
+use faults::{Code, NoMemory, Span};
+use file_answers::{File, FileFault};
+use std::alloc::Global;
+
+/// What is said of the fault of a file.
+pub(crate) fn explain_refused(
+    alloc: Global,
+    texts: &Texts<'_>,
+    fault: FileFault,
+) -> Result<Explanation, NoMemory>
+    ensures { IfOk result (λ e. IsOfFault fault e.subject) }
+{
+    match fault {
+        FileFault::At { file, code, span } => explain_at(alloc, texts, file, code, span),
+        FileFault::NoMemory => Err(NoMemory),
+    }
+}
+
+/// The same of the fault at this place.
+fn explain_at(
+    alloc: Global,
+    texts: &Texts<'_>,
+    file: File,
+    code: Code,
+    span: Span,
+) -> Result<Explanation, NoMemory>
+    ensures { IfOk result (λ e. e.subject ≡ Fault file code span) }
+{
+    let fault = TextFault {
+        file: explained_file(file),
+        code,
+        span,
+    };
+    let explained = explain_fault(alloc, texts, fault)?;
+    let text = explained.text(alloc, texts)?;
+    let subject = Subject::Fault { file, code, span };
+    Ok(Explanation { subject, text })
+}
+
+/// The file, as its faults are explained of it.
+fn explained_file(file: File) -> explained_faults::File {
+    match file {
+        File::Domain => explained_faults::File::Domain,
+        File::Problem => explained_faults::File::Problem,
+        File::Plan => explained_faults::File::Plan,
+    }
+}

@@ -1,0 +1,58 @@
+//! `explain`: what is said of files for people.
+ghost use Rattle.std.specs.Prelude.{◌≡◌, ℕ, IfErr, IfOk, IsTrue, List, None, ◌∷◌};
+ghost use Rattle.planner_main.specs.Program.{CountsFailure, IsExplanationOn, IsOneOf, IsUnread, fault_in, if_named};
+ghost use Rattle.file_answers.specs.Files.{text_in};
+ghost use Rattle.devices.specs.Texts.{AreKept, items_in};
+ghost use Rattle.explanations.specs.Explanations as explanations;
+
+use crate::failures::Failure;
+use crate::program::inputs::{read_named, read_pair};
+use crate::telling::Report;
+use devices::Files;
+use explanations::{NamedText, explain_files};
+use std::alloc::Global;
+
+/// What is said of the files of a task, and of that of a plan, if it is named.
+pub(super) fn report_of_explain<F: Files>(
+    alloc: Global,
+    domain: &str,
+    problem: &str,
+    plan: Option<&str>,
+    instances: u32,
+    files: &mut F,
+) -> Result<Report, Failure>
+    ensures report { IfOk result (IsExplanationOn (F.contents files.old) domain.now problem.now (text_in plan.entry) instances) }
+    // A fault of a text is what is explained, and no failure.
+    ensures no_text { IfErr result (λ failure. fault_in failure ≡ None) }
+    ensures kept { AreKept (F.contents files.old) (F.contents files.new) }
+    ensures unfailed { IfOk result (λ _. F.failures files.new ≡ F.failures files.old) }
+    ensures failures { IfErr result (CountsFailure (F.failures files.old) (F.failures files.new)) }
+    ensures unread { (name : List ℕ) → IsOneOf (domain.now ∷ problem.now ∷ if_named (text_in plan.entry)) name → IsTrue (F.is_missing files.old name) → IsUnread result }
+    ensures unreadable { (name : List ℕ) → IsOneOf (domain.now ∷ problem.now ∷ if_named (text_in plan.entry)) name → IsTrue (F.is_unreadable files.old name) → IsUnread result }
+{
+    let pair = read_pair(alloc, files, domain, problem)?;
+    let text = read_named(alloc, files, plan)?;
+    let domain = NamedText {
+        name: domain,
+        text: &pair.domain,
+    };
+    let problem = NamedText {
+        name: problem,
+        text: &pair.problem,
+    };
+    let explanation = explain_files(alloc, domain, problem, named(plan, &text), instances)?;
+    Ok(Report::Explain(explanation))
+}
+
+/// The text of a plan with the name of its file, if there is one.
+fn named<'a>(name: Option<&'a str>, text: &'a Option<Vec<u8>>) -> Option<NamedText<'a>>
+    ensures { explanations.text_in result ≡ items_in text.now }
+{
+    match text {
+        Some(text) => {
+            let name = name.unwrap_or("");
+            Some(NamedText { name, text })
+        }
+        None => None,
+    }
+}
