@@ -21,12 +21,12 @@ use Rattle.model.specs.Files.{IsTaskOf}
 use Rattle.typing.specs.Task.{task_of}
 use Rattle.devices.specs.Texts.{IsText}
 use Rattle.devices.specs.declared.device.WriteFault.{WriteFault}
-use Rattle.planner_main.specs.declared.answers.checking.Checked.{Checked}
+use Rattle.file_answers.specs.declared.checking.Checked.{Checked}
 use Rattle.planner_main.specs.declared.failures.Failure.{Failure}
 use Rattle.planner_main.specs.declared.failures.Failure.TheVariants as failure
 use Rattle.planner_main.specs.declared.telling.reports.Report.{Report}
 use Rattle.planner_main.specs.declared.telling.reports.Report.TheVariants as report
-use Rattle.planner_main.specs.Checked.{IsChecked, IsRefusedAs, IsTrueCheck}
+use Rattle.file_answers.specs.Checked.{IsChecked, IsRefusedAs, IsTrueCheck}
 use Rattle.planner_main.specs.CheckTold.{IsToldRefusal, failure_of}
 use Rattle.planner_main.specs.Program.{CountsFailure, IsCheckOn, IsCheckedIn, IsTextIfNamed}
 

@@ -1,5 +1,3 @@
-pub mod FilesRead
-pub mod CheckedLemmas
 pub mod JsonWritten
 pub mod MembersInOrder
 pub mod JsonExampleProofs

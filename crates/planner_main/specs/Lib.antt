@@ -1,5 +1,3 @@
-pub mod Files
-pub mod Checked
 pub mod JsonText
 pub mod Members
 pub mod MembersBuilt

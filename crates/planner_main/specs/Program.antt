@@ -5,22 +5,22 @@ use Rattle.solver.specs.Solver.{IsTrueAnswer}
 use Rattle.typing.specs.Task.{task_of}
 use Rattle.validator.specs.declared.verdict.Verdict.{Verdict}
 use Rattle.validator.specs.Verdict.{verdict_of}
-use Rattle.planner_main.specs.declared.answers.checking.Checked.{Checked}
-use Rattle.planner_main.specs.declared.answers.solving.Solved.{Solved}
+use Rattle.file_answers.specs.declared.checking.Checked.{Checked}
+use Rattle.file_answers.specs.declared.solving.Solved.{Solved}
 use Rattle.planner_main.specs.declared.telling.reports.Report.{Report}
 use Rattle.planner_main.specs.declared.telling.reports.Report.TheVariants as report
 use Rattle.planner_main.specs.declared.failures.Failure.{Failure}
 use Rattle.planner_main.specs.declared.failures.Failure.TheVariants as failure
-use Rattle.planner_main.specs.declared.answers.task_file.FileFault.TheVariants as refusal
+use Rattle.file_answers.specs.declared.task_file.FileFault.TheVariants as refusal
 use Rattle.devices.specs.declared.device.WriteFault as device_fault
 use Rattle.devices.specs.declared.device.WriteFault.TheVariants as device
 use Rattle.devices.specs.Devices.{AppendsBeginning, one_more}
 use Rattle.planner_main.specs.Failures.{line_of_fault, device_line, no_memory_line, nothing_done_line}
-use Rattle.planner_main.specs.Files.{fault_at, told_in}
+use Rattle.file_answers.specs.Files.{fault_at, told_in}
 use Rattle.command_line.specs.Orders.{Asks, Wanted, to_solve, to_validate, to_check}
 use Rattle.command_line.specs.View.{IsOfWords}
 use Rattle.command_line.specs.declared.fault.WordsFault.{WordsFault}
-use Rattle.planner_main.specs.Checked.{IsHandedIn, IsInputFault, IsTrueCheck}
+use Rattle.file_answers.specs.Checked.{IsHandedIn, IsInputFault, IsTrueCheck}
 use Rattle.planner_main.specs.CheckTold.{IsToldRefusal}
 use Rattle.planner_main.specs.Asked.{outputs_of}
 use Rattle.devices.specs.Texts.{AreKept, IsText}

@@ -3,15 +3,15 @@ ghost use Rattle.std.specs.Prelude.{◌≡◌, ◌⊎◌, ◌++◌, ℕ, IfOk, I
 ghost use Rattle.std.specs.String.{string_bytes};
 ghost use Rattle.command_line.specs.View.{IsOfWords};
 ghost use Rattle.planner_main.specs.Failures.{is_failure, line_of_fault, no_memory_line, nothing_done_line};
-ghost use Rattle.planner_main.specs.Files.{fault_at};
+ghost use Rattle.file_answers.specs.Files.{fault_at};
 ghost use Rattle.planner_main.specs.Program.{IsToldOfWords, IsToldOn};
 ghost use Rattle.devices.specs.Devices.{IsWritten};
 
-use crate::answers::{File, FileFault};
 use crate::telling::{DEVICE, NO_MEMORY, REFUSED, WRONG_WORDS};
 use command_line::WordsFault;
 use devices::{Sink, WriteFault, write_all};
 use faults::{Code, NoMemory, Span};
+use file_answers::{File, FileFault};
 use std::alloc::{AllocError, Global};
 
 /// The last line where the words are no command.

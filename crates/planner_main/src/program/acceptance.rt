@@ -3,20 +3,20 @@ ghost use Rattle.std.specs.Prelude.{◌≡◌, ℕ, IfErr, IfOk, IfSome, IsErr, 
 ghost use Rattle.cert_checker.specs.Reading.{IsFresh};
 ghost use Rattle.typing.specs.Task.{task_of};
 ghost use Rattle.certificate_reader.specs.Reader.{source_of};
-ghost use Rattle.planner_main.specs.Checked.{IsInputFault};
-ghost use Rattle.planner_main.specs.Files.{text_in};
-ghost use Rattle.planner_main.specs.declared.answers.checking.Checked.{Checked};
+ghost use Rattle.file_answers.specs.Checked.{IsInputFault};
+ghost use Rattle.file_answers.specs.Files.{text_in};
+ghost use Rattle.file_answers.specs.declared.checking.Checked.{Checked};
 ghost use Rattle.planner_main.specs.declared.telling.reports.Report.TheVariants.{Check};
 ghost use Rattle.devices.specs.Texts.{AreKept, items_in};
 ghost use Rattle.planner_main.specs.Program.{CountsFailure, IsCheckOn, IsCheckedIn, IsOneOf, IsTextIfNamed, IsUnread, OnInputs, fault_in, if_named};
 ghost use Rattle.devices.specs.Devices.{CountsDevice, IsKept};
 
-use crate::answers::check_files;
 use crate::failures::Failure;
 use crate::program::inputs::{Pair, read_pair};
 use crate::telling::{Report, failure_of};
 use certificate::CertReader;
 use devices::{Files, Source, WriteFault, read_file};
+use file_answers::check_files;
 use std::alloc::Global;
 
 /// The names of the files that are read.

@@ -4,11 +4,11 @@ ghost use Rattle.planner_main.specs.Program.{CountsFailure, IsOneOf, IsSolutionO
 ghost use Rattle.devices.specs.Texts.{AreKept};
 ghost use Rattle.model.specs.Files.{IsTaskFault};
 
-use crate::answers::solve_files;
 use crate::failures::Failure;
 use crate::program::inputs::read_pair;
 use crate::telling::Report;
 use devices::Files;
+use file_answers::solve_files;
 use solver::Limits;
 use std::alloc::Global;
 

@@ -4,11 +4,11 @@ ghost use Rattle.planner_main.specs.Program.{CountsFailure, IsOneOf, IsUnread, I
 ghost use Rattle.devices.specs.Texts.{AreKept};
 ghost use Rattle.model.specs.Files.{IsFileFault};
 
-use crate::answers::validate_files;
 use crate::failures::Failure;
 use crate::program::inputs::read_pair;
 use crate::telling::Report;
 use devices::{Files, read_file};
+use file_answers::validate_files;
 use std::alloc::Global;
 
 /// Whether the plan of a file solves the task of two files.

@@ -7,12 +7,12 @@ ghost use Rattle.planner_main.specs.JsonText.{object_text};
 ghost use Rattle.planner_main.specs.Objects.{line_of_members};
 ghost use Rattle.planner_main.specs.Reported.{HasText, IsTold, of_report, text_of};
 
-use crate::answers::{Checked, Solved};
 use crate::telling::answer::answer_text;
 use crate::telling::check::checked_line;
 use crate::telling::objects::{answer_object, checked_object, verdict_object};
 use crate::telling::verdict::verdict_line;
 use faults::NoMemory;
+use file_answers::{Checked, Solved};
 use std::alloc::{AllocError, Global};
 use validator::Verdict;
 

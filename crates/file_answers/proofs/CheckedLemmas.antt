@@ -1,0 +1,45 @@
+-- What is told of the inputs of a check, and of the plan that is handed in.
+use Rattle.std.proofs.Common.{◌≡◌, ℕ, List, sym, subst}
+use Rattle.std.specs.Prelude.{Option, None, Some, IfSome, Result, Ok, Err, IfErr}
+use Rattle.model.specs.Task.{Task, Instance}
+use Rattle.model.specs.PlanText.{IsPlanText}
+use Rattle.model.specs.Fault.{Fault}
+use Rattle.model.specs.PlanText.{IsPlanFault}
+use Rattle.std.specs.Option.{option_map}
+use Rattle.model.specs.Files.{FileFault, the_plan, IsTaskOf, IsTaskFault, IsFileFault, in_the_task}
+use Rattle.file_answers.specs.declared.task_file.FileFault as file
+use Rattle.file_answers.specs.Checked.{IsHandedIn, IsInputFault}
+use Rattle.file_answers.specs.Files.{told_in}
+use Rattle.file_answers.proofs.FilesRead.{told_more_in, none_told, none_told_of_task, plan_told}
+
+-- the text of a plan, or none, is handed in
+pub none_handed_in : (task : Task) (text : Option (List ℕ)) → text ≡ None → IsHandedIn task text None
+none_handed_in task text is = subst (λ text. IsHandedIn task text None) (sym is) tt
+
+pub handed_in : (task : Task) (text : Option (List ℕ)) (bytes : List ℕ) (plan : List Instance) → text ≡ Some bytes → IsPlanText task bytes plan → IsHandedIn task text (Some plan)
+handed_in task text bytes plan is read = subst (λ text. IsHandedIn task text (Some plan)) (sym is) read
+
+module _ (domain problem : List ℕ) where
+  pub task_input : (plan : Option (List ℕ)) (o : Option FileFault) → IfSome o (IsTaskFault domain problem) → IfSome o (IsInputFault domain problem plan)
+  task_input None o h = h
+  task_input (Some plan) o h = told_more_in (IsTaskFault domain problem) (IsFileFault domain problem plan) o (λ told fault. in_the_task fault) h
+
+  pub plan_input : (text : Option (List ℕ)) (plan : List ℕ) → text ≡ Some plan → (task : Task) → IsTaskOf domain problem task → (o : Option Fault) → IfSome o (IsPlanFault task plan)
+      → IfSome (option_map (λ (f : Fault). let t : FileFault = record { file = the_plan; fault = f } in t) o) (IsInputFault domain problem text)
+  plan_input text plan handed task is o h =
+      subst (λ text. IfSome (option_map (λ (f : Fault). let t : FileFault = record { file = the_plan; fault = f } in t) o) (IsInputFault domain problem text)) (sym handed)
+      (plan_told domain problem plan task is o h)
+
+  -- nothing is told where they are a task, and a plan for it if one is handed in
+  pub none_told_of_inputs : (plan : Option (List ℕ)) (o : Option FileFault) → IfSome o (IsInputFault domain problem plan)
+      → (task : Task) (steps : Option (List Instance)) → IsTaskOf domain problem task → IsHandedIn task plan steps → o ≡ None
+  none_told_of_inputs None o h task None is handed = none_told_of_task domain problem o h task is
+  none_told_of_inputs None o h task (Some steps) is handed = absurd handed
+  none_told_of_inputs (Some plan) o h task None is handed = absurd handed
+  none_told_of_inputs (Some plan) o h task (Some steps) is handed = none_told domain problem plan o h task steps (record { is_task = is; is_plan = handed })
+
+  -- the same of what a call answered
+  pub none_told_of_inputs_in : {T : Type 0} (plan : Option (List ℕ)) (r : Result T file.FileFault) → IfErr r (λ fault. IfSome (told_in fault) (IsInputFault domain problem plan))
+      → (task : Task) (steps : Option (List Instance)) → IsTaskOf domain problem task → IsHandedIn task plan steps → IfErr r (λ fault. told_in fault ≡ None)
+  none_told_of_inputs_in plan (Ok checked) h task steps is handed = tt
+  none_told_of_inputs_in plan (Err fault) h task steps is handed = none_told_of_inputs plan (told_in fault) h task steps is handed

@@ -1,0 +1,2 @@
+pub mod FilesRead
+pub mod CheckedLemmas

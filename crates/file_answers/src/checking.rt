@@ -1,0 +1,114 @@
+//! From the bytes of a domain file and a problem file, and the text of a certificate, to what the certificate shows.
+ghost use Rattle.std.specs.Prelude.{◌≡◌, ℕ, List, Option, IfOk, IfErr, IfSome, IsErr, IsTrue, None};
+ghost use Rattle.typing.specs.Task.{task_of};
+ghost use Rattle.cert_checker.specs.Reading.{CountsRefusal, IsFresh};
+ghost use Rattle.certificate_reader.specs.Reader.{source_of};
+ghost use Rattle.file_answers.specs.Checked.{IsChecked, IsHandedIn, IsInputFault};
+ghost use Rattle.file_answers.specs.Files.{text_in, told_in};
+ghost use Rattle.model.specs.Task as model;
+ghost use Rattle.model.specs.Files.{IsTaskOf};
+ghost use Rattle.model.specs.PlanWriting.{has_names};
+
+use crate::task_file::{File, FileFault, read_task};
+use cert_checker::{Accepted, Refusal, check};
+use certificate::CertReader;
+use devices::Source;
+use plan_file::read_plan;
+use std::alloc::Global;
+use typing::Task;
+
+/// A task with what is told of a certificate for it.
+#[derive(Drop)]
+pub struct Checked {
+    /// The task of the two files.
+    pub task: Task,
+    /// What the certificate shows, or why it is refused.
+    pub answer: Result<Accepted, Refusal>,
+}
+
+/// What a certificate shows of the task of two files, and of the plan of a third one, if it is handed in. Nothing was read
+/// of the reader.
+///
+/// The domain is scanned and read, then the problem, then both are typed together, then the plan is read; the first fault
+/// ends the call, and the certificate is left as it was. Else its lines are taken as they come.
+///
+/// ```
+/// let mut cert = CertReader::new(alloc, Memory::new(text));
+/// match check_files(alloc, domain, problem, &mut cert, None, 1_000_000)?.answer {
+///     Ok(Accepted::AtLeast { cost }) => println!(rt; "no plan costs less than {cost}")?,
+///     Ok(Accepted::Unsolvable) => println!(rt; "there is no plan")?,
+///     Ok(Accepted::Optimal { .. }) => println!(rt; "only where a plan is handed in")?,
+///     Err(_) => println!(rt; "the certificate shows nothing")?,
+/// }
+/// ```
+pub fn check_files<R: Source>(
+    alloc: Global,
+    domain: &[u8],
+    problem: &[u8],
+    cert: &mut CertReader<R>,
+    plan: Option<&[u8]>,
+    max_instances: u32,
+) -> Result<Checked, FileFault>
+    requires { IsFresh cert.old }
+
+    // The task is that of the two texts, and the answer is true of it and of what came of the certificate.
+    ensures task { IfOk result (λ c. IsTaskOf domain.now problem.now (task_of c.task)) }
+    ensures answer { IfOk result (λ c. IsChecked R.remaining (task_of c.task) cert.old cert.new (text_in plan.entry) max_instances c.answer) }
+    ensures names { IfOk result (λ c. IsTrue (has_names (task_of c.task))) }
+    ensures failures { IfOk result (λ c. CountsRefusal (R.failures (source_of cert.old)) (R.failures (source_of cert.new)) c.answer) }
+    ensures refused { IfErr result (λ fault. IfSome (told_in fault) (IsInputFault domain.now problem.now (text_in plan.entry))) }
+    ensures unread { IsErr result → cert.new ≡ cert.old }
+
+    // Where the texts are a task, and a plan for it if one is handed in, there is an answer: the only error is want of memory.
+    ensures taken { (task : model.Task) (steps : Option (List model.Instance)) → IsTaskOf domain.now problem.now task
+        → IsHandedIn task (text_in plan.entry) steps → IfErr result (λ fault. told_in fault ≡ None) }
+{
+    let task = read_task(alloc, domain, problem)?;
+    check_task(alloc, task, cert, plan, max_instances)
+}
+
+/// The task with what is told of the certificate.
+fn check_task<R: Source>(
+    alloc: Global,
+    task: Task,
+    cert: &mut CertReader<R>,
+    plan: Option<&[u8]>,
+    max_instances: u32,
+) -> Result<Checked, FileFault>
+    requires { IsFresh cert.old }
+    ensures task { (domain problem : List ℕ) → IsTaskOf domain problem (task_of task) → IfOk result (λ c. IsTaskOf domain problem (task_of c.task)) }
+    ensures answer { IfOk result (λ c. IsChecked R.remaining (task_of c.task) cert.old cert.new (text_in plan.entry) max_instances c.answer) }
+    ensures failures { IfOk result (λ c. CountsRefusal (R.failures (source_of cert.old)) (R.failures (source_of cert.new)) c.answer) }
+    ensures refused { (domain problem : List ℕ) → IsTaskOf domain problem (task_of task)
+        → IfErr result (λ fault. IfSome (told_in fault) (IsInputFault domain problem (text_in plan.entry))) }
+    ensures unread { IsErr result → cert.new ≡ cert.old }
+{
+    match answer_on(alloc, &task, cert, plan, max_instances) {
+        Ok(answer) => Ok(Checked { task, answer }),
+        Err(fault) => Err(fault),
+    }
+}
+
+/// What is told of the certificate for this task, and for the plan of this text, if one is handed in.
+fn answer_on<R: Source>(
+    alloc: Global,
+    task: &Task,
+    cert: &mut CertReader<R>,
+    plan: Option<&[u8]>,
+    max_instances: u32,
+) -> Result<Result<Accepted, Refusal>, FileFault>
+    requires { IsFresh cert.old }
+    ensures answer { IfOk result (IsChecked R.remaining (task_of task.now) cert.old cert.new (text_in plan.entry) max_instances) }
+    ensures failures { IfOk result (CountsRefusal (R.failures (source_of cert.old)) (R.failures (source_of cert.new))) }
+    ensures refused { (domain problem : List ℕ) → IsTaskOf domain problem (task_of task.now)
+        → IfErr result (λ fault. IfSome (told_in fault) (IsInputFault domain problem (text_in plan.entry))) }
+    ensures unread { IsErr result → cert.new ≡ cert.old }
+{
+    let Some(text) = plan else {
+        return Ok(check(alloc, task, cert, None, max_instances));
+    };
+    match read_plan(alloc, task, text) {
+        Ok(plan) => Ok(check(alloc, task, cert, Some(&plan), max_instances)),
+        Err(fault) => Err(FileFault::of(File::Plan, fault)),
+    }
+}

@@ -1,0 +1,69 @@
+//! From the bytes of a domain file and a problem file to a cheapest plan.
+ghost use Rattle.std.specs.Prelude.{◌≡◌, ℕ, List, IfOk, IfErr, IfSome, IsTrue, None};
+ghost use Rattle.typing.specs.Task.{task_of};
+ghost use Rattle.solver.specs.Solver.{IsTrueAnswer};
+ghost use Rattle.file_answers.specs.Files.{told_in};
+ghost use Rattle.model.specs.Task as model;
+ghost use Rattle.model.specs.Files.{IsTaskOf, IsTaskFault};
+ghost use Rattle.model.specs.PlanWriting.{has_names};
+
+use crate::task_file::{FileFault, read_task};
+use faults::NoMemory;
+use solver::{Answer, Limits, solve};
+use std::alloc::Global;
+use typing::Task;
+
+/// A task with what was found out of it.
+#[derive(Drop)]
+pub struct Solved {
+    /// The task of the two files.
+    pub task: Task,
+    /// What was found.
+    pub answer: Answer,
+}
+
+/// A cheapest plan, or that there is none, from the bytes of the two files.
+///
+/// The domain is scanned and read, then the problem, then both are typed together; the first fault ends the call. Where more
+/// states would be listed than the limit allows, the answer is still a claim: each plan costs at least its bound, and its certificate
+/// shows it. Of the other two limits nothing is claimed of plans.
+///
+/// ```
+/// let Some(limits) = Limits::new(1_000_000, 1_000_000) else { return Ok(()) };
+/// match solve_files(alloc, domain, problem, limits)?.answer {
+///     Answer::Plan { cost, .. } => println!(rt; "no plan costs less than {cost}")?,
+///     Answer::Unsolvable { .. } => println!(rt; "there is no plan")?,
+///     Answer::Unknown(Exceeded::States { bound, .. }) => println!(rt; "each plan costs {bound} or more")?,
+///     Answer::Unknown(Exceeded::Instances | Exceeded::Atoms) => println!(rt; "the task is too large")?,
+/// }
+/// ```
+pub fn solve_files(
+    alloc: Global,
+    domain: &[u8],
+    problem: &[u8],
+    limits: Limits,
+) -> Result<Solved, FileFault>
+    // The task is that of the two texts, and the answer is true of it.
+    ensures task { IfOk result (λ s. IsTaskOf domain.now problem.now (task_of s.task)) }
+    ensures answer { IfOk result (λ s. IsTrueAnswer (task_of s.task) limits.states limits.instances s.answer) }
+    ensures names { IfOk result (λ s. IsTrue (has_names (task_of s.task))) }
+    ensures refused { IfErr result (λ fault. IfSome (told_in fault) (IsTaskFault domain.now problem.now)) }
+
+    // Where the two are a task, there is an answer: the only error is want of memory.
+    ensures taken { (task : model.Task) → IsTaskOf domain.now problem.now task → IfErr result (λ fault. told_in fault ≡ None) }
+{
+    let task = read_task(alloc, domain, problem)?;
+    solve_task(alloc, task, limits)
+}
+
+/// The task with what is found out of it. The only error is want of memory.
+fn solve_task(alloc: Global, task: Task, limits: Limits) -> Result<Solved, FileFault>
+    ensures task { (domain problem : List ℕ) → IsTaskOf domain problem (task_of task) → IfOk result (λ s. IsTaskOf domain problem (task_of s.task)) }
+    ensures answer { IfOk result (λ s. IsTrueAnswer (task_of s.task) limits.states limits.instances s.answer) }
+    ensures memory { IfErr result (λ fault. told_in fault ≡ None) }
+{
+    match solve(alloc, &task, limits) {
+        Ok(answer) => Ok(Solved { task, answer }),
+        Err(NoMemory) => Err(FileFault::NoMemory),
+    }
+}

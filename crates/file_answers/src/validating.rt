@@ -1,0 +1,56 @@
+//! From the bytes of three files to the verdict.
+ghost use Rattle.std.specs.Prelude.{◌≡◌, ℕ, List, IfOk, IfErr, IfSome, None};
+ghost use Rattle.typing.specs.Task.{task_of};
+ghost use Rattle.validator.specs.Verdict.{verdict_of};
+ghost use Rattle.file_answers.specs.Files.{told_in};
+ghost use Rattle.model.specs.Task as model;
+ghost use Rattle.model.specs.Files.{AreRead, IsTaskOf, IsVerdictOf, IsFileFault};
+
+use crate::task_file::{File, FileFault, read_task};
+use plan_file::read_plan;
+use std::alloc::Global;
+use typing::Task;
+use validator::{Verdict, validate};
+
+/// What is true of the plan, from the bytes of the three files.
+///
+/// The domain is scanned and read, then the problem, then both are typed together, then the plan is read; the first
+/// fault ends the call.
+///
+/// ```
+/// match validate_files(alloc, domain, problem, b"(go a b)\n(go b c)\n")? {
+///     Verdict::Valid { cost } => println!(rt; "a plan of cost {cost}")?,
+///     Verdict::NotApplicable { step } => println!(rt; "step {step} is not applicable")?,
+///     Verdict::GoalMissed => println!(rt; "the goal is missed")?,
+/// }
+/// ```
+pub fn validate_files(
+    alloc: Global,
+    domain: &[u8],
+    problem: &[u8],
+    plan: &[u8],
+) -> Result<Verdict, FileFault>
+    ensures verdict { IfOk result (λ verdict. IsVerdictOf domain.now problem.now plan.now (verdict_of verdict)) }
+    ensures refused { IfErr result (λ fault. IfSome (told_in fault) (IsFileFault domain.now problem.now plan.now)) }
+
+    // Where the three are a task and a plan for it, there is a verdict: the only error is want of memory.
+    ensures taken { (task : model.Task) (steps : List model.Instance)
+        → AreRead domain.now problem.now plan.now task steps → IfErr result (λ fault. told_in fault ≡ None) }
+{
+    let task = read_task(alloc, domain, problem)?;
+    verdict_on(alloc, &task, plan)
+}
+
+/// What is true of the plan for this task, from the bytes of the plan's file.
+fn verdict_on(alloc: Global, task: &Task, plan: &[u8]) -> Result<Verdict, FileFault>
+    ensures verdict { (domain problem : List ℕ) → IsTaskOf domain problem (task_of task.now)
+        → IfOk result (λ verdict. IsVerdictOf domain problem plan.now (verdict_of verdict)) }
+    ensures refused { (domain problem : List ℕ) → IsTaskOf domain problem (task_of task.now)
+        → IfErr result (λ fault. IfSome (told_in fault) (IsFileFault domain problem plan.now)) }
+{
+    let plan = match read_plan(alloc, task, plan) {
+        Ok(plan) => plan,
+        Err(fault) => return Err(FileFault::of(File::Plan, fault)),
+    };
+    Ok(validate(alloc, task, &plan)?)
+}
