@@ -3,14 +3,11 @@ use Rattle.std.proofs.Common.{◌≡◌, ℕ, List, sym, subst}
 use Rattle.std.specs.Prelude.{Option, None, Some, IfSome, Result, Ok, Err, IfErr}
 use Rattle.model.specs.Task.{Task, Instance}
 use Rattle.model.specs.PlanText.{IsPlanText}
-use Rattle.model.specs.Fault.{Fault}
-use Rattle.model.specs.PlanText.{IsPlanFault}
-use Rattle.std.specs.Option.{option_map}
-use Rattle.model.specs.Files.{FileFault, the_plan, IsTaskOf, IsTaskFault, IsFileFault, in_the_task}
+use Rattle.model.specs.Files.{FileFault, IsTaskOf, IsTaskFault, IsFileFault, in_the_task}
 use Rattle.file_answers.specs.declared.task_file.FileFault as file
 use Rattle.file_answers.specs.Checked.{IsHandedIn, IsInputFault}
 use Rattle.file_answers.specs.Files.{told_in}
-use Rattle.file_answers.proofs.FilesRead.{told_more_in, none_told, none_told_of_task, plan_told}
+use Rattle.file_answers.proofs.FilesRead.{told_more_in, none_told, none_told_of_task}
 
 -- the text of a plan, or none, is handed in
 pub none_handed_in : (task : Task) (text : Option (List ℕ)) → text ≡ None → IsHandedIn task text None
@@ -24,11 +21,9 @@ module _ (domain problem : List ℕ) where
   task_input None o h = h
   task_input (Some plan) o h = told_more_in (IsTaskFault domain problem) (IsFileFault domain problem plan) o (λ told fault. in_the_task fault) h
 
-  pub plan_input : (text : Option (List ℕ)) (plan : List ℕ) → text ≡ Some plan → (task : Task) → IsTaskOf domain problem task → (o : Option Fault) → IfSome o (IsPlanFault task plan)
-      → IfSome (option_map (λ (f : Fault). let t : FileFault = record { file = the_plan; fault = f } in t) o) (IsInputFault domain problem text)
-  plan_input text plan handed task is o h =
-      subst (λ text. IfSome (option_map (λ (f : Fault). let t : FileFault = record { file = the_plan; fault = f } in t) o) (IsInputFault domain problem text)) (sym handed)
-      (plan_told domain problem plan task is o h)
+  pub plan_input : (text : Option (List ℕ)) (plan : List ℕ) → text ≡ Some plan → (o : Option FileFault) → IfSome o (IsFileFault domain problem plan)
+      → IfSome o (IsInputFault domain problem text)
+  plan_input text plan handed o h = subst (λ text. IfSome o (IsInputFault domain problem text)) (sym handed) h
 
   -- nothing is told where they are a task, and a plan for it if one is handed in
   pub none_told_of_inputs : (plan : Option (List ℕ)) (o : Option FileFault) → IfSome o (IsInputFault domain problem plan)

@@ -9,11 +9,10 @@ ghost use Rattle.model.specs.Task as model;
 ghost use Rattle.model.specs.Files.{IsTaskOf};
 ghost use Rattle.model.specs.PlanWriting.{has_names};
 
-use crate::task_file::{File, FileFault, read_task};
+use crate::task_file::{FileFault, plan_of_file, task_of_files};
 use cert_checker::{Accepted, Refusal, check};
 use certificate::CertReader;
 use devices::Source;
-use plan_file::read_plan;
 use std::alloc::Global;
 use typing::Task;
 
@@ -63,7 +62,7 @@ pub fn check_files<R: Source>(
     ensures taken { (task : model.Task) (steps : Option (List model.Instance)) → IsTaskOf domain.now problem.now task
         → IsHandedIn task (text_in plan.entry) steps → IfErr result (λ fault. told_in fault ≡ None) }
 {
-    let task = read_task(alloc, domain, problem)?;
+    let task = task_of_files(alloc, domain, problem)?;
     check_task(alloc, task, cert, plan, max_instances)
 }
 
@@ -107,8 +106,6 @@ fn answer_on<R: Source>(
     let Some(text) = plan else {
         return Ok(check(alloc, task, cert, None, max_instances));
     };
-    match read_plan(alloc, task, text) {
-        Ok(plan) => Ok(check(alloc, task, cert, Some(&plan), max_instances)),
-        Err(fault) => Err(FileFault::of(File::Plan, fault)),
-    }
+    let plan = plan_of_file(alloc, task, text)?;
+    Ok(check(alloc, task, cert, Some(&plan), max_instances))
 }

@@ -7,7 +7,7 @@ ghost use Rattle.model.specs.Task as model;
 ghost use Rattle.model.specs.Files.{IsTaskOf, IsTaskFault};
 ghost use Rattle.model.specs.PlanWriting.{has_names};
 
-use crate::task_file::{FileFault, read_task};
+use crate::task_file::{FileFault, task_of_files};
 use faults::NoMemory;
 use solver::{Answer, Limits, solve};
 use std::alloc::Global;
@@ -52,7 +52,7 @@ pub fn solve_files(
     // Where the two are a task, there is an answer: the only error is want of memory.
     ensures taken { (task : model.Task) → IsTaskOf domain.now problem.now task → IfErr result (λ fault. told_in fault ≡ None) }
 {
-    let task = read_task(alloc, domain, problem)?;
+    let task = task_of_files(alloc, domain, problem)?;
     solve_task(alloc, task, limits)
 }
 

@@ -1,15 +1,21 @@
-//! From the bytes of a domain file and a problem file to their task, and the faults of files.
-ghost use Rattle.std.specs.Prelude.{◌≡◌, ℕ, List, IfOk, IfErr, IfSome};
+//! From the bytes of files to their task and their plan, and the faults of files.
+ghost use Rattle.std.specs.Prelude.{◌≡◌, ℕ, List, IfOk, IfErr, IfSome, IsTrue};
+ghost use Rattle.std.specs.List.{list_all};
 ghost use Rattle.tokens.specs.Told.{told_by};
 ghost use Rattle.syntax_tree.specs.Tree.{domain_of, problem_of};
 ghost use Rattle.typing.specs.Task.{task_of};
+ghost use Rattle.formulas.specs.State.{plan_of};
 ghost use Rattle.file_answers.specs.Files.{told_in};
 ghost use Rattle.model.specs.Task as model;
 ghost use Rattle.model.specs.Files as told;
 ghost use Rattle.model.specs.Trees.{domain_file, problem_file};
-ghost use Rattle.model.specs.Files.{IsDomainText, IsProblemText, IsTextFault, IsTaskOf, IsTaskFault};
+ghost use Rattle.model.specs.Files.{IsDomainText, IsProblemText, IsTextFault, IsTaskOf, IsTaskFault, IsFileFault};
+ghost use Rattle.model.specs.Meaning.{is_instance};
+ghost use Rattle.model.specs.PlanText.{IsPlanText};
 
 use faults::{Code, Fault, NoMemory, Refused, Span, TextRefusal};
+use formulas::Plan;
+use plan_file::read_plan;
 use std::alloc::Global;
 use std::fmt;
 use thiserror::Error;
@@ -68,7 +74,7 @@ impl FileFault {
     ghost use Rattle.file_answers.specs.Files.{told_in, in_file};
 
     /// The fault of a file's text.
-    pub(crate) fn of(file: File, fault: Fault) -> FileFault
+    fn of(file: File, fault: Fault) -> FileFault
         ensures { told_in result ≡ in_file file (told_by fault) }
     {
         match fault {
@@ -112,7 +118,10 @@ impl From<NoMemory> for FileFault {
 /// The task of a domain file and a problem file.
 ///
 /// The domain is scanned and read, then the problem, then both are typed together; the first fault ends the call.
-pub(crate) fn read_task(alloc: Global, domain: &[u8], problem: &[u8]) -> Result<Task, FileFault>
+///
+/// # Errors
+/// The first fault of the two texts, or memory was refused.
+pub fn task_of_files(alloc: Global, domain: &[u8], problem: &[u8]) -> Result<Task, FileFault>
     ensures task { IfOk result (λ task. IsTaskOf domain.now problem.now (task_of task)) }
     ensures refused { IfErr result (λ fault. IfSome (told_in fault) (IsTaskFault domain.now problem.now)) }
 {
@@ -125,6 +134,22 @@ pub(crate) fn read_task(alloc: Global, domain: &[u8], problem: &[u8]) -> Result<
         Err(fault) => return Err(FileFault::of(File::Problem, fault)),
     };
     Ok(Task::new(alloc, domain, problem)?)
+}
+
+/// The plan of a plan file, for this task.
+///
+/// # Errors
+/// The first fault of the text, which is told of the plan file, or memory was refused.
+pub fn plan_of_file(alloc: Global, task: &Task, text: &[u8]) -> Result<Plan, FileFault>
+    ensures plan { IfOk result (λ plan. IsPlanText (task_of task.now) text.now (plan_of plan)) }
+    ensures instances { IfOk result (λ plan. IsTrue (list_all (is_instance (task_of task.now)) (plan_of plan))) }
+    ensures refused { (domain problem : List ℕ) → IsTaskOf domain problem (task_of task.now)
+        → IfErr result (λ fault. IfSome (told_in fault) (IsFileFault domain problem text.now)) }
+{
+    match read_plan(alloc, task, text) {
+        Ok(plan) => Ok(plan),
+        Err(fault) => Err(FileFault::of(File::Plan, fault)),
+    }
 }
 
 fn read_domain(alloc: Global, text: &[u8]) -> Result<pddl_tree::Domain<'_>, Fault>

@@ -6,8 +6,7 @@ ghost use Rattle.file_answers.specs.Files.{told_in};
 ghost use Rattle.model.specs.Task as model;
 ghost use Rattle.model.specs.Files.{AreRead, IsTaskOf, IsVerdictOf, IsFileFault};
 
-use crate::task_file::{File, FileFault, read_task};
-use plan_file::read_plan;
+use crate::task_file::{FileFault, plan_of_file, task_of_files};
 use std::alloc::Global;
 use typing::Task;
 use validator::{Verdict, validate};
@@ -37,7 +36,7 @@ pub fn validate_files(
     ensures taken { (task : model.Task) (steps : List model.Instance)
         → AreRead domain.now problem.now plan.now task steps → IfErr result (λ fault. told_in fault ≡ None) }
 {
-    let task = read_task(alloc, domain, problem)?;
+    let task = task_of_files(alloc, domain, problem)?;
     verdict_on(alloc, &task, plan)
 }
 
@@ -48,9 +47,6 @@ fn verdict_on(alloc: Global, task: &Task, plan: &[u8]) -> Result<Verdict, FileFa
     ensures refused { (domain problem : List ℕ) → IsTaskOf domain problem (task_of task.now)
         → IfErr result (λ fault. IfSome (told_in fault) (IsFileFault domain problem plan.now)) }
 {
-    let plan = match read_plan(alloc, task, plan) {
-        Ok(plan) => plan,
-        Err(fault) => return Err(FileFault::of(File::Plan, fault)),
-    };
+    let plan = plan_of_file(alloc, task, plan)?;
     Ok(validate(alloc, task, &plan)?)
 }
