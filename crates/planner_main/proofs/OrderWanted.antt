@@ -3,11 +3,11 @@ use Rattle.std.proofs.Common.{◌≡◌, ℕ, Bool, List, ◌∙◌, sym, ap, ap
 use Rattle.std.specs.Prelude.{Option}
 use Rattle.std.specs.Borrow.{Bor}
 use Rattle.solver.specs.declared.limits.Limits.{Limits}
-use Rattle.command_line.specs.Orders.{Asked, AskedOfCheck, to_solve, to_check}
+use Rattle.command_line.specs.Orders.{Asked, AskedOfCheck, AskedOfExplain, to_solve, to_check, to_explain}
 use Rattle.command_line.specs.View.{text_in, wanted_of}
 use Rattle.command_line.specs.declared.max_count.MaxCount.{MaxCount}
 use Rattle.command_line.specs.declared.order.Order.{Order}
-use Rattle.command_line.specs.declared.order.Order.TheVariants.{Solve, Check}
+use Rattle.command_line.specs.declared.order.Order.TheVariants.{Solve, Check, Explain}
 
 -- this is asked for, with these numbers
 abbrev asked_with : (plan cert : Option (Bor (List ℕ))) (json : Bool) (states instances : ℕ) → Asked
@@ -27,3 +27,12 @@ pub wanted_of_check : (order : Order) (domain problem cert : Bor (List ℕ)) (pl
     → to_check domain.now problem.now cert.now (record { instances = number; plan = text_in plan; json = json }) ≡ wanted_of order
 wanted_of_check order domain problem cert plan instances json number is same =
     ap (λ (n : ℕ). to_check domain.now problem.now cert.now (asked_of_check plan json n)) same ∙ sym (ap wanted_of is)
+
+abbrev asked_of_explain : (plan : Option (Bor (List ℕ))) (instances : ℕ) → AskedOfExplain
+asked_of_explain plan instances = record { instances = instances; plan = text_in plan }
+
+pub wanted_of_explain : (order : Order) (domain problem : Bor (List ℕ)) (plan : Option (Bor (List ℕ))) (instances : MaxCount) (number : ℕ)
+    → order ≡ Explain domain problem plan instances → number ≡ instances.number
+    → to_explain domain.now problem.now (record { instances = number; plan = text_in plan }) ≡ wanted_of order
+wanted_of_explain order domain problem plan instances number is same =
+    ap (λ (n : ℕ). to_explain domain.now problem.now (asked_of_explain plan n)) same ∙ sym (ap wanted_of is)

@@ -6,7 +6,6 @@ use Rattle.std.specs.Option.{option_map}
 use Rattle.std.specs.Str.{bytes_eq}
 use Rattle.command_line.specs.Orders.{Asks, Wanted}
 use Rattle.devices.specs.Written.{NamedText, HoldsBeginning, with_file, with_files, AreWritten, AreWrittenPartly}
-use Rattle.planner_main.specs.Failures.{is_failure}
 use Rattle.planner_main.specs.Asked.{Outputs, outputs_of}
 use Rattle.file_answers.specs.Files.{text_in}
 use Rattle.planner_main.specs.Objects.{line_of_members}
@@ -15,7 +14,7 @@ use Rattle.planner_main.specs.Reported.{of_report, status_of, text_of, told_of}
 use Rattle.planner_main.specs.declared.telling.reports.Report.{Report}
 use Rattle.planner_main.specs.Program.{IsTold, IsToldPartly, nothing, in_a_file, on_the_output, IsAnswer, IsAnswerTo, IsReportOn, Tells, TellsPartly, TellsFor, TellsPartlyFor}
 use Rattle.devices.specs.Texts.{AreKept}
-use Rattle.planner_main.proofs.ProgramWords.{answered_status}
+use Rattle.planner_main.proofs.ProgramWords.{IsOfReport, answered_status}
 
 -- What is written over the same files is the same.
 with_files_same : (before now : List ℕ → Option (List ℕ)) (files : List NamedText) → AreKept before now → AreKept (with_files before files) (with_files now files)
@@ -121,5 +120,5 @@ module _ (words : List (List ℕ)) (wanted : Wanted) (asks : Asks words wanted) 
   partly_of_words told =
       partly_as (IsAnswerTo files wanted) (IsAnswer files words) answers_words known files files after (λ name. refl) out out_after told
 
-  pub told_status : (status : ℕ) → TellsFor wanted known files after out out_after status → is_failure status ≡ false
+  pub told_status : (status : ℕ) → TellsFor wanted known files after out out_after status → IsOfReport status
   told_status status (text, written, is, appended, held) = answered_status files wanted text status written is

@@ -8,7 +8,7 @@ use Rattle.planner_main.specs.declared.failures.Failure.{Failure}
 use Rattle.planner_main.specs.declared.failures.Failure.TheVariants as failure
 use Rattle.file_answers.specs.declared.task_file.FileFault.TheVariants as refusal
 use Rattle.devices.specs.declared.device.WriteFault.TheVariants as device
-use Rattle.command_line.specs.Orders.{Asks, IsCommand, Wanted, to_solve, to_validate, to_check}
+use Rattle.command_line.specs.Orders.{Asks, IsCommand, Wanted, to_solve, to_validate, to_check, to_explain}
 use Rattle.command_line.specs.View.{IsOfWords}
 use Rattle.command_line.specs.declared.fault.WordsFault.{WordsFault}
 use Rattle.command_line.proofs.OrderLemmas.{one_wanted}
@@ -37,6 +37,10 @@ use Rattle.devices.specs.Devices.{AppendsBeginning, CountsDevice, IsWritten, one
 use Rattle.planner_main.specs.Failures.{is_failure}
 use Rattle.planner_main.specs.VerdictTold as verdict
 use Rattle.planner_main.specs.AnswerTold as answer
+use Rattle.planner_main.specs.ExplanationTold as explanation
+use Rattle.explanations.specs.declared.explanation.Subject.{Subject}
+use Rattle.explanations.specs.declared.explanation.Subject.TheVariants as subject
+use Rattle.explanations.specs.declared.explanation.Grounded.TheVariants as grounded
 use Rattle.model.specs.Runs.{Verdict, valid, not_applicable, goal_missed}
 use Rattle.model.specs.Files.{FileFault, IsTaskFault, IsFileFault}
 
@@ -71,7 +75,10 @@ pub files_named : (files_of : Wanted → List (List ℕ)) (words : List (List �
 files_named files_of words wanted name asks (other, others, is) =
     subst (λ (w : Wanted). IsOneOf (files_of w) name) (one_wanted words other wanted others asks) is
 
--- The status of what is reported is none of a failure.
+-- The status of what is reported is none of a failure, but that of a text that is refused, where this is explained.
+abbrev pub IsOfReport : ℕ → Type 0
+IsOfReport status = (is_failure status ≡ false) ⊎ (status ≡ 20)
+
 verdict_status : (v : Verdict) → is_failure (verdict.status_of v) ≡ false
 verdict_status (valid cost) = refl
 verdict_status (not_applicable step) = refl
@@ -86,14 +93,21 @@ checked_status : (answer : Result Accepted Refusal) → is_failure (check.status
 checked_status (Ok accepted) = refl
 checked_status (Err refusal) = refl
 
-report_status : (r : Report) → is_failure (status_of r) ≡ false
-report_status (report.Solve solved) = answer_status solved.answer
-report_status (report.Validate v) = verdict_status (verdict_of v)
-report_status (report.Check checked) = checked_status checked.answer
+explanation_status : (subject : Subject) → IsOfReport (explanation.status_of subject)
+explanation_status (subject.Fault file code span) = inr refl
+explanation_status (subject.Plan v) = inl (verdict_status (verdict_of v))
+explanation_status (subject.Task (grounded.Within instances atoms)) = inl refl
+explanation_status (subject.Task (grounded.Beyond limit)) = inl refl
+
+report_status : (r : Report) → IsOfReport (status_of r)
+report_status (report.Solve solved) = inl (answer_status solved.answer)
+report_status (report.Validate v) = inl (verdict_status (verdict_of v))
+report_status (report.Check checked) = inl (checked_status checked.answer)
+report_status (report.Explain e) = explanation_status e.subject
 
 pub answered_status : (contents : List ℕ → Option (List ℕ)) (wanted : Wanted) (text : List ℕ) (status : ℕ) (written : List NamedText)
-    → IsAnswerTo contents wanted text status written → is_failure status ≡ false
-answered_status contents wanted text status written (found, is_found, (is_text, is_status, files)) = ap is_failure is_status ∙ report_status found
+    → IsAnswerTo contents wanted text status written → IsOfReport status
+answered_status contents wanted text status written (found, is_found, (is_text, is_status, files)) = subst IsOfReport (sym is_status) (report_status found)
 
 -- What is found out of files can be told, as a text and as JSON.
 pub can_be_told : (contents : List ℕ → Option (List ℕ)) (wanted : Wanted) (found : Report) → IsReportOn contents wanted found → HasText found
@@ -102,14 +116,17 @@ can_be_told contents (to_solve domain problem asked) found (s, is, (d, p, d_is, 
     subst HasText (sym is) (task_has_names d p (task_of s.task) is_task)
 can_be_told contents (to_check domain problem cert asked) found (c, is, (d, p, l, d_is, p_is, l_is, (text, steps, whole, is_task, handed, is_true, told))) =
     subst HasText (sym is) (task_has_names d p (task_of c.task) is_task, told)
+can_be_told contents (to_explain domain problem asked) found (e, is, on) = subst HasText (sym is) tt
 
 pub object_too : (r : Report) → HasText r → reported.IsTold r
 object_too (report.Solve solved) names = names
 object_too (report.Validate v) tells = tells
 object_too (report.Check checked) (names, told) = told
+object_too (report.Explain e) tells = tells
 
-pub no_failure : (n status : ℕ) → is_failure status ≡ false → is_failure n ≡ true → status ≡ n → ⊥
-no_failure n status answers fails same = absurd (cc (ap is_failure same))
+pub no_failure : (n status : ℕ) → IsOfReport status → is_failure n ≡ true → (n ≡ 20 → ⊥) → status ≡ n → ⊥
+no_failure n status (inl answers) fails other same = absurd (cc (ap is_failure same))
+no_failure n status (inr is) fails other same = absurd (other (sym same ∙ is))
 
 -- What is told of a failure has its status: not that of words that are no command, and that of a device or of memory with its line.
 module _ (Says : List ℕ → Type 0) (status : ℕ) where

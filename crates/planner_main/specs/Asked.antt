@@ -1,6 +1,6 @@
 -- How what is found out is told, and which files are written of it: as the words ask for it, and as the code has it.
 use Rattle.std.specs.Prelude.{Bool, true, false, List, ℕ, Option, None}
-use Rattle.command_line.specs.Orders.{Wanted, to_solve, to_validate, to_check}
+use Rattle.command_line.specs.Orders.{Wanted, to_solve, to_validate, to_check, to_explain}
 use Rattle.command_line.specs.View.{text_in}
 use Rattle.planner_main.specs.declared.telling.reports.Format.{Format}
 use Rattle.planner_main.specs.declared.telling.reports.Format.TheVariants.{Text, Json}
@@ -17,6 +17,7 @@ abbrev pub outputs_of : Wanted → Outputs
 outputs_of (to_validate domain problem plan json) = record { json = json; cert = None; plan = None }
 outputs_of (to_solve domain problem asked) = record { json = asked.json; cert = asked.cert; plan = asked.plan }
 outputs_of (to_check domain problem cert asked) = record { json = asked.json; cert = None; plan = None }
+outputs_of (to_explain domain problem asked) = record { json = false; cert = None; plan = None }
 
 -- what the code has
 abbrev pub is_json : Format → Bool

@@ -4,6 +4,7 @@ pub mod MembersBuilt
 pub mod JsonExamples
 pub mod Objects
 pub mod VerdictTold
+pub mod ExplanationTold
 pub mod AnswerTold
 pub mod CheckTold
 pub mod Failures

@@ -73,6 +73,10 @@ of_checked (Err refusal.NoMemory) = []
 of_checked (Err refusal.Device) = []
 of_checked (Err refusal.Failed) = []
 
+-- an explanation, whose lines are one text
+abbrev pub of_explanation : (lines : List ℕ) → List Member
+of_explanation lines = command (codes "explain") ∷ member (codes "text") (text lines) ∷ []
+
 -- the line of an object
 abbrev pub line_of_members : List Member → List ℕ
 line_of_members members = object_text members ++ codes "\n"

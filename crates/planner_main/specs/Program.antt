@@ -17,12 +17,14 @@ use Rattle.devices.specs.declared.device.WriteFault.TheVariants as device
 use Rattle.devices.specs.Devices.{AppendsBeginning, one_more}
 use Rattle.planner_main.specs.Failures.{line_of_fault, device_line, no_memory_line, nothing_done_line}
 use Rattle.file_answers.specs.Files.{fault_at, told_in}
-use Rattle.command_line.specs.Orders.{Asks, Wanted, to_solve, to_validate, to_check}
+use Rattle.command_line.specs.Orders.{Asks, Wanted, to_solve, to_validate, to_check, to_explain}
 use Rattle.command_line.specs.View.{IsOfWords}
 use Rattle.command_line.specs.declared.fault.WordsFault.{WordsFault}
 use Rattle.file_answers.specs.Checked.{IsHandedIn, IsInputFault, IsTrueCheck}
 use Rattle.planner_main.specs.CheckTold.{IsToldRefusal}
 use Rattle.planner_main.specs.Asked.{outputs_of}
+use Rattle.explanations.specs.declared.explanation.Explanation.{Explanation}
+use Rattle.explanations.specs.Explanations.{IsTrueOf}
 use Rattle.devices.specs.Texts.{AreKept, IsText}
 use Rattle.devices.specs.Written.{NamedText, AreWritten, AreWrittenPartly}
 use Rattle.planner_main.specs.Solution.{TellsReport}
@@ -46,12 +48,14 @@ abbrev pub inputs_of : Wanted → List (List ℕ)
 inputs_of (to_validate domain problem plan json) = domain ∷ problem ∷ plan ∷ []
 inputs_of (to_solve domain problem asked) = domain ∷ problem ∷ []
 inputs_of (to_check domain problem cert asked) = domain ∷ problem ∷ cert ∷ if_named asked.plan
+inputs_of (to_explain domain problem asked) = domain ∷ problem ∷ if_named asked.plan
 
 -- the names of the files whose texts are read whole: all but that of the certificate
 abbrev pub texts_of : Wanted → List (List ℕ)
 texts_of (to_validate domain problem plan json) = domain ∷ problem ∷ plan ∷ []
 texts_of (to_solve domain problem asked) = domain ∷ problem ∷ []
 texts_of (to_check domain problem cert asked) = domain ∷ problem ∷ if_named asked.plan
+texts_of (to_explain domain problem asked) = domain ∷ problem ∷ if_named asked.plan
 
 -- The words are a command that reads the file of this name; and its text whole.
 abbrev pub NamesInput : List (List ℕ) → List ℕ → Type 0
@@ -105,11 +109,17 @@ IsCheckOn contents domain problem cert plan most found =
     (c : Checked) × (found ≡ report.Check c)
     × OnInputs contents domain problem plan (λ d p l. IsCheckedIn (contents cert) d p l most (task_of c.task) c.answer)
 
+-- or what is explained of two texts, and of the plan of a third, if one is named.
+abbrev pub IsExplanationOn : (List ℕ → Option (List ℕ)) → (domain problem : List ℕ) → (plan : Option (List ℕ)) → (most : ℕ) → Report → Type 0
+IsExplanationOn contents domain problem plan most found =
+    (e : Explanation) × (found ≡ report.Explain e) × OnInputs contents domain problem plan (λ d p l. IsTrueOf d p l most e.subject)
+
 -- what is found out is what is asked for, and true
 abbrev pub IsReportOn : (List ℕ → Option (List ℕ)) → Wanted → Report → Type 0
 IsReportOn contents (to_validate domain problem plan json) = IsVerdictOn contents domain problem plan
 IsReportOn contents (to_solve domain problem asked) = IsSolutionOn contents domain problem asked.states asked.instances
 IsReportOn contents (to_check domain problem cert asked) = IsCheckOn contents domain problem cert asked.plan asked.instances
+IsReportOn contents (to_explain domain problem asked) = IsExplanationOn contents domain problem asked.plan asked.instances
 
 -- This text, with this status and the files that are written before it, tells what is found out, which is true of the texts of
 -- the files, as it is asked for; and as the words ask for it.
@@ -145,11 +155,13 @@ Tells words known files files_after = IsTold (IsAnswer files words) known files 
 abbrev pub TellsPartly : List (List ℕ) → (known : Bool) → (files files_after : List ℕ → Option (List ℕ)) → (out out_after : Option (List ℕ)) → Type 0
 TellsPartly words known files files_after = IsToldPartly (IsAnswer files words) known files files_after
 
--- the texts of the files that are named are refused, and this fault is the first
+-- The texts of the files that are named are refused, and this fault is the first. Where it is asked for what is wrong, that is
+-- the answer.
 abbrev pub IsFaultFor : (List ℕ → Option (List ℕ)) → Wanted → FileFault → Type 0
 IsFaultFor contents (to_validate domain problem plan json) fault = OnThree contents domain problem plan (λ d p l. IsFileFault d p l fault)
 IsFaultFor contents (to_solve domain problem asked) fault = OnTwo contents domain problem (λ d p. IsTaskFault d p fault)
 IsFaultFor contents (to_check domain problem cert asked) fault = OnInputs contents domain problem asked.plan (λ d p l. IsInputFault d p l fault)
+IsFaultFor contents (to_explain domain problem asked) fault = ⊥
 
 -- The texts of the files that the words name are refused, and this fault is the first.
 abbrev pub IsRefusedFor : (List ℕ → Option (List ℕ)) → List (List ℕ) → FileFault → Type 0

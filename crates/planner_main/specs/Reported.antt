@@ -1,12 +1,14 @@
 -- What is reported: the members of its object, the text that tells it, and the status beside it.
 use Rattle.std.specs.Prelude.{ℕ, Bool, List, IsTrue, if◌then◌else◌}
+use Rattle.std.specs.String.{string_bytes}
 use Rattle.planner_main.specs.JsonText.{Member}
 use Rattle.typing.specs.Task.{task_of}
 use Rattle.validator.specs.Verdict.{verdict_of}
-use Rattle.planner_main.specs.Objects.{line_of_members, of_answer, of_checked, of_verdict}
+use Rattle.planner_main.specs.Objects.{line_of_members, of_answer, of_checked, of_explanation, of_verdict}
 use Rattle.planner_main.specs.AnswerTold as answers
 use Rattle.planner_main.specs.VerdictTold as verdicts
 use Rattle.planner_main.specs.CheckTold as checks
+use Rattle.planner_main.specs.ExplanationTold as explanations
 use Rattle.planner_main.specs.CheckTold.{IsToldRefusal}
 use Rattle.planner_main.specs.declared.telling.reports.Report.{Report}
 use Rattle.planner_main.specs.declared.telling.reports.Report.TheVariants as report
@@ -17,24 +19,28 @@ abbrev pub of_report : Report → List Member
 of_report (report.Solve solved) = of_answer (task_of solved.task) solved.answer
 of_report (report.Validate verdict) = of_verdict (verdict_of verdict)
 of_report (report.Check checked) = of_checked checked.answer
+of_report (report.Explain e) = of_explanation (string_bytes e.text)
 
 -- What is reported can be told: the names of a task that was solved are names, as those of each task of files, and a refusal is told.
 abbrev pub IsTold : Report → Type 0
 IsTold (report.Solve solved) = IsTrue (has_names (task_of solved.task))
 IsTold (report.Validate verdict) = Unit {0}
 IsTold (report.Check checked) = IsToldRefusal checked.answer
+IsTold (report.Explain e) = Unit {0}
 
 -- It can be told as a text too: the names of a task whose certificate was checked are names.
 abbrev pub HasText : Report → Type 0
 HasText (report.Solve solved) = IsTrue (has_names (task_of solved.task))
 HasText (report.Validate verdict) = Unit {0}
 HasText (report.Check checked) = IsTrue (has_names (task_of checked.task)) × IsToldRefusal checked.answer
+HasText (report.Explain e) = Unit {0}
 
--- the text that tells it: a plan, or a line
+-- the text that tells it: a plan, a line, or the lines of an explanation
 abbrev pub text_of : Report → List ℕ
 text_of (report.Solve solved) = answers.text_of (task_of solved.task) solved.answer
 text_of (report.Validate verdict) = verdicts.line_of (verdict_of verdict)
 text_of (report.Check checked) = checks.line_of (task_of checked.task) checked.answer
+text_of (report.Explain e) = string_bytes e.text
 
 -- what the standard output takes: that text, or the object on a line
 abbrev pub told_of : (json : Bool) → Report → List ℕ
@@ -45,3 +51,4 @@ abbrev pub status_of : Report → ℕ
 status_of (report.Solve solved) = answers.status_of solved.answer
 status_of (report.Validate verdict) = verdicts.status_of (verdict_of verdict)
 status_of (report.Check checked) = checks.status_of checked.answer
+status_of (report.Explain e) = explanations.status_of e.subject

@@ -31,6 +31,7 @@ abbrev pub cert_text : Report → Option (List ℕ)
 cert_text (report.Solve solved) = option_map (λ (cert : Listing). certificate_text (task_of solved.task) (certificate_in cert)) (cert_of solved.answer)
 cert_text (report.Validate verdict) = None
 cert_text (report.Check checked) = None
+cert_text (report.Explain e) = None
 
 -- the text of the plan that is reported, if one is
 abbrev pub answer_plan : Task → Answer → Option (List ℕ)
@@ -42,6 +43,7 @@ abbrev pub plan_text : Report → Option (List ℕ)
 plan_text (report.Solve solved) = answer_plan (task_of solved.task) solved.answer
 plan_text (report.Validate verdict) = None
 plan_text (report.Check checked) = None
+plan_text (report.Explain e) = None
 
 -- the text, if there is one, for the file of this name, if one is named
 abbrev pub in_file : (name text : Option (List ℕ)) → List NamedText

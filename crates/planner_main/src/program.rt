@@ -9,6 +9,7 @@ ghost use Rattle.devices.specs.Texts.{AreKept};
 ghost use Rattle.devices.specs.Devices.{IsWritten};
 
 mod acceptance;
+mod explaining;
 mod inputs;
 mod outputs;
 mod solution;
@@ -20,6 +21,7 @@ use crate::telling::Report;
 use acceptance::{Names, report_of_check};
 use command_line::{MaxCount, Order, read_words};
 use devices::{Files, Sink};
+use explaining::report_of_explain;
 use outputs::outputs_of;
 use solution::report_of_solve;
 use solver::Limits;
@@ -36,7 +38,8 @@ use writing::tell_report;
 /// plan's text to the file of `--plan`, and then the standard output; where one of them fails, those after it are not touched, and
 /// neither is a file for which there is nothing to write. `validate` says whether the plan solves the task. `check` says what the
 /// certificate shows: with a plan, which is read from the file of `--plan`, that it is a cheapest one; else that no plan costs less, or
-/// that there is none. Of a file at most 16,777,217 bytes are read and taken for its whole text, and all files are read before any
+/// that there is none. `explain` says for people what is wrong with a text or with a plan, and where, and else what the task holds. Of
+/// a file at most 16,777,217 bytes are read and taken for its whole text, and all files are read before any
 /// fault of their texts is told; but the certificate is only opened before, and then read line by line, to its end or to its first
 /// fault, whatever its length.
 ///
@@ -52,6 +55,11 @@ use writing::tell_report;
 /// | it is not | `not accepted CODE Name line L`, `not accepted 46 Unfair (ACTION OBJECT ..)`, `not accepted 56 DeadUnfair (ACTION OBJECT ..)` or `not accepted CODE Name` | | 12 |
 /// | other words, or such as ask for help | | what is wrong, or the help, and `optplan: nothing was done` | 2 |
 /// | a file's text is refused | | `fault CODE Name in FILE at S..E` | 20 |
+/// | `explain`: a text is refused | where and why, in some lines | | 20 |
+/// | `explain`: the plan does not solve the task | the step or the goal, and why | | 12 |
+/// | `explain`: it does | its steps and their costs | | 0 |
+/// | `explain`: nothing is wrong with the task | what it holds | | 0 |
+/// | `explain`: its ground task is too large | what it holds, and `unknown instances` or `unknown atoms` | | 11 |
 /// | a file, or the standard output, fails | | `fault 61 Device` | 21 |
 /// | memory is refused | | `fault 60 NoMemory` | 22 |
 ///
@@ -80,13 +88,15 @@ pub fn run<F: Files, O: Sink, E: Sink>(
     ensures quiet { is_failure result ≡ false → E.taken err.new ≡ E.taken err.old }
 
     // The status of words that are no command is told exactly of these, unless memory for reading them is refused; and that of
-    // texts only where they are refused.
+    // texts only where they are refused: `explain` tells the fault on the standard output, as what was asked for, and of the other
+    // commands none tells an answer with this status.
     ensures words { result ≡ 2 → IsCommand (texts words.now) → ⊥ }
     ensures no_command { (IsCommand (texts words.now) → ⊥) → (result ≡ 2) ⊎ (result ≡ 22) }
     ensures usage { result ≡ 2 → (O.taken out.new ≡ O.taken out.old) × AreKept (F.contents files.old) (F.contents files.new)
         × SaysOfWords (IsWritten E.wants_memory (E.failures err.old) (E.failures err.new) (E.taken err.old) (E.taken err.new)) }
     ensures refused { result ≡ 20 → Refuses (texts words.now) (F.contents files.old) (F.contents files.new)
-        (O.taken out.old) (O.taken out.new) (IsWritten E.wants_memory (E.failures err.old) (E.failures err.new) (E.taken err.old) (E.taken err.new)) }
+        (O.taken out.old) (O.taken out.new) (IsWritten E.wants_memory (E.failures err.old) (E.failures err.new) (E.taken err.old) (E.taken err.new))
+        ⊎ (Tells (texts words.now) F.is_known (F.contents files.old) (F.contents files.new) (O.taken out.old) (O.taken out.new) result × (E.taken err.new ≡ E.taken err.old)) }
 
     // The status of a device is told exactly where one failed. An answer may have been told in part.
     ensures unfailed { (result ≡ 21 → ⊥) → HasNotFailed (F.failures files.old) (F.failures files.new) (O.failures out.old) (O.failures out.new) }
@@ -171,6 +181,12 @@ fn report_of<F: Files>(alloc: Global, order: Order<'_>, files: &mut F) -> Result
             };
             report_of_check(alloc, names, instances.number(), files)
         }
+        Order::Explain {
+            domain,
+            problem,
+            plan,
+            instances,
+        } => report_of_explain(alloc, domain, problem, plan, instances.number(), files),
     }
 }
 

@@ -1,5 +1,5 @@
 //! `check`: what a certificate shows, from files.
-ghost use Rattle.std.specs.Prelude.{◌≡◌, ℕ, IfErr, IfOk, IfSome, IsErr, IsTrue, List, ◌∷◌, Option};
+ghost use Rattle.std.specs.Prelude.{◌≡◌, ℕ, IfErr, IfOk, IfSome, IsTrue, List, ◌∷◌, Option};
 ghost use Rattle.cert_checker.specs.Reading.{IsFresh};
 ghost use Rattle.typing.specs.Task.{task_of};
 ghost use Rattle.certificate_reader.specs.Reader.{source_of};
@@ -8,14 +8,14 @@ ghost use Rattle.file_answers.specs.Files.{text_in};
 ghost use Rattle.file_answers.specs.declared.checking.Checked.{Checked};
 ghost use Rattle.planner_main.specs.declared.telling.reports.Report.TheVariants.{Check};
 ghost use Rattle.devices.specs.Texts.{AreKept, items_in};
-ghost use Rattle.planner_main.specs.Program.{CountsFailure, IsCheckOn, IsCheckedIn, IsOneOf, IsTextIfNamed, IsUnread, OnInputs, fault_in, if_named};
-ghost use Rattle.devices.specs.Devices.{CountsDevice, IsKept};
+ghost use Rattle.planner_main.specs.Program.{CountsFailure, IsCheckOn, IsCheckedIn, IsOneOf, IsUnread, OnInputs, fault_in, if_named};
+ghost use Rattle.devices.specs.Devices.{IsKept};
 
 use crate::failures::Failure;
-use crate::program::inputs::{Pair, read_pair};
+use crate::program::inputs::{Pair, read_named, read_pair};
 use crate::telling::{Report, failure_of};
 use certificate::CertReader;
-use devices::{Files, Source, WriteFault, read_file};
+use devices::{Files, Source};
 use file_answers::check_files;
 use std::alloc::Global;
 
@@ -66,24 +66,6 @@ pub(super) fn report_of_check<F: Files>(
     let report = check_texts(alloc, &texts, &mut cert, instances);
     files.finish(cert.into_source());
     report
-}
-
-/// The text of a file, if one is named.
-fn read_named<F: Files>(
-    alloc: Global,
-    files: &mut F,
-    name: Option<&str>,
-) -> Result<Option<Vec<u8>>, WriteFault>
-    ensures text { IfOk result (λ text. IsTextIfNamed (F.contents files.old) (text_in name.entry) (items_in text)) }
-    ensures kept { AreKept (F.contents files.old) (F.contents files.new) }
-    ensures failures { CountsDevice (F.failures files.old) (F.failures files.new) result }
-    ensures unread { (other : List ℕ) → IsOneOf (if_named (text_in name.entry)) other → IsTrue (F.is_missing files.old other) → IsErr result }
-    ensures unreadable { (other : List ℕ) → IsOneOf (if_named (text_in name.entry)) other → IsTrue (F.is_unreadable files.old other) → IsErr result }
-{
-    match name {
-        Some(name) => Ok(Some(read_file(alloc, files, name)?)),
-        None => Ok(None),
-    }
 }
 
 /// What the certificate that comes to a new reader shows.

@@ -1,6 +1,8 @@
 //! The texts of the files that are read.
 ghost use Rattle.std.specs.Prelude.{◌≡◌, ℕ, Err, IfOk, IsErr, IsTrue, List};
-ghost use Rattle.devices.specs.Texts.{AreKept, IsText};
+ghost use Rattle.devices.specs.Texts.{AreKept, IsText, items_in};
+ghost use Rattle.file_answers.specs.Files.{text_in};
+ghost use Rattle.planner_main.specs.Program.{IsOneOf, IsTextIfNamed, if_named};
 ghost use Rattle.devices.specs.declared.device.WriteFault.TheVariants.{Device};
 ghost use Rattle.devices.specs.Devices.{CountsDevice};
 
@@ -37,4 +39,22 @@ pub(super) fn read_pair<F: Files>(
     let domain = read_file(alloc, files, domain)?;
     let problem = read_file(alloc, files, problem)?;
     Ok(Pair { domain, problem })
+}
+
+/// The text of a file, if one is named.
+pub(super) fn read_named<F: Files>(
+    alloc: Global,
+    files: &mut F,
+    name: Option<&str>,
+) -> Result<Option<Vec<u8>>, WriteFault>
+    ensures text { IfOk result (λ text. IsTextIfNamed (F.contents files.old) (text_in name.entry) (items_in text)) }
+    ensures kept { AreKept (F.contents files.old) (F.contents files.new) }
+    ensures failures { CountsDevice (F.failures files.old) (F.failures files.new) result }
+    ensures unread { (other : List ℕ) → IsOneOf (if_named (text_in name.entry)) other → IsTrue (F.is_missing files.old other) → IsErr result }
+    ensures unreadable { (other : List ℕ) → IsOneOf (if_named (text_in name.entry)) other → IsTrue (F.is_unreadable files.old other) → IsErr result }
+{
+    match name {
+        Some(name) => Ok(Some(read_file(alloc, files, name)?)),
+        None => Ok(None),
+    }
 }

@@ -1,5 +1,5 @@
 //! How a report is told, and which files are written of it.
-ghost use Rattle.std.specs.Prelude.{◌≡◌};
+ghost use Rattle.std.specs.Prelude.{◌≡◌, None};
 ghost use Rattle.command_line.specs.View.{wanted_of};
 ghost use Rattle.planner_main.specs.Asked.{is_json, outputs_in, outputs_of};
 
@@ -31,14 +31,19 @@ pub(super) fn outputs_of(order: Order<'_>) -> Outputs<'_>
             let format = format_of(json);
             Outputs { format, cert, plan }
         }
-        Order::Validate { json, .. } | Order::Check { json, .. } => {
-            let format = format_of(json);
-            Outputs {
-                format,
-                cert: None,
-                plan: None,
-            }
-        }
+        Order::Validate { json, .. } | Order::Check { json, .. } => only_told(format_of(json)),
+        Order::Explain { .. } => only_told(Format::Text),
+    }
+}
+
+/// A report of which no file is written.
+fn only_told<'a>(format: Format) -> Outputs<'a>
+    ensures { outputs_in result ≡ record { json = is_json format; cert = None; plan = None } }
+{
+    Outputs {
+        format,
+        cert: None,
+        plan: None,
     }
 }
 

@@ -79,7 +79,7 @@ fn cert_text(alloc: Global, report: &Report) -> Option<CertText<'_>>
             }
             None => None,
         },
-        Report::Validate(_) | Report::Check(_) => None,
+        Report::Validate(_) | Report::Check(_) | Report::Explain(_) => None,
     }
 }
 
@@ -105,7 +105,7 @@ fn plan_text<'a>(report: &Report, text: &'a [u8]) -> Option<Bytes<'a>>
             Answer::Plan { .. } => Some(Bytes(text)),
             Answer::Unsolvable { .. } | Answer::Unknown(_) => None,
         },
-        Report::Validate(_) | Report::Check(_) => None,
+        Report::Validate(_) | Report::Check(_) | Report::Explain(_) => None,
     }
 }
 

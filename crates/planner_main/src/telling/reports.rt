@@ -9,8 +9,9 @@ ghost use Rattle.planner_main.specs.Reported.{HasText, IsTold, of_report, text_o
 
 use crate::telling::answer::answer_text;
 use crate::telling::check::checked_line;
-use crate::telling::objects::{answer_object, checked_object, verdict_object};
+use crate::telling::objects::{answer_object, checked_object, explanation_object, verdict_object};
 use crate::telling::verdict::verdict_line;
+use explanations::Explanation;
 use faults::NoMemory;
 use file_answers::{Checked, Solved};
 use std::alloc::{AllocError, Global};
@@ -25,12 +26,14 @@ pub enum Report {
     Validate(Verdict),
     /// Of a certificate.
     Check(Checked),
+    /// Of files, for people.
+    Explain(Explanation),
 }
 
 /// What the standard output takes.
 #[derive(Clone, Copy)]
 pub(crate) enum Format {
-    /// A text: a plan, or a line.
+    /// A text: a plan, or lines.
     Text,
     /// An object of JSON, on a line.
     Json,
@@ -49,6 +52,7 @@ pub(crate) enum Format {
 /// | it does not | `{"command":"validate","result":"not applicable","step":1}`, or `"goal missed"` and no step |
 /// | the certificate is accepted | `{"command":"check","cost":6,"result":"optimal"}`, or `"at least"`, or `"unsolvable"` and no cost |
 /// | it is refused | `{"code":50,"command":"check","name":"SuccessorDearer","result":"not accepted"}` |
+/// | files are explained | `{"command":"explain","text":".."}`, with the lines as one string |
 pub fn json_line(alloc: Global, report: &Report) -> Result<String, NoMemory>
     requires { IsTold report.now }
     ensures { IfOk result (λ line. string_bytes line ≡ object_text (of_report report.now)) }
@@ -57,11 +61,12 @@ pub fn json_line(alloc: Global, report: &Report) -> Result<String, NoMemory>
         Report::Solve(solved) => answer_object(alloc, &solved.task, &solved.answer),
         Report::Validate(verdict) => verdict_object(alloc, *verdict),
         Report::Check(checked) => checked_object(alloc, &checked.answer),
+        Report::Explain(explanation) => explanation_object(alloc, explanation.text.as_str()),
     };
     Ok(text?)
 }
 
-/// The text of what was found out: a plan, or a line.
+/// The text of what was found out: a plan, a line, or the lines of an explanation.
 pub(crate) fn report_text(alloc: Global, report: &Report) -> Result<Vec<u8>, NoMemory>
     requires { HasText report.now }
     ensures { IfOk result (λ text. text.items ≡ text_of report.now) }
@@ -72,6 +77,7 @@ pub(crate) fn report_text(alloc: Global, report: &Report) -> Result<Vec<u8>, NoM
         Report::Check(checked) => {
             Ok(checked_line(alloc, &checked.task, &checked.answer)?.into_bytes())
         }
+        Report::Explain(explanation) => Ok(Vec::from_slice(alloc, explanation.text.as_bytes())?),
     }
 }
 

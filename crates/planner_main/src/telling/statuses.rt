@@ -4,12 +4,14 @@ ghost use Rattle.planner_main.specs.Reported.{status_of};
 ghost use Rattle.validator.specs.Verdict.{verdict_of};
 ghost use Rattle.planner_main.specs.AnswerTold as answers;
 ghost use Rattle.planner_main.specs.VerdictTold as verdicts;
+ghost use Rattle.planner_main.specs.ExplanationTold as explanations;
 
 use crate::telling::reports::Report;
+use explanations::{Grounded, Subject};
 use solver::Answer;
 use validator::Verdict;
 
-/// A plan is told, the plan solves the task, or the certificate is accepted.
+/// A plan is told, the plan solves the task, the certificate is accepted, or nothing is wrong with the files.
 const YES: u8 = 0;
 
 /// The words are no command.
@@ -44,6 +46,7 @@ pub(crate) fn status_of(report: &Report) -> u8
             Ok(_) => YES,
             Err(_) => NO,
         },
+        Report::Explain(explanation) => explanation_status(explanation.subject),
     }
 }
 
@@ -63,5 +66,16 @@ fn verdict_status(verdict: Verdict) -> u8
     match verdict {
         Verdict::Valid { .. } => YES,
         Verdict::NotApplicable { .. } | Verdict::GoalMissed => NO,
+    }
+}
+
+fn explanation_status(subject: Subject) -> u8
+    ensures { result ≡ explanations.status_of subject }
+{
+    match subject {
+        Subject::Fault { .. } => REFUSED,
+        Subject::Plan(verdict) => verdict_status(verdict),
+        Subject::Task(Grounded::Within { .. }) => YES,
+        Subject::Task(Grounded::Beyond(_)) => UNKNOWN,
     }
 }

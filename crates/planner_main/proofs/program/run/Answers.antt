@@ -49,23 +49,23 @@ returns-in-Ok-carry_out-clause-status g c =
 
 pub returns-in-Ok-carry_out-clause-words : goal.returns-in-Ok-carry_out-clause-words
 returns-in-Ok-carry_out-clause-words g c =
-    λ same. absurd (no_failure 2 _ (told_status (texts c.args.words.now) (wanted_of c.in-Ok.order) c.in-Ok.ensures.asks g.F.Files.is_known (g.F.Files.contents c.args.files.now) (g.F.Files.contents c.carry_out.new.files) (g.O.Sink.taken c.args.out.now) (g.O.Sink.taken c.carry_out.new.out) _ c.in-Ok-carry_out.ensures.told) refl same)
+    λ same. absurd (no_failure 2 _ (told_status (texts c.args.words.now) (wanted_of c.in-Ok.order) c.in-Ok.ensures.asks g.F.Files.is_known (g.F.Files.contents c.args.files.now) (g.F.Files.contents c.carry_out.new.files) (g.O.Sink.taken c.args.out.now) (g.O.Sink.taken c.carry_out.new.out) _ c.in-Ok-carry_out.ensures.told) refl (λ is. absurd (omega arith)) same)
 
 pub returns-in-Ok-carry_out-clause-usage : goal.returns-in-Ok-carry_out-clause-usage
 returns-in-Ok-carry_out-clause-usage g c =
-    λ same. absurd (no_failure 2 _ (told_status (texts c.args.words.now) (wanted_of c.in-Ok.order) c.in-Ok.ensures.asks g.F.Files.is_known (g.F.Files.contents c.args.files.now) (g.F.Files.contents c.carry_out.new.files) (g.O.Sink.taken c.args.out.now) (g.O.Sink.taken c.carry_out.new.out) _ c.in-Ok-carry_out.ensures.told) refl same)
+    λ same. absurd (no_failure 2 _ (told_status (texts c.args.words.now) (wanted_of c.in-Ok.order) c.in-Ok.ensures.asks g.F.Files.is_known (g.F.Files.contents c.args.files.now) (g.F.Files.contents c.carry_out.new.files) (g.O.Sink.taken c.args.out.now) (g.O.Sink.taken c.carry_out.new.out) _ c.in-Ok-carry_out.ensures.told) refl (λ is. absurd (omega arith)) same)
 
 pub returns-in-Ok-carry_out-clause-refused : goal.returns-in-Ok-carry_out-clause-refused
 returns-in-Ok-carry_out-clause-refused g c =
-    λ same. absurd (no_failure 20 _ (told_status (texts c.args.words.now) (wanted_of c.in-Ok.order) c.in-Ok.ensures.asks g.F.Files.is_known (g.F.Files.contents c.args.files.now) (g.F.Files.contents c.carry_out.new.files) (g.O.Sink.taken c.args.out.now) (g.O.Sink.taken c.carry_out.new.out) _ c.in-Ok-carry_out.ensures.told) refl same)
+    λ same. inr (told_of_words (texts c.args.words.now) (wanted_of c.in-Ok.order) c.in-Ok.ensures.asks g.F.Files.is_known (g.F.Files.contents c.args.files.now) (g.F.Files.contents c.carry_out.new.files) (g.O.Sink.taken c.args.out.now) (g.O.Sink.taken c.carry_out.new.out) _ c.in-Ok-carry_out.ensures.told, refl)
 
 pub returns-in-Ok-carry_out-clause-device : goal.returns-in-Ok-carry_out-clause-device
 returns-in-Ok-carry_out-clause-device g c =
-    λ same. absurd (no_failure 21 _ (told_status (texts c.args.words.now) (wanted_of c.in-Ok.order) c.in-Ok.ensures.asks g.F.Files.is_known (g.F.Files.contents c.args.files.now) (g.F.Files.contents c.carry_out.new.files) (g.O.Sink.taken c.args.out.now) (g.O.Sink.taken c.carry_out.new.out) _ c.in-Ok-carry_out.ensures.told) refl same)
+    λ same. absurd (no_failure 21 _ (told_status (texts c.args.words.now) (wanted_of c.in-Ok.order) c.in-Ok.ensures.asks g.F.Files.is_known (g.F.Files.contents c.args.files.now) (g.F.Files.contents c.carry_out.new.files) (g.O.Sink.taken c.args.out.now) (g.O.Sink.taken c.carry_out.new.out) _ c.in-Ok-carry_out.ensures.told) refl (λ is. absurd (omega arith)) same)
 
 pub returns-in-Ok-carry_out-clause-memory : goal.returns-in-Ok-carry_out-clause-memory
 returns-in-Ok-carry_out-clause-memory g c =
-    λ same. absurd (no_failure 22 _ (told_status (texts c.args.words.now) (wanted_of c.in-Ok.order) c.in-Ok.ensures.asks g.F.Files.is_known (g.F.Files.contents c.args.files.now) (g.F.Files.contents c.carry_out.new.files) (g.O.Sink.taken c.args.out.now) (g.O.Sink.taken c.carry_out.new.out) _ c.in-Ok-carry_out.ensures.told) refl same)
+    λ same. absurd (no_failure 22 _ (told_status (texts c.args.words.now) (wanted_of c.in-Ok.order) c.in-Ok.ensures.asks g.F.Files.is_known (g.F.Files.contents c.args.files.now) (g.F.Files.contents c.carry_out.new.files) (g.O.Sink.taken c.args.out.now) (g.O.Sink.taken c.carry_out.new.out) _ c.in-Ok-carry_out.ensures.told) refl (λ is. absurd (omega arith)) same)
 
 pub returns-in-Ok-carry_out-clause-no_command : goal.returns-in-Ok-carry_out-clause-no_command
 returns-in-Ok-carry_out-clause-no_command g c =
@@ -91,7 +91,7 @@ returns-in-Err-carry_out-clause-usage g c =
 pub returns-in-Err-carry_out-clause-refused : goal.returns-in-Err-carry_out-clause-refused
 returns-in-Err-carry_out-clause-refused g c =
     λ same.
-    refuses_of_words (g.F.Files.contents c.args.files.now) (texts c.args.words.now) (wanted_of c.in-Ok.order) c.in-Ok.ensures.asks (g.F.Files.contents c.carry_out.new.files) (g.O.Sink.taken c.args.out.now) (g.O.Sink.taken c.carry_out.new.out) (IsWritten g.E.Sink.wants_memory (g.E.Sink.failures c.args.err.now) (g.E.Sink.failures c.tell.new.err) (g.E.Sink.taken c.args.err.now) (g.E.Sink.taken c.tell.new.err)) c.in-Err-carry_out.failure _ c.tell.ensures.told same c.in-Err-carry_out.ensures.refused
+    inl (refuses_of_words (g.F.Files.contents c.args.files.now) (texts c.args.words.now) (wanted_of c.in-Ok.order) c.in-Ok.ensures.asks (g.F.Files.contents c.carry_out.new.files) (g.O.Sink.taken c.args.out.now) (g.O.Sink.taken c.carry_out.new.out) (IsWritten g.E.Sink.wants_memory (g.E.Sink.failures c.args.err.now) (g.E.Sink.failures c.tell.new.err) (g.E.Sink.taken c.args.err.now) (g.E.Sink.taken c.tell.new.err)) c.in-Err-carry_out.failure _ c.tell.ensures.told same c.in-Err-carry_out.ensures.refused)
 
 pub returns-in-Err-carry_out-clause-device : goal.returns-in-Err-carry_out-clause-device
 returns-in-Err-carry_out-clause-device g c =
