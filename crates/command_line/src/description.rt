@@ -25,9 +25,10 @@ const PROGRAM_HELP: &str = "N is a number from 1 to 16777216, and 1000000 where 
 Example:
   optplan solve domain.pddl problem.pddl --plan plan.txt --cert cert.txt
   optplan check domain.pddl problem.pddl cert.txt --plan plan.txt
+  optplan explain domain.pddl problem.pddl plan.txt
 
 Status:
-   0  a cheapest plan is told, the plan solves the task, or the certificate is accepted
+   0  a cheapest plan is told, the plan solves the task, the certificate is accepted, or nothing is wrong with the files
    2  other words, or such as ask for help
   10  there is no plan
   11  a limit is exceeded; where it is that of states, no plan costs less than the told bound
@@ -57,7 +58,7 @@ A file whose name begins with a hyphen stands behind `--`.";
 const EXPLAIN_HELP: &str = "Example:
   optplan explain domain.pddl problem.pddl plan.txt
 
-Status: 0 nothing is wrong, 12 the plan does not solve the task, 20 a text is refused; others: `optplan help`
+Status: 0 nothing is wrong, 11 a limit is exceeded, 12 the plan does not solve the task, 20 a text is refused; others: `optplan help`
 A file whose name begins with a hyphen stands behind `--`.";
 
 const INSTANCES_HELP: &str = "How many instances of actions may be kept, 1 to 16777216";
@@ -167,12 +168,12 @@ fn add_explain<'a>(alloc: Global, commands: &mut Vec<Command<'a>>) -> Result<(),
         optional_file(
             alloc,
             "PLAN",
-            "The plan file, where a plan is to be explained"
+            "The plan file, if a plan is to be explained"
         ),
         limit(alloc, "instances", INSTANCES_HELP),
     ]?;
     let about =
-        "Tells in words what is wrong with a task or a plan, and where; else what the task holds";
+        "Says in words what is wrong with a task or a plan, or what a task holds";
     add_command(alloc, commands, "explain", about, EXPLAIN_HELP, arguments)
 }
 
