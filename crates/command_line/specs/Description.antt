@@ -11,6 +11,10 @@ use Rattle.command_line.specs.Limit.{most}
 abbrev pub file : Text → Rule
 file name = record (new_rule name) { required = true }
 
+-- the name of a file, which may be missing
+abbrev pub optional_file : Text → Rule
+optional_file name = new_rule name
+
 -- an option with a value, as `--plan FILE`
 abbrev pub option : Text → Rule
 option name = record (new_rule name) { long = Some name; value_names = 1 }
@@ -27,7 +31,7 @@ json = record (new_rule (codes "json")) { long = Some (codes "json"); action = S
 abbrev pub subcommand : Text → List Rule → Shape
 subcommand name rules = record (new_shape name) { rules = rules }
 
--- the three commands
+-- the four commands
 abbrev pub solve : Shape
 solve = subcommand (codes "solve")
     (file (codes "DOMAIN") ∷ file (codes "PROBLEM") ∷ option (codes "plan") ∷ option (codes "cert")
@@ -42,7 +46,11 @@ check = subcommand (codes "check")
     (file (codes "DOMAIN") ∷ file (codes "PROBLEM") ∷ file (codes "CERT") ∷ option (codes "plan")
     ∷ limit (codes "instances") ∷ json ∷ [])
 
--- the program: one of the three commands must be there, and it is told how the program is used where no word is
+abbrev pub explain : Shape
+explain = subcommand (codes "explain")
+    (file (codes "DOMAIN") ∷ file (codes "PROBLEM") ∷ optional_file (codes "PLAN") ∷ limit (codes "instances") ∷ [])
+
+-- the program: one of the four commands must be there, and it is told how the program is used where no word is
 abbrev pub optplan : App
 optplan = record {
   top = record (new_shape (codes "optplan")) {
@@ -52,5 +60,5 @@ optplan = record {
     arg_required_else_help = true;
     subcommand_required = true;
   };
-  subs = solve ∷ validate ∷ check ∷ [];
+  subs = solve ∷ validate ∷ check ∷ explain ∷ [];
 }

@@ -5,7 +5,7 @@ use Rattle.clap.specs.Faults.{fault_of}
 use Rattle.clap.specs.Walk.{Text}
 use Rattle.clap.specs.declared.error.kind.ErrorKind.TheVariants.{ArgumentConflict, DisplayHelp, DisplayHelpOnMissingArgumentOrSubcommand, DisplayVersion, InvalidValue, MissingRequiredArgument, TooManyValues, UnknownArgument, ValueValidation}
 use Rattle.command_line.specs.Description.{optplan}
-use Rattle.command_line.specs.Orders.{Asks, Asked, to_solve, to_validate, to_check}
+use Rattle.command_line.specs.Orders.{Asks, Asked, to_solve, to_validate, to_check, to_explain}
 
 -- `solve d p`, with the words before, between and behind the two names
 abbrev pub solve_words : (first second third : List Text) → List Text
@@ -47,6 +47,9 @@ pub record AreRead : Type 0 where
   pub to_validate : Asks (codes "validate" ∷ codes "d" ∷ codes "p" ∷ codes "l" ∷ codes "--json" ∷ []) (to_validate (codes "d") (codes "p") (codes "l") true)
   pub to_check : Asks (codes "check" ∷ codes "d" ∷ codes "p" ∷ codes "c" ∷ codes "--plan" ∷ codes "l" ∷ codes "--instances=7" ∷ [])
       (to_check (codes "d") (codes "p") (codes "c") (record { instances = 7; plan = Some (codes "l"); json = false }))
+  pub to_explain : Asks (codes "explain" ∷ codes "d" ∷ codes "p" ∷ []) (to_explain (codes "d") (codes "p") (record { instances = 1000000; plan = None }))
+  pub to_explain_a_plan : Asks (codes "explain" ∷ codes "d" ∷ codes "--instances" ∷ codes "7" ∷ codes "p" ∷ codes "l" ∷ [])
+      (to_explain (codes "d") (codes "p") (record { instances = 7; plan = Some (codes "l") }))
   -- what is refused
   pub no_word : AreRefused [] (DisplayHelpOnMissingArgumentOrSubcommand ∷ [])
   pub help : AreRefused (words (codes "--help" ∷ [])) (DisplayHelp ∷ [])
@@ -55,6 +58,9 @@ pub record AreRead : Type 0 where
   pub a_file_too_many : AreRefused (words (codes "l" ∷ [])) (UnknownArgument ∷ [])
   pub an_unknown_option : AreRefused (words (codes "--twice" ∷ [])) (UnknownArgument ∷ [])
   pub an_option_of_solve : AreRefused (codes "validate" ∷ codes "d" ∷ codes "p" ∷ codes "l" ∷ codes "--states" ∷ codes "5" ∷ []) (UnknownArgument ∷ [])
+  pub no_problem_to_explain : AreRefused (codes "explain" ∷ codes "d" ∷ []) (MissingRequiredArgument ∷ [])
+  pub a_plan_too_many : AreRefused (codes "explain" ∷ codes "d" ∷ codes "p" ∷ codes "l" ∷ codes "l" ∷ []) (UnknownArgument ∷ [])
+  pub an_option_of_check : AreRefused (codes "explain" ∷ codes "d" ∷ codes "p" ∷ codes "--json" ∷ []) (UnknownArgument ∷ [])
   pub no_value : AreRefused (words (codes "--plan" ∷ [])) (InvalidValue ∷ [])
   pub an_option_for_a_value : AreRefused (words (codes "--plan" ∷ codes "--json" ∷ [])) (InvalidValue ∷ [])
   pub a_value_for_none : AreRefused (words (codes "--json=true" ∷ [])) (TooManyValues ∷ [])

@@ -25,11 +25,17 @@ pub record AskedOfCheck : Type 0 where
   pub plan : Option Text
   pub json : Bool
 
+-- what `explain` is asked for: how many instances are allowed, and the file that the plan is read from, if any
+pub record AskedOfExplain : Type 0 where
+  pub instances : ℕ
+  pub plan : Option Text
+
 -- what is asked for, by the names of the files that are read
 pub data Wanted : Type 0 where
   to_solve : (domain problem : Text) → Asked → Wanted
   to_validate : (domain problem plan : Text) (json : Bool) → Wanted
   to_check : (domain problem cert : Text) → AskedOfCheck → Wanted
+  to_explain : (domain problem : Text) → AskedOfExplain → Wanted
 
 -- the number that the text writes in decimal digits, which a plus may precede, where it is from 1 to 16,777,216
 abbrev pub limit_of : Text → Option ℕ
@@ -78,12 +84,20 @@ check_in rows = do
   instances ← limit_in (codes "instances") rows
   Some (to_check domain problem cert (record { instances = instances; plan = first_of (codes "plan") rows; json = is_given (codes "json") rows }))
 
+abbrev pub explain_in : List Row → Option Wanted
+explain_in rows = do
+  domain ← first_of (codes "DOMAIN") rows
+  problem ← first_of (codes "PROBLEM") rows
+  instances ← limit_in (codes "instances") rows
+  Some (to_explain domain problem (record { instances = instances; plan = first_of (codes "PLAN") rows }))
+
 -- what a command with these values asks for
 abbrev pub wanted_in : Text × List Row → Option Wanted
 wanted_in used =
     if bytes_eq used.0 (codes "solve") then solve_in used.1
     else (if bytes_eq used.0 (codes "validate") then validate_in used.1
-    else (if bytes_eq used.0 (codes "check") then check_in used.1 else None))
+    else (if bytes_eq used.0 (codes "check") then check_in used.1
+    else (if bytes_eq used.0 (codes "explain") then explain_in used.1 else None)))
 
 -- The words are taken, and ask for this.
 abbrev pub Asks : List Text → Wanted → Type 0

@@ -3,9 +3,9 @@ use Rattle.std.specs.Prelude.{List, map, Option}
 use Rattle.std.specs.Borrow.{Bor}
 use Rattle.std.specs.Option.{option_map}
 use Rattle.clap.specs.Walk.{Text}
-use Rattle.command_line.specs.Orders.{Wanted, to_solve, to_validate, to_check}
+use Rattle.command_line.specs.Orders.{Wanted, to_solve, to_validate, to_check, to_explain}
 use Rattle.command_line.specs.declared.order.Order.{Order}
-use Rattle.command_line.specs.declared.order.Order.TheVariants.{Solve, Validate, Check}
+use Rattle.command_line.specs.declared.order.Order.TheVariants.{Solve, Validate, Check, Explain}
 use Rattle.command_line.specs.declared.fault.WordsFault.{WordsFault}
 use Rattle.command_line.specs.declared.fault.WordsFault.TheVariants.{Words, NoMemory}
 
@@ -24,6 +24,8 @@ wanted_of (Solve domain problem plan cert states instances json) =
 wanted_of (Validate domain problem plan json) = to_validate domain.now problem.now plan.now json
 wanted_of (Check domain problem cert plan instances json) =
     to_check domain.now problem.now cert.now (record { instances = instances.number; plan = text_in plan; json = json })
+wanted_of (Explain domain problem plan instances) =
+    to_explain domain.now problem.now (record { instances = instances.number; plan = text_in plan })
 
 -- the fault is one of the words, and not want of memory
 abbrev pub IsOfWords : WordsFault → Type 0

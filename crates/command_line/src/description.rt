@@ -17,16 +17,18 @@ const ABOUT: &str =
 const USAGE: &str =
     "optplan solve DOMAIN PROBLEM [--plan FILE] [--cert FILE] [--states N] [--instances N] [--json]
        optplan validate DOMAIN PROBLEM PLAN [--json]
-       optplan check DOMAIN PROBLEM CERT [--plan FILE] [--instances N] [--json]";
+       optplan check DOMAIN PROBLEM CERT [--plan FILE] [--instances N] [--json]
+       optplan explain DOMAIN PROBLEM [PLAN] [--instances N]";
 
 const PROGRAM_HELP: &str = "N is a number from 1 to 16777216, and 1000000 where it is not given.
 
 Example:
   optplan solve domain.pddl problem.pddl --plan plan.txt --cert cert.txt
   optplan check domain.pddl problem.pddl cert.txt --plan plan.txt
+  optplan explain domain.pddl problem.pddl plan.txt
 
 Status:
-   0  a cheapest plan is told, the plan solves the task, or the certificate is accepted
+   0  a cheapest plan is told, the plan solves the task, the certificate is accepted, or nothing is wrong with the files
    2  other words, or such as ask for help
   10  there is no plan
   11  a limit is exceeded; where it is that of states, no plan costs less than the told bound
@@ -53,6 +55,12 @@ const CHECK_HELP: &str = "Example:
 Status: 0 the certificate is accepted, 12 it is not; others: `optplan help`
 A file whose name begins with a hyphen stands behind `--`.";
 
+const EXPLAIN_HELP: &str = "Example:
+  optplan explain domain.pddl problem.pddl plan.txt
+
+Status: 0 nothing is wrong, 11 a limit is exceeded, 12 the plan does not solve the task, 20 a text is refused; others: `optplan help`
+A file whose name begins with a hyphen stands behind `--`.";
+
 const INSTANCES_HELP: &str = "How many instances of actions may be kept, 1 to 16777216";
 
 /// The program.
@@ -77,7 +85,7 @@ fn settings<'a>(alloc: Global) -> Command<'a>
         .arg_required_else_help(true)
 }
 
-/// The three commands.
+/// The four commands.
 fn commands<'a>(alloc: Global) -> Result<Vec<Command<'a>>, AllocError>
     ensures { IfOk result (λ commands. HaveShapes commands.items optplan.subs) }
 {
@@ -85,6 +93,7 @@ fn commands<'a>(alloc: Global) -> Result<Vec<Command<'a>>, AllocError>
     add_solve(alloc, &mut commands)?;
     add_validate(alloc, &mut commands)?;
     add_check(alloc, &mut commands)?;
+    add_explain(alloc, &mut commands)?;
     Ok(commands)
 }
 
@@ -149,6 +158,25 @@ fn add_check<'a>(alloc: Global, commands: &mut Vec<Command<'a>>) -> Result<(), A
     add_command(alloc, commands, "check", about, CHECK_HELP, arguments)
 }
 
+/// Adds the command `explain`.
+fn add_explain<'a>(alloc: Global, commands: &mut Vec<Command<'a>>) -> Result<(), AllocError>
+    ensures { OnOk result (AddsShape commands.old.items description.explain commands.new.items) }
+{
+    let arguments = vec![in alloc;
+        file(alloc, "DOMAIN", "The domain file"),
+        file(alloc, "PROBLEM", "The problem file"),
+        optional_file(
+            alloc,
+            "PLAN",
+            "The plan file, if a plan is to be explained"
+        ),
+        limit(alloc, "instances", INSTANCES_HELP),
+    ]?;
+    let about =
+        "Says in words what is wrong with a task or a plan, or what a task holds";
+    add_command(alloc, commands, "explain", about, EXPLAIN_HELP, arguments)
+}
+
 /// Adds a command of this name with these arguments.
 fn add_command<'a>(
     alloc: Global,
@@ -173,6 +201,13 @@ fn file<'a>(alloc: Global, name: &'a str, help: &'a str) -> Arg<'a>
     ensures { HasRule result (description.file name.entry.now) }
 {
     Arg::new(alloc, name).help(help).required(true)
+}
+
+/// The name of a file, which may be missing.
+fn optional_file<'a>(alloc: Global, name: &'a str, help: &'a str) -> Arg<'a>
+    ensures { HasRule result (description.optional_file name.entry.now) }
+{
+    Arg::new(alloc, name).help(help)
 }
 
 /// An option with a value.

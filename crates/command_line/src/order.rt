@@ -47,4 +47,15 @@ pub enum Order<'a> {
         /// Whether the answer is told as JSON.
         json: bool,
     },
+    /// What is wrong with two files or with the plan of a third, told for people; without a plan, what the task holds.
+    Explain {
+        /// The name of the domain file.
+        domain: &'a str,
+        /// The name of the problem file.
+        problem: &'a str,
+        /// The name of the plan file, if any.
+        plan: Option<&'a str>,
+        /// How many instances may be kept.
+        instances: MaxCount,
+    },
 }

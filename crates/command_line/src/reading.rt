@@ -4,7 +4,7 @@ ghost use Rattle.clap.specs.Matches.{found_of};
 ghost use Rattle.clap.specs.Simple.{subcommand_rows_of};
 ghost use Rattle.clap.specs.Walk.{first_of, rows_of};
 ghost use Rattle.command_line.specs.Examples.{AreRead};
-ghost use Rattle.command_line.specs.Orders.{Asks, IsCommand, check_in, is_given, limit_in, limit_of, solve_in, validate_in, wanted_in};
+ghost use Rattle.command_line.specs.Orders.{Asks, IsCommand, check_in, explain_in, is_given, limit_in, limit_of, solve_in, validate_in, wanted_in};
 ghost use Rattle.command_line.specs.View.{IsOfWords, text_in, texts, wanted_of};
 
 use crate::description::program;
@@ -21,6 +21,7 @@ use std::alloc::{AllocError, Global};
 /// optplan solve DOMAIN PROBLEM [--plan FILE] [--cert FILE] [--states N] [--instances N] [--json]
 /// optplan validate DOMAIN PROBLEM PLAN [--json]
 /// optplan check DOMAIN PROBLEM CERT [--plan FILE] [--instances N] [--json]
+/// optplan explain DOMAIN PROBLEM [PLAN] [--instances N]
 /// ```
 ///
 /// Options stand in any order, each at most once, before, between and behind the files, as `--states 5` or `--states=5`; what
@@ -66,6 +67,7 @@ fn order_in<'a>(matches: &ArgMatches<'a>) -> Option<Order<'a>>
         "solve" => solve_in(matches),
         "validate" => validate_in(matches),
         "check" => check_in(matches),
+        "explain" => explain_in(matches),
         _ => None,
     }
 }
@@ -119,6 +121,21 @@ fn check_in<'a>(matches: &ArgMatches<'a>) -> Option<Order<'a>>
         plan: value_of(matches, "plan"),
         instances,
         json: is_given(matches, "json"),
+    })
+}
+
+/// The order of the command `explain` with these values.
+fn explain_in<'a>(matches: &ArgMatches<'a>) -> Option<Order<'a>>
+    ensures { option_map wanted_of result ≡ explain_in (rows_of (found_of matches.now)) }
+{
+    let domain = value_of(matches, "DOMAIN")?;
+    let problem = value_of(matches, "PROBLEM")?;
+    let instances = limit_in(matches, "instances")?;
+    Some(Order::Explain {
+        domain,
+        problem,
+        plan: value_of(matches, "PLAN"),
+        instances,
     })
 }
 

@@ -4,14 +4,15 @@ _optplan() {
     local current=${COMP_WORDS[COMP_CWORD]} previous=${COMP_WORDS[COMP_CWORD-1]} command=${COMP_WORDS[1]} options
     COMPREPLY=()
     if ((COMP_CWORD == 1)); then
-        COMPREPLY=($(compgen -W 'solve validate check help --help --version' -- "$current"))
+        COMPREPLY=($(compgen -W 'solve validate check explain help --help --version' -- "$current"))
         return
     fi
     case $command in
         solve) options='--plan --cert --states --instances --json --help' ;;
         validate) options='--json --help' ;;
         check) options='--plan --instances --json --help' ;;
-        help) COMPREPLY=($(compgen -W 'solve validate check' -- "$current")); return ;;
+        explain) options='--instances --help' ;;
+        help) COMPREPLY=($(compgen -W 'solve validate check explain' -- "$current")); return ;;
         *) return ;;
     esac
     case $previous in
