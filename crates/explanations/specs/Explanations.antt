@@ -4,10 +4,10 @@ use Rattle.std.specs.Option.{option_map}
 use Rattle.validator.specs.Verdict.{verdict_of}
 use Rattle.explained_faults.specs.declared.texts.NamedText.{NamedText}
 use Rattle.grounding_kept.specs.Numbering.{limit_of}
-use Rattle.file_answers.specs.Files.{fault_at}
-use Rattle.file_answers.specs.Checked.{IsInputFault}
-use Rattle.file_answers.specs.declared.task_file.FileFault.{FileFault}
-use Rattle.file_answers.specs.declared.task_file.FileFault.TheVariants as refused
+use Rattle.task_files.specs.Files.{fault_at}
+use Rattle.task_files.specs.Inputs.{IsInputFault}
+use Rattle.task_files.specs.declared.files.FileFault.{FileFault}
+use Rattle.task_files.specs.declared.files.FileFault.TheVariants as refused
 use Rattle.explanations.specs.declared.explanation.Subject.{Subject}
 use Rattle.explanations.specs.declared.explanation.Subject.TheVariants.{Fault, Plan, Task}
 use Rattle.explanations.specs.declared.explanation.Grounded.{Grounded}

@@ -1,6 +1,6 @@
 //! What is said of some files.
 use faults::{Code, Span};
-use file_answers::File;
+use task_files::File;
 use grounding_kept::GroundLimit;
 use validator::Verdict;
 

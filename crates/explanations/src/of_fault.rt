@@ -6,7 +6,7 @@ ghost use Rattle.explanations.specs.declared.explanation.Subject.TheVariants.{Fa
 use crate::explanation::{Explanation, Subject};
 use explained_faults::{TextFault, Texts, explain_fault};
 use faults::{Code, NoMemory, Span};
-use file_answers::{File, FileFault};
+use task_files::{File, FileFault};
 use std::alloc::Global;
 
 /// What is said of the fault of a file.

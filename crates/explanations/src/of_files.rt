@@ -8,7 +8,7 @@ use crate::of_plan::explain_plan_file;
 use crate::of_task::explain_task;
 use explained_faults::{NamedText, Texts};
 use faults::NoMemory;
-use file_answers::task_of_files;
+use task_files::task_of_files;
 use std::alloc::Global;
 
 /// What is said of a domain file and a problem file, and of a plan file, if one is handed in.

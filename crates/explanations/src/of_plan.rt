@@ -14,7 +14,7 @@ use crate::of_fault::explain_refused;
 use explained_faults::{NamedText, Texts};
 use explained_plans::{PlanExplanation, explain_plan, step_place, tell_details, tell_verdict};
 use faults::NoMemory;
-use file_answers::plan_of_file;
+use task_files::plan_of_file;
 use formulas::Plan;
 use std::alloc::Global;
 use text_places::{marked, place_of};

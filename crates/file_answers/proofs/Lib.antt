@@ -1,2 +1,1 @@
-pub mod FilesRead
 pub mod CheckedLemmas

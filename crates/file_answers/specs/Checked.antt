@@ -15,21 +15,8 @@ use Rattle.cert_checker.specs.Checking.{Accepts, Refuses}
 use Rattle.model.specs.Task.{Task, Instance}
 use Rattle.model.specs.Limits.{max_numbered_atoms}
 use Rattle.model.specs.Grounding.{limit_told}
-use Rattle.model.specs.PlanText.{IsPlanText}
 use Rattle.certificate_definitions.specs.Certificates.{Certificate}
-use Rattle.model.specs.Files.{FileFault, IsTaskFault, IsFileFault}
-
--- the text is this plan of the task; where no text is handed in, neither is a plan
-abbrev pub IsHandedIn : Task → (text : Option (List ℕ)) → (plan : Option (List Instance)) → Type 0
-IsHandedIn task None None = Unit {0}
-IsHandedIn task None (Some plan) = ⊥
-IsHandedIn task (Some text) None = ⊥
-IsHandedIn task (Some text) (Some plan) = IsPlanText task text plan
-
--- what is told of two texts that are no task, or else of a third that is handed in and is no plan for it
-abbrev pub IsInputFault : (domain problem : List ℕ) → (plan : Option (List ℕ)) → FileFault → Type 0
-IsInputFault domain problem None fault = IsTaskFault domain problem fault
-IsInputFault domain problem (Some plan) fault = IsFileFault domain problem plan fault
+use Rattle.task_files.specs.Inputs.{IsHandedIn}
 
 -- The answer is true of what came to the reader, for this task and the plan that this text is, if one is handed in.
 pub record IsChecked {R : Type 0} (remaining : R → Option (List ℕ)) (task : Task) (first now : CertReader R) (text : Option (List ℕ)) (most : ℕ) (answer : Result Accepted Refusal) : Type 0 where

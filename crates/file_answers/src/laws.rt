@@ -1,8 +1,7 @@
-//! Laws of the texts that the program writes and reads. They are proved; the calls do nothing.
-ghost use Rattle.std.specs.Prelude.{◌≡◌, ℕ, [], IsTrue, List, None, Option};
+//! A law of the certificates that the program writes and reads. It is proved; the call does nothing.
+ghost use Rattle.std.specs.Prelude.{◌≡◌, ℕ, [], List, None, Option};
 ghost use Rattle.model.specs.Task.{Task, Instance};
 ghost use Rattle.model.specs.Files.{IsTaskOf};
-ghost use Rattle.model.specs.WellTyped.{is_task};
 ghost use Rattle.model.specs.Claims.{Claim};
 ghost use Rattle.model.specs.Limits.{max_numbered_atoms};
 ghost use Rattle.model.specs.Grounding.{limit_told};
@@ -31,9 +30,4 @@ pub fn solved_certificates_are_accepted()
     ensures at_a_limit { (domain problem : List ℕ) (task : Task) (states instances least : ℕ) (cert : Listing)
         → IsTaskOf domain problem task → IsTrueAnswer task states instances (Unknown (States least cert))
         → IsAcceptedAs task (certificate_text task (certificate_in cert)) None instances (AtLeast least) }
-{}
-
-/// The task that is read from files is well-typed, its formulas and effects among it.
-pub fn tasks_of_files_are_well_typed()
-    ensures { (domain problem : List ℕ) (task : Task) → IsTaskOf domain problem task → IsTrue (is_task task) }
 {}

@@ -1,7 +1,7 @@
 //! `explain`: what is said of files for people.
 ghost use Rattle.std.specs.Prelude.{◌≡◌, ℕ, IfErr, IfOk, IsTrue, List, None, ◌∷◌};
 ghost use Rattle.planner_main.specs.Program.{CountsFailure, IsExplanationOn, IsOneOf, IsUnread, fault_in, if_named};
-ghost use Rattle.file_answers.specs.Files.{text_in};
+ghost use Rattle.task_files.specs.Files.{text_in};
 ghost use Rattle.devices.specs.Texts.{AreKept, items_in};
 ghost use Rattle.explanations.specs.Explanations as explanations;
 

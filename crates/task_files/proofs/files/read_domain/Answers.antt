@@ -2,8 +2,8 @@ use Rattle.std.proofs.Common.{map}
 use Rattle.std.proofs.lemmas.Result.{err_from_is_err_and}
 use Rattle.tokens.specs.Word.{word_of}
 use Rattle.model.specs.Trees.{domain_file}
-use Rattle.file_answers.proofs.FilesRead.{words_refused, tree_refused_in}
-use Rattle.file_answers.proofs.task_file.read_domain.Goals as goal
+use Rattle.task_files.proofs.FilesRead.{words_refused, tree_refused_in}
+use Rattle.task_files.proofs.files.read_domain.Goals as goal
 
 pub returns-in_err-words-clause-refused : goal.returns-in_err-words-clause-refused
 returns-in_err-words-clause-refused c =

@@ -23,8 +23,8 @@ use Rattle.tokens.proofs.Words.{one_reading_lem}
 use Rattle.tokens.proofs.Order.{read_is_told_nothing}
 use Rattle.faults.specs.declared.refused.Refused.TheVariants.{At, NoMemory}
 use Rattle.typing.specs.Task.{TaskFault, TellsFault, refusal_of}
-use Rattle.file_answers.specs.declared.task_file.FileFault as file
-use Rattle.file_answers.specs.Files.{told_in, told_of_pair}
+use Rattle.task_files.specs.declared.files.FileFault as file
+use Rattle.task_files.specs.Files.{told_in, told_of_pair}
 use Rattle.plan_file.proofs.PlanSteps.{no_fault_of_plan}
 
 -- what is told, where it is known

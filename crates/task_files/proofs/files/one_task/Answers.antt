@@ -1,5 +1,5 @@
-use Rattle.file_answers.proofs.FilesRead.{one_task, no_task_fault}
-use Rattle.file_answers.proofs.task_file.one_task.Goals as goal
+use Rattle.task_files.proofs.FilesRead.{one_task, no_task_fault}
+use Rattle.task_files.proofs.files.one_task.Goals as goal
 
 pub returns-clause-one : goal.returns-clause-one
 returns-clause-one c = one_task

@@ -7,10 +7,10 @@ use Rattle.faults.specs.declared.code.Code.{Code}
 use Rattle.faults.specs.declared.refused.Span.{Span}
 use Rattle.faults.specs.declared.refused.Refused.TheVariants as refused
 use Rattle.typing.specs.Task.{TaskFault, file_of}
-use Rattle.file_answers.specs.declared.task_file.File.{File}
-use Rattle.file_answers.specs.declared.task_file.File.TheVariants.{Domain, Problem, Plan}
-use Rattle.file_answers.specs.declared.task_file.FileFault.{FileFault}
-use Rattle.file_answers.specs.declared.task_file.FileFault.TheVariants.{At, NoMemory}
+use Rattle.task_files.specs.declared.files.File.{File}
+use Rattle.task_files.specs.declared.files.File.TheVariants.{Domain, Problem, Plan}
+use Rattle.task_files.specs.declared.files.FileFault.{FileFault}
+use Rattle.task_files.specs.declared.files.FileFault.TheVariants.{At, NoMemory}
 use Rattle.model.specs.Trees.{domain_file, problem_file}
 use Rattle.model.specs.Fault as told
 use Rattle.model.specs.Files as model

@@ -1,8 +1,8 @@
 use Rattle.std.proofs.Common.{IfSome, sym, subst}
 use Rattle.tokens.specs.Told.{told_by}
 use Rattle.model.specs.Files.{IsFileFault}
-use Rattle.file_answers.proofs.FilesRead.{plan_told}
-use Rattle.file_answers.proofs.task_file.plan_of_file.Goals as goal
+use Rattle.task_files.proofs.FilesRead.{plan_told}
+use Rattle.task_files.proofs.files.plan_of_file.Goals as goal
 
 pub returns-in-Err-clause-refused : goal.returns-in-Err-clause-refused
 returns-in-Err-clause-refused c = λ domain problem is.

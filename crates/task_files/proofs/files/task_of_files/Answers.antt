@@ -3,8 +3,8 @@ use Rattle.std.proofs.lemmas.Result.{err_from_is_err_and}
 use Rattle.tokens.specs.Told.{told_by}
 use Rattle.syntax_tree.specs.Tree.{domain_of, problem_of}
 use Rattle.model.specs.Files.{IsTaskFault}
-use Rattle.file_answers.proofs.FilesRead.{domain_told, problem_told, pair_told}
-use Rattle.file_answers.proofs.task_file.task_of_files.Goals as goal
+use Rattle.task_files.proofs.FilesRead.{domain_told, problem_told, pair_told}
+use Rattle.task_files.proofs.files.task_of_files.Goals as goal
 
 pub returns-in-Err-clause-refused : goal.returns-in-Err-clause-refused
 returns-in-Err-clause-refused c =

@@ -5,7 +5,7 @@ ghost use Rattle.tokens.specs.Told.{told_by};
 ghost use Rattle.syntax_tree.specs.Tree.{domain_of, problem_of};
 ghost use Rattle.typing.specs.Task.{task_of};
 ghost use Rattle.formulas.specs.State.{plan_of};
-ghost use Rattle.file_answers.specs.Files.{told_in};
+ghost use Rattle.task_files.specs.Files.{told_in};
 ghost use Rattle.model.specs.Task as model;
 ghost use Rattle.model.specs.Files as told;
 ghost use Rattle.model.specs.Trees.{domain_file, problem_file};
@@ -35,8 +35,8 @@ pub enum File {
 
 impl fmt::Display for File {
     ghost use Rattle.std.specs.Prelude.{Some};
-    ghost use Rattle.file_answers.specs.Files.{file_view};
-    ghost use Rattle.file_answers.specs.Files.{name_of_file};
+    ghost use Rattle.task_files.specs.Files.{file_view};
+    ghost use Rattle.task_files.specs.Files.{name_of_file};
 
     ghost output = { λ file. Some (name_of_file (file_view file)) };
 
@@ -71,7 +71,7 @@ pub enum FileFault {
 impl FileFault {
     ghost use Rattle.std.specs.Prelude.{◌≡◌};
     ghost use Rattle.tokens.specs.Told.{told_by};
-    ghost use Rattle.file_answers.specs.Files.{told_in, in_file};
+    ghost use Rattle.task_files.specs.Files.{told_in, in_file};
 
     /// The fault of a file's text.
     fn of(file: File, fault: Fault) -> FileFault
@@ -86,7 +86,7 @@ impl FileFault {
 
 impl From<TaskFault> for FileFault {
     ghost use Rattle.std.specs.Prelude.{◌≡◌};
-    ghost use Rattle.file_answers.specs.Files.{told_in, told_of_pair};
+    ghost use Rattle.task_files.specs.Files.{told_in, told_of_pair};
 
     ghost from_gives = { λ fault e. told_in e ≡ told_of_pair fault };
 
@@ -106,7 +106,7 @@ impl From<TaskFault> for FileFault {
 
 impl From<NoMemory> for FileFault {
     ghost use Rattle.std.specs.Prelude.{◌≡◌};
-    ghost use Rattle.file_answers.specs.declared.task_file.FileFault.TheVariants.{NoMemory};
+    ghost use Rattle.task_files.specs.declared.files.FileFault.TheVariants.{NoMemory};
 
     ghost from_gives = { λ _ e. e ≡ NoMemory };
 
