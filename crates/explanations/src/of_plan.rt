@@ -4,7 +4,7 @@ ghost use Rattle.std.specs.List.{list_all};
 ghost use Rattle.typing.specs.Task.{task_of};
 ghost use Rattle.formulas.specs.State.{plan_of};
 ghost use Rattle.validator.specs.Verdict.{verdict_of};
-ghost use Rattle.explained_plans.specs.Explanations as explained;
+ghost use Rattle.explained_plans.specs.Explanations as plans;
 ghost use Rattle.explanations.specs.Explanations.{IsTrueOf, IsOfVerdict};
 ghost use Rattle.model.specs.Files.{IsTaskOf};
 ghost use Rattle.model.specs.Meaning.{is_instance, system_of};
@@ -56,7 +56,7 @@ fn explain_steps(
 
 /// The verdict that is explained.
 fn verdict_in(explained: &PlanExplanation<'_>) -> Verdict
-    ensures { verdict_of result ≡ explained.verdict_of explained.now }
+    ensures { verdict_of result ≡ plans.verdict_of explained.now }
 {
     match explained {
         PlanExplanation::Solves { total, .. } => Verdict::Valid { cost: *total },

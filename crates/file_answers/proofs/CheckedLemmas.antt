@@ -3,11 +3,11 @@ use Rattle.std.proofs.Common.{◌≡◌, ℕ, List, sym, subst}
 use Rattle.std.specs.Prelude.{Option, None, Some, IfSome, Result, Ok, Err, IfErr}
 use Rattle.model.specs.Task.{Task, Instance}
 use Rattle.model.specs.PlanText.{IsPlanText}
-use Rattle.model.specs.Files.{FileFault, IsTaskOf, IsTaskFault, IsFileFault, in_the_task}
+use Rattle.model.specs.Files.{FileFault, IsTaskOf, IsFileFault}
 use Rattle.task_files.specs.declared.files.FileFault as file
 use Rattle.task_files.specs.Inputs.{IsHandedIn, IsInputFault}
 use Rattle.task_files.specs.Files.{told_in}
-use Rattle.task_files.proofs.FilesRead.{told_more_in, none_told, none_told_of_task}
+use Rattle.task_files.proofs.FilesRead.{none_told, none_told_of_task}
 
 -- the text of a plan, or none, is handed in
 pub none_handed_in : (task : Task) (text : Option (List ℕ)) → text ≡ None → IsHandedIn task text None
@@ -17,10 +17,6 @@ pub handed_in : (task : Task) (text : Option (List ℕ)) (bytes : List ℕ) (pla
 handed_in task text bytes plan is read = subst (λ text. IsHandedIn task text (Some plan)) (sym is) read
 
 module _ (domain problem : List ℕ) where
-  pub task_input : (plan : Option (List ℕ)) (o : Option FileFault) → IfSome o (IsTaskFault domain problem) → IfSome o (IsInputFault domain problem plan)
-  task_input None o h = h
-  task_input (Some plan) o h = told_more_in (IsTaskFault domain problem) (IsFileFault domain problem plan) o (λ told fault. in_the_task fault) h
-
   pub plan_input : (text : Option (List ℕ)) (plan : List ℕ) → text ≡ Some plan → (o : Option FileFault) → IfSome o (IsFileFault domain problem plan)
       → IfSome o (IsInputFault domain problem text)
   plan_input text plan handed o h = subst (λ text. IfSome o (IsInputFault domain problem text)) (sym handed) h

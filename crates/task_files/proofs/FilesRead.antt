@@ -25,6 +25,7 @@ use Rattle.faults.specs.declared.refused.Refused.TheVariants.{At, NoMemory}
 use Rattle.typing.specs.Task.{TaskFault, TellsFault, refusal_of}
 use Rattle.task_files.specs.declared.files.FileFault as file
 use Rattle.task_files.specs.Files.{told_in, told_of_pair}
+use Rattle.task_files.specs.Inputs.{IsInputFault}
 use Rattle.plan_file.proofs.PlanSteps.{no_fault_of_plan}
 
 -- what is told, where it is known
@@ -121,3 +122,7 @@ module _ (domain problem : List ℕ) where
 
   pub task_told : (plan : List ℕ) (o : Option FileFault) → IfSome o (IsTaskFault domain problem) → IfSome o (IsFileFault domain problem plan)
   task_told plan o h = told_more_in (IsTaskFault domain problem) (IsFileFault domain problem plan) o (λ told fault. in_the_task fault) h
+
+  pub task_input : (plan : Option (List ℕ)) (o : Option FileFault) → IfSome o (IsTaskFault domain problem) → IfSome o (IsInputFault domain problem plan)
+  task_input None o h = h
+  task_input (Some plan) o h = task_told plan o h

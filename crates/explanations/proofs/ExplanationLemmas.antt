@@ -1,0 +1,52 @@
+-- What is found out of files is what is explained of them.
+use Rattle.std.proofs.Common.{◌≡◌, ℕ, List, Option, Some, None, IfSome, sym, subst}
+use Rattle.std.specs.Prelude.{Result, Ok, Err, IfOk}
+use Rattle.faults.specs.declared.refused.NoMemory.{NoMemory}
+use Rattle.task_files.specs.Files.{told_in}
+use Rattle.task_files.specs.Inputs.{IsInputFault}
+use Rattle.task_files.specs.declared.files.FileFault.{FileFault}
+use Rattle.task_files.specs.declared.files.FileFault.TheVariants as refused
+use Rattle.explanations.specs.declared.explanation.Explanation.{Explanation}
+use Rattle.explanations.specs.declared.explanation.Subject.{Subject}
+use Rattle.explanations.specs.declared.explanation.Subject.TheVariants.{Fault, Plan, Task}
+use Rattle.explanations.specs.Explanations.{IsTrueOf, IsOfFault, IsOfVerdict, IsOfGrounded}
+use Rattle.model.specs.Task as model
+use Rattle.model.specs.Files.{IsTaskOf}
+use Rattle.model.specs.PlanText.{IsPlanText}
+
+module _ (domain problem : List ℕ) (most : ℕ) where
+  fault_explained : (plan : Option (List ℕ)) (fault : FileFault) (subject : Subject) → IfSome (told_in fault) (IsInputFault domain problem plan)
+      → IsOfFault fault subject → IsTrueOf domain problem plan most subject
+  fault_explained plan (refused.At file code span) subject told is = subst (IsTrueOf domain problem plan most) (sym is) told
+  fault_explained plan refused.NoMemory subject told is = absurd is
+
+  -- a fault
+  pub refused_explained : (plan : Option (List ℕ)) (fault : FileFault) (r : Result Explanation NoMemory) → IfSome (told_in fault) (IsInputFault domain problem plan)
+      → IfOk r (λ e. IsOfFault fault e.subject) → IfOk r (λ e. IsTrueOf domain problem plan most e.subject)
+  refused_explained plan fault (Ok e) told is = fault_explained plan fault e.subject told is
+  refused_explained plan fault (Err failed) told is = tt
+
+  module _ (task : model.Task) (is_task : IsTaskOf domain problem task) where
+    verdict_explained : (text : List ℕ) (steps : List model.Instance) → IsPlanText task text steps → (subject : Subject)
+        → IsOfVerdict task steps subject → IsTrueOf domain problem (Some text) most subject
+    verdict_explained text steps is_plan (Fault file code span) is = absurd is
+    verdict_explained text steps is_plan (Plan verdict) is =
+        record { task = task; steps = steps; are_read = record { is_task = is_task; is_plan = is_plan }; is_true = is }
+    verdict_explained text steps is_plan (Task grounded) is = absurd is
+
+    -- the verdict on a plan
+    pub steps_explained : (text : List ℕ) (steps : List model.Instance) → IsPlanText task text steps → (r : Result Explanation NoMemory)
+        → IfOk r (λ e. IsOfVerdict task steps e.subject) → IfOk r (λ e. IsTrueOf domain problem (Some text) most e.subject)
+    steps_explained text steps is_plan (Ok e) is = verdict_explained text steps is_plan e.subject is
+    steps_explained text steps is_plan (Err failed) is = tt
+
+    grounded_explained : (subject : Subject) → IsOfGrounded task most subject → IsTrueOf domain problem None most subject
+    grounded_explained (Fault file code span) is = absurd is
+    grounded_explained (Plan verdict) is = absurd is
+    grounded_explained (Task grounded) is = (task, is_task, is)
+
+    -- a task, where no plan is handed in
+    pub task_explained : (plan : Option (List ℕ)) → plan ≡ None → (r : Result Explanation NoMemory)
+        → IfOk r (λ e. IsOfGrounded task most e.subject) → IfOk r (λ e. IsTrueOf domain problem plan most e.subject)
+    task_explained plan none (Ok e) is = subst (λ (plan : Option (List ℕ)). IsTrueOf domain problem plan most e.subject) (sym none) (grounded_explained e.subject is)
+    task_explained plan none (Err failed) is = tt

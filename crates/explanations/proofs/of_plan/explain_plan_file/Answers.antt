@@ -1,0 +1,13 @@
+use Rattle.std.specs.Prelude.{Some}
+use Rattle.formulas.specs.State.{plan_of}
+use Rattle.typing.specs.Task.{task_of}
+use Rattle.explanations.proofs.ExplanationLemmas.{refused_explained, steps_explained}
+use Rattle.explanations.proofs.of_plan.explain_plan_file.Goals as goal
+
+pub returns-in-Err : goal.returns-in-Err
+returns-in-Err c = λ domain problem most is.
+    refused_explained domain problem most (Some c.args.file.text.now) c.in-Err.fault c.explain_refused.result (c.in-Err.ensures.refused domain problem is) c.explain_refused.ensures
+
+pub returns-in-Ok : goal.returns-in-Ok
+returns-in-Ok c = λ domain problem most is.
+    steps_explained domain problem most (task_of c.args.task.now) is c.args.file.text.now (plan_of c.in-Ok.plan) c.in-Ok.ensures.plan c.explain_steps.result c.explain_steps.ensures
