@@ -165,15 +165,10 @@ fn add_explain<'a>(alloc: Global, commands: &mut Vec<Command<'a>>) -> Result<(),
     let arguments = vec![in alloc;
         file(alloc, "DOMAIN", "The domain file"),
         file(alloc, "PROBLEM", "The problem file"),
-        optional_file(
-            alloc,
-            "PLAN",
-            "The plan file, if a plan is to be explained"
-        ),
+        optional_file(alloc, "PLAN", "The plan file, if a plan is to be explained"),
         limit(alloc, "instances", INSTANCES_HELP),
     ]?;
-    let about =
-        "Says in words what is wrong with a task or a plan, or what a task holds";
+    let about = "Says in words what is wrong with a task or a plan, or what a task holds";
     add_command(alloc, commands, "explain", about, EXPLAIN_HELP, arguments)
 }
 
