@@ -1,6 +1,6 @@
 use Rattle.std.proofs.Common.{ap}
 use Rattle.std.proofs.lemmas.Result.{err_from_is_err_and}
-use Rattle.task_files.specs.Files.{text_in, told_in}
+use Rattle.task_files.specs.Files.{text_in}
 use Rattle.file_answers.proofs.CheckedLemmas.{plan_input}
 use Rattle.file_answers.proofs.checking.answer_on.Goals as goal
 
@@ -8,4 +8,4 @@ pub returns-in_err-plan-clause-refused : goal.returns-in_err-plan-clause-refused
 returns-in_err-plan-clause-refused g c = λ domain problem is.
     let p = err_from_is_err_and c.from_residual.result c.from_residual.ensures.1 in
     rw (p.1, p.2)
-    (plan_input domain problem (text_in c.args.plan) c.in-Some.text.now (ap text_in c.in-Some.is) (told_in c.in_err-plan.error) (c.in_err-plan.ensures.refused domain problem is))
+    (plan_input domain problem (text_in c.args.plan) c.in-Some.text.now (ap text_in c.in-Some.is) _ (c.in_err-plan.ensures.refused domain problem is))
