@@ -1,5 +1,10 @@
 -- What is told of a fault: the fault as it was handed in, and its place in its file.
-use Rattle.std.specs.Prelude.{◌≡◌, ℕ, List}
+use Rattle.std.specs.Prelude.{◌≡◌, ℕ, List, ◌++◌, codes}
+use Rattle.std.specs.Fmt.{decimal}
+use Rattle.faults.specs.Fault.{number_of}
+use Rattle.faults.specs.Fault as faults
+use Rattle.faults.specs.declared.code.Code.{Code}
+use Rattle.text_places.specs.declared.place.Place.{Place}
 use Rattle.text_places.specs.Places.{IsPlace}
 use Rattle.explained_faults.specs.declared.texts.File.{File}
 use Rattle.explained_faults.specs.declared.texts.File.TheVariants.{Domain, Problem, Plan}
@@ -12,6 +17,22 @@ abbrev pub text_in : Texts → File → List ℕ
 text_in texts Domain = texts.domain.text.now
 text_in texts Problem = texts.problem.text.now
 text_in texts Plan = texts.plan.text.now
+
+-- the name of a file, as it was handed in
+abbrev pub name_in : Texts → File → List ℕ
+name_in texts Domain = texts.domain.name.now
+name_in texts Problem = texts.problem.name.now
+name_in texts Plan = texts.plan.name.now
+
+-- the first line of what is told of a fault: the file, the line and the column, and the number and the name of what is wrong
+abbrev pub heading : (name : List ℕ) → Place → Code → List ℕ
+heading name place code =
+    name ++ (codes ":" ++ (decimal place.line ++ (codes ":" ++ (decimal place.column ++ (codes ": fault " ++ (decimal (number_of code)
+    ++ (codes " " ++ (faults.name_in faults.names (number_of code) ++ codes " (columns count bytes)\n"))))))))
+
+-- the text begins with these bytes
+abbrev pub BeginsWith : (text beginning : List ℕ) → Type 0
+BeginsWith text beginning = (rest : List ℕ) × (text ≡ beginning ++ rest)
 
 -- it is told of this fault, and the place is that of the first byte of its span
 pub record IsExplained (texts : Texts) (fault : TextFault) (explanation : FaultExplanation) : Type 0 where

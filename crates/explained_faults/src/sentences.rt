@@ -10,6 +10,10 @@ use text_places::marked;
 use tokens::LONGEST_TEXT;
 
 impl FaultExplanation<'_> {
+    ghost use Rattle.std.specs.Prelude.{◌≡◌, IfOk};
+    ghost use Rattle.std.specs.String.{string_bytes};
+    ghost use Rattle.explained_faults.specs.Explained.{BeginsWith, heading, name_in};
+
     /// What is told of the fault: a line with its place, number and name, the line of the text that it stands in with its
     /// bytes marked below, and a sentence. Each line ends with LF.
     ///
@@ -22,22 +26,27 @@ impl FaultExplanation<'_> {
     ///
     /// # Errors
     /// Memory was refused.
-    pub fn text(&self, alloc: Global, texts: &Texts<'_>) -> Result<String, NoMemory> {
-        let mut out = String::new(alloc);
-        self.add_heading(texts, &mut out)?;
+    pub fn text(&self, alloc: Global, texts: &Texts<'_>) -> Result<String, NoMemory>
+        ensures { IfOk result (λ text. BeginsWith (string_bytes text) (heading (name_in texts.now self.now.fault.file) self.now.place self.now.fault.code)) }
+    {
+        let mut out = self.heading(alloc, texts)?;
         let marks = marked(alloc, texts.text(self.fault.file), self.fault.span)?;
+        let mut sentence = String::new(alloc);
+        self.add_sentence(alloc, texts, &mut sentence)?;
         out.push_str(marks.as_str())?;
-        self.add_sentence(alloc, texts, &mut out)?;
+        out.push_str(sentence.as_str())?;
         out.push_str(".\n")?;
         Ok(out)
     }
 
-    fn add_heading(&self, texts: &Texts<'_>, out: &mut String) -> Result<(), AllocError> {
+    /// The line of its place, its number and its name.
+    fn heading(&self, alloc: Global, texts: &Texts<'_>) -> Result<String, AllocError>
+        ensures { IfOk result (λ line. string_bytes line ≡ heading (name_in texts.now self.now.fault.file) self.now.place self.now.fault.code) }
+    {
         let name = texts.name(self.fault.file);
         let (line, column) = (self.place.line, self.place.column);
         let (number, code) = (self.fault.code.number(), self.fault.code.name());
-        write!(
-            out,
+        format!(in alloc;
             "{name}:{line}:{column}: fault {number} {code} (columns count bytes)\n"
         )
     }

@@ -35,7 +35,7 @@ pub struct Texts<'a> {
 }
 
 impl<'a> Texts<'a> {
-    ghost use Rattle.explained_faults.specs.Explained.{text_in};
+    ghost use Rattle.explained_faults.specs.Explained.{name_in, text_in};
 
     /// The bytes of a file.
     pub fn text(&self, file: File) -> &'a [u8]
@@ -49,7 +49,9 @@ impl<'a> Texts<'a> {
     }
 
     /// The name of a file.
-    pub fn name(&self, file: File) -> &'a str {
+    pub fn name(&self, file: File) -> &'a str
+        ensures { result.now ≡ name_in self.now file }
+    {
         match file {
             File::Domain => self.domain.name,
             File::Problem => self.problem.name,

@@ -1,8 +1,21 @@
 -- What an explanation of some files is about.
-use Rattle.std.specs.Prelude.{◌≡◌, ℕ, List, [], length, Option, None, Some}
+use Rattle.std.specs.Prelude.{◌≡◌, ℕ, List, [], length, Option, None, Some, IfSome}
 use Rattle.std.specs.Option.{option_map}
 use Rattle.validator.specs.Verdict.{verdict_of}
+use Rattle.std.specs.String.{string_bytes}
+use Rattle.faults.specs.declared.code.Code.{Code}
+use Rattle.faults.specs.declared.refused.Span.{Span}
+use Rattle.text_places.specs.Places.{IsPlace}
+use Rattle.text_places.specs.declared.place.Place.{Place}
 use Rattle.explained_faults.specs.declared.texts.NamedText.{NamedText}
+use Rattle.explained_faults.specs.declared.texts.Texts.{Texts}
+use Rattle.explained_faults.specs.declared.texts.File as explained
+use Rattle.explained_faults.specs.declared.texts.File.TheVariants as kind
+use Rattle.explained_faults.specs.Explained.{BeginsWith, heading, name_in}
+use Rattle.explained_faults.specs.Explained.{text_in as text_of}
+use Rattle.task_files.specs.declared.files.File.{File}
+use Rattle.task_files.specs.declared.files.File.TheVariants.{Domain, Problem, Plan as PlanFile}
+use Rattle.explanations.specs.declared.explanation.Explanation.{Explanation}
 use Rattle.grounding_kept.specs.Numbering.{limit_of}
 use Rattle.task_files.specs.Files.{fault_at}
 use Rattle.task_files.specs.Inputs.{IsInputFault}
@@ -42,7 +55,45 @@ IsTrueOf domain problem None most (Plan verdict) = ⊥
 IsTrueOf domain problem (Some plan) most (Task grounded) = ⊥
 IsTrueOf domain problem None most (Task grounded) = (task : model.Task) × IsTaskOf domain problem task × IsGrounded task most grounded
 
+-- the file of this kind with its text, where it is handed in
+abbrev pub named_in : (domain problem : NamedText) → (plan : Option NamedText) → File → Option NamedText
+named_in domain problem plan Domain = Some domain
+named_in domain problem plan Problem = Some problem
+named_in domain problem plan PlanFile = plan
+
+-- the lines begin with that of this fault: its file, the line and the column of the first byte of its span, its number and name
+abbrev pub IsHeading : NamedText → Code → Span → (lines : List ℕ) → Type 0
+IsHeading named code span lines =
+    (place : Place) × IsPlace named.text.now span.start place × BeginsWith lines (heading named.name.now place code)
+
+-- of a fault the first line has its place
+abbrev pub headed_as : (domain problem : NamedText) → (plan : Option NamedText) → (lines : List ℕ) → Subject → Type 0
+headed_as domain problem plan lines (Fault file code span) =
+    IfSome (named_in domain problem plan file) (λ named. IsHeading named code span lines)
+headed_as domain problem plan lines (Plan verdict) = Unit {0}
+headed_as domain problem plan lines (Task grounded) = Unit {0}
+
+abbrev pub IsHeaded : (domain problem : NamedText) → (plan : Option NamedText) → Explanation → Type 0
+IsHeaded domain problem plan e = headed_as domain problem plan (string_bytes e.text) e.subject
+
 -- ---- on the way
+
+-- the kind of a file, as faults are explained of it
+abbrev pub explained_file : File → explained.File
+explained_file Domain = kind.Domain
+explained_file Problem = kind.Problem
+explained_file PlanFile = kind.Plan
+
+-- the same of texts that stand together
+abbrev pub headed_in : Texts → (lines : List ℕ) → Subject → Type 0
+headed_in texts lines (Fault file code span) =
+    (place : Place) × IsPlace (text_of texts (explained_file file)) span.start place
+    × BeginsWith lines (heading (name_in texts (explained_file file)) place code)
+headed_in texts lines (Plan verdict) = Unit {0}
+headed_in texts lines (Task grounded) = Unit {0}
+
+abbrev pub IsHeadedIn : Texts → Explanation → Type 0
+IsHeadedIn texts e = headed_in texts (string_bytes e.text) e.subject
 
 -- the fault is what is explained; want of memory is not
 abbrev pub IsOfFault : FileFault → Subject → Type 0

@@ -1,6 +1,6 @@
 //! What is said of a file that is refused.
 ghost use Rattle.std.specs.Prelude.{◌≡◌, IfOk};
-ghost use Rattle.explanations.specs.Explanations.{IsOfFault};
+ghost use Rattle.explanations.specs.Explanations.{IsHeadedIn, IsOfFault, explained_file};
 ghost use Rattle.explanations.specs.declared.explanation.Subject.TheVariants.{Fault};
 
 use crate::explanation::{Explanation, Subject};
@@ -15,7 +15,8 @@ pub(crate) fn explain_refused(
     texts: &Texts<'_>,
     fault: FileFault,
 ) -> Result<Explanation, NoMemory>
-    ensures { IfOk result (λ e. IsOfFault fault e.subject) }
+    ensures fault { IfOk result (λ e. IsOfFault fault e.subject) }
+    ensures headed { IfOk result (IsHeadedIn texts.now) }
 {
     match fault {
         FileFault::At { file, code, span } => explain_at(alloc, texts, file, code, span),
@@ -31,7 +32,8 @@ fn explain_at(
     code: Code,
     span: Span,
 ) -> Result<Explanation, NoMemory>
-    ensures { IfOk result (λ e. e.subject ≡ Fault file code span) }
+    ensures fault { IfOk result (λ e. e.subject ≡ Fault file code span) }
+    ensures headed { IfOk result (IsHeadedIn texts.now) }
 {
     let fault = TextFault {
         file: explained_file(file),
@@ -45,7 +47,9 @@ fn explain_at(
 }
 
 /// The file, as its faults are explained of it.
-fn explained_file(file: File) -> explained_faults::File {
+fn explained_file(file: File) -> explained_faults::File
+    ensures { result ≡ explained_file file }
+{
     match file {
         File::Domain => explained_faults::File::Domain,
         File::Problem => explained_faults::File::Problem,

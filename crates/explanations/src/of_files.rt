@@ -1,6 +1,6 @@
 //! From the bytes of files to their explanation.
-ghost use Rattle.std.specs.Prelude.{IfOk};
-ghost use Rattle.explanations.specs.Explanations.{IsTrueOf, text_in};
+ghost use Rattle.std.specs.Prelude.{◌≡◌, IfOk, IfSome};
+ghost use Rattle.explanations.specs.Explanations.{IsHeaded, IsTrueOf, text_in};
 
 use crate::explanation::Explanation;
 use crate::of_fault::explain_refused;
@@ -34,7 +34,9 @@ pub fn explain_files(
     plan: Option<NamedText<'_>>,
     max_instances: u32,
 ) -> Result<Explanation, NoMemory>
-    ensures { IfOk result (λ e. IsTrueOf domain.entry.text.now problem.entry.text.now (text_in plan.entry) max_instances e.subject) }
+    ensures subject { IfOk result (λ e. IsTrueOf domain.entry.text.now problem.entry.text.now (text_in plan.entry) max_instances e.subject) }
+    // Of a fault the first line has the place of its first byte.
+    ensures headed { IfOk result (IsHeaded domain.entry problem.entry plan.entry) }
 {
     let texts = texts_of(domain, problem, plan);
     let task = match task_of_files(alloc, domain.text, problem.text) {
@@ -52,7 +54,11 @@ fn texts_of<'a>(
     domain: NamedText<'a>,
     problem: NamedText<'a>,
     plan: Option<NamedText<'a>>,
-) -> Texts<'a> {
+) -> Texts<'a>
+    ensures domain { result.domain ≡ domain.entry }
+    ensures problem { result.problem ≡ problem.entry }
+    ensures plan { IfSome plan.entry (λ named. result.plan ≡ named) }
+{
     let nothing = NamedText { name: "", text: b"" };
     Texts {
         domain,

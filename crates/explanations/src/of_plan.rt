@@ -5,7 +5,7 @@ ghost use Rattle.typing.specs.Task.{task_of};
 ghost use Rattle.formulas.specs.State.{plan_of};
 ghost use Rattle.validator.specs.Verdict.{verdict_of};
 ghost use Rattle.explained_plans.specs.Explanations as plans;
-ghost use Rattle.explanations.specs.Explanations.{IsTrueOf, IsOfVerdict};
+ghost use Rattle.explanations.specs.Explanations.{IsHeadedIn, IsTrueOf, IsOfVerdict};
 ghost use Rattle.model.specs.Files.{IsTaskOf};
 ghost use Rattle.model.specs.Meaning.{is_instance, system_of};
 
@@ -28,7 +28,8 @@ pub(crate) fn explain_plan_file(
     texts: &Texts<'_>,
     file: NamedText<'_>,
 ) -> Result<Explanation, NoMemory>
-    ensures { (domain problem : List ℕ) (most : ℕ) → IsTaskOf domain problem (task_of task.now)
+    ensures headed { IfOk result (IsHeadedIn texts.now) }
+    ensures subject { (domain problem : List ℕ) (most : ℕ) → IsTaskOf domain problem (task_of task.now)
         → IfOk result (λ e. IsTrueOf domain problem (Some file.entry.text.now) most e.subject) }
 {
     match plan_of_file(alloc, task, file.text) {
