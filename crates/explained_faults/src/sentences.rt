@@ -1,4 +1,8 @@
 //! A fault as it is told: its heading, its line with a mark, and a sentence.
+ghost use Rattle.std.specs.Prelude.{◌≡◌, IfOk};
+ghost use Rattle.std.specs.String.{string_bytes};
+ghost use Rattle.explained_faults.specs.Explained.{BeginsWith, heading, name_in};
+
 use crate::detail::{CostFault, Counts, Detail, FilePlace, Limit, Named, Types};
 use crate::explanation::{FaultExplanation, told_bytes};
 use crate::lists::{add_name, add_names, add_words};
@@ -6,14 +10,10 @@ use crate::near::Others;
 use crate::texts::{TextFault, Texts};
 use faults::{Code, NoMemory};
 use std::alloc::{AllocError, Global};
-use text_places::marked;
+use text_places::{Place, marked};
 use tokens::LONGEST_TEXT;
 
 impl FaultExplanation<'_> {
-    ghost use Rattle.std.specs.Prelude.{◌≡◌, IfOk};
-    ghost use Rattle.std.specs.String.{string_bytes};
-    ghost use Rattle.explained_faults.specs.Explained.{BeginsWith, heading, name_in};
-
     /// What is told of the fault: a line with its place, number and name, the line of the text that it stands in with its
     /// bytes marked below, and a sentence. Each line ends with LF.
     ///
@@ -29,7 +29,8 @@ impl FaultExplanation<'_> {
     pub fn text(&self, alloc: Global, texts: &Texts<'_>) -> Result<String, NoMemory>
         ensures { IfOk result (λ text. BeginsWith (string_bytes text) (heading (name_in texts.now self.now.fault.file) self.now.place self.now.fault.code)) }
     {
-        let mut out = self.heading(alloc, texts)?;
+        let name = texts.name(self.fault.file);
+        let mut out = heading(alloc, name, self.place, self.fault.code)?;
         let marks = marked(alloc, texts.text(self.fault.file), self.fault.span)?;
         let mut sentence = String::new(alloc);
         self.add_sentence(alloc, texts, &mut sentence)?;
@@ -37,18 +38,6 @@ impl FaultExplanation<'_> {
         out.push_str(sentence.as_str())?;
         out.push_str(".\n")?;
         Ok(out)
-    }
-
-    /// The line of its place, its number and its name.
-    fn heading(&self, alloc: Global, texts: &Texts<'_>) -> Result<String, AllocError>
-        ensures { IfOk result (λ line. string_bytes line ≡ heading (name_in texts.now self.now.fault.file) self.now.place self.now.fault.code) }
-    {
-        let name = texts.name(self.fault.file);
-        let (line, column) = (self.place.line, self.place.column);
-        let (number, code) = (self.fault.code.number(), self.fault.code.name());
-        format!(in alloc;
-            "{name}:{line}:{column}: fault {number} {code} (columns count bytes)\n"
-        )
     }
 
     fn add_sentence(
@@ -91,6 +80,16 @@ impl FaultExplanation<'_> {
             Detail::Cost(fault) => out.push_str(cost_text(*fault)),
         }
     }
+}
+
+/// The first line: the file, the place, the number and the name of what is wrong.
+fn heading(alloc: Global, name: &str, place: Place, code: Code) -> Result<String, AllocError>
+    ensures { IfOk result (λ line. string_bytes line ≡ heading name.now place code) }
+{
+    let (line, column) = (place.line, place.column);
+    let number = code.number();
+    let code = code.name();
+    format!(in alloc; "{name}:{line}:{column}: fault {number} {code} (columns count bytes)\n")
 }
 
 /// What a number alone says of some bytes.

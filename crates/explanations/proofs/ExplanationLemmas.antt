@@ -9,7 +9,13 @@ use Rattle.task_files.specs.declared.files.FileFault.TheVariants as refused
 use Rattle.explanations.specs.declared.explanation.Explanation.{Explanation}
 use Rattle.explanations.specs.declared.explanation.Subject.{Subject}
 use Rattle.explanations.specs.declared.explanation.Subject.TheVariants.{Fault, Plan, Task}
-use Rattle.explanations.specs.Explanations.{IsTrueOf, IsOfFault, IsOfVerdict, IsOfGrounded}
+use Rattle.explanations.specs.Explanations.{IsTrueOf, IsHeaded, IsHeadedIn, IsHeading, IsOfFault, IsOfVerdict, IsOfGrounded, headed_as, headed_in}
+use Rattle.std.specs.String.{string_bytes}
+use Rattle.faults.specs.declared.code.Code.{Code}
+use Rattle.faults.specs.declared.refused.Span.{Span}
+use Rattle.explained_faults.specs.declared.texts.NamedText.{NamedText}
+use Rattle.explained_faults.specs.declared.texts.Texts.{Texts}
+use Rattle.task_files.specs.declared.files.File.TheVariants as kind
 use Rattle.model.specs.Task as model
 use Rattle.model.specs.Files.{IsTaskOf}
 use Rattle.model.specs.PlanText.{IsPlanText}
@@ -50,3 +56,34 @@ module _ (domain problem : List ℕ) (most : ℕ) where
         → IfOk r (λ e. IsOfGrounded task most e.subject) → IfOk r (λ e. IsTrueOf domain problem plan most e.subject)
     task_explained plan none (Ok e) is = subst (λ (plan : Option (List ℕ)). IsTrueOf domain problem plan most e.subject) (sym none) (grounded_explained e.subject is)
     task_explained plan none (Err failed) is = tt
+
+-- The heading of a fault of these texts is that of the files that are handed in.
+module _ (texts : Texts) (domain problem : NamedText) (plan : Option NamedText)
+    (same_domain : texts.domain ≡ domain) (same_problem : texts.problem ≡ problem) (same_plan : IfSome plan (λ named. texts.plan ≡ named)) where
+  plan_headed : (code : Code) (span : Span) (lines : List ℕ) (handed : Option NamedText) → IfSome handed (λ named. texts.plan ≡ named)
+      → IsHeading texts.plan code span lines → IfSome handed (λ named. IsHeading named code span lines)
+  plan_headed code span lines None same is = tt
+  plan_headed code span lines (Some named) same is = subst (λ (named : NamedText). IsHeading named code span lines) same is
+
+  lines_headed : (lines : List ℕ) (subject : Subject) → headed_in texts lines subject → headed_as domain problem plan lines subject
+  lines_headed lines (Fault kind.Domain code span) is = subst (λ (named : NamedText). IsHeading named code span lines) same_domain is
+  lines_headed lines (Fault kind.Problem code span) is = subst (λ (named : NamedText). IsHeading named code span lines) same_problem is
+  lines_headed lines (Fault kind.Plan code span) is = plan_headed code span lines plan same_plan is
+  lines_headed lines (Plan verdict) is = tt
+  lines_headed lines (Task grounded) is = tt
+
+  pub files_headed : (r : Result Explanation NoMemory) → IfOk r (IsHeadedIn texts) → IfOk r (IsHeaded domain problem plan)
+  files_headed (Ok e) is = lines_headed (string_bytes e.text) e.subject is
+  files_headed (Err failed) is = tt
+
+-- Of a task there is no fault.
+no_heading : (domain problem : NamedText) (plan : Option NamedText) (task : model.Task) (most : ℕ) (lines : List ℕ) (subject : Subject)
+    → IsOfGrounded task most subject → headed_as domain problem plan lines subject
+no_heading domain problem plan task most lines (Fault file code span) is = absurd is
+no_heading domain problem plan task most lines (Plan verdict) is = absurd is
+no_heading domain problem plan task most lines (Task grounded) is = tt
+
+pub task_headed : (domain problem : NamedText) (plan : Option NamedText) (task : model.Task) (most : ℕ) (r : Result Explanation NoMemory)
+    → IfOk r (λ e. IsOfGrounded task most e.subject) → IfOk r (IsHeaded domain problem plan)
+task_headed domain problem plan task most (Ok e) is = no_heading domain problem plan task most (string_bytes e.text) e.subject is
+task_headed domain problem plan task most (Err failed) is = tt
