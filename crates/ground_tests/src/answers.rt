@@ -39,7 +39,7 @@ pub(crate) static ANSWERS: [(Texts, u32, u32, Found); 14] = [
 ];
 
 /// What is found out, but for the plan and the certificate.
-fn found(answer: &Answer) -> Found {
+pub(crate) fn found(answer: &Answer) -> Found {
     match answer {
         Answer::Plan { cost, .. } => Ok(Some(*cost)),
         Answer::Unsolvable { .. } => Ok(None),

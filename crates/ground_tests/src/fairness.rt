@@ -14,7 +14,11 @@ use std::test::Fail;
 use test_texts::{HOP, on_task};
 
 /// Potentials of this constant and these weights, where there is one for each atom.
-fn weighing(alloc: Global, constant: i64, weights: &[i64]) -> Result<Option<Potentials>, NoMemory> {
+pub(crate) fn weighing(
+    alloc: Global,
+    constant: i64,
+    weights: &[i64],
+) -> Result<Option<Potentials>, NoMemory> {
     let mut list = Vec::new(alloc);
     list.extend_from_slice(weights)?;
     Ok(Potentials::new(constant, list))

@@ -26,7 +26,7 @@ fn steps_of<S>(outcome: &Outcome<S>) -> &[u32] {
     }
 }
 
-fn states_of<S>(outcome: &Outcome<S>) -> Option<&FoundStates<S>> {
+pub(crate) fn states_of<S>(outcome: &Outcome<S>) -> Option<&FoundStates<S>> {
     match outcome {
         Outcome::Found { states, .. } => Some(states),
         Outcome::Exhausted { states } => Some(states),
@@ -35,7 +35,7 @@ fn states_of<S>(outcome: &Outcome<S>) -> Option<&FoundStates<S>> {
 }
 
 /// Copies the state at this place, if there is one of this width.
-fn got<S: StateStore>(store: &S, place: u32, into: &mut Packed) -> bool {
+pub(crate) fn got<S: StateStore>(store: &S, place: u32, into: &mut Packed) -> bool {
     if into.width() != store.width() || place as usize >= store.len() {
         return false;
     }
@@ -44,7 +44,7 @@ fn got<S: StateStore>(store: &S, place: u32, into: &mut Packed) -> bool {
 }
 
 /// Whether the stores have the same states of the width, in the same order.
-fn have_same<A: StateStore, B: StateStore>(
+pub(crate) fn have_same<A: StateStore, B: StateStore>(
     alloc: Global,
     width: u32,
     some: &A,
@@ -112,7 +112,7 @@ fn found(alloc: Global, task: &Task, most: u32, instances: u32) -> Result<Option
 }
 
 /// What is found out with no estimate, by which the bound at the limit of states is lower.
-fn with_no_estimate(found: Found) -> Found {
+pub(crate) fn with_no_estimate(found: Found) -> Found {
     match found {
         Err(Limit::States(_)) => Err(Limit::States(0)),
         _ => found,

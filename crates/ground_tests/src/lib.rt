@@ -1,5 +1,5 @@
 //! Tests of what the whole program cannot show of ground tasks in memory and of potentials: what is told of some for small
-//! tasks, what they are worth, how far they are made better, and what searches find, in either store.
+//! tasks, what they are worth, how far they are made better, and what searches find and certificates list, in either store.
 #![tactic(auto)]
 
 #[cfg(test)]
@@ -14,5 +14,9 @@ mod ground_searches;
 mod ground_tasks;
 #[cfg(test)]
 mod laws;
+#[cfg(test)]
+mod plain_certificates;
+#[cfg(test)]
+mod plain_tasks;
 #[cfg(test)]
 mod scores;
