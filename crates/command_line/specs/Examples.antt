@@ -47,8 +47,8 @@ pub record AreRead : Type 0 where
   pub to_validate : Asks (codes "validate" ∷ codes "d" ∷ codes "p" ∷ codes "l" ∷ codes "--json" ∷ []) (to_validate (codes "d") (codes "p") (codes "l") true)
   pub to_check : Asks (codes "check" ∷ codes "d" ∷ codes "p" ∷ codes "c" ∷ codes "--plan" ∷ codes "l" ∷ codes "--instances=7" ∷ [])
       (to_check (codes "d") (codes "p") (codes "c") (record { instances = 7; plan = Some (codes "l"); json = false }))
-  pub to_explain : Asks (codes "explain" ∷ codes "d" ∷ codes "p" ∷ []) (to_explain (codes "d") (codes "p") (record { instances = 1000000; plan = None }))
-  pub to_explain_a_plan : Asks (codes "explain" ∷ codes "d" ∷ codes "--instances" ∷ codes "7" ∷ codes "p" ∷ codes "l" ∷ [])
+  pub a_task_to_explain : Asks (codes "explain" ∷ codes "d" ∷ codes "p" ∷ []) (to_explain (codes "d") (codes "p") (record { instances = 1000000; plan = None }))
+  pub a_plan_to_explain : Asks (codes "explain" ∷ codes "d" ∷ codes "--instances" ∷ codes "7" ∷ codes "p" ∷ codes "l" ∷ [])
       (to_explain (codes "d") (codes "p") (record { instances = 7; plan = Some (codes "l") }))
   -- what is refused
   pub no_word : AreRefused [] (DisplayHelpOnMissingArgumentOrSubcommand ∷ [])
