@@ -81,7 +81,7 @@ fn is_for_a_plan(order: &Order<'_>) -> bool {
             json,
             ..
         } => *domain == "d" && *problem == "p" && states.number() == 5 && *json,
-        Order::Validate { .. } | Order::Check { .. } => false,
+        Order::Validate { .. } | Order::Check { .. } | Order::Explain { .. } => false,
     }
 }
 
@@ -96,9 +96,11 @@ fn ask_for_a_plan(alloc: Global, words: &[&str]) -> Result<Option<bool>, NoMemor
 
 #[test]
 fn words_are_read(rt: HostRuntime) -> Result<(), Fail> {
-    let rows: [(&[&str], Option<bool>); 3] = [
+    let rows: [(&[&str], Option<bool>); 5] = [
         (&["solve", "d", "--states=5", "p", "--json"], Some(true)),
         (&["validate", "d", "p", "l"], Some(false)),
+        (&["explain", "d", "p", "--instances", "7", "l"], Some(false)),
+        (&["explain", "d", "p", "--json"], None),
         (&["solve", "d", "p", "--states", "0"], None),
     ];
     for (words, wanted) in &rows {
