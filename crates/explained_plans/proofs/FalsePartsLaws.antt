@@ -5,20 +5,13 @@ use Rattle.std.specs.Cmp.{first_so, second_so}
 use Rattle.std.specs.List.{flat_map, list_all}
 use Rattle.std.proofs.lemmas.List.Elements.{All-nil, All-cons, All-append, All-get_or}
 use Rattle.std.proofs.lemmas.Option.{slice_get_within, get_or_from_slice_get}
+use Rattle.task_parts.proofs.Empty.{nil_left, nil_right}
 use Rattle.explained_plans.specs.FalseParts.{Part, part_holds, false_parts, false_parts_of_all, itself_if_false, FalsePartsTell}
 use Rattle.model.specs.Task.{Task, Formula, Formulas, atom, equal, and, or, imply, exists, forall, no_formula, more_formulas}
 use Rattle.model.specs.Task as task
 use Rattle.model.specs.Meaning.{State, holds, all_hold, objects_of}
 
 -- ---- lists
-
-nothing_before : {X : Type 0} (xs ys : List X) → xs ++ ys ≡ [] → xs ≡ []
-nothing_before [] ys e = refl
-nothing_before (x ∷ xs) ys e = absurd (cc)
-
-nothing_behind : {X : Type 0} (xs ys : List X) → xs ++ ys ≡ [] → ys ≡ []
-nothing_behind [] ys e = e
-nothing_behind (x ∷ xs) ys e = absurd (cc)
 
 module _ {X Y : Type 0} (p : X → Bool) (f : X → List Y) where
   nothing_from_all : ((x : X) → p x ≡ true → f x ≡ []) → (xs : List X) → list_all p xs ≡ true → flat_map f xs ≡ []
@@ -29,7 +22,7 @@ module _ {X Y : Type 0} (p : X → Bool) (f : X → List Y) where
   all_from_nothing : ((x : X) → f x ≡ [] → p x ≡ true) → (xs : List X) → flat_map f xs ≡ [] → list_all p xs ≡ true
   all_from_nothing each [] none = refl
   all_from_nothing each (x ∷ xs) none =
-      λ i. each x (nothing_before (f x) (flat_map f xs) none) i && all_from_nothing each xs (nothing_behind (f x) (flat_map f xs) none) i
+      λ i. each x (nil_left (f x) (flat_map f xs) none) i && all_from_nothing each xs (nil_right (f x) (flat_map f xs) none) i
 
 All-flat_map : {X Y : Type 0} (P : Y → Type 0) (f : X → List Y) → ((x : X) → All P (f x)) → (xs : List X) → All P (flat_map f xs)
 All-flat_map P f each [] = All-nil P
@@ -104,8 +97,8 @@ module _ (t : Task) (s : State) where
     all_hold_where_none : (parts : Formulas) (b : List ℕ) → false_parts_of_all t parts b s ≡ [] → all_hold t parts b s ≡ true
     all_hold_where_none no_formula b none = refl
     all_hold_where_none (more_formulas first rest) b none =
-        λ i. holds_where_none first b (nothing_before (false_parts t first b s) (false_parts_of_all t rest b s) none) i
-        && all_hold_where_none rest b (nothing_behind (false_parts t first b s) (false_parts_of_all t rest b s) none) i
+        λ i. holds_where_none first b (nil_left (false_parts t first b s) (false_parts_of_all t rest b s) none) i
+        && all_hold_where_none rest b (nil_right (false_parts t first b s) (false_parts_of_all t rest b s) none) i
 
   abbrev IsFalse : Part → Type 0
   IsFalse p = part_holds t s p ≡ false

@@ -1,13 +1,12 @@
 -- False parts that are found one after another.
-use Rattle.std.specs.Prelude.{◌≡◌, ℕ, ◌+◌, ◌<◌, ◌≤◌, Bool, true, false, nat_lt, if◌then◌else◌, List, [], ◌∷◌, ◌++◌, length, filter, map, take, get_or, All, refl}
-use Rattle.std.proofs.Common.{cond, sym, ◌∙◌, ap, subst, inl, inr, arith}
+use Rattle.std.specs.Prelude.{◌≡◌, ℕ, ◌+◌, ◌<◌, ◌≤◌, Bool, true, false, nat_lt, if◌then◌else◌, List, [], ◌∷◌, ◌++◌, length, map, take, get_or, All, refl}
+use Rattle.std.proofs.Common.{sym, ◌∙◌, ap, subst, inl, inr, arith}
 use Rattle.std.specs.Global.{Vec}
-use Rattle.std.specs.List.{flat_map, range_with_len}
+use Rattle.std.specs.List.{flat_map}
 use Rattle.std.proofs.lemmas.Bool.{cases_lt}
 use Rattle.std.proofs.lemmas.Bool.Decides.{nat_tests}
 use Rattle.std.proofs.lemmas.Grind.{flat_map-append}
-use Rattle.std.proofs.lemmas.List.FromFn.{filter_of_map_range_with_len_more}
-use Rattle.std.proofs.lemmas.List.{append-nil, map-id, append_assoc, length-append, length-map, length-take-le, length_push, map_push, take_all, take_more, take-append-le}
+use Rattle.std.proofs.lemmas.List.{append-nil, append_assoc, length-append, length-map, length-take-le, length_push, map_push, take_all, take_more, take-append-le}
 use Rattle.std.proofs.lemmas.List.Elements.{All-nil, All-push}
 use Rattle.task_parts.specs.declared.schemas.Formula.{Formula}
 use Rattle.task_parts.specs.declared.schemas.Formula as formula
@@ -17,25 +16,11 @@ use Rattle.explained_plans.specs.FalseParts.{Part, false_parts, false_parts_of_a
 use Rattle.explained_plans.specs.Parts.{AreFirst, AreFound, Finds, FitsPart, IsFalseIn, most_told, part_of}
 use Rattle.typing.specs.TaskParts.{formula_of}
 use Rattle.formulas.proofs.Trees.{formulas_in, formula_of-And}
-use Rattle.formulas.proofs.Quantifiers.{among}
 use Rattle.model.specs.Task as task
 use Rattle.model.specs.Meaning.{State, holds}
 
 abbrev pub as_part : task.Formula → List ℕ → Part
 as_part f objects = record { formula = f; objects = objects }
-
--- ---- the objects of a variable's types below a number, and one more
-
-among-more : (p : ℕ → Bool) (n : ℕ) → among p (n + 1) ≡ among p n ++ cond (p n) (n ∷ []) []
-among-more p n =
-    ap (filter p) (sym (map-id (range_with_len 0 (n + 1)))) ∙ filter_of_map_range_with_len_more p (λ k. k) 0 n n (omega arith)
-    ∙ ap (λ ks. filter p ks ++ cond (p n) (n ∷ []) []) (map-id (range_with_len 0 n))
-
-among-with : (p : ℕ → Bool) (n : ℕ) → p n ≡ true → among p (n + 1) ≡ among p n ++ n ∷ []
-among-with p n so = among-more p n ∙ ap (λ b. among p n ++ cond b (n ∷ []) []) so
-
-among-without : (p : ℕ → Bool) (n : ℕ) → p n ≡ false → among p (n + 1) ≡ among p n
-among-without p n not_so = among-more p n ∙ ap (λ b. among p n ++ cond b (n ∷ []) []) not_so ∙ append-nil (among p n)
 
 -- ---- the first of some parts, and one more
 
@@ -170,15 +155,13 @@ module _ (t : task.Task) (s : State) where
 
   -- ---- objects
 
-  module _ (p : ℕ → Bool) (f : ℕ → List Part) (n : ℕ) (a b : Found) (so_far : Finds t s (flat_map f (among p n)) a b) where
-    pub finds_with_object : (c : Found) → p n ≡ true → Finds t s (f n) b c → Finds t s (flat_map f (among p (n + 1))) a c
-    finds_with_object c so next =
-        subst (λ l. Finds t s l a c)
-        (sym (ap (flat_map f) (among-with p n so) ∙ flat_map-append f (among p n) (n ∷ []) ∙ ap (λ l. flat_map f (among p n) ++ l) (append-nil (f n))))
-        (finds_more (flat_map f (among p n)) (f n) a b c so_far next)
+  -- what is found for the next one, and for those left after it
+  pub finds_next : (f : ℕ → List Part) (left rest : List ℕ) (x : ℕ) → left ≡ x ∷ rest → (a b c : Found) → Finds t s (f x) a b → Finds t s (flat_map f rest) b c → Finds t s (flat_map f left) a c
+  finds_next f left rest x steps a b c here later = subst (λ l. Finds t s (flat_map f l) a c) (sym steps) (finds_more (f x) (flat_map f rest) a b c here later)
 
-    pub finds_without_object : (c : Found) → c ≡ b → p n ≡ false → Finds t s (flat_map f (among p (n + 1))) a c
-    finds_without_object c same not_so = subst (Finds t s (flat_map f (among p (n + 1))) a) (sym same) (subst (λ l. Finds t s (flat_map f l) a b) (sym (among-without p n not_so)) so_far)
+  -- once none is left
+  pub finds_end : (f : ℕ → List Part) (left : List ℕ) → left ≡ [] → (found : Found) → Finds t s (flat_map f left) found found
+  finds_end f left none found = subst (λ l. Finds t s (flat_map f l) found found) (sym none) (finds_none found)
 
 -- ---- conjunctions
 

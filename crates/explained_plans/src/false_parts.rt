@@ -9,9 +9,9 @@ ghost use Rattle.explained_plans.specs.Parts.{AreFound, Finds};
 ghost use Rattle.model.specs.Task.{forall};
 
 use faults::NoMemory;
-use formulas::{Binding, State, copied, holds};
+use formulas::{Binding, State, copied, holds, objects_of, with_object};
 use std::alloc::Global;
-use typing::{Formula, ObjectId, Task, TypeUnion};
+use typing::{Formula, Task, TypeUnion};
 
 /// How many false parts of a formula are told at most.
 pub const MOST_TOLD: usize = 20;
@@ -115,14 +115,8 @@ fn find_for_each<'t>(
     requires { FitsFormula (task_of task.now) (forall (union_of types.now) (formula_of part.now)) (map object_of objects.now.items) }
     ensures { OnOk result (Finds (task_of task.now) (state_of state.now) (false_parts (task_of task.now) (forall (union_of types.now) (formula_of part.now)) (map object_of objects.now.items) (state_of state.now)) found.old found.new) }
 {
-    let mut extended = copied(objects);
-    for number in 0..task.object_count() {
-        let object = ObjectId(number as u32);
-        if task.is_of(object, types) {
-            extended.push(object);
-            find(task, part, &extended, state, found)?;
-            extended.pop();
-        }
+    for object in objects_of(task, types) {
+        find(task, part, &with_object(objects, object), state, found)?;
     }
     Ok(())
 }

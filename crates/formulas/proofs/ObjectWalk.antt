@@ -37,7 +37,7 @@ filter_passes p (x ∷ xs) =
     ] refl
 
 -- each of them is of the types
-all_of : (t : task.Task) (types : task.Union) (left : List ℕ) → left ≡ objects_of t types → list_all (is_of t types) left ≡ true
+pub all_of : (t : task.Task) (types : task.Union) (left : List ℕ) → left ≡ objects_of t types → list_all (is_of t types) left ≡ true
 all_of t types left is = ap (list_all (is_of t types)) is ∙ filter_passes (is_of t types) (range_with_len 0 (length t.objects))
 
 -- ---- the next one, and those left after it

@@ -21,6 +21,7 @@ pub use fluents::{is_atom, is_fluent, is_fluent_atom};
 pub use instance::{Binding, Instance, copied, is_instance, with_object};
 pub use laws::{formula_examples_are_judged, one_state, sure_literals_hold};
 pub use literals::{Literal, sure};
+pub use objects::{Objects, objects_of};
 pub use plan::{MAX_STEPS, Plan};
 pub use state::State;
 pub use truth::{holds, meets_goal};

@@ -9,15 +9,15 @@ use typing::{ObjectId, Task, TypeUnion};
 
 /// The objects of some types, one after another.
 #[derive(Drop)]
-pub(crate) struct Objects<'t> {
+pub struct Objects<'t> {
     task: &'t Task,
     types: &'t TypeUnion,
     /// The number from which on they are looked for.
     next: usize,
 }
 
-/// The objects of these types, in order, each once.
-pub(crate) fn objects_of<'t>(task: &'t Task, types: &'t TypeUnion) -> Objects<'t>
+/// The objects that are of one of these types, in the order of their numbers, each once. No memory is taken.
+pub fn objects_of<'t>(task: &'t Task, types: &'t TypeUnion) -> Objects<'t>
     ensures { objects_left result ≡ meaning.objects_of (task_of task.now) (union_of types.now) }
 {
     Objects {

@@ -1,17 +1,18 @@
 -- Instances of which some objects are chosen: what the objects so far close off, and one object after another.
-use Rattle.std.proofs.Common.{◌≡◌, ◌∙◌, ℕ, zero, suc, ◌+◌, ◌≤◌, Bool, true, false, ◌&&◌, List, [], ◌∷◌, ◌++◌, length, map, drop, None, Some, refl, sym, ap, subst, arith, append_assoc, append-nil}
+use Rattle.std.proofs.Common.{◌≡◌, ◌∙◌, ℕ, zero, suc, ◌+◌, ◌≤◌, Bool, true, false, List, [], ◌∷◌, ◌++◌, length, map, drop, None, Some, refl, sym, ap, subst, arith, append_assoc, append-nil}
 use Rattle.std.specs.Prelude.{IsTrue, slice_get, filter, cond}
 use Rattle.std.specs.Cmp.{first_so, second_so}
 use Rattle.std.specs.Cmp.Lexicographic.{pointwise, as_long}
-use Rattle.std.specs.List.{list_all, list_any, flat_map, range_with_len}
+use Rattle.std.specs.List.{list_all, list_any, flat_map}
 use Rattle.std.specs.Option.{option_map, option_map_or}
-use Rattle.std.proofs.lemmas.Bool.{and_parts, and_from}
 use Rattle.std.proofs.lemmas.List.{length-append}
 use Rattle.std.proofs.lemmas.List.Elements.{filter-append}
 use Rattle.std.proofs.lemmas.Option.{slice_get_past}
 use Rattle.typing.specs.TaskParts.{shape_of_schema}
 use Rattle.typing.proofs.Shapes.{Shape, found as schema_found}
 use Rattle.formulas.specs.State.{FitsFormulas}
+use Rattle.formulas.proofs.ObjectWalk.{all_of}
+use Rattle.formulas.proofs.Quantifiers.{pointwise_push}
 use Rattle.model.specs.Task as task
 use Rattle.model.specs.Task.{Task, Union, Instance, Schema}
 use Rattle.model.specs.Meaning.{is_of, objects_of, fits, is_instance}
@@ -29,22 +30,6 @@ use Rattle.grounding_kept.specs.Kept.{IsBegun, GroundFault, TellsInstances, inst
 use Rattle.grounding_kept.proofs.DecidedLiterals.{literals-close, literals-typed}
 
 -- ---- lists
-
-pub pointwise-push : {A B : Type 0} (p : A → B → Bool) (xs : List A) (ys : List B) (x : A) (y : B) → pointwise p xs ys ≡ true → p x y ≡ true → pointwise p (xs ++ x ∷ []) (ys ++ y ∷ []) ≡ true
-pointwise-push p [] [] x y all here = λ i. here i && true
-pointwise-push p [] (z ∷ ys) x y all here = absurd (cc)
-pointwise-push p (z ∷ xs) [] x y all here = absurd (cc)
-pointwise-push p (a ∷ xs) (b ∷ ys) x y all here =
-    let parts = and_parts (p a b) (pointwise p xs ys) all in
-    λ i. parts.0 i && pointwise-push p xs ys x y parts.1 here i
-
-all-filtered : {X : Type 0} (p : X → Bool) (xs : List X) → list_all p (filter p xs) ≡ true
-all-filtered p [] = refl
-all-filtered p (x ∷ xs) =
-    elim (p x) as (λ b. p x ≡ b → list_all p (cond b (x ∷ filter p xs) (filter p xs)) ≡ true) [
-      | true ↦ λ passes. and_from (p x) (list_all p (filter p xs)) passes (all-filtered p xs)
-      | false ↦ λ _. all-filtered p xs
-    ] refl
 
 first-same : {X : Type 0} (x y : X) (xs ys : List X) → x ∷ xs ≡ y ∷ ys → (x ≡ y) × (xs ≡ ys)
 first-same x y xs ys same = (cc, cc)
@@ -118,8 +103,8 @@ module _ (t : Task) (schema : ℕ) (objects : List ℕ) (literals : List task.Fo
               scope = so_far.scope ++ types ∷ [];
               rest = unions;
               split = so_far.split ∙ ap (λ l. so_far.scope ++ l) at ∙ sym (append_assoc so_far.scope (types ∷ []) unions);
-              fits = pointwise-push (is_of t) so_far.scope objects types first so_far.fits
-                  (passes_got (is_of t types) (objects_of t types) i first (ap (λ (c : Choice). slice_get c.objects i) (sym same.0) ∙ got) (all-filtered (is_of t types) (range_with_len 0 (length t.objects))));
+              fits = pointwise_push (is_of t) so_far.scope objects types first so_far.fits
+                  (passes_got (is_of t types) (objects_of t types) i first (ap (λ (c : Choice). slice_get c.objects i) (sym same.0) ∙ got) (all_of t types (objects_of t types) refl));
               decided = ap (λ (c : Choice). c.literals) same.0 ∙ ap (λ n. decided_literals n so_far.found.precondition) long;
               choices = same.1 ∙ ap (λ n. choices_from t so_far.found.precondition n unions) long;
             }

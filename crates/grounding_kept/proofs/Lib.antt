@@ -3,7 +3,6 @@ pub mod Closings
 pub mod DecidedLiterals
 pub mod ChosenObjects
 pub mod ObjectLists
-pub mod ObjectsBelow
 pub mod RisingObjects
 pub mod JoinGroups
 pub mod ChangesFit

@@ -3,8 +3,7 @@ use Rattle.std.proofs.Common.{◌≡◌, ◌∙◌, ℕ, ◌+◌, ◌<◌, ◌�
 use Rattle.std.specs.Prelude.{Contains, slice_get, filter, cond, if◌then◌else◌, IsTrue}
 use Rattle.std.specs.List.{list_any, list_all, flat_map}
 use Rattle.std.specs.Option.{option_map, option_map_or}
-use Rattle.std.specs.Ordering.{eq_by_cmp}
-use Rattle.std.specs.Cmp.{eq_by_cmp_equiv, second_so, first_so}
+use Rattle.std.specs.Cmp.{second_so, first_so}
 use Rattle.std.specs.Cmp.Lexicographic.{pointwise}
 use Rattle.std.specs.FinSet.{contains, contains-from_list}
 use Rattle.std.proofs.lemmas.Bool.{and_from}
@@ -15,10 +14,11 @@ use Rattle.faults.specs.declared.refused.Refused.TheVariants.{At, NoMemory}
 use Rattle.grounding_kept.specs.declared.fault.GroundLimit.TheVariants.{Instances, Atoms}
 use Rattle.task_parts.specs.declared.atoms.Atom.{Atom}
 use Rattle.typing.specs.TaskParts.{atom_of}
-use Rattle.formulas.proofs.Equality.{atom_eq, equal_atoms, same_atoms, one_atom}
+use Rattle.task_parts.proofs.AtomEquality.{eq-alike}
+use Rattle.formulas.proofs.Equality.{atom_eq, one_atom}
 use Rattle.model.specs.Task as task
 use Rattle.model.specs.Task.{Task}
-use Rattle.model.specs.Meaning.{atom_cmp, is_instance, is_of, initial_state}
+use Rattle.model.specs.Meaning.{is_instance, is_of, initial_state}
 use Rattle.model.specs.WellTyped.{is_task, is_atom}
 use Rattle.model.specs.Limits.{max_numbered_atoms}
 use Rattle.model.specs.Fluents.{is_fluent}
@@ -28,7 +28,6 @@ use Rattle.formulas.specs.declared.effects.Change.{Change}
 use Rattle.model.specs.Meaning as meaning
 use Rattle.model.specs.NumberedAtoms.{stands_in, with_atom, with_atoms, initial_fluent_atoms, atom_of_literal}
 use Rattle.model.proofs.Atoms.{atoms_total}
-use Rattle.model.proofs.StaticLemmas.{same_atom}
 use Rattle.model.proofs.Tests.{passes_at, passes_got, passes_map}
 use Rattle.model.proofs.ListLemmas.{Contains-here, Contains-there, Contains-place}
 use Rattle.model.proofs.ClosedOffLemmas.{kept-Contains}
@@ -37,17 +36,6 @@ use Rattle.grounding_kept.specs.Kept.{GroundFault}
 use Rattle.grounding_kept.specs.Atoms.{TellsAtoms, atoms_changed}
 
 -- ---- the code's test of equality is the model's
-
-both_true : (a b : Bool) → (a ≡ true → b ≡ true) → (b ≡ true → a ≡ true) → a ≡ b
-both_true true b to from = sym (to refl)
-both_true false true to from = from refl
-both_true false false to from = refl
-
-pub eq-alike : (a b : Atom) → atom_eq a b ≡ eq_by_cmp atom_cmp (atom_of a) (atom_of b)
-eq-alike a b =
-    both_true (atom_eq a b) (eq_by_cmp atom_cmp (atom_of a) (atom_of b))
-    (λ same. subst (λ q. eq_by_cmp atom_cmp (atom_of a) q ≡ true) (equal_atoms a b same) ((eq_by_cmp_equiv atoms_total).refl (atom_of a)))
-    (λ same. same_atoms a b (same_atom (atom_of a) (atom_of b) same))
 
 pub among-alike : (a : Atom) (keys : List Atom) → list_any (atom_eq a) keys ≡ stands_in (map atom_of keys) (atom_of a)
 among-alike a [] = refl

@@ -8,6 +8,7 @@ use Rattle.std.proofs.lemmas.List.{length-map, map_push, take_more}
 use Rattle.std.proofs.lemmas.List.Elements.{filter_map-append}
 use Rattle.task_parts.specs.declared.atoms.Atom.{Atom}
 use Rattle.typing.specs.TaskParts.{atom_of}
+use Rattle.task_parts.proofs.AtomEquality.{eq-alike}
 use Rattle.formulas.proofs.Equality.{atom_eq}
 use Rattle.model.specs.Task as task
 use Rattle.model.specs.Meaning.{atom_cmp}
@@ -17,7 +18,6 @@ use Rattle.model.specs.NumberedLiterals as model
 use Rattle.model.specs.NumberedLiterals.{numbered_literal}
 use Rattle.grounding_kept.specs.declared.numbers.NumberedLiteral.{NumberedLiteral}
 use Rattle.grounding_kept.specs.Numbers.{numbered_of}
-use Rattle.grounding_kept.proofs.NumberLists.{eq-alike}
 
 place-alike : (a : Atom) (keys : List Atom) → position_or_len (atom_eq a) keys ≡ position_or_len (eq_by_cmp atom_cmp (atom_of a)) (map atom_of keys)
 place-alike a [] = refl

@@ -1,9 +1,8 @@
 -- Objects that rise are those of all objects, in order, that are among them.
-use Rattle.std.proofs.Common.{◌≡◌, ◌∙◌, ℕ, zero, suc, ◌+◌, ◌<◌, ◌≤◌, Bool, true, false, ◌||◌, List, [], ◌∷◌, length, map, None, Some, refl, sym, ap, arith, true≢false}
-use Rattle.std.specs.Prelude.{filter, cond, slice_get, nat_lt}
+use Rattle.std.proofs.Common.{◌≡◌, ◌∙◌, ℕ, zero, suc, ◌+◌, ◌<◌, ◌≤◌, Bool, true, false, ◌||◌, List, [], ◌∷◌, length, map, refl, sym, ap, arith}
+use Rattle.std.specs.Prelude.{filter, cond, nat_lt}
 use Rattle.std.specs.List.{list_any, range_with_len}
 use Rattle.std.specs.List.Sorted.{IsStrictlySortedBy}
-use Rattle.std.specs.Option.{option_map_or}
 use Rattle.std.specs.Ordering.{nat_cmp, is_eq}
 use Rattle.std.specs.declared.cmp.Ordering.{Ordering}
 use Rattle.std.specs.declared.cmp.Ordering.TheVariants.{Less, Equal, Greater}
@@ -11,13 +10,12 @@ use Rattle.std.specs.BTreeMap.{is_at}
 use Rattle.std.proofs.lemmas.Bool.{ltb-true, ltb-false}
 use Rattle.std.proofs.lemmas.Cmp.{ranked}
 use Rattle.std.proofs.lemmas.Map.Keys.{sorted_head, sorted_tail}
-use Rattle.std.proofs.lemmas.Option.{slice_get_within}
 use Rattle.task_parts.specs.declared.atoms.ObjectId.{ObjectId}
 use Rattle.task_parts.specs.contracts.atoms.ObjectIdOrd.TheImpl as object_ord
 use Rattle.typing.specs.TaskParts.{object_of}
-use Rattle.model.specs.Task as task
 use Rattle.model.specs.Task.{Task, Union}
-use Rattle.model.specs.Meaning.{is_of, is_below, objects_of}
+use Rattle.model.specs.Meaning.{is_of, objects_of}
+use Rattle.model.proofs.InstancesLemmas.{is_of-within}
 
 abbrev pub order : ObjectId → ObjectId → Ordering
 order = (object_ord.ghosts).cmp
@@ -126,13 +124,6 @@ module _ (P : ℕ → Bool) where
                   ∙ later
             ] refl
       ] refl
-
-is_of-within : (t : Task) (types : Union) (number : ℕ) → is_of t types number ≡ true → number < length t.objects
-is_of-within t types number passes =
-    elim (slice_get t.objects number) as (λ o. slice_get t.objects number ≡ o → option_map_or (λ (o : task.Object). is_below t types o.type) o false ≡ true → number < length t.objects) [
-      | None ↦ λ _ none. absurd (true≢false (sym none))
-      | Some o ↦ λ at _. slice_get_within t.objects number o at
-    ] refl passes
 
 pub rising-objects : (t : Task) (types : Union) (keys : List ObjectId) → IsStrictlySortedBy order keys
     → map object_of (filter (λ (o : ObjectId). is_of t types o.0) keys) ≡ filter (among keys) (objects_of t types)

@@ -12,9 +12,9 @@ ghost use Rattle.model.specs.Meaning.{initial_state};
 
 use crate::fluents::fluents;
 use faults::NoMemory;
-use formulas::{Binding, Change, Instance, State, amount, copied, holds};
+use formulas::{Binding, Change, Instance, State, amount, copied, holds, objects_of};
 use std::alloc::Global;
-use typing::{Atom, Formula, ObjectId, PredicateId, Task, TypeUnion};
+use typing::{Atom, Formula, PredicateId, Task, TypeUnion};
 
 /// A task with its fluent predicates and its initial state.
 #[derive(Drop)]
@@ -176,15 +176,12 @@ impl<'t> Statics<'t> {
         ensures { result ≡ closed_off.is_closed_off (task_of self.now.task.now) (model_task.forall (union_of types.now) (formula_of part.now)) (map object_of binding.now.items) }
     {
         let mut tried = copied(binding);
-        for number in 0..self.task.object_count() {
-            let object = ObjectId(number as u32);
-            if self.task.is_of(object, types) {
-                tried.push(object);
-                if self.is_closed_off(part, &tried) {
-                    return true;
-                }
-                tried.pop();
+        for object in objects_of(self.task, types) {
+            tried.push(object);
+            if self.is_closed_off(part, &tried) {
+                return true;
             }
+            tried.pop();
         }
         false
     }

@@ -1,21 +1,20 @@
-use Rattle.std.proofs.Common.{rules, arith, ℕ, ◌+◌, ◌≡◌, List, ◌∙◌, ap, sym, subst, length, map, ◌++◌, ◌∷◌, []}
+use Rattle.std.proofs.Common.{rules, ℕ, List, refl, ◌∙◌, ap, sym, subst, map, ◌++◌, ◌∷◌, []}
 use Rattle.std.specs.Prelude.{OnOk}
 use Rattle.std.specs.List.{flat_map}
-use Rattle.task_parts.specs.declared.atoms.ObjectId.{ObjectId}
 use Rattle.task_parts.specs.declared.schemas.Formula.{the_lemmas}
 use Rattle.typing.specs.Task.{task_of}
 use Rattle.typing.specs.TaskParts.{object_of, formula_of, union_of}
 use Rattle.formulas.specs.State.{state_of, FitsFormula}
+use Rattle.formulas.specs.Objects.{objects_left}
 use Rattle.formulas.proofs.Trees.{typed_by_all}
-use Rattle.formulas.proofs.Quantifiers.{among, one_more, one_less, extended_fits}
-use Rattle.model.specs.Meaning.{is_of}
+use Rattle.formulas.proofs.ObjectWalk.{rest_among, next_of}
+use Rattle.formulas.proofs.Quantifiers.{one_more, extended_fits}
 use Rattle.model.specs.Task.{forall}
 use Rattle.model.specs.WellTyped.{is_formula}
 use Rattle.model.proofs.Tests.{passes_at, passes_map}
 use Rattle.explained_plans.specs.FalseParts.{Part, false_parts}
 use Rattle.explained_plans.specs.Parts.{Finds}
-use Rattle.explained_plans.proofs.FoundLemmas.{finds_when_full, finds_whole, finds_with_object, finds_without_object, parts_by_all}
-use Rattle.explained_plans.proofs.false_parts.+find.Goals.{find_for_each-then-is_of+in_ok-find, find_for_each-else-is_of}
+use Rattle.explained_plans.proofs.FoundLemmas.{finds_when_full, finds_whole, finds_next, finds_end, parts_by_all}
 use Rattle.explained_plans.proofs.false_parts.+find.Goals as goal
 
 -- ---- formulas
@@ -79,51 +78,42 @@ find_in_each-returns t c =
 
 -- ---- their objects
 
+pub find_for_each-loop-object-init : goal.find_for_each-loop-object-init
+find_for_each-loop-object-init t c = (λ _ so. so, λ _ so. so)
+
 pub find_for_each-find-requires : goal.find_for_each-find-requires
 find_for_each-find-requires t c =
     let task = task_of c.args.task.now in
+    let types = union_of c.args.types.now in
     let part = formula_of c.args.part.now in
-    let one : ObjectId = record { 0 = c.loop-number.number } in
-    let objects = one_more c.loop-number.extended.items c.push.new.self.items one c.args.objects.now.items c.loop-number.invariant.0 c.push.ensures.items in (
+    let objects = c.args.objects.now.items in
+    let one = c.in-Some.object in
+    let all = ap objects_left c.into_iter-object-iterator.ensures.into_iter_gives ∙ c.objects_of-object-items.ensures in (
       search (rules, the_lemmas),
-      subst (FitsFormula task part) (sym objects)
-          (extended_fits task (union_of c.args.types.now) part c.args.objects.now.items c.requires c.loop-number.number (sym c.is_of.ensures ∙ c.if-is_of.true)),
+      subst (FitsFormula task part) (sym (one_more objects c.with_object.result.items one objects refl c.with_object.ensures))
+          (extended_fits task types part objects c.requires one.0 (next_of _ _ one.0 c.in-Some.ensures.steps task types _ all c.loop-object.invariant.0)),
     )
 
-pub find_for_each-loop-number-preserved : goal.find_for_each-loop-number-preserved
-find_for_each-loop-number-preserved t c =
+pub find_for_each-loop-object-preserved : goal.find_for_each-loop-object-preserved
+find_for_each-loop-object-preserved t c =
     let task = task_of c.args.task.now in
     let state = state_of c.args.state.now in
     let part = formula_of c.args.part.now in
     let objects = c.args.objects.now.items in
-    let before = c.loop-number.extended.items in
-    let number = c.loop-number.number in
-    let one : ObjectId = record { 0 = number } in
-    let is_one = is_of task (union_of c.args.types.now) in
+    let one = c.in-Some.object in
     let gives : ℕ → List Part = λ n. false_parts task part (map object_of objects ++ n ∷ []) state in
-    let first = c.args.found.now in
-    let found = c.loop-number.found in
-    elim c.if-is_of.branch [
-      | find_for_each-then-is_of+in_ok-find w ↦ (
-        ap (λ v. v.items) w.extended-is
-            ∙ one_less before w.push.new.self.items w.pop.new.self.items one objects c.loop-number.invariant.0 w.push.ensures.items _ (omega (arith, w.push.ensures.len)) w.pop.ensures.rest,
-        subst (Finds task state (flat_map gives (among is_one (number + 1))) first) (sym w.found-is)
-            (finds_with_object task state is_one gives number first found c.loop-number.invariant.1 _ (sym c.is_of.ensures ∙ w.if-is_of.true)
-            (subst (λ l. Finds task state (false_parts task part l state) found w.find.new.found)
-            (one_more before w.push.new.self.items one objects c.loop-number.invariant.0 w.push.ensures.items) w.in_ok-find.ensures)),
-      )
-      | find_for_each-else-is_of w ↦ (
-        ap (λ v. v.items) w.extended-is ∙ c.loop-number.invariant.0,
-        finds_without_object task state is_one gives number first found c.loop-number.invariant.1 _ w.found-is (sym c.is_of.ensures ∙ w.if-is_of.false),
-      )
-    ]
+    let here = subst (λ l. Finds task state (false_parts task part l state) c.loop-object.found c.find.new.found)
+    (one_more objects c.with_object.result.items one objects refl c.with_object.ensures) c.in_ok-find.ensures in (
+      rest_among _ _ one.0 c.in-Some.ensures.steps _ c.loop-object.invariant.0,
+      λ last later. c.loop-object.invariant.1 last (finds_next task state gives _ _ one.0 c.in-Some.ensures.steps _ _ last here later),
+    )
 
 pub find_for_each-returns : goal.find_for_each-returns
 find_for_each-returns t c =
     let task = task_of c.args.task.now in
     let state = state_of c.args.state.now in
     let part = formula_of c.args.part.now in
-    let is_one = is_of task (union_of c.args.types.now) in
     let gives : ℕ → List Part = λ n. false_parts task part (map object_of c.args.objects.now.items ++ n ∷ []) state in
-    let all : c.loop-number.number ≡ length task.objects = omega (arith, c.loop-number-test.false, c.loop-number.auto.number-end, c.object_count-number-end.ensures) in
-    subst (λ n. Finds task state (flat_map gives (among is_one n)) c.args.found.now c.loop-number.found) all c.loop-number.invariant.1
+    let all = ap objects_left c.into_iter-object-iterator.ensures.into_iter_gives ∙ c.objects_of-object-items.ensures in
+    subst (λ l. Finds task state (flat_map gives l) c.args.found.now c.loop-object.found) all
+    (c.loop-object.invariant.1 _ (finds_end task state gives _ c.in-None.ensures.steps.0 _))

@@ -1,21 +1,19 @@
-use Rattle.std.proofs.Common.{rules, arith, ◌≡◌, ℕ, Bool, ◌∙◌, ap, sym, subst, map, length, ◌++◌, ◌∷◌, []}
-use Rattle.task_parts.specs.declared.atoms.ObjectId.{ObjectId}
+use Rattle.std.proofs.Common.{rules, arith, ℕ, Bool, refl, ◌∙◌, ap, sym, subst, map, ◌++◌, ◌∷◌, []}
 use Rattle.task_parts.specs.declared.schemas.Formula.{the_lemmas}
 use Rattle.typing.specs.Task.{task_of}
 use Rattle.formulas.specs.State.{state_of, FitsFormula}
+use Rattle.formulas.specs.Objects.{objects_left}
 use Rattle.typing.specs.TaskParts.{object_of, formula_of, union_of}
 use Rattle.model.specs.Task.{Formula}
-use Rattle.model.specs.Meaning as meaning
 use Rattle.model.specs.ClosedOff.{is_closed_off}
 use Rattle.model.specs.WellTyped.{is_formula}
 use Rattle.model.proofs.Tests.{passes_at, passes_map}
 use Rattle.formulas.proofs.FluentPredicates.{any_here, any_nowhere}
 use Rattle.formulas.proofs.Trees.{list_any_map, typed_by_all}
 use Rattle.std.specs.List.{list_any}
-use Rattle.formulas.proofs.Quantifiers.{among, one_more, one_less, extended_fits}
-use Rattle.grounding_kept.proofs.ObjectsBelow.{passes_below, none_with, none_without}
+use Rattle.formulas.proofs.ObjectWalk.{rest_among, next_of, any_next, passes_here}
+use Rattle.formulas.proofs.Quantifiers.{one_more, one_less, extended_fits}
 use Rattle.grounding_kept.proofs.Closings.{atom-fluent, atom-static, equal-closed, predicate_within, closed_by_parts, closed_by_objects}
-use Rattle.grounding_kept.proofs.statics.Statics.+closed_off.Goals.{closes_off_for_some-then-is_of+else-is_closed_off, closes_off_for_some-else-is_of}
 use Rattle.grounding_kept.proofs.statics.Statics.+closed_off.Goals as goal
 
 -- ---- the form of the formula
@@ -68,65 +66,60 @@ closes_off_some-returns t c =
 
 -- ---- the objects of a `forall`
 
+pub closes_off_for_some-loop-object-init : goal.closes_off_for_some-loop-object-init
+closes_off_for_some-loop-object-init t c = (c.copied-tried.ensures, λ _ so. so, refl)
+
 pub closes_off_for_some-is_closed_off-requires : goal.closes_off_for_some-is_closed_off-requires
 closes_off_for_some-is_closed_off-requires t c =
     let task = task_of c.args.self.now.task.now in
+    let types = union_of c.args.types.now in
     let part = formula_of c.args.part.now in
-    let one : ObjectId = record { 0 = c.loop-number.number } in
-    let objects = one_more c.loop-number.tried.items c.push.new.self.items one c.args.binding.now.items c.loop-number.invariant.0 c.push.ensures.items in (
+    let at = c.loop-object in
+    let one = c.in-Some.object in
+    let objects = one_more at.tried.items c.push.new.self.items one c.args.binding.now.items at.invariant.0 c.push.ensures.items in
+    let all = ap objects_left c.into_iter-object-iterator.ensures.into_iter_gives ∙ c.objects_of-object-items.ensures in (
       search (rules, the_lemmas),
       subst (FitsFormula task part) (sym objects)
-          (extended_fits task (union_of c.args.types.now) part c.args.binding.now.items c.requires c.loop-number.number (sym c.is_of.ensures ∙ c.if-is_of.true)),
+          (extended_fits task types part c.args.binding.now.items c.requires one.0 (next_of _ _ one.0 c.in-Some.ensures.steps task types _ all at.invariant.1)),
     )
 
 pub closes_off_for_some-returns-then-is_closed_off : goal.closes_off_for_some-returns-then-is_closed_off
 closes_off_for_some-returns-then-is_closed_off t c =
     let task = task_of c.args.self.now.task.now in
+    let types = union_of c.args.types.now in
     let part = formula_of c.args.part.now in
     let binding = c.args.binding.now.items in
-    let one : ObjectId = record { 0 = c.loop-number.number } in
-    let objects = one_more c.loop-number.tried.items c.push.new.self.items one binding c.loop-number.invariant.0 c.push.ensures.items in
-    passes_below (meaning.is_of task (union_of c.args.types.now)) (λ n. is_closed_off task part (map object_of binding ++ n ∷ [])) c.loop-number.number (length task.objects)
-    (omega (arith, c.loop-number-test.true, c.object_count-number-end.ensures))
-    (sym c.is_of.ensures ∙ c.if-is_of.true)
-    (ap (is_closed_off task part) (sym objects) ∙ sym c.is_closed_off.ensures ∙ c.if-is_closed_off.true)
-    ∙ sym (closed_by_objects task (map object_of binding) (union_of c.args.types.now) part)
+    let at = c.loop-object in
+    let one = c.in-Some.object in
+    let objects = one_more at.tried.items c.push.new.self.items one binding at.invariant.0 c.push.ensures.items in
+    let test : ℕ → Bool = λ n. is_closed_off task part (map object_of binding ++ n ∷ []) in
+    let all = ap objects_left c.into_iter-object-iterator.ensures.into_iter_gives ∙ c.objects_of-object-items.ensures in
+    passes_here _ _ one.0 c.in-Some.ensures.steps test _ (ap (is_closed_off task part) (sym objects) ∙ sym c.is_closed_off.ensures ∙ c.if-is_closed_off.true) at.invariant.2
+    ∙ ap (list_any test) all ∙ sym (closed_by_objects task (map object_of binding) types part)
 
-pub closes_off_for_some-loop-number-preserved : goal.closes_off_for_some-loop-number-preserved
-closes_off_for_some-loop-number-preserved t c =
+pub closes_off_for_some-loop-object-preserved : goal.closes_off_for_some-loop-object-preserved
+closes_off_for_some-loop-object-preserved t c =
     let task = task_of c.args.self.now.task.now in
     let part = formula_of c.args.part.now in
     let binding = c.args.binding.now.items in
-    let before = c.loop-number.tried.items in
-    let number = c.loop-number.number in
-    let one : ObjectId = record { 0 = number } in
-    let passes = meaning.is_of task (union_of c.args.types.now) in
-    let test : ℕ → Bool = λ n. is_closed_off task part (map object_of binding ++ n ∷ []) in
-    elim c.if-is_of.branch [
-      | closes_off_for_some-then-is_of+else-is_closed_off w ↦ (
-        ap (λ v. v.items) w.tried-is
-            ∙ one_less before w.push.new.self.items w.pop.new.self.items one binding c.loop-number.invariant.0 w.push.ensures.items _ (omega (arith, w.push.ensures.len)) w.pop.ensures.rest,
-        none_with passes test number (sym c.is_of.ensures ∙ w.if-is_of.true)
-            (ap (is_closed_off task part) (sym (one_more before w.push.new.self.items one binding c.loop-number.invariant.0 w.push.ensures.items))
-            ∙ sym w.is_closed_off.ensures ∙ w.if-is_closed_off.false)
-            c.loop-number.invariant.1,
-      )
-      | closes_off_for_some-else-is_of w ↦ (
-        ap (λ v. v.items) w.tried-is ∙ c.loop-number.invariant.0,
-        none_without passes test number (sym c.is_of.ensures ∙ w.if-is_of.false) c.loop-number.invariant.1,
-      )
-    ]
+    let at = c.loop-object in
+    let one = c.in-Some.object in
+    let objects = one_more at.tried.items c.push.new.self.items one binding at.invariant.0 c.push.ensures.items in
+    let test : ℕ → Bool = λ n. is_closed_off task part (map object_of binding ++ n ∷ []) in (
+      one_less at.tried.items c.push.new.self.items c.pop.new.self.items one binding at.invariant.0 c.push.ensures.items _ (omega (arith, c.push.ensures.len)) c.pop.ensures.rest,
+      rest_among _ _ one.0 c.in-Some.ensures.steps _ at.invariant.1,
+      any_next _ _ one.0 c.in-Some.ensures.steps test _ (ap (is_closed_off task part) (sym objects) ∙ sym c.is_closed_off.ensures ∙ c.if-is_closed_off.false) at.invariant.2,
+    )
 
 pub closes_off_for_some-returns : goal.closes_off_for_some-returns
 closes_off_for_some-returns t c =
     let task = task_of c.args.self.now.task.now in
+    let types = union_of c.args.types.now in
     let part = formula_of c.args.part.now in
     let binding = map object_of c.args.binding.now.items in
     let test : ℕ → Bool = λ n. is_closed_off task part (binding ++ n ∷ []) in
-    let whole : c.loop-number.number ≡ length task.objects = omega (arith, c.loop-number-test.false, c.loop-number.auto, c.object_count-number-end.ensures) in
-    sym (closed_by_objects task binding (union_of c.args.types.now) part
-    ∙ ap (λ n. list_any test (among (meaning.is_of task (union_of c.args.types.now)) n)) (sym whole)
-    ∙ c.loop-number.invariant.1)
+    let all = ap objects_left c.into_iter-object-iterator.ensures.into_iter_gives ∙ c.objects_of-object-items.ensures in
+    sym (ap (list_any test) c.in-None.ensures.steps.0) ∙ c.loop-object.invariant.2 ∙ ap (list_any test) all ∙ sym (closed_by_objects task binding types part)
 
 -- ---- atoms and equalities
 
