@@ -118,7 +118,14 @@ pub(crate) fn names_in<'a>(
     keyword: &[u8],
 ) -> Result<Vec<&'a [u8]>, NoMemory> {
     let list = section(alloc, pieces.domain.as_slice(), keyword)?;
-    heads(alloc, list)
+    let mut found: Vec<&'a [u8]> = Vec::new(alloc);
+    for head in heads(alloc, list)? {
+        // What stands there without a list, as the keyword, has none.
+        if !head.is_empty() && found.push(head).is_err() {
+            return Err(NoMemory);
+        }
+    }
+    Ok(found)
 }
 
 /// The variables in scope at a piece, or the objects that may be named there, as the piece is a variable or a name.

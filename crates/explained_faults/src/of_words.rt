@@ -4,7 +4,7 @@ use crate::expected::expected;
 use crate::explanation::told_bytes;
 use crate::near::is_near;
 use crate::texts::{File, TextFault, Texts};
-use faults::NoMemory;
+use faults::{NoMemory, Refused};
 use pddl_tree::TaskFile;
 use std::alloc::Global;
 use text_pieces::{Piece, head_of, heads, index_at, list_from, opening_of, pieces};
@@ -30,8 +30,10 @@ pub(crate) fn wanted<'a>(
         File::Problem => TaskFile::Problem,
         File::Plan => return Ok(Detail::Plain),
     };
-    let Ok(words) = scan(alloc, texts.text(fault.file)) else {
-        return Ok(Detail::Plain);
+    let words = match scan(alloc, texts.text(fault.file)) {
+        Ok(words) => words,
+        Err(Refused::At(_)) => return Ok(Detail::Plain),
+        Err(Refused::NoMemory) => return Err(NoMemory),
     };
     let found = expected(alloc, file, words_before(&words, fault.span.start))?;
     let near = near_words(alloc, told_bytes(texts, fault), found.as_slice())?;

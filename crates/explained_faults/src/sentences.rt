@@ -127,11 +127,7 @@ fn after_word(code: Code) -> &'static str {
 
 fn add_length(fault: TextFault, length: usize, out: &mut String) -> Result<(), AllocError> {
     if fault.span.start == LONGEST_TEXT {
-        let end = fault.span.end;
-        write!(
-            out,
-            "the text has {end} bytes, and at most {LONGEST_TEXT} are read"
-        )
+        write!(out, "the text has more than {LONGEST_TEXT} bytes")
     } else {
         write!(out, "this has {length} bytes, and a word has at most 255")
     }

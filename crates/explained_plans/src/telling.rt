@@ -27,9 +27,7 @@ pub fn tell_verdict(
     explanation: &PlanExplanation<'_>,
 ) -> Result<String, NoMemory> {
     match explanation {
-        PlanExplanation::Solves { total, .. } => {
-            Ok(format!(in alloc; "valid, cost {total}\n")?)
-        }
+        PlanExplanation::Solves { total, .. } => { Ok(format!(in alloc; "valid, cost {total}\n")?) }
         PlanExplanation::NotApplicable { step, .. } => {
             let words = step_words(alloc, task, plan, *step)?;
             Ok(format!(in alloc; "{words} is not applicable\n")?)

@@ -1,7 +1,7 @@
 //! What is said of some files.
 use faults::{Code, Span};
-use task_files::File;
 use grounding_kept::GroundLimit;
+use task_files::File;
 use validator::Verdict;
 
 /// What is said of some files, for people.

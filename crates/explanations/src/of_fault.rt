@@ -6,8 +6,8 @@ ghost use Rattle.explanations.specs.declared.explanation.Subject.TheVariants.{Fa
 use crate::explanation::{Explanation, Subject};
 use explained_faults::{TextFault, Texts, explain_fault};
 use faults::{Code, NoMemory, Span};
-use task_files::{File, FileFault};
 use std::alloc::Global;
+use task_files::{File, FileFault};
 
 /// What is said of the fault of a file.
 pub(crate) fn explain_refused(

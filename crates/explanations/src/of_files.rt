@@ -8,8 +8,8 @@ use crate::of_plan::explain_plan_file;
 use crate::of_task::explain_task;
 use explained_faults::{NamedText, Texts};
 use faults::NoMemory;
-use task_files::task_of_files;
 use std::alloc::Global;
+use task_files::task_of_files;
 
 /// What is said of a domain file and a problem file, and of a plan file, if one is handed in.
 ///
@@ -59,7 +59,10 @@ fn texts_of<'a>(
     ensures problem { result.problem ≡ problem.entry }
     ensures plan { IfSome plan.entry (λ named. result.plan ≡ named) }
 {
-    let nothing = NamedText { name: "", text: b"" };
+    let nothing = NamedText {
+        name: "",
+        text: b"",
+    };
     Texts {
         domain,
         problem,
