@@ -1,4 +1,4 @@
-use Rattle.std.proofs.Common.{inl, inr, refl}
+use Rattle.std.proofs.Common.{inl, inr, refl, arith}
 use Rattle.devices.specs.Devices.{IsWritten}
 use Rattle.command_line.specs.View.{texts, wanted_of}
 use Rattle.planner_main.specs.Program.{inputs_of, nothing, texts_of}
