@@ -84,8 +84,8 @@ const NO_PROBLEM: NamedText<'static> = NamedText {
 };
 
 const NO_LIST_TOLD: &str =
-    "{\"command\":\"explain\",\"text\":\"d:1:1: fault 7 BadForm (columns count bytes)\\n\
-   1 | x\\n     | ^\\n`(` may stand here.\\n\"}";
+    "{\"command\":\"explain\",\"text\":\"d:1:1: fault 7 BadForm (columns count bytes)\\n   1 | x\\n     | ^\\n\
+`(` may stand here.\\n\"}";
 
 #[test]
 fn explanations_are_told_as_json(rt: HostRuntime) -> Result<(), Fail> {
