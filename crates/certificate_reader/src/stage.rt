@@ -155,10 +155,12 @@ pub(crate) fn read_line(
             Ok(next) => Ok((line, next)),
             Err(fault) => Err(NextFault::Text(fault)),
         },
-        Err(NextFault::Text(TextFault::Version)) => match stage {
-            Stage::Version => Err(NextFault::Text(TextFault::Version)),
-            _ => Err(NextFault::Text(TextFault::Form)),
+        Err(fault) => match fault {
+            NextFault::Text(TextFault::Version) => match stage {
+                Stage::Version => Err(NextFault::Text(TextFault::Version)),
+                _ => Err(NextFault::Text(TextFault::Form)),
+            },
+            _ => Err(fault),
         },
-        Err(fault) => Err(fault),
     }
 }
