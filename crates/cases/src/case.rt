@@ -6,7 +6,7 @@ use crate::section::{Section, Turn};
 use crate::stream::Stream;
 use faults::NoMemory;
 use planner_main::Table;
-use std::alloc::{AllocError, AllocFailed, Global};
+use std::alloc::{AllocError, Global};
 
 /// Why a case could not be tried.
 #[derive(Clone, Copy, Debug)]
@@ -35,12 +35,6 @@ impl CaseFault {
 
 impl From<AllocError> for CaseFault {
     fn from(_error: AllocError) -> CaseFault {
-        CaseFault::NoMemory
-    }
-}
-
-impl<T: Drop> From<AllocFailed<T>> for CaseFault {
-    fn from(_error: AllocFailed<T>) -> CaseFault {
         CaseFault::NoMemory
     }
 }
@@ -153,13 +147,13 @@ fn want_file<'a>(
     turn: Turn,
 ) -> Result<(), CaseFault> {
     let bytes = section.bytes(alloc, turn)?;
-    holdings.want(section.words, Some(bytes))
+    Ok(holdings.want(section.words, Some(bytes))?)
 }
 
 /// Has the file of the section be missing after the run.
 fn want_no_file<'a>(holdings: &mut Holdings<'a>, section: Section<'a>) -> Result<(), CaseFault> {
     match section.verb() {
-        ("file", name) => holdings.want(name, None),
+        ("file", name) => Ok(holdings.want(name, None)?),
         _ => Err(CaseFault::Words),
     }
 }

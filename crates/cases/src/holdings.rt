@@ -1,5 +1,4 @@
 //! What files are to hold after the run.
-use crate::case::CaseFault;
 use planner_main::Table;
 use std::alloc::{AllocError, Global};
 use std::fmt;
@@ -57,7 +56,7 @@ impl<'a> Holdings<'a> {
     }
 
     /// Has the file of this name hold these bytes, or not be there, whatever was said of it before.
-    pub fn want(&mut self, name: &'a str, bytes: Option<Vec<u8>>) -> Result<(), CaseFault> {
+    pub fn want(&mut self, name: &'a str, bytes: Option<Vec<u8>>) -> Result<(), AllocError> {
         self.wanted.retain(|other| other.name != name);
         self.wanted.push(Holding { name, bytes })?;
         Ok(())

@@ -59,36 +59,16 @@ module _ {R : Type 0} (remaining : R → Option (List ℕ)) (task : Task) (first
 
     -- what is told of a line is told of the text
     told_of_text : (c : RefusalCode) (line : ℕ) → IsToldAt remaining task first now c line → IsLineFault task text (number_of c) line
-    told_of_text code.CertForm line told = told_anyway line 40 told
-    told_of_text code.CertVersion line told = told_anyway line 41 told
     told_of_text code.Truncated line (bytes, consumed, at_end, fault) =
         subst (λ text. IsLineFault task text 42 line) (all_of (remaining (source_of first)) (remaining (source_of now)) bytes text consumed at_end known) fault
-    told_of_text code.NotFluent line told = told_anyway line 43 told
-    told_of_text code.Repeated line told = told_anyway line 44 told
-    told_of_text code.NoInitial line told = told_anyway line 45 told
-    told_of_text code.Unfair line told = told_anyway line 46 told
-    told_of_text code.UnfairGoal line told = told_anyway line 47 told
-    told_of_text code.GoalOpen line told = told_anyway line 48 told
-    told_of_text code.SuccessorMissing line told = told_anyway line 49 told
-    told_of_text code.SuccessorDearer line told = told_anyway line 50 told
-    told_of_text code.CutWeak line told = told_anyway line 51 told
-    told_of_text code.CutNotAllowed line told = told_anyway line 52 told
-    told_of_text code.PlanInvalid line told = told_anyway line 53 told
-    told_of_text code.PlanDearer line told = told_anyway line 54 told
-    told_of_text code.Limit line told = told_anyway line 55 told
-    told_of_text code.DeadUnfair line told = told_anyway line 56 told
-    told_of_text code.DeadUnfairGoal line told = told_anyway line 57 told
-    told_of_text code.NotDead line told = told_anyway line 58 told
+    told_of_text c line told = told_anyway line (number_of c) told
 
     -- no line of an accepted text is refused
     pub none_at_fault : (plan : Option (List Instance)) → IsAccepted task text plan → (e : Refusal) → IsLineRefusal remaining task first now e → IsNoFault e
     none_at_fault plan accepted (refusal.Line c line) told = accepted_has_no_fault task text plan accepted (number_of c) line (told_of_text c line told)
-    none_at_fault plan accepted (refusal.Unfair i) told = absurd told
-    none_at_fault plan accepted (refusal.DeadUnfair i) told = absurd told
-    none_at_fault plan accepted (refusal.Plain c) told = absurd told
     none_at_fault plan accepted refusal.NoMemory told = tt
     none_at_fault plan accepted refusal.Device told = tt
-    none_at_fault plan accepted refusal.Failed told = absurd told
+    none_at_fault plan accepted _ told = absurd told
 
     -- and its certificate is not refused
     pub not_refused : (plan : Option (List Instance)) (most : ℕ) (c : Certificate) → IsRead remaining task first now c → IsAccepted task text plan → (r : Result Accepted Refusal)
@@ -119,11 +99,5 @@ module _ {R : Type 0} (remaining : R → Option (List ℕ)) (task : Task) (first
 -- the refusal of a certificate is none of a device
 pub counts_judged : (task : Task) (c : Certificate) (plan : Option (List Instance)) (most before after : ℕ) (r : Result Accepted Refusal) → IfErr r (IsTrueRefusal task c plan most)
     → after ≡ before → CountsRefusal before after r
-counts_judged task c plan most before after (Ok answer) wrong same = same
-counts_judged task c plan most before after (Err (refusal.Line code line)) wrong same = same
-counts_judged task c plan most before after (Err (refusal.Unfair i)) wrong same = same
-counts_judged task c plan most before after (Err (refusal.DeadUnfair i)) wrong same = same
-counts_judged task c plan most before after (Err (refusal.Plain code)) wrong same = same
-counts_judged task c plan most before after (Err refusal.NoMemory) wrong same = same
 counts_judged task c plan most before after (Err refusal.Device) wrong same = absurd wrong
-counts_judged task c plan most before after (Err refusal.Failed) wrong same = absurd wrong
+counts_judged task c plan most before after _ wrong same = same

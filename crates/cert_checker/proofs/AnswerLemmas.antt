@@ -72,8 +72,7 @@ no_fault task c plan most closed within (refusal.Plain code) wrong = only_limit 
 no_fault task c plan most closed within (refusal.Unfair i) wrong = absurd (not_limit (right task c closed plan most unfair within (instance_of i, wrong.0, wrong.1)))
 no_fault task c plan most closed within (refusal.DeadUnfair i) wrong = absurd (dead_not_limit (right task c closed plan most dead_unfair within (instance_of i, wrong.0, wrong.1)))
 no_fault task c plan most closed within refusal.NoMemory wrong = tt
-no_fault task c plan most closed within refusal.Device wrong = tt
-no_fault task c plan most closed within refusal.Failed wrong = wrong
+no_fault task c plan most closed within _ wrong = absurd wrong
 
 pub no_fault_of : {T : Type 0} (task : Task) (c : Certificate) (plan : Option (List Instance)) (most : ℕ) → IsClosedFor task c → IsPlanWithin task c.claim plan → (r : Result T Refusal)
     → IfErr r (λ e. (m : ℕ) → IsTrueRefusal task c plan m e) → IfErr r IsNoFault

@@ -11,15 +11,15 @@ use Rattle.certificate_definitions.proofs.Machine.{begins, stands}
 use Rattle.certificate_reader.specs.declared.reader.CertReader.{CertReader}
 use Rattle.certificate_reader.specs.declared.reader.CertFault.{CertFault}
 use Rattle.certificate_reader.specs.declared.reader.CertFault.TheVariants as cert
-use Rattle.certificate_reader.specs.declared.next.TextFault.TheVariants.{Form, Version, Truncated, Limit}
+use Rattle.certificate_reader.specs.declared.fault.TextFault.TheVariants.{Truncated}
 use Rattle.certificate_reader.specs.Reader.{HasRead, IsAnswer, IsHandedOut, IsOver, has_failed, lines_read, source_of, waits_in}
 use Rattle.certificate_reader.specs.Stages.{place_of}
 use Rattle.certificate_reader.proofs.ReaderLemmas.{few_lines}
 use Rattle.cert_checker.specs.declared.refusal.Refusal.{Refusal}
 use Rattle.cert_checker.specs.declared.refusal.Refusal.TheVariants as refusal
 use Rattle.cert_checker.specs.declared.refusal.RefusalCode.{RefusalCode}
-use Rattle.cert_checker.specs.declared.refusal.RefusalCode.TheVariants.{CertForm, CertVersion, Truncated as CutShort, NotFluent, Repeated, NoInitial, Unfair, UnfairGoal, GoalOpen, SuccessorMissing, SuccessorDearer, CutWeak, CutNotAllowed, PlanInvalid, PlanDearer, Limit as Exceeded, DeadUnfair, DeadUnfairGoal, NotDead}
-use Rattle.cert_checker.specs.RefusalCode.{number_of}
+use Rattle.cert_checker.specs.declared.refusal.RefusalCode.TheVariants.{Truncated as CutShort}
+use Rattle.cert_checker.specs.RefusalCode.{code_of, number_of}
 use Rattle.cert_checker.proofs.ToldLemmas.{begin_front}
 use Rattle.cert_checker.specs.CertFaults.{refusal_of}
 use Rattle.cert_checker.specs.Reading.{CountsRefusal, IsFresh, IsAt, IsAtLast, IsLineRefusal, IsToldAt}
@@ -96,12 +96,6 @@ module _ {R : Type 0} (remaining : R → Option (List ℕ)) (first : CertReader 
       came bytes consumed = consumes_more (remaining (source_of first)) (remaining (source_of now)) (remaining (source_of next)) at.bytes bytes at.consumed consumed
 
       pub fault_told : (fault : CertFault) → IsAnswer remaining now next lines (Err fault) → IsLineRefusal remaining task first next (refusal_of fault)
-      fault_told (cert.Line Form line) (line_is, (bytes, consumed, told, prompt)) =
-          subst (IsToldAt remaining task first next CertForm) (sym line_is) (at.bytes ++ bytes, came bytes consumed, λ more. line_fault bytes more 40 (told more))
-      fault_told (cert.Line Version line) (line_is, (bytes, consumed, told, prompt)) =
-          subst (IsToldAt remaining task first next CertVersion) (sym line_is) (at.bytes ++ bytes, came bytes consumed, λ more. line_fault bytes more 41 (told more))
-      fault_told (cert.Line Limit line) (line_is, (bytes, consumed, told, prompt)) =
-          subst (IsToldAt remaining task first next Exceeded) (sym line_is) (at.bytes ++ bytes, came bytes consumed, λ more. line_fault bytes more 55 (told more))
       fault_told (cert.Line Truncated line) (line_is, (bytes, consumed, at_end, told)) =
           subst (IsToldAt remaining task first next CutShort) (sym line_is) (
             at.bytes ++ bytes,
@@ -117,6 +111,9 @@ module _ {R : Type 0} (remaining : R → Option (List ℕ)) (first : CertReader 
               at_fault = inl told;
             },
           )
+      fault_told (cert.Line fault line) (line_is, (bytes, consumed, told, prompt)) =
+          subst (IsToldAt remaining task first next (code_of fault)) (sym line_is)
+          (at.bytes ++ bytes, came bytes consumed, λ more. line_fault bytes more (number_of (code_of fault)) (told more))
       fault_told cert.Device told = tt
       fault_told cert.NoMemory told = tt
       fault_told cert.Failed told = absurd told
@@ -144,44 +141,18 @@ module _ {R : Type 0} (remaining : R → Option (List ℕ)) (first now : CertRea
   }
 
   wrong_here : (code : RefusalCode) → IsWrongAfter task before line (number_of code) → IsToldAt remaining task first now code (length before + 1)
-  wrong_here CertForm wrong = (at.bytes, at.consumed, line_fault_here 40 wrong)
-  wrong_here CertVersion wrong = (at.bytes, at.consumed, line_fault_here 41 wrong)
   wrong_here CutShort wrong = absurd (no_truncated task before line 42 wrong refl)
-  wrong_here NotFluent wrong = (at.bytes, at.consumed, line_fault_here 43 wrong)
-  wrong_here Repeated wrong = (at.bytes, at.consumed, line_fault_here 44 wrong)
-  wrong_here NoInitial wrong = (at.bytes, at.consumed, line_fault_here 45 wrong)
-  wrong_here Unfair wrong = (at.bytes, at.consumed, line_fault_here 46 wrong)
-  wrong_here UnfairGoal wrong = (at.bytes, at.consumed, line_fault_here 47 wrong)
-  wrong_here GoalOpen wrong = (at.bytes, at.consumed, line_fault_here 48 wrong)
-  wrong_here SuccessorMissing wrong = (at.bytes, at.consumed, line_fault_here 49 wrong)
-  wrong_here SuccessorDearer wrong = (at.bytes, at.consumed, line_fault_here 50 wrong)
-  wrong_here CutWeak wrong = (at.bytes, at.consumed, line_fault_here 51 wrong)
-  wrong_here CutNotAllowed wrong = (at.bytes, at.consumed, line_fault_here 52 wrong)
-  wrong_here PlanInvalid wrong = (at.bytes, at.consumed, line_fault_here 53 wrong)
-  wrong_here PlanDearer wrong = (at.bytes, at.consumed, line_fault_here 54 wrong)
-  wrong_here Exceeded wrong = (at.bytes, at.consumed, line_fault_here 55 wrong)
-  wrong_here DeadUnfair wrong = (at.bytes, at.consumed, line_fault_here 56 wrong)
-  wrong_here DeadUnfairGoal wrong = (at.bytes, at.consumed, line_fault_here 57 wrong)
-  wrong_here NotDead wrong = (at.bytes, at.consumed, line_fault_here 58 wrong)
+  wrong_here code wrong = (at.bytes, at.consumed, line_fault_here (number_of code) wrong)
 
   pub wrong_told : (r : Refusal) → IsWrongNow task before line r → IsLineRefusal remaining task first now r
   wrong_told (refusal.Line code number) (number_is, wrong) = subst (IsToldAt remaining task first now code) (sym number_is) (wrong_here code wrong)
-  wrong_told (refusal.Unfair i) wrong = absurd wrong
-  wrong_told (refusal.DeadUnfair i) wrong = absurd wrong
-  wrong_told (refusal.Plain code) wrong = absurd wrong
   wrong_told refusal.NoMemory wrong = tt
-  wrong_told refusal.Device wrong = absurd wrong
-  wrong_told refusal.Failed wrong = absurd wrong
+  wrong_told _ wrong = absurd wrong
 
 -- a wrong line counts no failure of the device
 counts_none : (T : Type 0) (task : Task) (before : List TextLine) (line : TextLine) (failed now : ℕ) (x : Refusal) → IsWrongNow task before line x → now ≡ failed → CountsRefusal {T = T} failed now (Err x)
-counts_none T task before line failed now (refusal.Line code number) wrong same = same
-counts_none T task before line failed now (refusal.Unfair i) wrong same = absurd wrong
-counts_none T task before line failed now (refusal.DeadUnfair i) wrong same = absurd wrong
-counts_none T task before line failed now (refusal.Plain code) wrong same = absurd wrong
-counts_none T task before line failed now refusal.NoMemory wrong same = same
 counts_none T task before line failed now refusal.Device wrong same = absurd wrong
-counts_none T task before line failed now refusal.Failed wrong same = absurd wrong
+counts_none T task before line failed now _ wrong same = same
 
 pub wrong_counts : {T : Type 0} (task : Task) (before : List TextLine) (line : TextLine) (failed now : ℕ) (r : Result T Refusal) (x : Refusal) → IsErrAnd r (λ y. y ≡ x)
     → IsWrongNow task before line x → now ≡ failed → CountsRefusal failed now r

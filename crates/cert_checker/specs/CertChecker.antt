@@ -60,19 +60,15 @@ IsTrueRefusal task c plan most (refusal.Unfair i) = IsUnfair task c (instance_of
 IsTrueRefusal task c plan most (refusal.DeadUnfair i) = IsDeadUnfair task c (instance_of i)
 IsTrueRefusal task c plan most (refusal.Plain code) = MatchOption (reason_of code) ⊥ (λ reason. IsWrong task c plan most reason)
 IsTrueRefusal task c plan most refusal.NoMemory = Unit {0}
-IsTrueRefusal task c plan most refusal.Device = ⊥
-IsTrueRefusal task c plan most refusal.Failed = ⊥
+IsTrueRefusal task c plan most _ = ⊥
 
 -- Nothing is wrong with the text, the certificate or the plan: a limit of the ground task is exceeded, memory was refused, or
 -- the device failed.
 abbrev pub IsNoFault : Refusal → Type 0
-IsNoFault (refusal.Line code line) = ⊥
-IsNoFault (refusal.Unfair i) = ⊥
-IsNoFault (refusal.DeadUnfair i) = ⊥
 IsNoFault (refusal.Plain code) = reason_of code ≡ Some limit
 IsNoFault refusal.NoMemory = Unit {0}
 IsNoFault refusal.Device = Unit {0}
-IsNoFault refusal.Failed = ⊥
+IsNoFault _ = ⊥
 
 -- This line lists an open state, from which this instance leads to this state. Each that is applicable there and comes
 -- before it, in the order of all instances, leads to a state that is listed at no more than the line's cost and its own.
@@ -101,5 +97,4 @@ IsFirstRefusal task c plan most (refusal.Unfair i) = IsFirst task c plan most un
 IsFirstRefusal task c plan most (refusal.DeadUnfair i) = IsFirst task c plan most dead_unfair 0 × IsFirstDeadToLose task c (instance_of i)
 IsFirstRefusal task c plan most (refusal.Plain code) = MatchOption (reason_of code) ⊥ (λ reason. IsFirst task c plan most reason 0)
 IsFirstRefusal task c plan most refusal.NoMemory = Unit {0}
-IsFirstRefusal task c plan most refusal.Device = ⊥
-IsFirstRefusal task c plan most refusal.Failed = ⊥
+IsFirstRefusal task c plan most _ = ⊥

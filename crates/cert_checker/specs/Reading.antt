@@ -1,5 +1,5 @@
 -- How far a text has been read, and what is told of it.
-use Rattle.std.specs.Prelude.{◌≡◌, ◌≢◌, ◌&&◌, IsTrue, All, AllPairs, ℕ, Bool, true, false, List, [], ◌∷◌, ◌++◌, Option, Some, None, Result, Ok, Err}
+use Rattle.std.specs.Prelude.{◌≡◌, ◌≢◌, ◌&&◌, IsTrue, All, AllPairs, ℕ, Bool, true, false, List, [], ◌∷◌, ◌++◌, Option, Some, None, Result, Err}
 use Rattle.std.specs.Io.KnownBytes.{Consumes, IsAtEnd}
 use Rattle.devices.specs.Devices.{one_more}
 use Rattle.model.specs.Task.{Atom, Task}
@@ -55,12 +55,9 @@ IsToldAt remaining task first now code line =
 -- the refusal is that of a line; or memory was refused, or the device failed
 abbrev pub IsLineRefusal : {R : Type 0} → (remaining : R → Option (List ℕ)) → Task → (first now : CertReader R) → Refusal → Type 0
 IsLineRefusal remaining task first now (refusal.Line code line) = IsToldAt remaining task first now code line
-IsLineRefusal remaining task first now (refusal.Unfair i) = ⊥
-IsLineRefusal remaining task first now (refusal.DeadUnfair i) = ⊥
-IsLineRefusal remaining task first now (refusal.Plain code) = ⊥
 IsLineRefusal remaining task first now refusal.NoMemory = Unit {0}
 IsLineRefusal remaining task first now refusal.Device = Unit {0}
-IsLineRefusal remaining task first now refusal.Failed = ⊥
+IsLineRefusal remaining task first now _ = ⊥
 
 -- The lines up to the next one have told this; the next one lists a state, or is the last, or the text has ended.
 abbrev pub IsBegun : {R : Type 0} → (remaining : R → Option (List ℕ)) → Task → (first now : CertReader R) → Beginning → Option CertLine → Type 0
@@ -72,14 +69,8 @@ IsBegun remaining task first now beginning None =
 
 -- the failure of a device counts one failure, another answer none
 abbrev pub CountsRefusal : {T : Type 0} → (before after : ℕ) → Result T Refusal → Type 0
-CountsRefusal before after (Ok read) = after ≡ before
-CountsRefusal before after (Err (refusal.Line code line)) = after ≡ before
-CountsRefusal before after (Err (refusal.Unfair i)) = after ≡ before
-CountsRefusal before after (Err (refusal.DeadUnfair i)) = after ≡ before
-CountsRefusal before after (Err (refusal.Plain code)) = after ≡ before
-CountsRefusal before after (Err refusal.NoMemory) = after ≡ before
 CountsRefusal before after (Err refusal.Device) = after ≡ one_more before
-CountsRefusal before after (Err refusal.Failed) = after ≡ before
+CountsRefusal before after _ = after ≡ before
 
 -- The lines up to the next one have told and listed this; the next one lists a state, or is the last, or the text has ended.
 abbrev pub IsListedSoFar : {R : Type 0} → (remaining : R → Option (List ℕ)) → Task → (first now : CertReader R) → Beginning → (width : ℕ) → List Marked → List (List Bool) → Option CertLine → Type 0

@@ -1,7 +1,7 @@
 -- The numbers and the names of the checker's refusals.
 use Rattle.std.specs.Prelude.{ℕ, List, codes}
-use Rattle.certificate_reader.specs.declared.next.TextFault.{TextFault}
-use Rattle.certificate_reader.specs.declared.next.TextFault.TheVariants as text
+use Rattle.certificate_reader.specs.declared.fault.TextFault.{TextFault}
+use Rattle.certificate_reader.specs.declared.fault.TextFault.TheVariants as text
 use Rattle.cert_checker.specs.declared.refusal.RefusalCode.{RefusalCode}
 use Rattle.cert_checker.specs.declared.refusal.RefusalCode.TheVariants.{CertForm, CertVersion, Truncated, NotFluent, Repeated, NoInitial, Unfair, UnfairGoal, GoalOpen, SuccessorMissing, SuccessorDearer, CutWeak, CutNotAllowed, PlanInvalid, PlanDearer, Limit, DeadUnfair, DeadUnfairGoal, NotDead}
 

@@ -34,9 +34,5 @@ IsTaken task before line beginning (Some back) = HasTaken task before beginning 
 -- the refusal is that of this line after those; or memory was refused
 abbrev pub IsWrongNow : Task → (before : List TextLine) → TextLine → Refusal → Type 0
 IsWrongNow task before line (refusal.Line code at) = (at ≡ length before + 1) × IsWrongAfter task before line (number_of code)
-IsWrongNow task before line (refusal.Unfair i) = ⊥
-IsWrongNow task before line (refusal.DeadUnfair i) = ⊥
-IsWrongNow task before line (refusal.Plain code) = ⊥
 IsWrongNow task before line refusal.NoMemory = Unit {0}
-IsWrongNow task before line refusal.Device = ⊥
-IsWrongNow task before line refusal.Failed = ⊥
+IsWrongNow task before line _ = ⊥

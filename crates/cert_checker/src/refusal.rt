@@ -5,7 +5,7 @@ ghost use Rattle.cert_checker.specs.RefusalCode.{code_of};
 use certificate::{CertFault, TextFault};
 use faults::NoMemory;
 use formulas::Instance;
-use std::alloc::{AllocError, AllocFailed};
+use std::alloc::AllocFailed;
 use std::fmt;
 
 /// What is wrong with a certificate, or with the plan that was handed in with it. The number of a code is the one
@@ -123,7 +123,7 @@ pub enum Refusal {
 }
 
 /// The refusal of a text for this.
-pub(crate) fn code_of(fault: TextFault) -> RefusalCode
+fn code_of(fault: TextFault) -> RefusalCode
     ensures { result ≡ code_of fault }
 {
     match fault {
@@ -160,17 +160,6 @@ impl From<NoMemory> for Refusal {
     ghost from_gives = { λ _ e. e ≡ NoMemory };
 
     fn from(_error: NoMemory) -> Refusal {
-        Refusal::NoMemory
-    }
-}
-
-impl From<AllocError> for Refusal {
-    ghost use Rattle.std.specs.Prelude.{◌≡◌};
-    ghost use Rattle.cert_checker.specs.declared.refusal.Refusal.TheVariants.{NoMemory};
-
-    ghost from_gives = { λ _ e. e ≡ NoMemory };
-
-    fn from(_error: AllocError) -> Refusal {
         Refusal::NoMemory
     }
 }

@@ -1,22 +1,20 @@
 -- Lines in the bytes that wait, and what is told of them.
 use Rattle.std.proofs.Common.{◌≡◌, ◌≢◌, ℕ, ◌+◌, ◌<◌, ◌≤◌, List, [], ◌∷◌, ◌++◌, codes, take, drop, length, get_or, Option, None, Some, sym, ap, ◌∙◌, subst, append_assoc, arith}
-use Rattle.std.specs.Prelude.{IsTrue, Contains, Result, Ok, Err}
+use Rattle.std.specs.Prelude.{Contains, Result, Ok, Err}
 use Rattle.std.specs.Io.KnownBytes.{IsAtEnd}
-use Rattle.std.specs.Fmt.{decimal}
 use Rattle.std.specs.List.{position, position_or_len}
 use Rattle.std.proofs.lemmas.Bool.{eqb-true}
 use Rattle.std.proofs.lemmas.List.{get_or-take, length-take, take-append-drop, take_all}
 use Rattle.std.proofs.lemmas.List.Sums.{split_at_first, fails_before_first, passes_at_first}
-use Rattle.certificate_definitions.specs.Certificates.{is_number}
 use Rattle.certificate_reader.specs.declared.line.CertLine.{CertLine}
-use Rattle.certificate_definitions.specs.CertificateText.{TextLine, is_line, line_text, longest_line, whole_line, HasLine, IsFaultAfter, too_long, cut_short}
-use Rattle.certificate_definitions.specs.CertificateMachine.{Place, at_version, ended, next_place, place_after}
+use Rattle.certificate_definitions.specs.CertificateText.{TextLine, line_text, longest_line, whole_line, HasLine, IsFaultAfter, too_long, cut_short}
+use Rattle.certificate_definitions.specs.CertificateMachine.{Place, ended, place_after}
 use Rattle.certificate_definitions.proofs.Machine.{not_whole}
 use Rattle.certificate_reader.specs.declared.stage.Stage.{Stage}
-use Rattle.certificate_reader.specs.declared.next.NextFault.{NextFault}
-use Rattle.certificate_reader.specs.declared.next.NextFault.TheVariants.{Text, Device, NoMemory}
-use Rattle.certificate_reader.specs.declared.next.TextFault.TheVariants.{Form, Version, Truncated, Limit}
-use Rattle.certificate_reader.specs.Stages.{IsOver, atoms_at, version_at}
+use Rattle.certificate_reader.specs.declared.fault.NextFault.{NextFault}
+use Rattle.certificate_reader.specs.declared.fault.NextFault.TheVariants.{Text, Device, NoMemory}
+use Rattle.certificate_reader.specs.declared.fault.TextFault.TheVariants.{Form, Version, Truncated, Limit}
+use Rattle.certificate_reader.specs.Stages.{IsReadAt}
 use Rattle.certificate_reader.specs.Ends.{is_end}
 use Rattle.certificate_reader.specs.Ready.{IsGrown}
 use Rattle.certificate_reader.proofs.FirstPlaces.{first_at, first_within, passes_nowhere}
@@ -60,30 +58,23 @@ module _ (place : Place) (bytes : List ℕ) (end : ℕ) (has : HasEnd bytes end)
       ∙ sym (append_assoc (take end bytes) (10 ∷ []) (drop (end + 1) bytes))
       ∙ (λ i. sym text i ++ codes "\n" ++ sym left i)
 
-  pub other_version_told : (place ≡ at_version) × ((number : ℕ) × IsTrue (is_number number) × (number ≢ 1) × (number ≢ 2) × (codes "pddl-cert " ++ decimal number ≡ take end bytes))
-      → IsFaultAt place bytes Version
-  other_version_told (at, is) before leads more = told_other_version before place leads (bytes ++ more) (take end bytes) (has_line bytes end has more) at is
-
-  pub malformed_told : ((other : TextLine) (next : Place) → next_place place other ≡ Some next → line_text other ≢ take end bytes)
-      × ((other : TextLine) → IsTrue (is_line (version_at place) (atoms_at place) other) → IsOver place other → line_text other ≢ take end bytes)
-      × (place ≡ at_version → (number : ℕ) → IsTrue (is_number number) → number ≢ 1 → number ≢ 2 → codes "pddl-cert " ++ decimal number ≢ take end bytes)
-      → IsFaultAt place bytes Form
-  malformed_told (nowhere, limits, other) before leads more =
+  -- what is told of its bytes is told of what waits
+  pub line_told : (why : NextFault) → IsReadAt place (take end bytes) (Err why) → (new : List ℕ) → IsTaken place bytes new (Err why)
+  line_told (Text Version) (at, is) new = λ before leads more. told_other_version before place leads (bytes ++ more) (take end bytes) (has_line bytes end has more) at is
+  line_told (Text Form) (nowhere, limits, other) new = λ before leads more.
       told_malformed before place leads (bytes ++ more) (take end bytes) (has_line bytes end has more) nowhere limits other
-
-  pub too_many_told : (over : TextLine) × IsTrue (is_line (version_at place) (atoms_at place) over) × IsOver place over × (line_text over ≡ take end bytes) → IsFaultAt place bytes Limit
-  too_many_told (over, is, limit, same) before leads more =
+  line_told (Text Limit) (over, is, limit, same) new = λ before leads more.
       told_too_many before place leads (bytes ++ more) (take end bytes) (has_line bytes end has more) over is limit same
+  line_told NoMemory told new = tt
+  line_told _ told new = told
 
 -- ---- what came and what is told
 
 module _ (place : Place) (old waiting : List ℕ) (before after : Option (List ℕ)) (grown : IsGrown before after old waiting) where
   pub next_of_line : (new : List ℕ) (r : Result (CertLine × Stage) NextFault) → IsTaken place waiting new r → IsNext place old new before after r
   next_of_line new (Ok (line, next)) (splits, leads) = (grown.bytes, grown.consumed, sym grown.appended ∙ splits, leads, grown.prompt)
-  next_of_line new (Err (Text Form)) told = (grown.bytes, grown.consumed, subst (λ bytes. IsFaultAt place bytes Form) grown.appended told, grown.prompt)
-  next_of_line new (Err (Text Version)) told = (grown.bytes, grown.consumed, subst (λ bytes. IsFaultAt place bytes Version) grown.appended told, grown.prompt)
-  next_of_line new (Err (Text Limit)) told = (grown.bytes, grown.consumed, subst (λ bytes. IsFaultAt place bytes Limit) grown.appended told, grown.prompt)
   next_of_line new (Err (Text Truncated)) told = absurd told
+  next_of_line new (Err (Text why)) told = (grown.bytes, grown.consumed, subst (λ bytes. IsFaultAt place bytes why) grown.appended told, grown.prompt)
   next_of_line new (Err Device) told = absurd told
   next_of_line new (Err NoMemory) told = tt
 

@@ -1,5 +1,5 @@
 -- A line is read by its first word and what stands behind it.
-use Rattle.std.proofs.Common.{◌≡◌, ℕ, true, List, codes, Option, None, Some, refl, sym, ap, ◌∙◌, subst}
+use Rattle.std.proofs.Common.{◌≡◌, ℕ, true, false, List, codes, Option, None, Some, refl, sym, ap, ◌∙◌, subst}
 use Rattle.std.specs.Prelude.{◌≢◌, Result, Ok, Err, IsTrue}
 use Rattle.std.specs.Borrow.{Bor}
 use Rattle.std.specs.Fmt.{decimal}
@@ -11,8 +11,9 @@ use Rattle.certificate_reader.specs.declared.line.Version as code
 use Rattle.certificate_reader.specs.declared.line.Version.TheVariants.{One, Two}
 use Rattle.certificate_reader.specs.Lines.{text_line_of, version_of}
 use Rattle.certificate_definitions.specs.CertificateText.{Weights, WeightedAtom, TextLine, version, claims, constant, atom, listed, last, are_weights, version_number}
-use Rattle.certificate_reader.specs.declared.parsing.LineFault.{LineFault}
-use Rattle.certificate_reader.specs.declared.parsing.LineFault.TheVariants.{OtherVersion, Malformed, TooMany, NoMemory}
+use Rattle.certificate_reader.specs.declared.fault.NextFault.{NextFault}
+use Rattle.certificate_reader.specs.declared.fault.NextFault.TheVariants.{Text, NoMemory}
+use Rattle.certificate_reader.specs.declared.fault.TextFault.TheVariants as fault
 use Rattle.certificate_reader.specs.Parsing.{IsParsed, IsParsedBehind}
 use Rattle.certificate_reader.specs.Words.{IsFirstWord, IsReadAs, line_head, line_rest, text_in, with_rest, with_weights}
 use Rattle.certificate_reader.proofs.WordLemmas.{one_first}
@@ -44,11 +45,18 @@ pub is_two : (version : code.Version) → version ≢ One → version_of version
 is_two One other = absurd (other refl)
 is_two Two other = refl
 
+-- ---- no line
+
+-- what stands behind a word is no line, and the word is not that of the first line
+pub malformed : (word rest : List ℕ) (v : Version) (count : ℕ) → bytes_eq word (codes "pddl-cert") ≡ false
+    → ((line : TextLine) → IsReadAs word rest v count line → ⊥) → IsParsedBehind word rest v count (Err (Text fault.Form))
+malformed word rest v count other never = (never, λ same n is told. unlike word (codes "pddl-cert") other same)
+
 -- ---- the line of the constants
 
 pub malformed_constant : (rest : List ℕ) (v : Version) → ((k : Weights) → IsTrue (are_weights v k) → with_weights k None ≡ rest → ⊥) → (count : ℕ)
-    → IsParsedBehind (codes "constant") rest v count (Err Malformed)
-malformed_constant rest v never count = (no_line, λ same n is told. absurd (unlike (codes "constant") (codes "pddl-cert") refl same))
+    → IsParsedBehind (codes "constant") rest v count (Err (Text fault.Form))
+malformed_constant rest v never count = malformed (codes "constant") rest v count refl no_line
   where
     no_line : (line : TextLine) → IsReadAs (codes "constant") rest v count line → ⊥
     no_line (version w) read = unlike (codes "pddl-cert") (codes "constant") refl read.head
@@ -68,13 +76,13 @@ constant_goes_on rest v w behind more is same at k k_is k_same =
 -- ---- the line of an atom
 
 pub malformed_atom : (rest : List ℕ) (v : Version) → ((count : ℕ) (a : WeightedAtom) → IsReadAs (codes "atom") rest v count (atom a) → ⊥) → (count : ℕ)
-    → IsParsedBehind (codes "atom") rest v count (Err Malformed)
-malformed_atom rest v never count = (no_atom rest v count (never count), λ same n is told. absurd (unlike (codes "atom") (codes "pddl-cert") refl same))
+    → IsParsedBehind (codes "atom") rest v count (Err (Text fault.Form))
+malformed_atom rest v never count = malformed (codes "atom") rest v count refl (no_atom rest v count (never count))
 
 -- ---- any line
 
 -- what is told behind a word is told behind bytes that are it
-pub parsed_as : (word own rest : List ℕ) (v : Version) (count : ℕ) (r : Result CertLine LineFault) → bytes_eq word own ≡ true
+pub parsed_as : (word own rest : List ℕ) (v : Version) (count : ℕ) (r : Result CertLine NextFault) → bytes_eq word own ≡ true
     → IsParsedBehind own rest v count r → IsParsedBehind word rest v count r
 parsed_as word own rest v count r is told = subst (λ word. IsParsedBehind word rest v count r) (sym ((bytes_eq-Decides word own).0 is)) told
 
@@ -82,12 +90,12 @@ some_same : (a b : List ℕ) → ◌≡◌ {A = Option (List ℕ)} (Some a) (Som
 some_same a b same = cc
 
 -- what is told of a word and the rest is told of the bytes that they are
-whole : (bytes word rest : List ℕ) (v : Version) (count : ℕ) → IsFirstWord bytes word (Some rest) → (r : Result CertLine LineFault) → IsParsedBehind word rest v count r → IsParsed bytes v count r
+whole : (bytes word rest : List ℕ) (v : Version) (count : ℕ) → IsFirstWord bytes word (Some rest) → (r : Result CertLine NextFault) → IsParsedBehind word rest v count r → IsParsed bytes v count r
 whole bytes word rest v count first (Ok line) read =
     (line_splits (text_line_of line) ∙ (λ i. with_rest (read.head i) (Some (read.behind i))) ∙ sym first.splits, read.within)
-whole bytes word rest v count first (Err OtherVersion) (head, (n, is, not_one, not_two, same)) =
+whole bytes word rest v count first (Err (Text fault.Version)) (head, (n, is, not_one, not_two, same)) =
     (n, is, not_one, not_two, (λ i. with_rest (sym head i) (Some (same i))) ∙ sym first.splits)
-whole bytes word rest v count first (Err Malformed) (never, other) = (
+whole bytes word rest v count first (Err (Text fault.Form)) (never, other) = (
   λ line within same.
       let both = one_first (line_head line) word (Some (line_rest line)) (Some rest) (head_is_word line) first.is_word (sym (line_splits line) ∙ same ∙ first.splits) in
       never line (record { head = both.0; behind = some_same (line_rest line) rest both.1; within = within }),
@@ -95,10 +103,10 @@ whole bytes word rest v count first (Err Malformed) (never, other) = (
       let both = one_first (codes "pddl-cert") word (Some (decimal n)) (Some rest) refl first.is_word (same ∙ first.splits) in
       other (sym both.0) n is (some_same (decimal n) rest both.1),
 )
-whole bytes word rest v count first (Err TooMany) told = told
 whole bytes word rest v count first (Err NoMemory) told = tt
+whole bytes word rest v count first _ told = told
 
-pub parsed_whole : (bytes word : List ℕ) (behind : Option (Bor (List ℕ))) (rest : Bor (List ℕ)) (v : Version) (count : ℕ) (r : Result CertLine LineFault)
+pub parsed_whole : (bytes word : List ℕ) (behind : Option (Bor (List ℕ))) (rest : Bor (List ℕ)) (v : Version) (count : ℕ) (r : Result CertLine NextFault)
     → IsFirstWord bytes word (text_in behind) → behind ≡ Some rest → IsParsedBehind word rest.now v count r → IsParsed bytes v count r
 parsed_whole bytes word behind rest v count r first is told =
     whole bytes word rest.now v count (subst (λ behind. IsFirstWord bytes word (text_in behind)) is first) r told

@@ -1,5 +1,5 @@
 -- A line that is read at a place, and what is told of one that cannot stand there.
-use Rattle.std.proofs.Common.{◌≡◌, ◌≢◌, ℕ, ◌+◌, ◌≤◌, List, ◌++◌, codes, Option, None, Some, refl, sym, ap, ◌∙◌, subst, arith}
+use Rattle.std.proofs.Common.{◌≡◌, ◌≢◌, ℕ, ◌+◌, ◌≤◌, List, ◌++◌, codes, Option, Some, refl, sym, ap, ◌∙◌, subst, arith}
 use Rattle.std.specs.Prelude.{◌&&◌, ◌==◌, Err, IsTrue, nat_le, nat_lt}
 use Rattle.std.specs.Fmt.{decimal}
 use Rattle.std.proofs.lemmas.Bool.{and_parts, eqb-true, leb-true, lt-ltb}
@@ -7,10 +7,12 @@ use Rattle.certificate_definitions.specs.Certificates.{Version, one, two, is_num
 use Rattle.certificate_definitions.specs.CertificateText.{TextLine, version, claims, constant, atom, listed, last, is_line, line_text, most_atoms, most_states, version_number}
 use Rattle.certificate_definitions.specs.CertificateMachine.{Place, at_version, at_claim, at_constant, in_body, ended, next_place}
 use Rattle.certificate_definitions.proofs.Machine.{never, only_where}
-use Rattle.certificate_reader.specs.Stages.{IsOver, IsReadAt, IsWithin, atoms_at, version_at}
+use Rattle.certificate_reader.specs.Stages.{IsOver, IsReadAt, IsStep, IsWithin, atoms_at, version_at}
 use Rattle.certificate_reader.specs.Parsing.{IsParsed}
-use Rattle.certificate_reader.specs.declared.parsing.LineFault.{LineFault}
-use Rattle.certificate_reader.specs.declared.parsing.LineFault.TheVariants.{OtherVersion, Malformed, TooMany, NoMemory}
+use Rattle.certificate_reader.specs.declared.fault.NextFault.{NextFault}
+use Rattle.certificate_reader.specs.declared.fault.NextFault.TheVariants.{Text, NoMemory}
+use Rattle.certificate_reader.specs.declared.fault.TextFault.{TextFault}
+use Rattle.certificate_reader.specs.declared.fault.TextFault.TheVariants as fault
 use Rattle.certificate_reader.specs.Words.{line_head, line_rest}
 use Rattle.certificate_reader.proofs.NumbersRead.{same_number}
 use Rattle.certificate_reader.proofs.WordLemmas.{one_first}
@@ -82,10 +84,10 @@ no_other_version line n is not_one not_two same =
     neither n is not_one not_two v (some_same (decimal n) (line_rest line) both.1 ∙ rest)
 
 -- what is told of bytes that are no line there is told of the place
-malformed_at : (place : Place) → IsWithin place → (bytes : List ℕ) (v : Version) (count : ℕ) → v ≡ version_at place → count ≡ atoms_at place → IsParsed bytes v count (Err Malformed)
-    → IsReadAt place bytes (Err Malformed)
+malformed_at : (place : Place) → IsWithin place → (bytes : List ℕ) (v : Version) (count : ℕ) → v ≡ version_at place → count ≡ atoms_at place → IsParsed bytes v count (Err (Text fault.Form))
+    → IsReadAt place bytes (Err (Text fault.Form))
 malformed_at place within bytes v count v_is count_is told =
-    let (never, other) = subst (λ v. IsParsed bytes v (atoms_at place) (Err Malformed)) v_is (subst (λ n. IsParsed bytes v n (Err Malformed)) count_is told) in (
+    let (never, other) = subst (λ v. IsParsed bytes v (atoms_at place) (Err (Text fault.Form))) v_is (subst (λ n. IsParsed bytes v n (Err (Text fault.Form))) count_is told) in (
       λ line next leads. never line (leads_line place within line next leads),
       λ line is over. never line is,
       λ at n is not_one not_two. other n is,
@@ -93,24 +95,24 @@ malformed_at place within bytes v count v_is count_is told =
 
 -- so is another fault of the bytes alone, but for another version, which is told of the first line only
 pub told_at : (place : Place) → IsWithin place → (bytes : List ℕ) (v : Version) (count : ℕ) → v ≡ version_at place → count ≡ atoms_at place
-    → (fault : LineFault) → fault ≢ OtherVersion → IsParsed bytes v count (Err fault) → IsReadAt place bytes (Err fault)
-told_at place within bytes v count v_is count_is OtherVersion other told = absurd (other refl)
-told_at place within bytes v count v_is count_is Malformed other told = malformed_at place within bytes v count v_is count_is told
-told_at place within bytes v count v_is count_is TooMany other told = absurd told
+    → (why : NextFault) → why ≢ Text fault.Version → IsParsed bytes v count (Err why) → IsReadAt place bytes (Err why)
+told_at place within bytes v count v_is count_is (Text fault.Version) other told = absurd (other refl)
+told_at place within bytes v count v_is count_is (Text fault.Form) other told = malformed_at place within bytes v count v_is count_is told
 told_at place within bytes v count v_is count_is NoMemory other told = tt
+told_at place within bytes v count v_is count_is _ other told = absurd told
 
 module _ (place : Place) (within : IsWithin place) (line : TextLine) (is : IsTrue (is_line (version_at place) (atoms_at place) line)) (bytes : List ℕ) (text : line_text line ≡ bytes) where
   only_line : (other : TextLine) → IsTrue (is_line (version_at place) (atoms_at place) other) → line_text other ≡ bytes → other ≡ line
   only_line other other_is same = one_line (version_at place) (atoms_at place) (few_atoms place within) other line other_is is (same ∙ sym text)
 
-  pub misplaced : (next_place place line ≡ None) × (IsOver place line → ⊥)
-      → ((other : TextLine) (next : Place) → next_place place other ≡ Some next → line_text other ≢ bytes)
-      × ((other : TextLine) → IsTrue (is_line (version_at place) (atoms_at place) other) → IsOver place other → line_text other ≢ bytes)
-      × (place ≡ at_version → (number : ℕ) → IsTrue (is_number number) → number ≢ 1 → number ≢ 2 → codes "pddl-cert " ++ decimal number ≢ bytes)
-  misplaced (nowhere, within_limits) = (
+  -- what comes of the line there is told of its bytes
+  pub told_after : (why : TextFault) → IsStep place line (Err why) → IsReadAt place bytes (Err (Text why))
+  told_after fault.Limit over = (line, is, over, text)
+  told_after fault.Form (nowhere, within_limits) = (
     λ other next leads same.
         let here = only_line other (leads_line place within other next leads) same in
         never next (sym nowhere ∙ ap (next_place place) (sym here) ∙ leads),
     λ other other_is over same. within_limits (subst (IsOver place) (only_line other other_is same) over),
     λ at n n_is not_one not_two same. no_other_version line n n_is not_one not_two (same ∙ sym text),
   )
+  told_after _ told = absurd told

@@ -9,10 +9,10 @@ use Rattle.certificate_definitions.proofs.Machine.{StandsBefore, begins, never, 
 use Rattle.certificate_reader.specs.declared.line.CertLine.{CertLine}
 use Rattle.certificate_reader.specs.Lines.{text_line_of}
 use Rattle.certificate_reader.specs.declared.reader.CertReader.{CertReader}
-use Rattle.certificate_reader.specs.declared.next.NextFault.{NextFault}
-use Rattle.certificate_reader.specs.declared.next.NextFault.TheVariants as next
-use Rattle.certificate_reader.specs.declared.next.TextFault.{TextFault}
-use Rattle.certificate_reader.specs.declared.next.TextFault.TheVariants.{Form, Version, Truncated, Limit}
+use Rattle.certificate_reader.specs.declared.fault.NextFault.{NextFault}
+use Rattle.certificate_reader.specs.declared.fault.NextFault.TheVariants as next
+use Rattle.certificate_reader.specs.declared.fault.TextFault.{TextFault}
+use Rattle.certificate_reader.specs.declared.fault.TextFault.TheVariants.{Truncated}
 use Rattle.certificate_reader.specs.declared.stage.Stage.{Stage}
 use Rattle.certificate_reader.specs.declared.stage.Stage.TheVariants as stage
 use Rattle.certificate_reader.specs.Stages.{IsWithin, place_of}
@@ -114,9 +114,7 @@ module _ {R : Type 0} (remaining : R → Option (List ℕ)) (old between : CertR
 
   told_still : (fault : TextFault) → IsToldOf remaining old between before fault → IsToldOf remaining old failed before fault
   told_still Truncated told = told
-  told_still Form told = told
-  told_still Version told = told
-  told_still Limit told = told
+  told_still _ told = told
 
   pub told_answer : (fault : NextFault) (line : ℕ) → line ≡ length before + 1 → IsAdvance remaining old between before (Err fault)
       → IsAnswer remaining old failed before (Err (fault_at fault line))

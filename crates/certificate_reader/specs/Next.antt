@@ -10,10 +10,10 @@ use Rattle.certificate_reader.specs.Lines.{text_line_of}
 use Rattle.certificate_definitions.specs.CertificateText.{TextLine, IsFaultAfter, longest_line, whole_line}
 use Rattle.certificate_definitions.specs.CertificateMachine.{Place, ended, next_place, place_after}
 use Rattle.certificate_reader.specs.declared.stage.Stage.{Stage}
-use Rattle.certificate_reader.specs.declared.next.NextFault.{NextFault}
-use Rattle.certificate_reader.specs.declared.next.NextFault.TheVariants.{Text, Device, NoMemory}
-use Rattle.certificate_reader.specs.declared.next.TextFault.{TextFault}
-use Rattle.certificate_reader.specs.declared.next.TextFault.TheVariants.{Form, Version, Truncated, Limit}
+use Rattle.certificate_reader.specs.declared.fault.NextFault.{NextFault}
+use Rattle.certificate_reader.specs.declared.fault.NextFault.TheVariants.{Text, Device, NoMemory}
+use Rattle.certificate_reader.specs.declared.fault.TextFault.{TextFault}
+use Rattle.certificate_reader.specs.declared.fault.TextFault.TheVariants.{Form, Version, Truncated, Limit}
 use Rattle.certificate_reader.specs.Stages.{place_of}
 use Rattle.certificate_reader.specs.Ends.{is_end}
 use Rattle.certificate_reader.specs.Ready.{IsPrompt, IsUnready, come_at, is_ready}
@@ -29,12 +29,10 @@ abbrev pub of_device : WriteFault → NextFault
 of_device device.Device = Device
 of_device device.NoMemory = NoMemory
 
--- the failure of a device counts one failure, another fault none
+-- the failure of a device counts one failure, another answer none
 abbrev pub CountsFault : {T : Type 0} → (before after : ℕ) → Result T NextFault → Type 0
-CountsFault before after (Ok read) = after ≡ before
-CountsFault before after (Err (Text fault)) = after ≡ before
 CountsFault before after (Err Device) = after ≡ one_more before
-CountsFault before after (Err NoMemory) = after ≡ before
+CountsFault before after _ = after ≡ before
 
 -- The bytes are at fault at this place, whatever comes behind them.
 abbrev pub IsFaultAt : Place → List ℕ → TextFault → Type 0
@@ -48,10 +46,8 @@ HasEnd bytes end = (position is_end bytes ≡ Some end) × (end ≤ longest_line
 -- The line that waits is handed out, or it is at fault.
 abbrev pub IsTaken : Place → (old new : List ℕ) → Result (CertLine × Stage) NextFault → Type 0
 IsTaken place old new (Ok (line, next)) = (old ≡ whole_line (text_line_of line) ++ new) × (next_place place (text_line_of line) ≡ Some (place_of next))
-IsTaken place old new (Err (Text Form)) = IsFaultAt place old Form
-IsTaken place old new (Err (Text Version)) = IsFaultAt place old Version
-IsTaken place old new (Err (Text Limit)) = IsFaultAt place old Limit
 IsTaken place old new (Err (Text Truncated)) = ⊥
+IsTaken place old new (Err (Text fault)) = IsFaultAt place old fault
 IsTaken place old new (Err Device) = ⊥
 IsTaken place old new (Err NoMemory) = Unit {0}
 
@@ -64,9 +60,7 @@ IsNext place old new before after (Ok (line, next)) =
 IsNext place old new before after (Err (Text Truncated)) =
     (bytes : List ℕ) × Consumes before after bytes × IsAtEnd after
     × ((lines : List TextLine) → place_after lines ≡ Some place → place ≢ ended → IsFaultAfter lines (old ++ bytes) 42)
-IsNext place old new before after (Err (Text Form)) = (bytes : List ℕ) × Consumes before after bytes × IsFaultAt place (old ++ bytes) Form × IsPrompt is_ready old bytes
-IsNext place old new before after (Err (Text Version)) = (bytes : List ℕ) × Consumes before after bytes × IsFaultAt place (old ++ bytes) Version × IsPrompt is_ready old bytes
-IsNext place old new before after (Err (Text Limit)) = (bytes : List ℕ) × Consumes before after bytes × IsFaultAt place (old ++ bytes) Limit × IsPrompt is_ready old bytes
+IsNext place old new before after (Err (Text fault)) = (bytes : List ℕ) × Consumes before after bytes × IsFaultAt place (old ++ bytes) fault × IsPrompt is_ready old bytes
 IsNext place old new before after (Err Device) = IsUnready before after old new
 IsNext place old new before after (Err NoMemory) = Unit {0}
 

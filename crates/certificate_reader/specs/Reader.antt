@@ -9,10 +9,11 @@ use Rattle.certificate_definitions.specs.CertificateMachine.{place_after}
 use Rattle.certificate_reader.specs.declared.reader.CertReader.{CertReader}
 use Rattle.certificate_reader.specs.declared.reader.CertFault.{CertFault}
 use Rattle.certificate_reader.specs.declared.reader.CertFault.TheVariants as cert
-use Rattle.certificate_reader.specs.declared.next.NextFault.{NextFault}
-use Rattle.certificate_reader.specs.declared.next.NextFault.TheVariants as next
-use Rattle.certificate_reader.specs.declared.next.TextFault.{TextFault}
-use Rattle.certificate_reader.specs.declared.next.TextFault.TheVariants.{Form, Version, Truncated, Limit}
+use Rattle.certificate_reader.specs.declared.fault.NextFault.{NextFault}
+use Rattle.certificate_reader.specs.declared.fault.NextFault.TheVariants as next
+use Rattle.certificate_reader.specs.declared.fault.TextFault.{TextFault}
+use Rattle.certificate_reader.specs.declared.fault.TextFault.TheVariants.{Truncated}
+use Rattle.certificate_reader.specs.Next.{number_of}
 use Rattle.certificate_reader.specs.Ready.{IsPrompt, come_at}
 use Rattle.certificate_reader.specs.Stages.{place_of}
 use Rattle.certificate_reader.specs.Waiting.{waiting_of}
@@ -47,11 +48,8 @@ fault_at next.NoMemory line = cert.NoMemory
 
 -- the failure of a device counts one failure, another answer none
 abbrev pub CountsCert : {T : Type 0} → (before after : ℕ) → Result T CertFault → Type 0
-CountsCert before after (Ok read) = after ≡ before
-CountsCert before after (Err (cert.Line fault line)) = after ≡ before
 CountsCert before after (Err cert.Device) = after ≡ one_more before
-CountsCert before after (Err cert.NoMemory) = after ≡ before
-CountsCert before after (Err cert.Failed) = after ≡ before
+CountsCert before after _ = after ≡ before
 
 -- The source was read only while what is to be told next had not come.
 abbrev pub WasPrompt : {R : Type 0} → CertReader R → (came : List ℕ) → Type 0
@@ -86,12 +84,9 @@ abbrev pub IsToldOf : {R : Type 0} → (remaining : R → Option (List ℕ)) →
 IsToldOf remaining old new before Truncated =
     (bytes : List ℕ) × Consumes (remaining (source_of old)) (remaining (source_of new)) bytes × IsAtEnd (remaining (source_of new))
     × IsFaultAfter before (waits_in old ++ bytes) 42
-IsToldOf remaining old new before Form =
-    (bytes : List ℕ) × Consumes (remaining (source_of old)) (remaining (source_of new)) bytes × ((more : List ℕ) → IsFaultAfter before (waits_in old ++ bytes ++ more) 40) × WasPrompt old bytes
-IsToldOf remaining old new before Version =
-    (bytes : List ℕ) × Consumes (remaining (source_of old)) (remaining (source_of new)) bytes × ((more : List ℕ) → IsFaultAfter before (waits_in old ++ bytes ++ more) 41) × WasPrompt old bytes
-IsToldOf remaining old new before Limit =
-    (bytes : List ℕ) × Consumes (remaining (source_of old)) (remaining (source_of new)) bytes × ((more : List ℕ) → IsFaultAfter before (waits_in old ++ bytes ++ more) 55) × WasPrompt old bytes
+IsToldOf remaining old new before fault =
+    (bytes : List ℕ) × Consumes (remaining (source_of old)) (remaining (source_of new)) bytes
+    × ((more : List ℕ) → IsFaultAfter before (waits_in old ++ bytes ++ more) (number_of fault)) × WasPrompt old bytes
 
 -- what is handed out or told, where these lines were handed out before
 abbrev pub IsAdvance : {R : Type 0} → (remaining : R → Option (List ℕ)) → (old new : CertReader R) → List TextLine → Result (Option CertLine) NextFault → Type 0

@@ -8,10 +8,10 @@ use Rattle.certificate_definitions.specs.CertificateText.{TextLine, atom, listed
 use Rattle.certificate_definitions.specs.CertificateMachine.{Place, at_version, at_claim, at_constant, in_body, ended, next_place}
 use Rattle.certificate_reader.specs.declared.stage.Stage.{Stage}
 use Rattle.certificate_reader.specs.declared.stage.Stage.TheVariants as stage
-use Rattle.certificate_reader.specs.declared.stage.Step.{Step}
-use Rattle.certificate_reader.specs.declared.stage.Step.TheVariants as step
-use Rattle.certificate_reader.specs.declared.parsing.LineFault.{LineFault}
-use Rattle.certificate_reader.specs.declared.parsing.LineFault.TheVariants.{OtherVersion, Malformed, TooMany, NoMemory}
+use Rattle.certificate_reader.specs.declared.fault.NextFault.{NextFault}
+use Rattle.certificate_reader.specs.declared.fault.NextFault.TheVariants.{Text, NoMemory}
+use Rattle.certificate_reader.specs.declared.fault.TextFault.{TextFault}
+use Rattle.certificate_reader.specs.declared.fault.TextFault.TheVariants as fault
 
 abbrev pub place_of : Stage → Place
 place_of stage.Version = at_version
@@ -53,19 +53,22 @@ IsOver (in_body v atoms states) (atom a) = (states ≡ 0) × (atoms ≡ most_ato
 IsOver (in_body v atoms states) (listed l) = states ≡ most_states
 IsOver _ _ = ⊥
 
-abbrev pub IsStep : Place → TextLine → Step → Type 0
-IsStep place line (step.Next next) = next_place place line ≡ Some (place_of next)
-IsStep place line step.TooMany = IsOver place line
-IsStep place line step.Misplaced = (next_place place line ≡ None) × (IsOver place line → ⊥)
+-- the line leads to this stage, is one too many, or cannot stand there
+abbrev pub IsStep : Place → TextLine → Result Stage TextFault → Type 0
+IsStep place line (Ok next) = next_place place line ≡ Some (place_of next)
+IsStep place line (Err fault.Limit) = IsOver place line
+IsStep place line (Err fault.Form) = (next_place place line ≡ None) × (IsOver place line → ⊥)
+IsStep place line _ = ⊥
 
 -- The bytes are the line that is answered, and lead to this stage; or what is told of them is so.
-abbrev pub IsReadAt : Place → List ℕ → Result (CertLine × Stage) LineFault → Type 0
+abbrev pub IsReadAt : Place → List ℕ → Result (CertLine × Stage) NextFault → Type 0
 IsReadAt place bytes (Ok (line, next)) = (line_text (text_line_of line) ≡ bytes) × (next_place place (text_line_of line) ≡ Some (place_of next))
-IsReadAt place bytes (Err OtherVersion) =
+IsReadAt place bytes (Err (Text fault.Version)) =
     (place ≡ at_version) × ((number : ℕ) × IsTrue (is_number number) × (number ≢ 1) × (number ≢ 2) × (codes "pddl-cert " ++ decimal number ≡ bytes))
-IsReadAt place bytes (Err TooMany) = (line : TextLine) × IsTrue (is_line (version_at place) (atoms_at place) line) × IsOver place line × (line_text line ≡ bytes)
-IsReadAt place bytes (Err Malformed) =
+IsReadAt place bytes (Err (Text fault.Limit)) = (line : TextLine) × IsTrue (is_line (version_at place) (atoms_at place) line) × IsOver place line × (line_text line ≡ bytes)
+IsReadAt place bytes (Err (Text fault.Form)) =
     ((line : TextLine) (next : Place) → next_place place line ≡ Some next → line_text line ≢ bytes)
     × ((line : TextLine) → IsTrue (is_line (version_at place) (atoms_at place) line) → IsOver place line → line_text line ≢ bytes)
     × (place ≡ at_version → (number : ℕ) → IsTrue (is_number number) → number ≢ 1 → number ≢ 2 → codes "pddl-cert " ++ decimal number ≢ bytes)
 IsReadAt place bytes (Err NoMemory) = Unit {0}
+IsReadAt place bytes _ = ⊥

@@ -1,6 +1,7 @@
 //! Certificates' texts: their lines, by what each says, and the reader that hands them out.
 #![tactic(auto)]
 
+mod fault;
 mod first_word;
 mod laws;
 mod line;
@@ -15,10 +16,10 @@ mod ready;
 mod stage;
 mod waiting;
 
+pub use fault::TextFault;
 pub use laws::texts_are_certificates_one_for_one;
 pub use line::{
     CertLine, Claim, LONGEST_LINE, MAX_ATOMS, MAX_STATE_LINES, MAX_WEIGHT, Mark, NUMBER_LIMIT,
     NamedAtom, StateLine, Version, Weights,
 };
-pub use next::TextFault;
 pub use reader::{CertFault, CertReader};

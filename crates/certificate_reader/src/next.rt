@@ -6,51 +6,13 @@ ghost use Rattle.certificate_reader.specs.Stages.{IsWithin, place_of};
 ghost use Rattle.certificate_reader.specs.Next.{CountsFault, HasEnd, IsEnd, IsNext, IsTaken};
 ghost use Rattle.devices.specs.Devices.{CountsDevice};
 
+use crate::fault::{NextFault, TextFault};
 use crate::line::CertLine;
-use crate::parsing::LineFault;
 use crate::ready::{Ready, await_line};
 use crate::stage::{Stage, read_line};
 use crate::waiting::Waiting;
 use devices::{Source, WriteFault};
 use std::alloc::Global;
-
-/// What is at fault in a text.
-#[derive(Clone, Copy, Debug, PartialEq, Eq)]
-pub enum TextFault {
-    /// A line that cannot stand in its place, or is too long, or a byte behind the last line: 40.
-    Form,
-    /// The first line of another version: 41.
-    Version,
-    /// The text ends before the last line does: 42.
-    Truncated,
-    /// One atom, or one state, more than there may be: 55.
-    Limit,
-}
-
-/// Why there is no next line.
-#[derive(Clone, Copy, Debug, PartialEq, Eq)]
-pub(crate) enum NextFault {
-    /// The text is at fault there.
-    Text(TextFault),
-    /// The device failed.
-    Device,
-    /// Memory was refused.
-    NoMemory,
-}
-
-impl From<WriteFault> for NextFault {
-    ghost use Rattle.std.specs.Prelude.{◌≡◌};
-    ghost use Rattle.certificate_reader.specs.Next.{of_device};
-
-    ghost from_gives = { λ fault given. given ≡ of_device fault };
-
-    fn from(fault: WriteFault) -> NextFault {
-        match fault {
-            WriteFault::Device => NextFault::Device,
-            WriteFault::NoMemory => NextFault::NoMemory,
-        }
-    }
-}
 
 /// The next line, and the stage behind it; it is read only where none waits.
 pub(crate) fn next_line<S: Source>(
@@ -82,17 +44,9 @@ fn take_line(
     requires line { HasEnd (waiting_of waiting.old) end }
     ensures { IsTaken (place_of stage) (waiting_of waiting.old) (waiting_of waiting.new) result }
 {
-    let read = read_line(alloc, stage, &waiting.bytes()[..end]);
-    match read {
-        Ok(read) => {
-            waiting.pass(end + 1);
-            Ok(read)
-        }
-        Err(LineFault::OtherVersion) => Err(NextFault::Text(TextFault::Version)),
-        Err(LineFault::Malformed) => Err(NextFault::Text(TextFault::Form)),
-        Err(LineFault::TooMany) => Err(NextFault::Text(TextFault::Limit)),
-        Err(LineFault::NoMemory) => Err(NextFault::NoMemory),
-    }
+    let read = read_line(alloc, stage, &waiting.bytes()[..end])?;
+    waiting.pass(end + 1);
+    Ok(read)
 }
 
 /// Whether nothing stands behind the last line; it is read only where nothing waits.

@@ -9,6 +9,7 @@ ghost use Rattle.certificate_definitions.specs.CertificateText as text;
 ghost use Rattle.certificate_reader.specs.Parsing.{IsParsed, IsParsedBehind};
 ghost use Rattle.certificate_reader.specs.Words.{IsReadAs, are_lower, atom_rest, with_rest};
 
+use crate::fault::{NextFault, TextFault};
 use crate::first_word::{first_word, is};
 use crate::line::{CertLine, Mark, NamedAtom, StateLine, Version};
 use crate::lower_names::{copy, is_lower_name, names};
@@ -16,48 +17,24 @@ use crate::number::number;
 use crate::parts::{claim, numbered, weights};
 use std::alloc::{AllocError, Global};
 
-/// Why bytes are not read as a line.
-#[derive(Clone, Copy, Debug, PartialEq, Eq)]
-pub(crate) enum LineFault {
-    /// They are the first line of another version.
-    OtherVersion,
-    /// They are no line that may stand there.
-    Malformed,
-    /// They are one atom, or one state, more than there may be.
-    TooMany,
-    /// Memory that was asked for was refused.
-    NoMemory,
-}
-
-impl From<AllocError> for LineFault {
-    ghost use Rattle.std.specs.Prelude.{◌≡◌};
-    ghost use Rattle.certificate_reader.specs.declared.parsing.LineFault.TheVariants.{NoMemory};
-
-    ghost from_gives = { λ _ fault. fault ≡ NoMemory };
-
-    fn from(_error: AllocError) -> LineFault {
-        LineFault::NoMemory
-    }
-}
-
 /// The line that these bytes are, without an LF, in a text of this version, where so many atoms are named by their numbers.
 ///
 /// # Errors
-/// [`LineFault::OtherVersion`] for `pddl-cert N` where N is neither 1 nor 2; [`LineFault::Malformed`] for all else that is no line;
-/// [`LineFault::NoMemory`] where memory is refused.
+/// [`TextFault::Version`] for `pddl-cert N` where N is neither 1 nor 2; [`TextFault::Form`] for all else that is no line;
+/// [`NextFault::NoMemory`] where memory is refused.
 pub(crate) fn parse(
     alloc: Global,
     bytes: &[u8],
     version: Version,
     atom_count: usize,
-) -> Result<CertLine, LineFault>
+) -> Result<CertLine, NextFault>
     requires few { atom_count ≤ most_atoms }
     requires short { length bytes.now ≤ longest_line }
     ensures { IsParsed bytes.now (version_of version) atom_count result }
 {
     let (word, behind) = first_word(bytes);
     let Some(rest) = behind else {
-        return Err(LineFault::Malformed);
+        return Err(NextFault::Text(TextFault::Form));
     };
     parse_behind(alloc, word, rest, version, atom_count)
 }
@@ -69,7 +46,7 @@ fn parse_behind(
     rest: &[u8],
     version: Version,
     atom_count: usize,
-) -> Result<CertLine, LineFault>
+) -> Result<CertLine, NextFault>
     requires few { atom_count ≤ most_atoms }
     requires short { length (with_rest word.now (Some rest.now)) ≤ longest_line }
     ensures { IsParsedBehind word.now rest.now (version_of version) atom_count result }
@@ -98,169 +75,128 @@ fn parse_behind(
     if is(word, b"pddl-cert") {
         return head_line(rest);
     }
-    Err(LineFault::Malformed)
+    Err(NextFault::Text(TextFault::Form))
 }
 
 /// The first line, of which the rest stands behind `pddl-cert`.
-fn head_line(rest: &[u8]) -> Result<CertLine, LineFault>
+fn head_line(rest: &[u8]) -> Result<CertLine, NextFault>
     ensures { (v : certificates.Version) (atom_count : ℕ) → IsParsedBehind (codes "pddl-cert") rest.now v atom_count result }
 {
     match number(rest) {
         Some(1) => Ok(CertLine::Version(Version::One)),
         Some(2) => Ok(CertLine::Version(Version::Two)),
-        Some(_) => Err(LineFault::OtherVersion),
-        None => Err(LineFault::Malformed),
+        Some(_) => Err(NextFault::Text(TextFault::Version)),
+        None => Err(NextFault::Text(TextFault::Form)),
     }
 }
 
 /// The line of the claim that stands behind `claim`.
-fn claim_line(rest: &[u8]) -> Result<CertLine, LineFault>
+fn claim_line(rest: &[u8]) -> Result<CertLine, NextFault>
     ensures { (v : certificates.Version) (atom_count : ℕ) → IsParsedBehind (codes "claim") rest.now v atom_count result }
 {
     match claim(rest) {
         Some(claim) => Ok(CertLine::Claim(claim)),
-        None => Err(LineFault::Malformed),
+        None => Err(NextFault::Text(TextFault::Form)),
     }
 }
 
 /// The line of the constants that stand behind `constant`.
-fn constant_line(rest: &[u8], version: Version) -> Result<CertLine, LineFault>
+fn constant_line(rest: &[u8], version: Version) -> Result<CertLine, NextFault>
     ensures { (atom_count : ℕ) → IsParsedBehind (codes "constant") rest.now (version_of version) atom_count result }
 {
     let Some((constants, behind)) = weights(rest, version) else {
-        return Err(LineFault::Malformed);
+        return Err(NextFault::Text(TextFault::Form));
     };
     match behind {
         None => Ok(CertLine::Constants(constants)),
-        Some(_) => Err(LineFault::Malformed),
+        Some(_) => Err(NextFault::Text(TextFault::Form)),
     }
 }
 
 /// The last line, whose count stands behind `end`.
-fn last_line(rest: &[u8]) -> Result<CertLine, LineFault>
+fn last_line(rest: &[u8]) -> Result<CertLine, NextFault>
     ensures { (v : certificates.Version) (atom_count : ℕ) → IsParsedBehind (codes "end") rest.now v atom_count result }
 {
     match number(rest) {
         Some(count) => Ok(CertLine::Last { count }),
-        None => Err(LineFault::Malformed),
+        None => Err(NextFault::Text(TextFault::Form)),
     }
 }
 
 /// The line of the atom, with its weights, that stands behind `atom`.
-fn atom_line(alloc: Global, rest: &[u8], version: Version) -> Result<CertLine, LineFault>
+fn atom_line(alloc: Global, rest: &[u8], version: Version) -> Result<CertLine, NextFault>
     requires short { length (with_rest (codes "atom") (Some rest.now)) ≤ longest_line }
     ensures { (atom_count : ℕ) → IsParsedBehind (codes "atom") rest.now (version_of version) atom_count result }
 {
     let Some((weights, behind)) = weights(rest, version) else {
-        return Err(LineFault::Malformed);
+        return Err(NextFault::Text(TextFault::Form));
     };
     let Some(behind) = behind else {
-        return Err(LineFault::Malformed);
+        return Err(NextFault::Text(TextFault::Form));
     };
     match named_atom(alloc, behind)? {
         Some(atom) => Ok(CertLine::Weight { weights, atom }),
-        None => Err(LineFault::Malformed),
+        None => Err(NextFault::Text(TextFault::Form)),
     }
 }
 
 /// The line of the open state that stands behind `open`.
-fn open_line(alloc: Global, rest: &[u8], atom_count: usize) -> Result<CertLine, LineFault>
+fn open_line(alloc: Global, rest: &[u8], atom_count: usize) -> Result<CertLine, NextFault>
     requires few { atom_count ≤ most_atoms }
     ensures { (v : certificates.Version) → IsParsedBehind (codes "open") rest.now v atom_count result }
 {
-    match open(alloc, rest, atom_count)? {
-        Some(line) => Ok(CertLine::Listed(line)),
-        None => Err(LineFault::Malformed),
+    match numbered(alloc, rest, atom_count)? {
+        Some((cost, atoms)) => Ok(CertLine::Listed(StateLine {
+            cost,
+            mark: Mark::Open,
+            atoms,
+        })),
+        None => Err(NextFault::Text(TextFault::Form)),
     }
 }
 
 /// The line of the cut that stands behind `cut`.
-fn cut_line(alloc: Global, rest: &[u8], atom_count: usize) -> Result<CertLine, LineFault>
+fn cut_line(alloc: Global, rest: &[u8], atom_count: usize) -> Result<CertLine, NextFault>
     requires few { atom_count ≤ most_atoms }
     ensures { (v : certificates.Version) → IsParsedBehind (codes "cut") rest.now v atom_count result }
 {
-    match cut(alloc, rest, atom_count)? {
-        Some(line) => Ok(CertLine::Listed(line)),
-        None => Err(LineFault::Malformed),
+    let (word, behind) = first_word(rest);
+    let Some(cost) = number(word) else {
+        return Err(NextFault::Text(TextFault::Form));
+    };
+    let Some(behind) = behind else {
+        return Err(NextFault::Text(TextFault::Form));
+    };
+    match numbered(alloc, behind, atom_count)? {
+        Some((least, atoms)) => Ok(CertLine::Listed(StateLine {
+            cost,
+            mark: Mark::Cut { rest: least },
+            atoms,
+        })),
+        None => Err(NextFault::Text(TextFault::Form)),
     }
 }
 
-/// The line of the dead end that stands behind `dead`.
+/// The line of the dead end that stands behind `dead`; version 1 has none.
 fn dead_line(
     alloc: Global,
     rest: &[u8],
     version: Version,
     atom_count: usize,
-) -> Result<CertLine, LineFault>
+) -> Result<CertLine, NextFault>
     requires few { atom_count ≤ most_atoms }
     ensures { IsParsedBehind (codes "dead") rest.now (version_of version) atom_count result }
 {
-    match dead(alloc, rest, version, atom_count)? {
-        Some(line) => Ok(CertLine::Listed(line)),
-        None => Err(LineFault::Malformed),
-    }
-}
-
-/// The open state that stands behind `open`, and `None` where none does.
-fn open(alloc: Global, rest: &[u8], atom_count: usize) -> Result<Option<StateLine>, AllocError>
-    requires few { atom_count ≤ most_atoms }
-    ensures some { IfOk result (λ found. IfSome found (λ l. (v : certificates.Version) → IsReadAs (codes "open") rest.now v atom_count (listed (line_of l)))) }
-    ensures none { IfOk result (λ found. IfNone found ((v : certificates.Version) (line : TextLine) → IsReadAs (codes "open") rest.now v atom_count line → ⊥)) }
-{
-    match numbered(alloc, rest, atom_count)? {
-        Some((cost, atoms)) => Ok(Some(StateLine {
-            cost,
-            mark: Mark::Open,
-            atoms,
-        })),
-        None => Ok(None),
-    }
-}
-
-/// The cut that stands behind `cut`, and `None` where none does.
-fn cut(alloc: Global, rest: &[u8], atom_count: usize) -> Result<Option<StateLine>, AllocError>
-    requires few { atom_count ≤ most_atoms }
-    ensures some { IfOk result (λ found. IfSome found (λ l. (v : certificates.Version) → IsReadAs (codes "cut") rest.now v atom_count (listed (line_of l)))) }
-    ensures none { IfOk result (λ found. IfNone found ((v : certificates.Version) (line : TextLine) → IsReadAs (codes "cut") rest.now v atom_count line → ⊥)) }
-{
-    let (word, behind) = first_word(rest);
-    let Some(cost) = number(word) else {
-        return Ok(None);
-    };
-    let Some(behind) = behind else {
-        return Ok(None);
-    };
-    match numbered(alloc, behind, atom_count)? {
-        Some((least, atoms)) => Ok(Some(StateLine {
-            cost,
-            mark: Mark::Cut { rest: least },
-            atoms,
-        })),
-        None => Ok(None),
-    }
-}
-
-/// The dead end that stands behind `dead`, and `None` where none does, as never in version 1.
-fn dead(
-    alloc: Global,
-    rest: &[u8],
-    version: Version,
-    atom_count: usize,
-) -> Result<Option<StateLine>, AllocError>
-    requires few { atom_count ≤ most_atoms }
-    ensures some { IfOk result (λ found. IfSome found (λ l. IsReadAs (codes "dead") rest.now (version_of version) atom_count (listed (line_of l)))) }
-    ensures none { IfOk result (λ found. IfNone found ((line : TextLine) → IsReadAs (codes "dead") rest.now (version_of version) atom_count line → ⊥)) }
-{
     if let Version::One = version {
-        return Ok(None);
+        return Err(NextFault::Text(TextFault::Form));
     }
     match numbered(alloc, rest, atom_count)? {
-        Some((cost, atoms)) => Ok(Some(StateLine {
+        Some((cost, atoms)) => Ok(CertLine::Listed(StateLine {
             cost,
             mark: Mark::Dead,
             atoms,
         })),
-        None => Ok(None),
+        None => Err(NextFault::Text(TextFault::Form)),
     }
 }
 

@@ -6,8 +6,9 @@ ghost use Rattle.certificate_reader.specs.declared.reader.CertFault.TheVariants.
 ghost use Rattle.certificate_reader.specs.Reader.{CountsCert, HasRead, HaveBegun, IsAdvance, IsAnswer, fault_at, has_come, has_failed, lines_read, source_of, waits_in};
 ghost use Rattle.certificate_reader.specs.Next.{CountsFault};
 
+use crate::fault::{NextFault, TextFault};
 use crate::line::CertLine;
-use crate::next::{NextFault, TextFault, is_at_end, next_line};
+use crate::next::{is_at_end, next_line};
 use crate::position::Position;
 use crate::stage::Stage;
 use crate::waiting::Waiting;

@@ -5,8 +5,9 @@ ghost use Rattle.certificate_definitions.specs.CertificateMachine.{in_body};
 ghost use Rattle.certificate_reader.specs.Lines.{text_line_of, version_of};
 ghost use Rattle.certificate_reader.specs.Stages.{IsReadAt, IsStep, IsWithin, atoms_at, place_of, version_at};
 
+use crate::fault::{NextFault, TextFault};
 use crate::line::{CertLine, MAX_ATOMS, MAX_STATE_LINES, Version};
-use crate::parsing::{LineFault, parse};
+use crate::parsing::parse;
 use std::alloc::Global;
 
 /// What may come next.
@@ -29,17 +30,6 @@ pub(crate) enum Stage {
     },
     /// Nothing.
     Ended,
-}
-
-/// What comes of a line at a stage.
-#[derive(Clone, Copy, Debug, PartialEq, Eq)]
-pub(crate) enum Step {
-    /// It may stand there, and this is the stage behind it.
-    Next(Stage),
-    /// But for the limit of atoms, or that of states, it could.
-    TooMany,
-    /// It cannot stand there.
-    Misplaced,
 }
 
 impl Stage {
@@ -65,41 +55,46 @@ impl Stage {
         }
     }
 
-    /// What comes of this line.
-    pub(crate) fn after(self, line: &CertLine) -> Step
+    /// The stage behind this line, or the fault of one that cannot stand here.
+    pub(crate) fn after(self, line: &CertLine) -> Result<Stage, TextFault>
         requires within { IsWithin (place_of self) }
         requires line { IsTrue (is_line (version_at (place_of self)) (atoms_at (place_of self)) (text_line_of line.now)) }
         ensures { IsStep (place_of self) (text_line_of line.now) result }
     {
         match self {
             Stage::Version => match line {
-                CertLine::Version(version) => Step::Next(Stage::Claim(*version)),
-                _ => Step::Misplaced,
+                CertLine::Version(version) => Ok(Stage::Claim(*version)),
+                _ => Err(TextFault::Form),
             },
             Stage::Claim(version) => match line {
-                CertLine::Claim(_) => Step::Next(Stage::Constants(version)),
-                _ => Step::Misplaced,
+                CertLine::Claim(_) => Ok(Stage::Constants(version)),
+                _ => Err(TextFault::Form),
             },
             Stage::Constants(version) => match line {
-                CertLine::Constants(_) => Step::Next(Stage::Body {
+                CertLine::Constants(_) => Ok(Stage::Body {
                     version,
                     atoms: 0,
                     states: 0,
                 }),
-                _ => Step::Misplaced,
+                _ => Err(TextFault::Form),
             },
             Stage::Body {
                 version,
                 atoms,
                 states,
             } => after_body(version, atoms, states, line),
-            Stage::Ended => Step::Misplaced,
+            Stage::Ended => Err(TextFault::Form),
         }
     }
 }
 
-/// What comes of this line behind so many atoms and states.
-fn after_body(version: Version, atoms: usize, states: usize, line: &CertLine) -> Step
+/// The stage behind this line, or its fault, where so many atoms and states stand before it.
+fn after_body(
+    version: Version,
+    atoms: usize,
+    states: usize,
+    line: &CertLine,
+) -> Result<Stage, TextFault>
     requires within { IsWithin (in_body (version_of version) atoms states) }
     requires line { IsTrue (is_line (version_of version) atoms (text_line_of line.now)) }
     ensures { IsStep (in_body (version_of version) atoms states) (text_line_of line.now) result }
@@ -108,9 +103,9 @@ fn after_body(version: Version, atoms: usize, states: usize, line: &CertLine) ->
         CertLine::Weight { .. } => after_atom(version, atoms, states),
         CertLine::Listed(_) => {
             if states >= MAX_STATE_LINES {
-                return Step::TooMany;
+                return Err(TextFault::Limit);
             }
-            Step::Next(Stage::Body {
+            Ok(Stage::Body {
                 version,
                 atoms,
                 states: states + 1,
@@ -118,27 +113,27 @@ fn after_body(version: Version, atoms: usize, states: usize, line: &CertLine) ->
         }
         CertLine::Last { count } => {
             if *count == states as u64 {
-                Step::Next(Stage::Ended)
+                Ok(Stage::Ended)
             } else {
-                Step::Misplaced
+                Err(TextFault::Form)
             }
         }
-        _ => Step::Misplaced,
+        _ => Err(TextFault::Form),
     }
 }
 
-/// What comes of an atom behind so many atoms and states.
-fn after_atom(version: Version, atoms: usize, states: usize) -> Step
+/// The stage behind an atom, or its fault, where so many atoms and states stand before it.
+fn after_atom(version: Version, atoms: usize, states: usize) -> Result<Stage, TextFault>
     requires within { IsWithin (in_body (version_of version) atoms states) }
     ensures { (a : WeightedAtom) → IsTrue (is_line (version_of version) atoms (atom a)) → IsStep (in_body (version_of version) atoms states) (atom a) result }
 {
     if states > 0 {
-        return Step::Misplaced;
+        return Err(TextFault::Form);
     }
     if atoms >= MAX_ATOMS {
-        return Step::TooMany;
+        return Err(TextFault::Limit);
     }
-    Step::Next(Stage::Body {
+    Ok(Stage::Body {
         version,
         atoms: atoms + 1,
         states,
@@ -150,21 +145,22 @@ pub(crate) fn read_line(
     alloc: Global,
     stage: Stage,
     bytes: &[u8],
-) -> Result<(CertLine, Stage), LineFault>
+) -> Result<(CertLine, Stage), NextFault>
     requires within { IsWithin (place_of stage) }
     requires short { length bytes.now ≤ longest_line }
     ensures { IsReadAt (place_of stage) bytes.now result }
 {
     match parse(alloc, bytes, stage.version(), stage.atoms()) {
         Ok(line) => match stage.after(&line) {
-            Step::Next(next) => Ok((line, next)),
-            Step::TooMany => Err(LineFault::TooMany),
-            Step::Misplaced => Err(LineFault::Malformed),
+            Ok(next) => Ok((line, next)),
+            Err(fault) => Err(NextFault::Text(fault)),
         },
-        Err(LineFault::OtherVersion) => match stage {
-            Stage::Version => Err(LineFault::OtherVersion),
-            _ => Err(LineFault::Malformed),
+        Err(fault) => match fault {
+            NextFault::Text(TextFault::Version) => match stage {
+                Stage::Version => Err(NextFault::Text(TextFault::Version)),
+                _ => Err(NextFault::Text(TextFault::Form)),
+            },
+            _ => Err(fault),
         },
-        Err(fault) => Err(fault),
     }
 }

@@ -1,8 +1,32 @@
+use Rattle.std.proofs.Common.{ap, codes, refl}
 use Rattle.std.proofs.lemmas.Result.{err_from_is_err_and}
+use Rattle.certificate_reader.specs.Words.{text_in}
+use Rattle.certificate_reader.proofs.LinesRead.{cut_is_read, is_cut, no_cut_alone, no_cut_behind, no_cut_cost}
+use Rattle.certificate_reader.proofs.ParseLemmas.{malformed}
 use Rattle.certificate_reader.proofs.parsing.cut_line.Goals as goal
 
-pub returns-in_err-line : goal.returns-in_err-line
-returns-in_err-line c = let p = err_from_is_err_and c.from_residual.result c.from_residual.ensures.1 in rw (p.1, p.2) (λ v. tt)
+pub returns-in_err-least : goal.returns-in_err-least
+returns-in_err-least c = let p = err_from_is_err_and c.from_residual.result c.from_residual.ensures.1 in rw (p.1, p.2) (λ v. tt)
 
-pub returns-in-Some : goal.returns-in-Some
-returns-in-Some c = λ v. (rw c.in-Some.is at c.in_ok-line.ensures.some) v
+pub returns-in_default : goal.returns-in_default
+returns-in_default c = λ v.
+    malformed (codes "cut") c.args.rest.now v c.args.atom_count refl (no_cut_cost c.args.rest.now c.args.atom_count _ _ c.first_word.ensures c.in_default.ensures.none v)
+
+pub returns-in_default-behind : goal.returns-in_default-behind
+returns-in_default-behind c = λ v.
+    malformed (codes "cut") c.args.rest.now v c.args.atom_count refl
+    (no_cut_alone c.args.rest.now c.args.atom_count _ _ c.first_word.ensures (ap text_in c.in_default-behind.is) v)
+
+pub returns-in-Some-2 : goal.returns-in-Some-2
+returns-in-Some-2 c =
+    let read = rw c.in-Some-2.is at c.in_ok-least.ensures.some in
+    let cost = c.in-Some.ensures.some in
+    cut_is_read c.args.rest.now c.args.atom_count c.in-Some.cost c.in-Some-2.least c.in-Some-2.atoms.items
+    (is_cut c.args.rest.now c.args.atom_count _ _ c.first_word.ensures c.in-Some-behind.behind.now (ap text_in c.in-Some-behind.is)
+    c.in-Some.cost c.in-Some-2.least c.in-Some-2.atoms.items cost.0 cost.1 read)
+
+pub returns-in-None : goal.returns-in-None
+returns-in-None c = λ v.
+    let never = rw c.in-None.is at c.in_ok-least.ensures.none in
+    malformed (codes "cut") c.args.rest.now v c.args.atom_count refl
+    (no_cut_behind c.args.rest.now c.args.atom_count _ _ c.first_word.ensures c.in-Some-behind.behind.now (ap text_in c.in-Some-behind.is) never v)

@@ -1,0 +1,52 @@
+//! What is at fault in a text, and why there is no next line of it.
+use devices::WriteFault;
+use std::alloc::AllocError;
+
+/// What is at fault in a text.
+#[derive(Clone, Copy, Debug, PartialEq, Eq)]
+pub enum TextFault {
+    /// A line that cannot stand in its place, or is too long, or a byte behind the last line: 40.
+    Form,
+    /// The first line of another version: 41.
+    Version,
+    /// The text ends before the last line does: 42.
+    Truncated,
+    /// One atom, or one state, more than there may be: 55.
+    Limit,
+}
+
+/// Why there is no next line.
+#[derive(Clone, Copy, Debug, PartialEq, Eq)]
+pub(crate) enum NextFault {
+    /// The text is at fault there.
+    Text(TextFault),
+    /// The device failed.
+    Device,
+    /// Memory was refused.
+    NoMemory,
+}
+
+impl From<WriteFault> for NextFault {
+    ghost use Rattle.std.specs.Prelude.{◌≡◌};
+    ghost use Rattle.certificate_reader.specs.Next.{of_device};
+
+    ghost from_gives = { λ fault given. given ≡ of_device fault };
+
+    fn from(fault: WriteFault) -> NextFault {
+        match fault {
+            WriteFault::Device => NextFault::Device,
+            WriteFault::NoMemory => NextFault::NoMemory,
+        }
+    }
+}
+
+impl From<AllocError> for NextFault {
+    ghost use Rattle.std.specs.Prelude.{◌≡◌};
+    ghost use Rattle.certificate_reader.specs.declared.fault.NextFault.TheVariants.{NoMemory};
+
+    ghost from_gives = { λ _ fault. fault ≡ NoMemory };
+
+    fn from(_error: AllocError) -> NextFault {
+        NextFault::NoMemory
+    }
+}
