@@ -5,8 +5,7 @@ ghost use Rattle.typing.specs.Task.{task_of};
 
 use faults::NoMemory;
 use planner_main::{
-    Limits, NamedText, Order, Report, Solved, Subject, Verdict, WordsFault, explain_files,
-    json_line, read_words, solve_files,
+    Limits, Order, Report, Solved, Verdict, WordsFault, json_line, read_words, solve_files,
 };
 use std::alloc::Global;
 use std::test::Fail;
@@ -69,30 +68,6 @@ fn answers_are_told_as_json(rt: HostRuntime) -> Result<(), Fail> {
     for (texts, wanted) in &rows {
         assert_eq!(rt; solved(rt.alloc(), texts)?.as_str(), *wanted);
     }
-    Ok(())
-}
-
-/// A domain that is no list, and what is said of it.
-const NO_LIST: NamedText<'static> = NamedText {
-    name: "d",
-    text: b"x",
-};
-
-const NO_PROBLEM: NamedText<'static> = NamedText {
-    name: "p",
-    text: b"",
-};
-
-const NO_LIST_TOLD: &str =
-    "{\"command\":\"explain\",\"text\":\"d:1:1: fault 7 BadForm (columns count bytes)\\n   1 | x\\n     | ^\\n\
-`(` may stand here.\\n\"}";
-
-#[test]
-fn explanations_are_told_as_json(rt: HostRuntime) -> Result<(), Fail> {
-    let explanation = explain_files(rt.alloc(), NO_LIST, NO_PROBLEM, None, 100)?;
-    assert!(rt; matches!(&explanation.subject, Subject::Fault { .. }));
-    let told = json_line(rt.alloc(), &Report::Explain(explanation))?;
-    assert_eq!(rt; told.as_str(), NO_LIST_TOLD);
     Ok(())
 }
 
