@@ -1,5 +1,5 @@
 -- The words of a line, and a line by its first word and what stands behind it.
-use Rattle.std.specs.Prelude.{◌≡◌, ℕ, ℤ, ◌==◌, Bool, not, List, [], ◌∷◌, ◌++◌, codes, map, Option, None, Some, IsTrue}
+use Rattle.std.specs.Prelude.{◌≡◌, ℕ, ℤ, ◌==◌, Bool, false, not, ◌||◌, List, [], ◌∷◌, ◌++◌, codes, length, map, Option, None, Some, IsTrue}
 use Rattle.std.specs.Borrow.{Bor}
 use Rattle.std.specs.Char.{is_ascii_uppercase}
 use Rattle.std.specs.Fmt.{decimal, signed_decimal}
@@ -30,6 +30,11 @@ with_rest word (Some rest) = word ++ codes " " ++ rest
 pub record IsFirstWord (bytes word : List ℕ) (rest : Option (List ℕ)) : Type 0 where
   pub is_word : IsTrue (is_word word)
   pub splits : bytes ≡ with_rest word rest
+
+-- digits as their number is written: one at least, and the first is 0 only where it is all
+abbrev pub is_spelled : List ℕ → Bool
+is_spelled [] = false
+is_spelled (first ∷ rest) = not (first == 48) || (length rest == 0)
 
 -- the first word of a line that lists a state
 abbrev pub mark_head : Mark → List ℕ

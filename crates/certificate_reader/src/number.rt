@@ -3,6 +3,7 @@ ghost use Rattle.std.specs.Prelude.{◌≡◌, ◌≢◌, ℕ, ℤ, IfNone, IfSo
 ghost use Rattle.std.specs.Fmt.{decimal, signed_decimal};
 ghost use Rattle.std.specs.Str.{bytes_eq};
 ghost use Rattle.certificate_definitions.specs.Certificates.{is_number, is_weight};
+ghost use Rattle.certificate_reader.specs.Words.{is_spelled};
 
 use crate::line::{MAX_WEIGHT, NUMBER_LIMIT};
 use itoa::Buffer;
@@ -13,16 +14,29 @@ pub(crate) fn number(word: &[u8]) -> Option<u64>
     ensures some { IfSome result (λ n. IsTrue (is_number n) × (decimal n ≡ word.now)) }
     ensures none { IfNone result ((n : ℕ) → IsTrue (is_number n) → decimal n ≢ word.now) }
 {
-    let Ok(text) = str::from_utf8(word) else {
+    if !is_spelled(word) {
         return None;
-    };
-    let Ok(number) = text.parse::<u64>() else {
-        return None;
-    };
-    if number < NUMBER_LIMIT && is_spelled(number, word) {
-        Some(number)
-    } else {
-        None
+    }
+    let mut number = 0;
+    for byte in word {
+        if !byte.is_ascii_digit() {
+            return None;
+        }
+        number = number * 10 + u64::from(*byte - b'0');
+        if number >= NUMBER_LIMIT {
+            return None;
+        }
+    }
+    Some(number)
+}
+
+/// Whether digits are spelled as their number is written: there is one, and the first is 0 only where it is all.
+fn is_spelled(word: &[u8]) -> bool
+    ensures { result ≡ is_spelled word.now }
+{
+    match word.split_first() {
+        Some((first, rest)) => *first != b'0' || rest.is_empty(),
+        None => false,
     }
 }
 
@@ -56,11 +70,4 @@ fn is_weight_spelled(weight: i64, word: &[u8]) -> bool
     ensures { result ≡ bytes_eq (signed_decimal weight) word.now }
 {
     Buffer::new().format(weight).as_bytes() == word
-}
-
-/// Whether the word is how the number is written.
-fn is_spelled(number: u64, word: &[u8]) -> bool
-    ensures { result ≡ bytes_eq (decimal number) word.now }
-{
-    Buffer::new().format(number).as_bytes() == word
 }

@@ -114,7 +114,7 @@ fn numbers(
     ensures none { IfOk result (λ found. IfNone found ((numbers : List ℕ) → IsTrue (rise atom_count 0 numbers)
         → then_words (map decimal numbers) None ≢ text_in rest.entry)) }
 {
-    let mut numbers = Vec::new(alloc);
+    let mut numbers = Vec::with_capacity(alloc, most_numbers(rest).min(atom_count))?;
     let mut least = 0;
     let mut left = rest;
     'words: while let Some(bytes) = left {
@@ -127,6 +127,14 @@ fn numbers(
         left = behind;
     }
     Ok(Some(numbers))
+}
+
+/// How many numbers the bytes are at most: each has a digit, and a blank before the next.
+fn most_numbers(rest: Option<&[u8]>) -> usize {
+    match rest {
+        Some(bytes) => bytes.len() / 2 + 1,
+        None => 0,
+    }
 }
 
 /// The number of an atom that a word is, from the least one that is allowed, and `None` where it is none.

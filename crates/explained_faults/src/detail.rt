@@ -106,6 +106,8 @@ pub enum Detail<'a> {
     Missing(Vec<&'static [u8]>),
     /// A name that is not known, and those that may be meant.
     Unknown(Named, Others<'a>),
+    /// Where the problem declares the object, which the domain may not name.
+    OfProblem(FilePlace),
     /// A type, its parent, and so on up to the type itself.
     Chain(Vec<&'a [u8]>),
     /// Of arguments or objects.

@@ -84,7 +84,7 @@ fn of_pieces<'a>(
         Code::UnknownType => of_names::unknown_type(alloc, pieces, word),
         Code::TypeCycle => of_names::type_cycle(alloc, pieces, word),
         Code::Duplicate => of_names::duplicate(alloc, texts, pieces, fault, word),
-        Code::UnknownName => of_names::unknown_name(alloc, pieces, fault, word),
+        Code::UnknownName => of_names::unknown_name(alloc, texts, pieces, fault, word),
         Code::UnknownAction => of_names::unknown_action(alloc, pieces, word),
         Code::Shadowed => of_names::shadowed(alloc, texts, pieces, fault, word),
         Code::WrongArity | Code::StepArity => of_terms::counts_at(alloc, pieces, fault),

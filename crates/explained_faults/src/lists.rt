@@ -5,6 +5,9 @@ use tokens::{Kind, Word};
 /// How many bytes of a name or run are shown.
 const LONGEST: usize = 80;
 
+/// How many names of a chain are shown at most.
+const MOST_LINKS: usize = 12;
+
 /// Adds a name in backquotes: bytes that are no printable ASCII as `\xNN`, and what is long without its end.
 pub(crate) fn add_name(name: &[u8], out: &mut String) -> Result<(), AllocError> {
     let ending = if name.len() <= LONGEST { "" } else { "..." };
@@ -39,6 +42,19 @@ pub(crate) fn add_names(names: &[&[u8]], last: &str, out: &mut String) -> Result
         add_name(name, out)?;
     }
     Ok(())
+}
+
+/// Adds the names of a chain: all, or the first ones and the last where they are too many to be read.
+pub(crate) fn add_chain(names: &[&[u8]], out: &mut String) -> Result<(), AllocError> {
+    if names.len() <= MOST_LINKS {
+        return add_names(names, "and", out);
+    }
+    for name in &names[..MOST_LINKS - 2] {
+        add_name(name, out)?;
+        out.push_str(", ")?;
+    }
+    write!(out, "{} more, and ", names.len() - (MOST_LINKS - 1))?;
+    add_name(names[names.len() - 1], out)
 }
 
 /// Adds the words that may stand at a place, as far as none is told by another.

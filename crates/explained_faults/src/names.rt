@@ -48,9 +48,7 @@ pub(crate) fn names_of<'a>(
 ) -> Result<Vec<&'a [u8]>, NoMemory> {
     let mut found: Vec<&'a [u8]> = Vec::new(alloc);
     for one in declared {
-        if found.push(one.name.text).is_err() {
-            return Err(NoMemory);
-        }
+        found.push(one.name.text)?;
     }
     Ok(found)
 }
@@ -62,15 +60,11 @@ pub(crate) fn type_names<'a>(
 ) -> Result<Vec<&'a [u8]>, NoMemory> {
     let mut found: Vec<&'a [u8]> = Vec::new(alloc);
     for piece in types {
-        if found.push(piece.text).is_err() {
-            return Err(NoMemory);
-        }
+        found.push(piece.text)?;
     }
     if found.is_empty() {
         let root: &'a [u8] = b"object";
-        if found.push(root).is_err() {
-            return Err(NoMemory);
-        }
+        found.push(root)?;
     }
     Ok(found)
 }

@@ -25,6 +25,7 @@ pub(crate) fn unknown_type<'a>(
 /// The predicates, functions, variables or objects that may be meant.
 pub(crate) fn unknown_name<'a>(
     alloc: Global,
+    texts: &Texts<'a>,
     pieces: &Pieces<'a>,
     fault: TextFault,
     word: &[u8],
@@ -39,12 +40,30 @@ pub(crate) fn unknown_name<'a>(
     if word.starts_with(b"?") {
         unknown_term(alloc, pieces, fault.file, at, Named::Variable, word)
     } else if open + 1 < at {
-        unknown_term(alloc, pieces, fault.file, at, Named::Object, word)
+        unknown_object(alloc, texts, pieces, fault.file, at, word)
     } else if is_function(here, open) {
         unknown_head(alloc, pieces, Named::Function, b":functions", word)
     } else {
         unknown_head(alloc, pieces, Named::Predicate, b":predicates", word)
     }
+}
+
+/// Where the problem declares an object that the domain names, or the objects that may be meant.
+fn unknown_object<'a>(
+    alloc: Global,
+    texts: &Texts<'a>,
+    pieces: &Pieces<'a>,
+    file: File,
+    at: usize,
+    word: &[u8],
+) -> Result<Detail<'a>, NoMemory> {
+    if file == File::Domain {
+        let objects = objects(alloc, pieces, File::Problem)?;
+        if let Some(one) = objects.iter().find(|one| one.name.is(word)) {
+            return Ok(Detail::OfProblem(FilePlace::of(texts, File::Problem, one.name.span.start)));
+        }
+    }
+    unknown_term(alloc, pieces, file, at, Named::Object, word)
 }
 
 fn unknown_term<'a>(
@@ -81,9 +100,7 @@ pub(crate) fn unknown_action<'a>(
     let lists = children(alloc, pieces.domain.as_slice())?;
     for list in lists.as_slice() {
         if let Some(name) = action_name(list) {
-            if names.push(name.text).is_err() {
-                return Err(NoMemory);
-            }
+            names.push(name.text)?;
         }
     }
     Ok(Detail::Unknown(Named::Action, meant_by(alloc, word, names)?))
@@ -109,9 +126,7 @@ pub(crate) fn type_cycle<'a>(
     let mut chain: Vec<&'a [u8]> = Vec::new(alloc);
     let mut current = word;
     for _ in 0..declared.len() {
-        if chain.push(current).is_err() {
-            return Err(NoMemory);
-        }
+        chain.push(current)?;
         let parent = declared
             .iter()
             .find(|one| one.name.is(current))
@@ -124,9 +139,7 @@ pub(crate) fn type_cycle<'a>(
             break;
         }
     }
-    if chain.push(current).is_err() {
-        return Err(NoMemory);
-    }
+    chain.push(current)?;
     Ok(Detail::Chain(chain))
 }
 
@@ -216,9 +229,7 @@ fn names_beside<'a>(
 fn pieces_of<'a>(alloc: Global, declared: &[Declared<'_, 'a>]) -> Result<Vec<Piece<'a>>, NoMemory> {
     let mut found = Vec::new(alloc);
     for one in declared {
-        if found.push(one.name).is_err() {
-            return Err(NoMemory);
-        }
+        found.push(one.name)?;
     }
     Ok(found)
 }
@@ -229,9 +240,7 @@ fn actions<'a>(alloc: Global, pieces: &[Piece<'a>]) -> Result<Vec<Piece<'a>>, No
     let mut found = Vec::new(alloc);
     for list in lists.as_slice() {
         if let Some(name) = action_name(list) {
-            if found.push(name).is_err() {
-                return Err(NoMemory);
-            }
+            found.push(name)?;
         }
     }
     Ok(found)
@@ -263,9 +272,7 @@ fn heads_in<'a>(alloc: Global, list: &[Piece<'a>]) -> Result<Vec<Piece<'a>>, NoM
     let nodes = children(alloc, list)?;
     for node in nodes.as_slice() {
         if let Some(head) = node.get(1) {
-            if found.push(*head).is_err() {
-                return Err(NoMemory);
-            }
+            found.push(*head)?;
         }
     }
     Ok(found)

@@ -5,7 +5,7 @@ ghost use Rattle.explained_faults.specs.Explained.{BeginsWith, heading, name_in}
 
 use crate::detail::{CostFault, Counts, Detail, FilePlace, Limit, Named, Types};
 use crate::explanation::{FaultExplanation, told_bytes};
-use crate::lists::{add_name, add_names, add_words};
+use crate::lists::{add_chain, add_name, add_names, add_words};
 use crate::near::Others;
 use crate::texts::{TextFault, Texts};
 use faults::{Code, NoMemory};
@@ -66,9 +66,15 @@ impl FaultExplanation<'_> {
                 })
             }
             Detail::Unknown(named, others) => add_unknown(*named, word, others, out),
+            Detail::OfProblem(place) => {
+                add_name(word, out)?;
+                out.push_str(" is an object of the problem, from ")?;
+                add_place(texts, *place, out)?;
+                out.push_str(", and a domain names its own constants alone")
+            }
             Detail::Chain(names) => {
                 out.push_str("its parents lead back to it: ")?;
-                add_names(names.as_slice(), "and", out)
+                add_chain(names.as_slice(), out)
             }
             Detail::Counts(counts) => add_counts(self.fault.code, word, *counts, out),
             Detail::Types(types) => add_types(word, types, out),

@@ -190,7 +190,7 @@ no predicate is called `fats`; near to it: `fast` and `at`.
         told: "domain.pddl:7:45: fault 17 UnknownName (columns count bytes)
    7 |   :precondition (at ?t home) :effect (at ?t ?q)))
      |                                             ^^
-no variable in scope is called `?q`; near to it: `?t` and `?p`.
+no variable in scope is called `?q`; there are: `?t` and `?p`.
 ",
     },
     Case {
