@@ -5,3 +5,4 @@ pub mod FalsePartsLaws
 pub mod Stopping
 pub mod StepPlaceLemmas
 pub mod Counting
+pub mod FormsLemmas

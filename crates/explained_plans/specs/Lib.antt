@@ -1,5 +1,6 @@
 pub mod FalseParts
 pub mod Histories
+pub mod Forms
 pub mod Parts
 pub mod Explanations
 pub mod StepPlaces

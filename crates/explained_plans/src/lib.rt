@@ -3,6 +3,7 @@
 
 mod explanations;
 mod false_parts;
+mod forms;
 mod formula_text;
 mod histories;
 mod step_places;
@@ -11,7 +12,8 @@ mod telling;
 
 pub use explanations::{PlanExplanation, Reasons, explain_plan};
 pub use false_parts::{MOST_TOLD, Part, false_parts_tell};
+pub use forms::Forms;
 pub use histories::History;
 pub use step_places::step_place;
-pub use summary::{Forms, Summary};
+pub use summary::Summary;
 pub use telling::{tell_details, tell_verdict};

@@ -1,10 +1,12 @@
 //! What a task holds, in a few lines.
 ghost use Rattle.std.specs.Prelude.{◌≡◌, ◌<◌, ◌≤◌, ◌-◌, ◌^◌, length};
 ghost use Rattle.typing.specs.Task.{task_of};
+ghost use Rattle.explained_plans.specs.Forms.{AreForms};
 
+use crate::forms::Forms;
 use faults::NoMemory;
 use std::alloc::Global;
-use typing::{Effect, Formula, PredicateId, SchemaId, Task};
+use typing::{PredicateId, Task};
 
 /// What a task holds.
 #[derive(Clone, Copy, Debug, PartialEq, Eq)]
@@ -25,19 +27,6 @@ pub struct Summary {
     pub forms: Forms,
 }
 
-/// Which forms stand in some formulas and effects.
-#[derive(Clone, Copy, Debug, Default, PartialEq, Eq)]
-pub struct Forms {
-    /// An effect under a condition.
-    pub conditional_effects: bool,
-    /// An `exists` or a `forall`, of a formula or of an effect.
-    pub quantifiers: bool,
-    /// A `not` in a formula.
-    pub negations: bool,
-    /// An `or` or an `imply`.
-    pub disjunctions: bool,
-}
-
 impl Summary {
     /// What the task holds.
     pub fn of(task: &Task) -> Summary
@@ -47,6 +36,7 @@ impl Summary {
         ensures functions { result.functions < 2 ^ 64 - 1 → result.functions ≡ length (task_of task.now).functions }
         ensures actions { result.actions ≡ length (task_of task.now).schemas }
         ensures costs { result.has_costs ≡ (task_of task.now).has_metric }
+        ensures forms { AreForms (task_of task.now) result.forms }
     {
         Summary {
             types: task.type_count(),
@@ -76,88 +66,7 @@ impl Summary {
     }
 }
 
-impl Forms {
-    /// The forms in the task's preconditions and effects and in its goal.
-    fn of(task: &Task) -> Forms {
-        let mut forms = Forms::default();
-        forms.look_at(task.goal());
-        for number in 0..task.schema_count() {
-            if let Some(schema) = task.schema(SchemaId(number)) {
-                forms.look_at(&schema.precondition);
-                forms.look_at_effect(&schema.effect);
-            }
-        }
-        forms
-    }
-
-    /// Adds those in the formula.
-    #[cycle(look)]
-    fn look_at(&mut self, formula: &Formula) {
-        match formula {
-            Formula::Atom(_) | Formula::Equal(_, _) => {}
-            Formula::And(parts) => self.look_at_each(parts),
-            Formula::Or(parts) => {
-                self.disjunctions = true;
-                self.look_at_each(parts)
-            }
-            Formula::Not(part) => {
-                self.negations = true;
-                self.look_at(part)
-            }
-            Formula::Imply(premise, conclusion) => {
-                self.disjunctions = true;
-                self.look_at(premise);
-                self.look_at(conclusion)
-            }
-            Formula::Exists(_, part) | Formula::Forall(_, part) => {
-                self.quantifiers = true;
-                self.look_at(part)
-            }
-        }
-    }
-
-    /// Adds those in each of the formulas.
-    #[cycle(look)]
-    fn look_at_each(&mut self, parts: &[Formula]) {
-        for part in parts {
-            self.look_at(part);
-        }
-    }
-
-    /// Adds those in the effect.
-    fn look_at_effect(&mut self, effect: &Effect) {
-        match effect {
-            Effect::Literal(_) => {}
-            Effect::And(parts) => {
-                for part in parts {
-                    self.look_at_effect(part);
-                }
-            }
-            Effect::Forall(_, part) => {
-                self.quantifiers = true;
-                self.look_at_effect(part)
-            }
-            Effect::When(condition, _) => {
-                self.conditional_effects = true;
-                self.look_at(condition)
-            }
-        }
-    }
-
-    /// Which of them there are, in words.
-    fn text(self, alloc: Global) -> Result<String, NoMemory> {
-        let conditional = yes_or_no(self.conditional_effects);
-        let quantifiers = yes_or_no(self.quantifiers);
-        let negations = yes_or_no(self.negations);
-        let disjunctions = yes_or_no(self.disjunctions);
-        Ok(format!(in alloc;
-            "conditional effects {conditional}, quantifiers {quantifiers}, \
-negations {negations}, disjunctions {disjunctions}"
-        )?)
-    }
-}
-
-fn yes_or_no(is_so: bool) -> &'static str {
+pub(crate) fn yes_or_no(is_so: bool) -> &'static str {
     if is_so { "yes" } else { "no" }
 }
 

@@ -1,10 +1,9 @@
 -- The instances of the reader of plan texts, and the faults of steps.
-use Rattle.std.proofs.Common.{◌≡◌, ◌≢◌, ℕ, ◌+◌, ◌<◌, ◌≤◌, Bool, true, false, List, [], ◌∷◌, ◌++◌, length, map, get_or, take, drop, Option, Some, None, IfSome, sym, refl, ap, ◌∙◌, subst, arith, true≢false}
+use Rattle.std.proofs.Common.{◌≡◌, ◌≢◌, ℕ, ◌+◌, ◌<◌, ◌≤◌, true, false, List, [], ◌∷◌, ◌++◌, length, map, get_or, take, drop, Option, Some, None, IfSome, sym, refl, ap, ◌∙◌, subst, arith}
 use Rattle.std.specs.Prelude.{slice_get}
 use Rattle.std.specs.Cmp.Lexicographic.{pointwise}
 use Rattle.std.specs.List.{position}
 use Rattle.std.specs.Option.{option_map, option_map_or}
-use Rattle.std.proofs.lemmas.Bool.{and_from, and_parts}
 use Rattle.std.proofs.Common.{take-append-drop}
 use Rattle.std.proofs.lemmas.List.{drop_more, take_more, map-append, length-map}
 use Rattle.std.proofs.lemmas.List.Quantifiers.{position-Some}
@@ -16,6 +15,7 @@ use Rattle.model.specs.Typing.{folded, is_same}
 use Rattle.model.specs.Meaning.{is_of, fits}
 use Rattle.model.specs.PlanText.{Step, HasSteps, IsNumberOf, AreNumbersOf, schema_names, object_names, Means, AllMean, IsStepFault, unknown_action, wrong_count, wrong_object, IsPlanText, IsFormFault, IsPlanFault, of_form, of_step}
 use Rattle.model.proofs.PlanMeaning.{names_each, numbers_push, plan_length, few_steps, one_reading, no_fault, one_fault}
+use Rattle.formulas.proofs.Quantifiers.{pointwise_push}
 use Rattle.tokens.proofs.Cut.{cut_unique}
 use Rattle.plan_file.specs.PlanFile.{IsNoObject, IsWrongObject, IsFirstFault}
 
@@ -101,19 +101,11 @@ module _ (task : Task) (step : Step) where
       }
 
 -- the objects so far are of the types in their places, and one more is
-pub pairs_push : {X Y : Type 0} (p : X → Y → Bool) (xs : List X) (ys : List Y) (x : X) (y : Y) → pointwise p xs ys ≡ true → p x y ≡ true → pointwise p (xs ++ x ∷ []) (ys ++ y ∷ []) ≡ true
-pairs_push p [] [] x y all here = and_from (p x y) true here refl
-pairs_push p [] (v ∷ ys) x y all here = absurd (true≢false (sym all))
-pairs_push p (u ∷ xs) [] x y all here = absurd (true≢false (sym all))
-pairs_push p (u ∷ xs) (v ∷ ys) x y all here =
-    let parts = and_parts (p u v) (pointwise p xs ys) all in
-    and_from (p u v) (pointwise p (xs ++ x ∷ []) (ys ++ y ∷ [])) parts.0 (pairs_push p xs ys x y parts.1 here)
-
 pub fit_more : {A B : Type 0} (task : Task) (f : A → Union) (xs : List A) (i : ℕ) (x : A) (g : B → ℕ) (items more : List B) (y : B) → i < length xs → x ≡ get_or xs i x → more ≡ items ++ y ∷ []
     → pointwise (is_of task) (map f (take i xs)) (map g items) ≡ true → is_of task (f x) (g y) ≡ true → pointwise (is_of task) (map f (take (i + 1) xs)) (map g more) ≡ true
 fit_more task f xs i x g items more y inside is more_is fit here =
     (λ j. pointwise (is_of task) (taken_at f xs i x inside is j) ((ap (map g) more_is ∙ map-append g items (y ∷ [])) j))
-    ∙ pairs_push (is_of task) (map f (take i xs)) (map g items) (f x) (g y) fit here
+    ∙ pointwise_push (is_of task) (map f (take i xs)) (map g items) (f x) (g y) fit here
 
 -- what is told of the first object that is not of the types in its place
 pub object_refused : {A B C : Type 0} (task : Task) (f : A → Union) (xs : List A) (g : B → Name) (ys : List B) (i : ℕ) (x : A) (y : B) (h : C → ℕ) (items : List C) → i < length xs → i < length ys → x ≡ get_or xs i x → y ≡ get_or ys i y

@@ -1,0 +1,129 @@
+//! Which forms stand in the formulas and effects of a task.
+ghost use Rattle.std.specs.Prelude.{◌≡◌, Some, slice_get};
+ghost use Rattle.std.specs.List.{flat_map};
+ghost use Rattle.typing.specs.Task.{task_of};
+ghost use Rattle.typing.specs.TaskParts.{effect_of, formula_of};
+ghost use Rattle.model.specs.Task.{Schema};
+ghost use Rattle.explained_plans.specs.Forms.{AreForms, added, forms_in, forms_in_effect, forms_of_schema};
+
+use crate::summary::yes_or_no;
+use faults::NoMemory;
+use std::alloc::Global;
+use typing::{Effect, Formula, SchemaId, Task};
+
+/// Which forms stand in some formulas and effects.
+#[derive(Clone, Copy, Debug, Default, PartialEq, Eq)]
+pub struct Forms {
+    /// An effect under a condition.
+    pub conditional_effects: bool,
+    /// An `exists` or a `forall`, of a formula or of an effect.
+    pub quantifiers: bool,
+    /// A `not` in a formula.
+    pub negations: bool,
+    /// An `or` or an `imply`.
+    pub disjunctions: bool,
+}
+
+impl Forms {
+    /// The forms in the task's preconditions and effects and in its goal.
+    pub(crate) fn of(task: &Task) -> Forms
+        ensures { AreForms (task_of task.now) result }
+    {
+        let mut forms = Forms::default();
+        forms.look_at(task.goal());
+        for number in 0..task.schema_count() {
+            forms.look_at_schema(task, number);
+        }
+        forms
+    }
+
+    /// Adds those in the precondition and the effect of the action schema of this number.
+    fn look_at_schema(&mut self, task: &Task, number: usize)
+        ensures { (s : Schema) → slice_get (task_of task.now).schemas number ≡ Some s → self.new ≡ added self.old (forms_of_schema s) }
+    {
+        match task.schema(SchemaId(number)) {
+            Some(schema) => {
+                self.look_at(&schema.precondition);
+                self.look_at_effect(&schema.effect)
+            }
+            None => {}
+        }
+    }
+
+    /// Adds those in the formula.
+    #[cycle(look)]
+    fn look_at(&mut self, formula: &Formula)
+        ensures { self.new ≡ added self.old (forms_in (formula_of formula.now)) }
+    {
+        match formula {
+            Formula::Atom(_) => {}
+            Formula::Equal(_, _) => {}
+            Formula::And(parts) => self.look_at_each(parts),
+            Formula::Or(parts) => {
+                self.disjunctions = true;
+                self.look_at_each(parts)
+            }
+            Formula::Not(part) => {
+                self.negations = true;
+                self.look_at(part)
+            }
+            Formula::Imply(premise, conclusion) => {
+                self.disjunctions = true;
+                self.look_at(premise);
+                self.look_at(conclusion)
+            }
+            Formula::Exists(_, part) => {
+                self.quantifiers = true;
+                self.look_at(part)
+            }
+            Formula::Forall(_, part) => {
+                self.quantifiers = true;
+                self.look_at(part)
+            }
+        }
+    }
+
+    /// Adds those in each of the formulas.
+    #[cycle(look)]
+    fn look_at_each(&mut self, parts: &[Formula])
+        ensures { self.new ≡ added self.old (flat_map (λ part. forms_in (formula_of part)) parts.now) }
+    {
+        for part in parts {
+            self.look_at(part);
+        }
+    }
+
+    /// Adds those in the effect.
+    fn look_at_effect(&mut self, effect: &Effect)
+        ensures { self.new ≡ added self.old (forms_in_effect (effect_of effect.now)) }
+    {
+        match effect {
+            Effect::Literal(_) => {}
+            Effect::And(parts) => {
+                for part in parts {
+                    self.look_at_effect(part);
+                }
+            }
+            Effect::Forall(_, part) => {
+                self.quantifiers = true;
+                self.look_at_effect(part)
+            }
+            Effect::When(condition, _) => {
+                self.conditional_effects = true;
+                self.look_at(condition)
+            }
+        }
+    }
+
+    /// Which of them there are, in words.
+    pub(crate) fn text(self, alloc: Global) -> Result<String, NoMemory> {
+        let conditional = yes_or_no(self.conditional_effects);
+        let quantifiers = yes_or_no(self.quantifiers);
+        let negations = yes_or_no(self.negations);
+        let disjunctions = yes_or_no(self.disjunctions);
+        Ok(format!(in alloc;
+            "conditional effects {conditional}, quantifiers {quantifiers}, \
+negations {negations}, disjunctions {disjunctions}"
+        )?)
+    }
+}
