@@ -41,12 +41,9 @@ impl Forms {
     fn look_at_schema(&mut self, task: &Task, number: usize)
         ensures { (s : Schema) → slice_get (task_of task.now).schemas number ≡ Some s → self.new ≡ added self.old (forms_of_schema s) }
     {
-        match task.schema(SchemaId(number)) {
-            Some(schema) => {
-                self.look_at(&schema.precondition);
-                self.look_at_effect(&schema.effect)
-            }
-            None => {}
+        if let Some(schema) = task.schema(SchemaId(number)) {
+            self.look_at(&schema.precondition);
+            self.look_at_effect(&schema.effect);
         }
     }
 
@@ -56,8 +53,7 @@ impl Forms {
         ensures { self.new ≡ added self.old (forms_in (formula_of formula.now)) }
     {
         match formula {
-            Formula::Atom(_) => {}
-            Formula::Equal(_, _) => {}
+            Formula::Atom(_) | Formula::Equal(_, _) => {}
             Formula::And(parts) => self.look_at_each(parts),
             Formula::Or(parts) => {
                 self.disjunctions = true;
@@ -72,11 +68,7 @@ impl Forms {
                 self.look_at(premise);
                 self.look_at(conclusion)
             }
-            Formula::Exists(_, part) => {
-                self.quantifiers = true;
-                self.look_at(part)
-            }
-            Formula::Forall(_, part) => {
+            Formula::Exists(_, part) | Formula::Forall(_, part) => {
                 self.quantifiers = true;
                 self.look_at(part)
             }
