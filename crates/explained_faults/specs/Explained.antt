@@ -1,5 +1,5 @@
 -- What is told of a fault: the fault as it was handed in, and its place in its file.
-use Rattle.std.specs.Prelude.{◌≡◌, ℕ, List, ◌++◌, codes}
+use Rattle.std.specs.Prelude.{◌≡◌, ℕ, List, [], ◌++◌, codes}
 use Rattle.std.specs.Fmt.{decimal}
 use Rattle.faults.specs.Fault.{number_of}
 use Rattle.faults.specs.Fault as faults
@@ -11,6 +11,9 @@ use Rattle.explained_faults.specs.declared.texts.File.TheVariants.{Domain, Probl
 use Rattle.explained_faults.specs.declared.texts.Texts.{Texts}
 use Rattle.explained_faults.specs.declared.texts.TextFault.{TextFault}
 use Rattle.explained_faults.specs.declared.explanation.FaultExplanation.{FaultExplanation}
+use Rattle.suggestions.specs.Expected.{MayStand}
+use Rattle.tokens.specs.declared.word.Word.{Word}
+use Rattle.model.specs.Trees.{domain_file, problem_file}
 
 -- the bytes of a file
 abbrev pub text_in : Texts → File → List ℕ
@@ -34,7 +37,15 @@ heading name place code =
 abbrev pub BeginsWith : (text beginning : List ℕ) → Type 0
 BeginsWith text beginning = (rest : List ℕ) × (text ≡ beginning ++ rest)
 
--- it is told of this fault, and the place is that of the first byte of its span
+-- the words may stand where a domain or a problem is at fault; of a plan none are told
+abbrev pub AreWanted : Texts → TextFault → List Word → Type 0
+AreWanted texts fault wanted =
+    (fault.file ≡ Domain → MayStand domain_file (text_in texts Domain) fault.span.start wanted)
+    × (fault.file ≡ Problem → MayStand problem_file (text_in texts Problem) fault.span.start wanted)
+    × (fault.file ≡ Plan → wanted ≡ [])
+
+-- it is told of this fault, the place is that of the first byte of its span, and the words that are told may stand there
 pub record IsExplained (texts : Texts) (fault : TextFault) (explanation : FaultExplanation) : Type 0 where
   pub is_fault : explanation.fault ≡ fault
   pub is_place : IsPlace (text_in texts fault.file) fault.span.start explanation.place
+  pub are_wanted : AreWanted texts fault explanation.wanted.items

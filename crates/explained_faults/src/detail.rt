@@ -1,8 +1,7 @@
 //! What helps with a fault, by kinds of help, and where it was found.
-use crate::near::Others;
 use crate::texts::{File, Texts};
+use suggestions::Others;
 use text_places::{Place, place_of};
-use tokens::Word;
 
 /// A place in one of the files.
 #[derive(Clone, Copy)]
@@ -99,9 +98,6 @@ pub enum Detail<'a> {
     Earlier(FilePlace),
     /// It is declared by the language.
     BuiltIn,
-    /// The words that may stand there in its place, one for each kind: a name is told for all names, and so are a variable
-    /// and a number. For a keyword those alone that are like it, if there are any.
-    Expected(Vec<Word<'a>>),
     /// The sections or parts that are missing.
     Missing(Vec<&'static [u8]>),
     /// A name that is not known, and those that may be meant.

@@ -9,7 +9,7 @@ use crate::{of_names, of_terms, of_texts, of_words};
 use faults::{Code, NoMemory};
 use std::alloc::Global;
 use text_places::{Place, place_of};
-use tokens::LONGEST_TEXT;
+use tokens::{LONGEST_TEXT, Word};
 
 /// A fault, where it stands, and what helps with it.
 #[derive(Drop)]
@@ -18,7 +18,10 @@ pub struct FaultExplanation<'a> {
     pub fault: TextFault,
     /// Where its span begins, as an editor shows it.
     pub place: Place,
-    /// What helps with it.
+    /// The words that may stand in the place of a refused one, one for each kind: a name is told for all names, and so are a
+    /// variable and a number. For a keyword those alone that are like it, if there are any.
+    pub wanted: Vec<Word<'a>>,
+    /// What else helps with it.
     pub detail: Detail<'a>,
 }
 
@@ -35,10 +38,12 @@ pub fn explain_fault<'a>(
     ensures { IfOk result (IsExplained texts.now fault) }
 {
     let place = place_of(texts.text(fault.file), fault.span.start);
+    let wanted = of_words::wanted(alloc, texts, fault)?;
     let detail = detail_of(alloc, texts, fault)?;
     Ok(FaultExplanation {
         fault,
         place,
+        wanted,
         detail,
     })
 }
@@ -55,9 +60,7 @@ fn detail_of<'a>(
         Code::TooLong => Ok(of_texts::too_long(fault)),
         Code::PlanForm if fault.span.start == LONGEST_TEXT => Ok(of_texts::too_long(fault)),
         Code::Trailing => of_texts::trailing(alloc, texts, fault),
-        Code::BadForm | Code::UnknownSection | Code::UnknownRequirement => {
-            of_words::wanted(alloc, texts, fault)
-        }
+        Code::BadForm | Code::UnknownSection | Code::UnknownRequirement => Ok(Detail::Plain),
         Code::RepeatedSection => of_words::repeated(alloc, texts, fault),
         Code::MissingSection => of_words::missing(alloc, texts, fault),
         Code::LeftOut | Code::NumberTooLarge | Code::BadMetric | Code::NegativeInit => {

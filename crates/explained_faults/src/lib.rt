@@ -2,11 +2,9 @@
 #![tactic(auto)]
 
 mod detail;
-mod expected;
 mod explanation;
 mod lists;
 mod names;
-mod near;
 mod of_names;
 mod of_terms;
 mod of_texts;
@@ -16,6 +14,6 @@ mod texts;
 
 pub use detail::{CostFault, Counts, Detail, FilePlace, Limit, Named, Types};
 pub use explanation::{FaultExplanation, explain_fault};
-pub use near::Others;
+pub use suggestions::Others;
 pub use text_places::Place;
 pub use texts::{File, NamedText, TextFault, Texts};

@@ -1,10 +1,10 @@
 //! Help with names that are not known, and with names that are declared twice (14 to 17, 20, 32).
 use crate::detail::{Detail, FilePlace, Named};
 use crate::names::{Pieces, is_function, names_in, names_of, objects, terms_at};
-use crate::near::meant_by;
 use crate::texts::{File, TextFault, Texts};
 use faults::{NoMemory, Span};
 use std::alloc::Global;
+use suggestions::meant_by;
 use text_pieces::{
     Declared, Piece, children, declared_after_head, declared_in, head_of, in_scope, index_at,
     list_from, opening_of, section,

@@ -3,11 +3,11 @@ use crate::detail::{CostFault, Counts, Detail, Limit, Named, Types};
 use crate::names::{
     Pieces, declarations, is_function, names_in, names_of, objects, terms_at, type_names,
 };
-use crate::near::meant_by;
 use crate::of_names::action_name;
 use crate::texts::{File, TextFault};
 use faults::NoMemory;
 use std::alloc::Global;
+use suggestions::meant_by;
 use text_pieces::{
     Declared, Piece, children, declaration_of, declared_after_head, declared_as, head_of, index_at,
     list_from, opening_of, parameters,

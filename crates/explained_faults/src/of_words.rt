@@ -1,14 +1,15 @@
 //! Help with words with which no file goes on (7 to 13).
+ghost use Rattle.std.specs.Prelude.{IfOk};
+ghost use Rattle.explained_faults.specs.Explained.{AreWanted};
+
 use crate::detail::{Detail, FilePlace};
-use crate::expected::expected;
 use crate::explanation::told_bytes;
-use crate::near::is_near;
 use crate::texts::{File, TextFault, Texts};
-use faults::{NoMemory, Refused};
-use pddl_tree::TaskFile;
+use faults::{Code, NoMemory};
 use std::alloc::Global;
+use suggestions::{TaskFile, words_at};
 use text_pieces::{Piece, head_of, heads, index_at, list_from, opening_of, pieces};
-use tokens::{Word, scan};
+use tokens::Word;
 
 /// What a domain needs.
 static IN_DOMAIN: [&[u8]; 1] = [b":predicates"];
@@ -19,48 +20,39 @@ static IN_PROBLEM: [&[u8]; 3] = [b":domain", b":init", b":goal"];
 /// What an action needs.
 static IN_ACTION: [&[u8]; 1] = [b":parameters"];
 
-/// What may stand in the place of a refused word.
+/// The words that may stand in the place of a refused one; none where another help is told.
 pub(crate) fn wanted<'a>(
     alloc: Global,
     texts: &Texts<'a>,
     fault: TextFault,
-) -> Result<Detail<'a>, NoMemory> {
-    let file = match fault.file {
-        File::Domain => TaskFile::Domain,
-        File::Problem => TaskFile::Problem,
-        File::Plan => return Ok(Detail::Plain),
-    };
-    let words = match scan(alloc, texts.text(fault.file)) {
-        Ok(words) => words,
-        Err(Refused::At(_)) => return Ok(Detail::Plain),
-        Err(Refused::NoMemory) => return Err(NoMemory),
-    };
-    let found = expected(alloc, file, words_before(&words, fault.span.start))?;
-    let near = near_words(alloc, told_bytes(texts, fault), found.as_slice())?;
-    Ok(Detail::Expected(if near.is_empty() { found } else { near }))
-}
-
-/// The words among these that are like a keyword; none for what is no keyword.
-fn near_words<'a>(
-    alloc: Global,
-    keyword: &[u8],
-    words: &[Word<'a>],
-) -> Result<Vec<Word<'a>>, NoMemory> {
-    let mut found: Vec<Word<'a>> = Vec::new(alloc);
-    for word in words {
-        let is_wanted = keyword.starts_with(b":") && is_near(keyword, word.text());
-        if is_wanted && found.push(*word).is_err() {
-            return Err(NoMemory);
+) -> Result<Vec<Word<'a>>, NoMemory>
+    ensures { IfOk result (λ wanted. AreWanted texts.now fault wanted.items) }
+{
+    let is_of_words = matches!(
+        fault.code,
+        Code::BadForm | Code::UnknownSection | Code::UnknownRequirement
+    );
+    let told = told_bytes(texts, fault);
+    match fault.file {
+        File::Domain if is_of_words => {
+            words_at(
+                alloc,
+                TaskFile::Domain,
+                texts.text(File::Domain),
+                fault.span.start,
+                told,
+            )
         }
-    }
-    Ok(found)
-}
-
-/// The words that begin before an offset.
-fn words_before<'w, 'a>(words: &'w [Word<'a>], offset: usize) -> &'w [Word<'a>] {
-    match words.iter().position(|word| word.span().start >= offset) {
-        Some(count) => &words[..count],
-        None => words,
+        File::Problem if is_of_words => {
+            words_at(
+                alloc,
+                TaskFile::Problem,
+                texts.text(File::Problem),
+                fault.span.start,
+                told,
+            )
+        }
+        _ => Ok(Vec::new(alloc)),
     }
 }
 

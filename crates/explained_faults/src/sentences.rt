@@ -6,10 +6,10 @@ ghost use Rattle.explained_faults.specs.Explained.{BeginsWith, heading, name_in}
 use crate::detail::{CostFault, Counts, Detail, FilePlace, Limit, Named, Types};
 use crate::explanation::{FaultExplanation, told_bytes};
 use crate::lists::{add_chain, add_name, add_names, add_words};
-use crate::near::Others;
 use crate::texts::{TextFault, Texts};
 use faults::{Code, NoMemory};
 use std::alloc::{AllocError, Global};
+use suggestions::Others;
 use text_places::{Place, marked};
 use tokens::LONGEST_TEXT;
 
@@ -47,16 +47,16 @@ impl FaultExplanation<'_> {
         out: &mut String,
     ) -> Result<(), AllocError> {
         let word = told_bytes(texts, self.fault);
+        if !self.wanted.is_empty() {
+            add_words(alloc, self.wanted.as_slice(), out)?;
+            return out.push_str(" may stand here");
+        }
         match &self.detail {
             Detail::Plain => add_plain(self.fault.code, word, out),
             Detail::Length(length) => add_length(self.fault, *length, out),
             Detail::Open(place) => add_open(texts, *place, out),
             Detail::Earlier(place) => add_earlier(texts, self.fault.code, word, *place, out),
             Detail::BuiltIn => out.push_str("`object` is declared by the language"),
-            Detail::Expected(words) => {
-                add_words(alloc, words.as_slice(), out)?;
-                out.push_str(" may stand here")
-            }
             Detail::Missing(names) => {
                 add_names(names.as_slice(), "and", out)?;
                 out.push_str(if names.len() == 1 {

@@ -1,12 +1,12 @@
-use Rattle.std.proofs.Common.{◌≡◌, List, [], ◌∷◌, ◌++◌, map, sym, subst, rules}
+use Rattle.std.proofs.Common.{◌≡◌, List, [], ◌∷◌, ◌++◌, map, subst, rules}
 use Rattle.faults.proofs.Results.{if_ok}
 use Rattle.tokens.specs.Word.{word_of}
 use Rattle.tokens.specs.declared.word.Word.{Word}
 use Rattle.syntax_tree.specs.Tree.{file_of}
 use Rattle.model.specs.GrammarWords.{tokens_of}
 use Rattle.model.specs.Refusals.{Begins}
-use Rattle.explained_faults.proofs.Beginnings.{follows}
-use Rattle.explained_faults.proofs.expected.may_follow.Goals as goal
+use Rattle.suggestions.proofs.Beginnings.{follows}
+use Rattle.suggestions.proofs.expected.may_follow.Goals as goal
 
 pub returns : goal.returns
 returns c =

@@ -7,8 +7,9 @@ ghost use Rattle.model.specs.Trees.{domain_file, problem_file};
 ghost use Rattle.model.specs.GrammarWords.{tokens_of};
 ghost use Rattle.model.specs.Refusals.{Begins};
 ghost use Rattle.syntax_tree.specs.Tree.{file_of};
-ghost use Rattle.explained_faults.specs.Expected.{HaveBytes, MayFollow, TellsEnd, has_bytes};
+ghost use Rattle.suggestions.specs.Expected.{HaveBytes, MayFollow, TellsEnd, has_bytes};
 
+use crate::near::is_near;
 use faults::{Fault, NoMemory, Refused};
 use pddl_tree::{TaskFile, domain, problem};
 use std::alloc::Global;
@@ -96,12 +97,30 @@ fn may_follow<'a>(
     begins(alloc, file, &words)
 }
 
-/// The words with which a file of this kind may go on after these, of one for each kind that the grammar tells apart. A
-/// name stands for all others that stand for nothing else, and so do a variable and a number.
+/// Whether a word is like a keyword, where one is given, and a file of this kind begins with some words and this one.
+fn is_expected<'a>(
+    alloc: Global,
+    file: TaskFile,
+    before: &[Word<'a>],
+    word: Word<'a>,
+    keyword: Option<&[u8]>,
+) -> Result<bool, NoMemory>
+    ensures { IfOk result (λ answer. answer ≡ true → MayFollow (file_of file) before.now word.entry) }
+{
+    match keyword {
+        Some(keyword) if !is_near(keyword, word.text()) => Ok(false),
+        _ => may_follow(alloc, file, before, word),
+    }
+}
+
+/// The words with which a file of this kind may go on after these, of one for each kind that the grammar tells apart, or of
+/// those alone that are like a keyword, where one is given. A name stands for all others that stand for nothing else, and
+/// so do a variable and a number.
 pub(crate) fn expected<'a>(
     alloc: Global,
     file: TaskFile,
     before: &[Word<'a>],
+    keyword: Option<&[u8]>,
 ) -> Result<Vec<Word<'a>>, NoMemory>
     ensures { IfOk result (λ found. All (MayFollow (file_of file) before.now) found.items) }
 {
@@ -111,7 +130,7 @@ pub(crate) fn expected<'a>(
         return Err(NoMemory);
     };
     for word in &candidates {
-        let follows = may_follow(alloc, file, before, *word)?;
+        let follows = is_expected(alloc, file, before, *word, keyword)?;
         if follows {
             found.push(*word)?;
         }

@@ -1,11 +1,11 @@
-use Rattle.std.proofs.Common.{◌≡◌, List, [], ◌∷◌, ◌++◌, ap, sym, subst, rules}
+use Rattle.std.proofs.Common.{◌≡◌, List, [], ◌∷◌, ◌++◌, sym, subst, rules}
 use Rattle.std.specs.List.{All}
 use Rattle.tokens.specs.declared.word.Word.{Word}
 use Rattle.syntax_tree.specs.Tree.{file_of}
-use Rattle.explained_faults.specs.Expected.{MayFollow}
-use Rattle.explained_faults.proofs.Beginnings.{one_more}
-use Rattle.explained_faults.proofs.expected.expected.Goals as goal
-use Rattle.explained_faults.proofs.expected.expected.Goals.{then-follows+in_ok-push, else-follows}
+use Rattle.suggestions.specs.Expected.{MayFollow}
+use Rattle.suggestions.proofs.Beginnings.{one_more}
+use Rattle.suggestions.proofs.expected.expected.Goals as goal
+use Rattle.suggestions.proofs.expected.expected.Goals.{then-follows+in_ok-push, else-follows}
 
 pub loop-word-preserved : goal.loop-word-preserved
 loop-word-preserved c =

@@ -1,5 +1,5 @@
 -- Where a reader's refusal is told of no bytes, the words begin a file.
-use Rattle.std.specs.Prelude.{◌≡◌, ℕ, ◌+◌, ◌<◌, Bool, true, IsTrue, nat_lt, List, [], ◌∷◌, ◌++◌, length, map, Result, Ok, Err, IfOk, IfSome}
+use Rattle.std.specs.Prelude.{◌≡◌, ◌+◌, ◌<◌, Bool, true, IsTrue, List, [], ◌∷◌, ◌++◌, length, map, Result, Ok, Err, IfOk, IfSome}
 use Rattle.std.specs.List.{All, list_all}
 use Rattle.std.proofs.Common.{zero, suc, ap, sym, ◌∙◌, subst, arith}
 use Rattle.std.proofs.lemmas.List.{append-nil, map-append}
@@ -10,12 +10,12 @@ use Rattle.faults.specs.declared.refused.Refused.TheVariants.{At, NoMemory}
 use Rattle.tokens.specs.Told as told
 use Rattle.tokens.specs.Word.{word_of}
 use Rattle.tokens.specs.declared.word.Word as code
-use Rattle.model.specs.Words.{Word, end_of}
+use Rattle.model.specs.Words.{Word}
 use Rattle.model.specs.Trees.{File}
 use Rattle.model.specs.Fault.{Fault, Span}
 use Rattle.model.specs.GrammarWords.{Token, token_of, tokens_of}
 use Rattle.model.specs.Refusals.{Begins, IsWhole, IsRefused, at_word, at_end}
-use Rattle.explained_faults.specs.Expected.{has_bytes, TellsEnd, HaveBytes, MayFollow}
+use Rattle.suggestions.specs.Expected.{has_bytes, TellsEnd, HaveBytes, MayFollow}
 
 -- a whole file begins with its words
 pub whole_begins : (file : File) (words : List Word) → IsWhole file (tokens_of words) → Begins file (tokens_of words)
