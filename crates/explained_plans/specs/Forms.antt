@@ -4,7 +4,8 @@ use Rattle.std.specs.List.{flat_map, fold, list_any}
 use Rattle.model.specs.Task.{Task, Schema, Formula, Formulas, atom, equal, and, or, not, imply, exists, forall, no_formula, more_formulas, Effect, Effects, literal, both, each, when, no_effect, more_effects}
 use Rattle.explained_plans.specs.declared.forms.Forms.{Forms}
 
--- Forms of formulas and effects, each of which has requirements of its own (PDDL 1.2 manual, "Requirements").
+-- Forms of formulas and effects, each of which has requirements of its own (PDDL 1.2 manual, "Requirements"; of negations Fox &
+-- Long 2003, PDDL 2.1).
 pub data Form : Type 0 where
   conditional_effect : Form
   quantifier : Form
