@@ -67,6 +67,12 @@ def shared(one: Lines, other: Lines) -> list[str]:
     return [task for task in tasks_of([one]) if task in other.by_task and one.by_task[task].texts == other.by_task[task].texts]
 
 
+def with_other_texts(runs: list[Lines]) -> list[str]:
+    """The tasks whose texts are not the same in all of these runs."""
+    texts = {task: {run.by_task[task].texts for run in runs if task in run.by_task} - {None} for task in tasks_of(runs)}
+    return [task for task, found in texts.items() if len(found) > 1]
+
+
 def is_over(bound: Line, plan: Line) -> bool:
     """Whether the one tells a bound that is more than what the plan of the other costs."""
     return bound.bound is not None and plan.cost is not None and bound.bound > plan.cost
