@@ -7,6 +7,7 @@ from __future__ import annotations
 import math
 from dataclasses import dataclass, field
 from html import escape
+from itertools import count
 from typing import Iterable
 
 # The widths of a character, in pixels: ticks are told by digits, names by letters.
@@ -52,7 +53,7 @@ class Scale:
 
     def multiples(self, most: int) -> list[float]:
         """Whole multiples of 1, 2 or 5 by a power of ten."""
-        step = next(step for power in range(16) for step in (10**power, 2 * 10**power, 5 * 10**power)
+        step = next(step for power in count() for step in (10**power, 2 * 10**power, 5 * 10**power)
                     if (self.high - self.low) / step <= most)
         return [step * it for it in range(math.ceil(self.low / step), math.floor(self.high / step) + 1)]
 
