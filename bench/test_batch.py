@@ -39,7 +39,8 @@ if words[0] == "check":
     print('{{"command":"check","cost":%s,"result":"%s"}}' % (do[-1], "at least" if do[0] == "limit" else "optimal"))
     sys.exit(0)
 if words[0] == "explain":
-    print(words[1] + ":3:8: fault 7 Unexpected (columns count bytes)\\n   3 | a. b\\n     | ^^\\n`a. b` may not stand here. Further.")
+    print(words[1] + ":3:8: fault 7 Unexpected (columns count bytes)\\n   3 | a. b\\n     | ^")
+    print("`a. b` may not stand here. More.")
     sys.exit(20)
 if do[0] == "spin":
     while True: pass

@@ -60,7 +60,8 @@ class Limits(unittest.TestCase):
     def test_the_option_that_raises_a_limit_is_told(self):
         again = "these tasks alone are run again with --left-by first --into OTHER"
         self.assertEqual(self.told(Result.STATES, 1_000_000),
-                         ["1 task met the limit of 1,000,000 states: --states raises it, to 16,777,216 at most", f"{again} --states N"])
+                         ["1 task met the limit of 1,000,000 states: --states raises it, to 16,777,216 at most",
+                          f"{again} --states N"])
         self.assertEqual(self.told(Result.INSTANCES, 1), ["1 task met the limit of 5 instances: --instances raises it, "
                                                           "to 16,777,216 at most", f"{again} --instances N"])
         self.assertEqual(self.told(Result.TIME, 1), ["1 task met the limit of 300 s: --seconds raises it", f"{again} --seconds N"])
@@ -138,7 +139,8 @@ class Reports(RunsRead):
         page = self.report("first", "second")
         for it in ("3 tasks, 2 domains", "1 of 3 answered", "2 of 2 answered",
                    "a&lt;b/p1: first and second answer otherwise",
-                   "a&lt;b/p2 in second: the certificate is not accepted (not accepted 51 CutWeak)", "c/p1 in first: refused, fault 7"):
+                   "a&lt;b/p2 in second: the certificate is not accepted (not accepted 51 CutWeak)",
+                   "c/p1 in first: refused, fault 7"):
             self.assertIn(it, page)
         self.assertNotIn("a<b", page)
         self.assertNotRegex(page, "<script|<link|src=")
@@ -185,7 +187,8 @@ class Reports(RunsRead):
     def test_a_fault_of_a_domain_is_told_once(self):
         explained = Explained("/a/domain.pddl", 3, 8, "`b` is none.")
         self.put_run("first", *(Line(f"a/p{it}", Result.REFUSED, explained=explained, fault="fault 7") for it in range(1, 9)))
-        self.assertIn("a/p1, a/p2, a/p3, a/p4, a/p5, a/p6 and 2 more in first: <code>/a/domain.pddl:3:8</code>", self.report("first"))
+        self.assertIn("a/p1, a/p2, a/p3, a/p4, a/p5, a/p6 and 2 more in first: <code>/a/domain.pddl:3:8</code>",
+                      self.report("first"))
 
     def test_a_limit_is_told_with_its_option(self):
         self.put_run("first", Line("a/p1", Result.STATES, bound=5, seconds=1.0), states=100_000)
@@ -214,7 +217,8 @@ class Reports(RunsRead):
 
     def test_a_page_without_a_place_is_told(self):
         self.put_run("first", Line("a/p1", Result.TIME, seconds=1.0))
-        words = [sys.executable, f"{ROOT}/bench/batch-report", str(self.room / "first"), "--into", str(self.room / "none/page.html")]
+        page = str(self.room / "none/page.html")
+        words = [sys.executable, f"{ROOT}/bench/batch-report", str(self.room / "first"), "--into", page]
         ran = subprocess.run(words, stderr=subprocess.PIPE, text=True)
         self.assertEqual(ran.returncode, 1)
         self.assertRegex(ran.stderr, "^batch-report: .*No such file or directory")

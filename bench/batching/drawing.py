@@ -102,8 +102,8 @@ def drawn(width: float, height: float, parts: Iterable[str]) -> str:
 
 def legend(keys: Iterable[tuple[str, str, str]]) -> str:
     """A list of what hues and marks stand for: of each its class, its shape as SVG about 0, and what it is."""
-    items = (f'<li><svg class="key {hue}" width="18" height="12" viewBox="-9 -6 18 12" aria-hidden="true">{shape}</svg>{escape(words)}</li>'
-             for hue, shape, words in keys)
+    size = 'width="18" height="12" viewBox="-9 -6 18 12"'
+    items = (f'<li><svg class="key {hue}" {size} aria-hidden="true">{shape}</svg>{escape(words)}</li>' for hue, shape, words in keys)
     return f'<ul class="legend">{"".join(items)}</ul>'
 
 

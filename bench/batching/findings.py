@@ -36,7 +36,7 @@ def fault_of(line: Line) -> str:
 
 
 def faults(run: Lines) -> Iterable[str]:
-    """What comes of texts that are refused and of what failed; a fault that several tasks have, as one of a domain, is told once."""
+    """Texts that are refused, and what failed. A fault that several tasks have, as one of a domain, is told once."""
     found: dict[str, list[str]] = {}
     for it in run.by_task.values():
         if it.result in (Result.REFUSED, Result.FAILED):

@@ -33,7 +33,7 @@ REFUSED_BY_CHECK = 12
 # The first line of `explain` where a text is refused, and the lines of the text that it tells next.
 PLACE = re.compile(r"(.*):(\d+):(\d+): fault \d+ \w+")
 MARKED = re.compile(r" *\d* \|")
-# What stands between accents may have a full stop.
+# A name between backquotes may have a full stop.
 SENTENCE = re.compile(r"(?:`[^`]*`|[^`])*?\.(?= |$)")
 BY_REASON = {"states": Result.STATES, "instances": Result.INSTANCES, "atoms": Result.ATOMS}
 
