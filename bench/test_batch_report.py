@@ -191,9 +191,11 @@ class Reports(RunsRead):
                       self.report("first"))
 
     def test_a_limit_is_told_with_its_option(self):
-        self.put_run("first", Line("a/p1", Result.STATES, bound=5, seconds=1.0), states=100_000)
-        self.assertIn("first: 1 task met the limit of 100,000 states: <code>--states</code> raises it, to 16,777,216 at most",
-                      self.report("first"))
+        bound = Line("a/p1", Result.STATES, bound=5, seconds=1.0, check=Check(True, "at least 5", 0.4, 5))
+        self.put_run("first", bound, states=100_000)
+        page = self.report("first")
+        self.assertIn("first: 1 task met the limit of 100,000 states: <code>--states</code> raises it, to 16,777,216 at most", page)
+        self.assertIn("1 of 1 certificates accepted, 1 of them of bounds", page)
 
     def test_programs_without_a_proof_are_told(self):
         plan = Line("a/p1", Result.PLAN, cost=3, seconds=0.5, states=9, check=Check(True, "optimal 3", 0.4, 5))

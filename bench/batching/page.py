@@ -11,13 +11,21 @@ from batching.style import style
 from batching.tables import all_tasks, by_domain
 
 
+def judged(run: Lines) -> str:
+    """How many certificates were accepted, of answers and of bounds."""
+    if run.settings.checker is None:
+        return "no certificate was judged"
+    checks = [it for it in run.by_task.values() if it.check]
+    accepted = [it for it in checks if it.check.accepted]
+    bounds = sum(not it.is_answered for it in accepted)
+    return f"{len(accepted)} of {len(checks)} certificates accepted" + (f", {bounds} of them of bounds" if bounds else "")
+
+
 def card(run: Lines) -> str:
     """What a run came to, and within which limits."""
     settings, lines = run.settings, run.by_task.values()
     checks = [it for it in lines if it.check]
     solving, checking = sum(it.seconds or 0 for it in lines), sum(it.check.seconds for it in checks)
-    accepted = sum(it.check.accepted is True for it in checks)
-    judged = f"{accepted} of {len(checks)} certificates accepted" if settings.checker else "no certificate was judged"
     programs = [("solved by", settings.program), *([("judged by", settings.checker)] if settings.checker else [])]
     rows = [f"{words} {escape(it.path)} ({it.sum}{', built without a proof' if it.is_unproved else ''})"
             for words, it in programs]
@@ -26,7 +34,7 @@ def card(run: Lines) -> str:
     rows.append(f"{solving:,.0f} s of a processor for solving, {checking:,.0f} s for checking")
     rows += [f"on {escape(it)}" for it in run.hosts]
     return (f'<div class="run"><b>{escape(run.name)}</b>'
-            f'<div class="large">{len(run.answered)} of {len(run.by_task)} answered</div><div>{judged}</div>'
+            f'<div class="large">{len(run.answered)} of {len(run.by_task)} answered</div><div>{judged(run)}</div>'
             f'<small>{"<br>".join(rows)}</small></div>')
 
 
