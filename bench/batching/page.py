@@ -6,7 +6,7 @@ from html import escape
 
 from batching.findings import limits_met, to_look_at
 from batching.plots import against, answered_over_time, checking_and_solving, of_one, results_by_domain, states_of, time_of
-from batching.reading import Lines, domain_of, tasks_of
+from batching.reading import Lines, domains_of, tasks_of
 from batching.style import style
 from batching.tables import all_tasks, by_domain
 
@@ -78,7 +78,7 @@ def page(runs: list[Lines]) -> str:
     """The whole text."""
     tasks = tasks_of(runs)
     anchors = {task: f"task-{number}" for number, task in enumerate(tasks, 1)}
-    title = f"{len(tasks)} tasks, {len({domain_of(it) for it in tasks})} domains"
+    title = f"{len(tasks)} tasks, {len(domains_of(tasks))} domains"
     return f"""<!DOCTYPE html>
 <html lang="en"><head><meta charset="utf-8"><meta name="viewport" content="width=device-width"><title>{title}</title>
 <style>{style()}</style></head><body>

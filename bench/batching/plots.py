@@ -7,7 +7,7 @@ from typing import Callable, Optional
 
 from batching.drawing import LETTER, Axes, Scale, drawn, legend, line, logarithmic, mark, shown, text
 from batching.lines import Line
-from batching.reading import Lines, domain_of, shared, tasks_of
+from batching.reading import Lines, domain_of, domains_of, shared, tasks_of
 from batching.style import RESULTS, hue_class, result_class
 
 # The least time that is drawn, in seconds: less is measured by chance.
@@ -24,13 +24,14 @@ Value = Callable[[Line], Optional[float]]
 
 def results_by_domain(runs: list[Lines]) -> str:
     """A bar for each domain of each run, of as many parts as there are results."""
-    domains = sorted({domain_of(it) for it in tasks_of(runs)})
+    domains = domains_of(tasks_of(runs))
     left = 14 + LETTER * min(LONGEST_NAME, max((len(it) for it in domains), default=0))
     most = max((sum(domain_of(it) == domain for it in run.by_task) for run in runs for domain in domains), default=1)
     scale, top = Scale(0, most, BARS), 26
     parts = []
     for row, domain in enumerate(domains):
-        name = domain if len(domain) <= LONGEST_NAME else f"{domain[:LONGEST_NAME - 1]}…"
+        # The end of a long name is what tells it from others.
+        name = domain if len(domain) <= LONGEST_NAME else f"…{domain[1 - LONGEST_NAME:]}"
         parts.append(text(left - 8, top + row * ROW + 14, name, anchor="end"))
     for number, run in enumerate(runs):
         begin = left + number * (BARS + BETWEEN)
@@ -104,7 +105,7 @@ def steps(axes: Axes, times: list[float], kind: str) -> str:
 def scatter(axes: Axes, points: list[tuple[str, float, float, str]], anchors: dict[str, str]) -> str:
     """A mark for each task, by its domain, that leads to the task's row of the page: the legend of the marks."""
     keys = []
-    for number, domain in enumerate(sorted({domain_of(it[0]) for it in points})):
+    for number, domain in enumerate(domains_of(it[0] for it in points)):
         axes.parts.append(f'<g class="{hue_class(number)} marks">')
         for task, x, y, words in (it for it in points if domain_of(it[0]) == domain):
             left, top = axes.place(x, y)

@@ -6,7 +6,7 @@ import os
 import sys
 from dataclasses import dataclass
 from itertools import combinations
-from typing import Iterator
+from typing import Iterable, Iterator
 
 from batching.layouts import in_order
 from batching.lines import Line, Result, read_lines
@@ -60,6 +60,11 @@ def read_run(folder: str) -> Lines:
 def tasks_of(runs: list[Lines]) -> list[str]:
     """All tasks of these runs, in the order of their names."""
     return sorted({task for run in runs for task in run.by_task}, key=in_order)
+
+
+def domains_of(tasks: Iterable[str]) -> list[str]:
+    """What stands before the last slash of these tasks' names, in the order of names."""
+    return sorted({domain_of(it) for it in tasks}, key=in_order)
 
 
 def shared(one: Lines, other: Lines) -> list[str]:

@@ -7,7 +7,7 @@ from html import escape
 from typing import Iterable
 
 from batching.lines import ANSWERS, Line, Result
-from batching.reading import Lines, domain_of, tasks_of, with_other_texts
+from batching.reading import Lines, domain_of, domains_of, tasks_of, with_other_texts
 
 
 def row(cells: Iterable[object], kind: str = "td", attributes: str = "") -> str:
@@ -16,7 +16,7 @@ def row(cells: Iterable[object], kind: str = "td", attributes: str = "") -> str:
 
 def by_domain(runs: list[Lines]) -> str:
     """A table of how many tasks of each domain had which result."""
-    domains = sorted({domain_of(it) for it in tasks_of(runs)})
+    domains = domains_of(tasks_of(runs))
     results = [it for it in Result if it not in ANSWERS and any(run.count(it) for run in runs)]
     heads = ["answered", *(it.value for it in results), "accepted"]
     group = "".join(f'<th colspan="{len(heads)}">{escape(run.name)}</th>' for run in runs)
