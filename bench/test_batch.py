@@ -384,9 +384,8 @@ class DefaultPrograms(Room):
 
     def setUp(self):
         super().setUp()
-        ignored = shutil.ignore_patterns("__pycache__")
-        shutil.copytree(f"{ROOT}/bench", self.room / "copy/bench", ignore=ignored)
-        self.put("copy/tools/processes.py", Path(f"{ROOT}/tools/processes.py").read_text())
+        for it in ("bench", "tools"):
+            shutil.copytree(f"{ROOT}/{it}", self.room / f"copy/{it}", ignore=shutil.ignore_patterns("__pycache__"))
         self.tasks(one="plan 3")
 
     def built(self, name):
