@@ -206,6 +206,10 @@ class Lines(Room):
         self.assertEqual(line_of(refused.text().encode()), refused)
         self.assertEqual(refused.explained.place, "domain.pddl:3:8")
 
+    def test_what_met_a_limit_or_failed_wants_more(self):
+        answered = {Result.PLAN, Result.UNSOLVABLE, Result.REFUSED}
+        self.assertEqual({it for it in Result if not Line("a/p1", it).wants_more}, answered)
+
     def test_half_a_line_is_none_and_goes(self):
         whole = Line("a/p1", Result.TIME).text()
         for cut in range(len(whole)):

@@ -189,6 +189,8 @@ class Reports(RunsRead):
         self.put_run("first", *(Line(f"a/p{it}", Result.REFUSED, explained=explained, fault="fault 7") for it in range(1, 9)))
         self.assertIn("a/p1, a/p2, a/p3, a/p4, a/p5, a/p6 and 2 more in first: <code>/a/domain.pddl:3:8</code>",
                       self.report("first"))
+        self.put_run("second", Line("a/p1", Result.REFUSED, explained=explained, fault="fault 7"))
+        self.assertIn("a/p1 in first and second: <code>/a/domain.pddl:3:8</code>", self.report("first", "second"))
 
     def test_a_limit_is_told_with_its_option(self):
         bound = Line("a/p1", Result.STATES, bound=5, seconds=1.0, check=Check(True, "at least 5", 0.4, 5))

@@ -35,13 +35,17 @@ def fault_of(line: Line) -> str:
     return f"<code>{escape(line.explained.place)}</code> {sentence} <small>{told}</small>"
 
 
-def faults(run: Lines) -> Iterable[str]:
+def faults(runs: list[Lines]) -> Iterable[str]:
     """Texts that are refused, and what failed. A fault that several tasks have, as one of a domain, is told once."""
-    found: dict[str, list[str]] = {}
-    for it in run.by_task.values():
-        if it.result in (Result.REFUSED, Result.FAILED):
-            found.setdefault(fault_of(it), []).append(it.task)
-    return (f"{named(tasks)} in {escape(run.name)}: {what}" for what, tasks in found.items())
+    runs_of: dict[tuple[str, str], list[str]] = {}
+    for run in runs:
+        for it in run.by_task.values():
+            if it.result in (Result.REFUSED, Result.FAILED):
+                runs_of.setdefault((it.task, fault_of(it)), []).append(run.name)
+    tasks_of: dict[tuple[str, str], list[str]] = {}
+    for (task, what), names in runs_of.items():
+        tasks_of.setdefault((" and ".join(names), what), []).append(task)
+    return (f"{named(tasks)} in {escape(names)}: {what}" for (names, what), tasks in tasks_of.items())
 
 
 def refused_certificates(run: Lines) -> Iterable[str]:
@@ -60,8 +64,7 @@ def other_texts(runs: list[Lines]) -> Iterable[str]:
 def to_look_at(runs: list[Lines]) -> str:
     """What contradicts each other or is not accepted, then what is refused or failed."""
     alarm = [*map(escape, contradictions(runs)), *(it for run in runs for it in refused_certificates(run)), *other_texts(runs)]
-    quiet = [it for run in runs for it in faults(run)]
-    return listed(alarm, ' class="alarm"') + listed(quiet) or "<p>Nothing.</p>"
+    return listed(alarm, ' class="alarm"') + listed(faults(runs)) or "<p>Nothing.</p>"
 
 
 def limits_met(runs: list[Lines]) -> str:
