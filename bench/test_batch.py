@@ -1,11 +1,12 @@
 #!/usr/bin/env python3
 """Tries what can go wrong in a batch, over a program that does as its problem says: python3 bench/test_batch.py.
 
-It needs neither the program itself nor Slurm, and takes half a minute of a processor. The report is tried where matplotlib is."""
+It needs neither the program itself nor Slurm, nothing but python3, and takes half a minute."""
 
 import errno
 import json
 import os
+import shutil
 import signal
 import stat
 import subprocess
@@ -13,8 +14,7 @@ import sys
 import tempfile
 import time
 import unittest
-from dataclasses import asdict, replace
-from importlib.util import find_spec
+from dataclasses import asdict
 from pathlib import Path
 from unittest import mock
 
@@ -22,8 +22,7 @@ sys.dont_write_bytecode = True
 sys.path.insert(0, os.path.dirname(os.path.abspath(__file__)))
 from batching import ROOT  # noqa: E402
 from batching.layouts import find  # noqa: E402
-from batching.lines import Check, Line, LinesFile, Result, line_of, read_lines  # noqa: E402
-from batching.reading import contradictions, read_run  # noqa: E402
+from batching.lines import Explained, Line, LinesFile, Result, line_of, read_lines  # noqa: E402
 from batching.runs import Program, Settings  # noqa: E402
 
 # Does what the first word of the problem says, and notes each start.
@@ -39,6 +38,10 @@ if words[0] == "check":
         sys.exit(12)
     print('{{"command":"check","cost":%s,"result":"%s"}}' % (do[-1], "at least" if do[0] == "limit" else "optimal"))
     sys.exit(0)
+if words[0] == "explain":
+    print(words[1] + ":3:8: fault 7 Unexpected (columns count bytes)\\n   3 | a. b\\n     | ^")
+    print("`a. b` may not stand here. More.")
+    sys.exit(20)
 if do[0] == "spin":
     while True: pass
 if do[0] == "sleep": time.sleep(60)
@@ -134,6 +137,11 @@ class Layouts(Room):
             "four/domain_p1.pddl": ["four/p1.pddl"],
             "five/domain.pddl": ["five/instances/instance-1.pddl"],
             "six/domains/domain-1.pddl": ["six/instances/instance-1.pddl"],
+            "seven/task01-domain.pddl": ["seven/task01.pddl", "seven/task01-easy.pddl"],
+            "eight/domain.pddl": ["eight/pfile1", "eight/pfile12", "eight/prob-3"],
+            "nine/domain": ["nine/pfile1"],
+            "ten/DOMAIN.PDDL": ["ten/P1.PDDL", "ten/p2.pddl"],
+            "eleven/P3-Domain.PDDL": ["eleven/p3.pddl"],
         }
         for domain, problems in layouts.items():
             for it in [domain, *problems]:
@@ -145,10 +153,17 @@ class Layouts(Room):
         self.assertEqual(found, {problem: domain for domain, problems in layouts.items() for problem in problems})
 
     def test_the_nearest_domain_counts(self):
-        for it in ("domain.pddl", "p1.pddl", "p1-domain.pddl", "p2.pddl"):
+        for it in ("domain.pddl", "p1.pddl", "p1-domain.pddl", "p2.pddl", "p1-hard.pddl", "p1-hard-domain.pddl", "p10.pddl"):
             self.put(f"tasks/{it}")
         tasks, _ = find([str(self.room / "tasks")])
-        self.assertEqual([os.path.basename(it.domain) for it in tasks], ["p1-domain.pddl", "domain.pddl"])
+        self.assertEqual({os.path.basename(it.problem): os.path.basename(it.domain) for it in tasks},
+                         {"p1.pddl": "p1-domain.pddl", "p1-hard.pddl": "p1-hard-domain.pddl", "p2.pddl": "domain.pddl",
+                          "p10.pddl": "domain.pddl"})
+
+    def test_other_files_are_no_tasks(self):
+        for it in ("domain.pddl", "README", "pfile", "pfile1.txt", "pfile1~", "p1.pddl.orig", ".p1.pddl", "1", "Makefile2"):
+            self.put(f"tasks/{it}")
+        self.assertEqual(find([str(self.room / "tasks")]), ([], []))
 
     def test_a_task_has_one_name_by_whichever_folder_it_is_found(self):
         for it in ("domain.pddl", "p10.pddl", "p2.pddl"):
@@ -186,7 +201,14 @@ class Lines(Room):
     def test_a_line_reads_back(self):
         line = Line("a b/p1", Result.PLAN, status=0, cost=3, seconds=0.5)
         self.assertEqual(line_of(line.text().encode()), line)
-        self.assertNotIn("bound", line.text())
+        self.assertNotRegex(line.text(), "bound|explained")
+        refused = Line("a b/p2", Result.REFUSED, status=20, explained=Explained("domain.pddl", 3, 8, "`a` is none."))
+        self.assertEqual(line_of(refused.text().encode()), refused)
+        self.assertEqual(refused.explained.place, "domain.pddl:3:8")
+
+    def test_what_met_a_limit_or_failed_wants_more(self):
+        answered = {Result.PLAN, Result.UNSOLVABLE, Result.REFUSED}
+        self.assertEqual({it for it in Result if not Line("a/p1", it).wants_more}, answered)
 
     def test_half_a_line_is_none_and_goes(self):
         whole = Line("a/p1", Result.TIME).text()
@@ -229,7 +251,13 @@ class Runs(Room):
         self.assertIs(found["a b/wrong"].check.accepted, False)
         self.assertEqual(found["a b/wrong"].check.verdict, "not accepted 51 CutWeak")
         self.assertEqual(found["a b/fault"].fault, "fault 7 Unexpected in problem at 0..5")
+        domain = str(self.room / "tasks/a b/domain.pddl")
+        self.assertEqual(found["a b/fault"].explained, Explained(domain, 3, 8, "`a. b` may not stand here."))
         self.assertEqual((found["a b/kill"].status, found["a b/kill"].fault), (137, "ended by signal 9"))
+        for it in ("1 task met the limit of 16,777,216 states: --states sets none that is greater",
+                   "1 task met the limit of 1 s: --seconds raises it", "1 task met the limit of 2,000 MB: --memory raises it",
+                   f"--left-by {self.run_folder} --into OTHER --seconds N --memory N"):
+            self.assertIn(it, ran.stdout)
         self.assertEqual(ran.returncode, 1)
         self.assertEqual((self.run_folder / "answers/a b/plan/plan.txt").read_text(), "(a)\n")
 
@@ -295,6 +323,29 @@ class Runs(Room):
                 self.assertFalse(self.is_running())
         self.assertEqual(self.lines(), {})
 
+    def test_how_many_have_ended_is_told_where_there_is_no_terminal(self):
+        self.tasks(one="plan 3", two="plan 4")
+        self.assertEqual(self.batch().stderr.splitlines()[-1], "2 of 2: 2 plan")
+
+    def test_folders_are_looked_at_before_a_task_is_started(self):
+        self.tasks(one="plan 3", two="plan 4")
+        in_the_way = self.put("run/answers/a b/two", "no folder")
+        ran = self.batch()
+        self.assertEqual(ran.returncode, 1)
+        self.assertIn(f"nothing can be written into {in_the_way}, so that nothing was started", ran.stderr)
+        self.assertIn("nothing can be written into /proc/none/ended", self.batch("--into", "/proc/none").stderr)
+        self.assertEqual(self.starts(), [])
+        in_the_way.unlink()
+        self.assertEqual(self.batch().returncode, 0)
+
+    @unittest.skipIf(os.geteuid() == 0, "root may write into every folder")
+    def test_a_folder_that_may_not_be_written_is_told(self):
+        self.tasks(one="plan 3")
+        answers = self.room / "run/answers"
+        answers.mkdir(parents=True, mode=0o555)
+        self.assertIn("so that nothing was started: Permission denied", self.batch().stderr)
+        self.assertEqual(self.starts(), [])
+
     def test_a_program_that_is_missing_is_told(self):
         self.tasks(one="plan 3")
         self.program.unlink()
@@ -308,11 +359,11 @@ class Runs(Room):
         self.assertEqual(self.starts(), [])
 
     def test_what_a_task_wants_more_of_goes_to_another_run(self):
-        self.tasks(one="plan 3", two="spin 1", three="fault 1")
-        self.batch("--seconds", "1")
+        self.tasks(one="plan 3", two="grow 1", three="fault 1")
+        self.batch("--memory", "1000")
         first, self.run_folder = self.run_folder, self.room / "again"
-        self.batch("--seconds", "2", "--left-by", str(first))
-        self.assertEqual({name: it.result for name, it in self.lines().items()}, {"a b/two": Result.TIME})
+        self.batch("--memory", "2000", "--left-by", str(first))
+        self.assertEqual({name: it.result for name, it in self.lines().items()}, {"a b/two": Result.MEMORY})
 
     def test_numbers_are_those_of_processes_of_their_own(self):
         self.tasks(one="plan 3", two="plan 4")
@@ -330,6 +381,46 @@ class Runs(Room):
         self.run_folder.mkdir()
         (self.run_folder / "run.json").write_text(json.dumps(asdict(settings)))
         self.assertEqual(Settings.read(str(self.run_folder)), settings)
+
+
+class DefaultPrograms(Room):
+    """What solves where no program is named: a copy of the scripts, above which programs are put."""
+
+    def setUp(self):
+        super().setUp()
+        for it in ("bench", "tools"):
+            shutil.copytree(f"{ROOT}/{it}", self.room / f"copy/{it}", ignore=shutil.ignore_patterns("__pycache__"))
+        self.tasks(one="plan 3")
+
+    def built(self, name):
+        self.put_program(f"copy/{name}", self.program.read_text().replace("{", "{{").replace("}", "}}"))
+
+    def solved_by(self):
+        words = [sys.executable, str(self.room / "copy/bench/batch"), str(self.room / "tasks"), "--into", str(self.run_folder)]
+        ran = subprocess.run(words, stdout=subprocess.PIPE, stderr=subprocess.PIPE, text=True)
+        path = ran.returncode == 0 and Settings.read(str(self.run_folder)).program.path
+        return path and os.path.relpath(path, self.room / "copy"), ran.stderr
+
+    def test_the_unproved_one_solves_where_no_other_is_built(self):
+        self.assertIn("there is no program", self.solved_by()[1])
+        self.built("out/optplan-unproved")
+        path, said = self.solved_by()
+        self.assertEqual(path, "out/optplan-unproved")
+        self.assertIn("no proof vouches (crates/optplan/out/optplan is not built)", said)
+        # A run keeps to the program that it began with.
+        self.built("crates/optplan/out/optplan")
+        self.tasks(two="plan 4")
+        path, said = self.solved_by()
+        self.assertEqual(path, "out/optplan-unproved")
+        self.assertIn("no proof vouches (the run began with it)", said)
+        self.assertEqual(self.starts(), ["solve plan 3", "solve plan 4"])
+
+    def test_the_proved_one_comes_first(self):
+        self.built("out/optplan-unproved")
+        self.built("crates/optplan/out/optplan")
+        path, said = self.solved_by()
+        self.assertEqual(path, "crates/optplan/out/optplan")
+        self.assertNotIn("vouches", said)
 
 
 class Slurm(Room):
@@ -367,66 +458,10 @@ class Slurm(Room):
         self.assertEqual(self.lines()["a b/one"].cost, 3)
 
 
-class RunsRead(Room):
-    """Runs whose lines are put there."""
-
-    def put_run(self, name, *lines):
-        program = Program.at(str(self.program))
-        settings = Settings(program, program, 1, 2, 3, 4, True)
-        self.put(f"{name}/run.json", json.dumps(asdict(settings)))
-        self.put(f"{name}/results.jsonl", "".join(replace(it, program=program.sum, texts="same").text() for it in lines))
-
-
-class Contradictions(RunsRead):
-    def told(self, *lines):
-        for name, line in zip(("first", "second"), lines):
-            self.put_run(name, line)
-        return list(contradictions([read_run(str(self.room / it)) for it in ("first", "second")]))
-
-    def test_other_answers_are_told(self):
-        plan = Line("a/p1", Result.PLAN, cost=3)
-        self.assertEqual(self.told(plan, replace(plan, cost=2)), ["a/p1: first and second answer otherwise"])
-        self.assertEqual(self.told(plan, plan), [])
-
-    def test_a_plan_below_a_bound_is_told(self):
-        bound = Line("a/p1", Result.STATES, bound=5)
-        plan = lambda cost: Line("a/p1", Result.PLAN, cost=cost)
-        self.assertEqual(len(self.told(bound, plan(4))), 1)
-        self.assertEqual(len(self.told(plan(4), bound)), 1)
-        self.assertEqual(self.told(bound, plan(5)), [])
-        self.assertEqual(self.told(bound, Line("a/p1", Result.UNSOLVABLE)), [])
-
-
-@unittest.skipUnless(find_spec("matplotlib"), "matplotlib is not installed")
-class Reports(RunsRead):
-    def report(self, *names):
-        words = [sys.executable, f"{ROOT}/bench/batch-report", *(str(self.room / it) for it in names)]
-        ran = subprocess.run([*words, "--into", str(self.room / "page.html")], stderr=subprocess.PIPE, text=True)
-        return ran.stderr or (self.room / "page.html").read_text()
-
-    def test_runs_stand_side_by_side(self):
-        plan = Line("a<b/p1", Result.PLAN, status=0, cost=3, seconds=0.5, states=9, check=Check(True, "optimal 3", 0.4, 5))
-        wrong = replace(plan, task="a<b/p2", cost=4, check=Check(False, "not accepted 51 CutWeak", 0.4, 5))
-        self.put_run("first", plan, Line("a<b/p2", Result.TIME, seconds=1.0), Line("c/p1", Result.REFUSED, fault="fault 7"))
-        self.put_run("second", replace(plan, cost=2), wrong)
-        page = self.report("first", "second")
-        for it in ("3 tasks, 2 domains", "1 of 3 answered", "2 of 2 answered",
-                   "a&lt;b/p1: first and second answer otherwise",
-                   "a&lt;b/p2 in second: the certificate is not accepted (not accepted 51 CutWeak)", "c/p1 in first: refused, fault 7"):
-            self.assertIn(it, page)
-        self.assertNotIn("a<b", page)
-        self.assertNotRegex(page, "<script|<link|src=")
-        self.assertEqual(page, self.report("first", "second"))
-
-    def test_lines_of_another_program_are_refused(self):
-        self.put_run("first", Line("a/p1", Result.TIME, seconds=1.0))
-        self.put("first/results.jsonl", Line("a/p1", Result.TIME, seconds=1.0, program="other").text())
-        self.assertIn("has lines of other programs: other", self.report("first"))
-
-    def test_a_run_without_an_answer_has_a_page(self):
-        self.put_run("first", Line("a/p1", Result.FAILED, fault="no line came"))
-        self.assertIn("0 of 1 answered", self.report("first"))
-        self.assertIn("0 of 1 answered", self.report("first", "first"))
+def load_tests(loader, tests, _):
+    """Those of the report too."""
+    tests.addTests(loader.loadTestsFromName("test_batch_report"))
+    return tests
 
 
 if __name__ == "__main__":

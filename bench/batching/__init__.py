@@ -1,6 +1,6 @@
 """What `bench/batch`, `bench/batch-one` and `bench/batch-report` are made of.
 
-All but the report need nothing but Python 3.9 on Linux, so that nothing has to be installed on a cluster."""
+They need nothing but Python 3.9 on Linux, so that nothing has to be installed on a cluster."""
 import os
 import sys
 

@@ -27,24 +27,64 @@ class LeftOut:
     why: str
 
 
+# A problem whose name has no ending, as pfile1 or task-07.
+WITHOUT_ENDING = re.compile(r"(p|pfile|prob|problem|task|instance)[-_]?[0-9]+")
+
+
 def is_domain(path: Path) -> bool:
     """Whether a file of PDDL is a domain's by its name."""
-    return path.stem == "domain" or path.stem.startswith(("domain-", "domain_")) or path.stem.endswith("-domain")
+    stem = path.stem.lower()
+    return stem == "domain" or stem.startswith(("domain-", "domain_")) or stem.endswith(("-domain", "_domain"))
+
+
+def is_problem(path: Path) -> bool:
+    """Whether a file is a problem's by its name."""
+    name = path.name.lower()
+    return WITHOUT_ENDING.fullmatch(name) is not None or name.endswith(".pddl") and not name.startswith(".") and not is_domain(path)
+
+
+def beginnings(name: str) -> list[str]:
+    """What a problem's name shares with its domain's, the longest first: of p01-airport1-p1 that, p01-airport1 and p01."""
+    until_number = re.match(r"[^0-9]+[0-9]+", name)
+    found = [name, *(name[:it.start()] for it in re.finditer(r"[-_]", name)), *([until_number[0]] if until_number else [])]
+    return sorted(filter(None, dict.fromkeys(found)), key=len, reverse=True)
 
 
 def domains_of(problem: Path) -> Iterator[Path]:
-    """Where the domain of a problem may stand; the first that is there is it."""
-    folder, name = problem.parent, problem.stem
-    yield folder / f"{name}-domain.pddl"
-    yield folder / f"domain-{name}.pddl"
-    yield folder / f"domain_{name}.pddl"
-    # As in p01-airport1-p1.pddl with p01-domain.pddl.
-    yield folder / f"{name[:3]}-domain.pddl"
-    yield folder / "domain.pddl"
+    """Where the domain of a problem may stand, but for its ending; the first that is there is it."""
+    folder, name = problem.parent, problem.stem.lower()
+    for it in beginnings(name):
+        yield folder / f"{it}-domain"
+        yield folder / f"{it}_domain"
+        yield folder / f"domain-{it}"
+        yield folder / f"domain_{it}"
+    yield folder / "domain"
     # As in instances/instance-1.pddl with domains/domain-1.pddl or one domain.pddl beside the folders.
     if folder.name == "instances":
-        yield folder.parent / "domains" / f"{name.replace('instance', 'domain', 1)}.pddl"
-        yield folder.parent / "domain.pddl"
+        yield folder.parent / "domains" / name.replace("instance", "domain", 1)
+        yield folder.parent / "domain"
+
+
+class Folders:
+    """The files of folders by their names, in which case does not count."""
+
+    def __init__(self) -> None:
+        self.known: dict[Path, dict[str, Path]] = {}
+
+    def files_of(self, folder: Path) -> dict[str, Path]:
+        """The files of a folder by their names in small letters; none, where it cannot be read."""
+        if folder not in self.known:
+            try:
+                # Of two that differ in case alone it is the one in small letters.
+                self.known[folder] = {it.name.lower(): it for it in sorted(folder.iterdir()) if it.is_file()}
+            except OSError:
+                self.known[folder] = {}
+        return self.known[folder]
+
+    def domain_of(self, problem: Path) -> Path | None:
+        """The domain of a problem, which may have no ending either."""
+        places = ((it.parent, f"{it.name}{ending}") for it in domains_of(problem) for ending in (".pddl", ""))
+        return next((self.files_of(folder)[name] for folder, name in places if name in self.files_of(folder)), None)
 
 
 def in_order(path: str | Path) -> list[tuple[int, str]]:
@@ -53,14 +93,14 @@ def in_order(path: str | Path) -> list[tuple[int, str]]:
 
 
 def problems_in(given: Path) -> Iterator[Path]:
-    """The files of PDDL below a folder that are no domain's by their names, or the one file that is given."""
+    """The files below a folder that are problems by their names, or the one file that is given."""
     if given.is_file():
         yield given
         return
     for folder, below, names in os.walk(given):
         below[:] = sorted((it for it in below if not it.startswith(".")), key=in_order)
         for path in (Path(folder, it) for it in sorted(names, key=in_order)):
-            if path.suffix == ".pddl" and not path.name.startswith(".") and not is_domain(path):
+            if is_problem(path):
                 yield path
 
 
@@ -73,10 +113,10 @@ def name_of(problem: Path, given: Path) -> str:
     return "/".join([*folders, problem.stem])
 
 
-def found_in(given: Path) -> Iterator[Task | LeftOut]:
+def found_in(given: Path, folders: Folders) -> Iterator[Task | LeftOut]:
     """What is found below a folder, or of a single problem."""
     for problem in problems_in(given):
-        domain = next((it for it in domains_of(problem) if it.is_file()), None)
+        domain = folders.domain_of(problem)
         if not problem.is_file():
             yield LeftOut(problem, "is no file")
         elif is_domain(problem):
@@ -90,12 +130,12 @@ def found_in(given: Path) -> Iterator[Task | LeftOut]:
 def find(paths: list[str]) -> tuple[list[Task], list[LeftOut]]:
     """The tasks of all these folders and problems, each once, and what is left out. Leaves where two share a name."""
     tasks: dict[str, Task] = {}
-    left_out, seen = [], set()
+    left_out, seen, folders = [], set(), Folders()
     for path in paths:
         given = Path(path).absolute()
         if not given.exists():
             sys.exit(f"batch: there is no {path}")
-        for it in found_in(given):
+        for it in found_in(given, folders):
             if isinstance(it, LeftOut):
                 left_out.append(it)
                 continue

@@ -39,6 +39,22 @@ class Check:
 
 
 @dataclass(frozen=True)
+class Explained:
+    """Where a text is at fault and what helps, as `optplan explain` tells it."""
+
+    file: str
+    line: int
+    # In bytes, counted from 1.
+    column: int
+    sentence: str
+
+    @property
+    def place(self) -> str:
+        """As editors take it."""
+        return f"{self.file}:{self.line}:{self.column}"
+
+
+@dataclass(frozen=True)
 class Line:
     """How a task ended. None stands for what is not known."""
 
@@ -59,6 +75,8 @@ class Line:
     check: Check | None = None
     # Why there is no answer, in the words of the standard error.
     fault: str | None = None
+    # Where a text is refused.
+    explained: Explained | None = None
     host: str | None = None
     processor: str | None = None
     # Sums of the program and of the texts of domain and problem.
@@ -81,7 +99,7 @@ class Line:
 
     def text(self) -> str:
         """The line, with its LF."""
-        keys = {key: it for key, it in asdict(self).items() if it is not None or key not in ("bound", "fault")}
+        keys = {key: it for key, it in asdict(self).items() if it is not None or key not in ("bound", "fault", "explained")}
         return json.dumps(keys, separators=(",", ":")) + "\n"
 
 
@@ -89,8 +107,9 @@ def line_of(text: bytes) -> Line | None:
     """The line that a text is; None where it is none."""
     try:
         keys = json.loads(text)
-        check = keys.pop("check", None)
-        return Line(result=Result(keys.pop("result")), check=check and Check(**check), **keys)
+        check, explained = keys.pop("check", None), keys.pop("explained", None)
+        return Line(result=Result(keys.pop("result")), check=check and Check(**check),
+                    explained=explained and Explained(**explained), **keys)
     except (ValueError, TypeError, KeyError, AttributeError):
         return None
 

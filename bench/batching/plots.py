@@ -1,134 +1,163 @@
-"""The plots of a report, each as a text of SVG, by matplotlib."""
+"""The plots of a report, each as a text of SVG with the list of what its hues stand for."""
 
 from __future__ import annotations
 
-import io
-from typing import Callable
+from html import escape
+from typing import Callable, Optional
 
-import matplotlib
+from batching.drawing import LETTER, Axes, Scale, drawn, legend, line, logarithmic, mark, shown, text
+from batching.lines import Line
+from batching.reading import Lines, domain_of, domains_of, shared, tasks_of
+from batching.style import RESULTS, hue_class, result_class
 
-matplotlib.use("svg")
-from matplotlib import pyplot  # noqa: E402
-from matplotlib.axes import Axes  # noqa: E402
-from matplotlib.figure import Figure  # noqa: E402
-
-from batching.lines import Line, Result  # noqa: E402
-from batching.reading import Lines, domain_of, shared, tasks_of  # noqa: E402
-
-# Hues that also those tell apart who see few (Okabe and Ito).
-HUES = ["#0072b2", "#d55e00", "#009e73", "#cc79a7", "#e69f00", "#56b4e9", "#000000"]
-MARKS = "os^Dv<>P*X"
-BY_RESULT = {
-    Result.PLAN: "#0072b2", Result.UNSOLVABLE: "#56b4e9", Result.REFUSED: "#999999", Result.TIME: "#e69f00",
-    Result.MEMORY: "#d55e00", Result.STATES: "#cc79a7", Result.INSTANCES: "#b08ac0", Result.ATOMS: "#7a5195",
-    Result.FAILED: "#000000",
-}
 # The least time that is drawn, in seconds: less is measured by chance.
 LEAST_TIME = 0.001
+# The width and the height of a frame, in pixels.
+WIDE, HIGH, SQUARE = 470, 330, 360
+# Of the bars: the height of a row, the part of it that is filled, the width for all tasks of a domain, and between two runs.
+ROW, FILLED, BARS, BETWEEN = 20, 14, 270, 30
+# How many characters of a domain's name stand beside its bar.
+LONGEST_NAME = 32
 
-pyplot.rcParams.update({
-    "font.family": "sans-serif", "font.size": 9, "svg.fonttype": "none", "axes.spines.top": False, "axes.spines.right": False,
-    "axes.edgecolor": "#888888", "axes.axisbelow": True, "axes.grid": True, "grid.color": "#e6e6e6", "legend.frameon": False,
-})
-
-
-def svg(figure: Figure, name: str) -> str:
-    """The figure's text, as it stands in a page; `name` keeps its marks apart from those of others."""
-    text = io.StringIO()
-    with pyplot.rc_context({"svg.hashsalt": name}):
-        figure.savefig(text, format="svg", bbox_inches="tight", metadata={"Date": None})
-    pyplot.close(figure)
-    return text.getvalue()[text.getvalue().index("<svg"):]
+Value = Callable[[Line], Optional[float]]
 
 
 def results_by_domain(runs: list[Lines]) -> str:
     """A bar for each domain of each run, of as many parts as there are results."""
-    domains = sorted({domain_of(it) for it in tasks_of(runs)}, reverse=True)
-    size = 4.6 * len(runs) + 1, 0.28 * len(domains) + 1
-    figure, every = pyplot.subplots(1, len(runs), figsize=size, sharey=True, squeeze=False)
-    for axes, run in zip(every[0], runs):
-        ends = [0] * len(domains)
-        for result, hue in BY_RESULT.items():
-            counts = [run.count(result, it) for it in domains]
-            if any(counts):
-                axes.barh(domains, counts, left=ends, color=hue, label=result.value, height=0.7, edgecolor="white")
-            ends = [end + it for end, it in zip(ends, counts)]
-        axes.set_title(run.name, fontweight="bold")
-        axes.grid(axis="y", visible=False)
-        axes.xaxis.get_major_locator().set_params(integer=True)
-        axes.set_xlabel("tasks")
-    marks = {label: mark for axes in every[0] for mark, label in zip(*axes.get_legend_handles_labels())}
-    ordered = [it.value for it in BY_RESULT if it.value in marks]
-    figure.legend([marks[it] for it in ordered], ordered, loc="center left", bbox_to_anchor=(0.93, 0.5))
-    return svg(figure, "domains")
+    domains = domains_of(tasks_of(runs))
+    left = 14 + LETTER * min(LONGEST_NAME, max((len(it) for it in domains), default=0))
+    most = max((sum(domain_of(it) == domain for it in run.by_task) for run in runs for domain in domains), default=1)
+    scale, top = Scale(0, most, BARS), 26
+    parts = []
+    for row, domain in enumerate(domains):
+        # The end of a long name is what tells it from others.
+        name = domain if len(domain) <= LONGEST_NAME else f"…{domain[1 - LONGEST_NAME:]}"
+        parts.append(text(left - 8, top + row * ROW + 14, name, anchor="end"))
+    for number, run in enumerate(runs):
+        begin = left + number * (BARS + BETWEEN)
+        parts.append(text(begin, 16, run.name, "label"))
+        parts += counts_below(scale, begin, top, top + len(domains) * ROW)
+        parts += (bar(run, domain, scale, begin, top + row * ROW + 3) for row, domain in enumerate(domains))
+    found = [it for it in RESULTS if any(run.count(it) for run in runs)]
+    keys = legend((result_class(it), '<rect x="-6" y="-5" width="12" height="10"/>', it.value) for it in found)
+    size = left + len(runs) * (BARS + BETWEEN), top + len(domains) * ROW + 44
+    return drawn(*size, parts) + keys
+
+
+def counts_below(scale: Scale, left: float, top: float, bottom: float) -> list[str]:
+    """The axis of how many tasks there are."""
+    ticks = [(left + scale.at(it), shown(it)) for it in scale.ticks(44)]
+    found = [line(x, top, x, bottom + 4, "grid") + text(x, bottom + 17, words, anchor="middle") for x, words in ticks]
+    return [*found, line(left, top, left, bottom, "frame"), text(left + scale.length / 2, bottom + 36, "tasks", "label", "middle")]
+
+
+def bar(run: Lines, domain: str, scale: Scale, left: float, top: float) -> str:
+    """The results of a domain, one behind the other."""
+    parts, begin = [], 0
+    for result in RESULTS:
+        count = run.count(result, domain)
+        if count:
+            x, width = left + scale.at(begin), scale.at(count)
+            what = escape(f"{domain}: {count} {result.value}")
+            parts.append(f'<rect class="{result_class(result)} bar" x="{x:.1f}" y="{top:.1f}" width="{width:.1f}" '
+                         f'height="{FILLED}"><title>{what}</title></rect>')
+            begin += count
+    return "".join(parts)
 
 
 def time_of(line: Line) -> float:
     return max(line.seconds, LEAST_TIME)
 
 
+def check_time_of(line: Line) -> float:
+    return max(line.check.seconds, LEAST_TIME)
+
+
+def states_of(line: Line) -> float | None:
+    return None if line.states is None else max(line.states, 1)
+
+
 def answered_over_time(runs: list[Lines]) -> str:
     """For each run, how many tasks were answered within a time, and how many with a certificate that was accepted."""
-    figure, axes = pyplot.subplots(figsize=(6, 4.2))
-    for run, hue in zip(runs, HUES):
-        steps(axes, [time_of(it) for it in run.answered], color=hue, label=f"{run.name}: answered")
+    curves = []
+    for number, run in enumerate(runs):
+        curves.append((f"{hue_class(number)} curve", f"{run.name}: answered", sorted(map(time_of, run.answered))))
         if run.settings.checker:
-            steps(axes, [time_of(it) + it.check.seconds for it in run.accepted], color=hue, linestyle=(0, (4, 2)),
-                  label=f"{run.name}: and the certificate accepted")
-    axes.set(xscale="log", xlabel="processor time of a task, s", ylabel="tasks", ylim=(0, None))
-    axes.legend(loc="lower right")
-    return svg(figure, "time")
+            times = sorted(time_of(it) + it.check.seconds for it in run.accepted)
+            curves.append((f"{hue_class(number)} curve dashed", f"{run.name}: and the certificate accepted", times))
+    every = [it for _, _, times in curves for it in times]
+    most = max(1, *(len(times) for _, _, times in curves))
+    axes = Axes(logarithmic(every, WIDE), Scale(0, most * 1.04, HIGH), "processor time of a task, s", "tasks within that time")
+    axes.parts += (steps(axes, times, kind) for kind, _, times in curves if times)
+    return axes.svg() + legend((kind, '<path d="M-9 0H9"/>', words) for kind, words, _ in curves)
 
 
-def steps(axes: Axes, times: list[float], **style) -> None:
-    """A line that rises by one at each of these times, up to the greatest of all."""
-    times.sort()
-    axes.plot(times, range(1, len(times) + 1), drawstyle="steps-post", linewidth=1.8, **style)
+def steps(axes: Axes, times: list[float], kind: str) -> str:
+    """A line that rises by one at each of these times, up to the end of the axis."""
+    x, y = axes.place(times[0], 0)
+    path = [f"M{x:.1f} {y:.1f}"]
+    for number, time in enumerate(times, 1):
+        x, y = axes.place(time, number)
+        path.append(f"H{x:.1f}V{y:.1f}")
+    return f'<path class="{kind}" d="{"".join(path)}H{axes.place(axes.x.high, 0)[0]:.1f}"/>'
 
 
-def scatter(axes: Axes, points: list[tuple[str, float, float]], anchors: dict[str, str]) -> None:
-    """A point for each task, by its domain, that leads to the task's row of the page."""
-    domains = sorted({domain_of(task) for task, _, _ in points})
-    for number, domain in enumerate(domains):
-        mine = [it for it in points if domain_of(it[0]) == domain]
-        marks = axes.scatter([x for _, x, _ in mine], [y for _, _, y in mine], s=26, label=domain, alpha=0.85, linewidths=0,
-                             color=HUES[number % len(HUES)], marker=MARKS[number % len(MARKS)])
-        marks.set_urls([f"#{anchors[task]}" for task, _, _ in mine])
-    axes.legend(loc="center left", bbox_to_anchor=(1.02, 0.5), fontsize=8)
+def scatter(axes: Axes, points: list[tuple[str, float, float, str]], anchors: dict[str, str]) -> str:
+    """A mark for each task, by its domain, that leads to the task's row of the page: the legend of the marks."""
+    keys = []
+    for number, domain in enumerate(domains_of(it[0] for it in points)):
+        axes.parts.append(f'<g class="{hue_class(number)} marks">')
+        for task, x, y, words in (it for it in points if domain_of(it[0]) == domain):
+            left, top = axes.place(x, y)
+            place = f' transform="translate({left:.1f} {top:.1f})"'
+            axes.parts.append(f'<a href="#{anchors[task]}"><title>{escape(f"{task}: {words}")}</title>{mark(number, place)}</a>')
+        axes.parts.append("</g>")
+        keys.append((hue_class(number), mark(number), domain))
+    return legend(keys)
 
 
-def against(one: Lines, other: Lines, what: str, value: Callable[[Line], float | None], anchors: dict[str, str]) -> str:
+def against(runs: tuple[Lines, Lines], what: str, value: Value, anchors: dict[str, str]) -> str:
     """What the tasks that two runs share took in each; what one has no answer to stands at the edge beyond the greatest."""
-    rows = [(task, value_in(one, task, value), value_in(other, task, value)) for task in shared(one, other)]
+    rows = [(task, *(value_in(it, task, value) for it in runs)) for task in shared(*runs)]
     rows = [it for it in rows if it[1:] != (None, None)]
-    known = [it for _, *both in rows for it in both if it is not None]
-    figure, axes = pyplot.subplots(figsize=(5, 4.6))
-    if known:
-        least, edge = min(known), max(known) * 4
-        scatter(axes, [(task, x or edge, y or edge) for task, x, y in rows], anchors)
-        axes.plot([least, edge], [least, edge], color="#888888", linewidth=1)
-        for line in (axes.axvline, axes.axhline):
-            line(edge, color="#bbbbbb", linewidth=1, linestyle=":")
-        axes.text(edge, edge * 1.15, "no answer", ha="right", va="bottom", color="#666666", fontsize=8)
-    axes.set(xscale="log", yscale="log", xlabel=f"{what}, {one.name}", ylabel=f"{what}, {other.name}", aspect="equal")
-    return svg(figure, f"{what} {one.name} {other.name}")
+    known = [it for _, *both in rows for it in both if it is not None] or [1, 10]
+    edge = max(known) * 4
+    scale = logarithmic([*known, edge], SQUARE)
+    axes = Axes(scale, scale, *(f"{what}, {it.name}" for it in runs))
+    axes.parts.append(line(*axes.place(scale.low, scale.low), *axes.place(edge, edge), "diagonal"))
+    axes.parts.append(line(*axes.place(edge, scale.low), *axes.place(edge, edge), "edge"))
+    axes.parts.append(line(*axes.place(scale.low, edge), *axes.place(edge, edge), "edge"))
+    (left, top), (right, bottom) = axes.place(scale.low, edge), axes.place(edge, scale.low)
+    axes.parts.append(text(left + 6, top - 6, f"no answer in {runs[1].name}", "quiet"))
+    axes.parts.append(text(right + 13, bottom - 6, f"no answer in {runs[0].name}", "quiet", turned=True))
+    told = lambda it: "no answer" if it is None else shown(it)
+    keys = scatter(axes, [(task, x or edge, y or edge, f"{told(x)} and {told(y)}") for task, x, y in rows], anchors)
+    return axes.svg() + keys
 
 
-def value_in(run: Lines, task: str, value: Callable[[Line], float | None]) -> float | None:
+def value_in(run: Lines, task: str, value: Value) -> float | None:
     line = run.by_task[task]
     return value(line) if line.is_answered else None
 
 
-def of_one(run: Lines, heading: tuple[str, str], x: Callable[[Line], float | None], y: Callable[[Line], float | None],
-           anchors: dict[str, str], has_diagonal: bool) -> str:
+def of_one(run: Lines, labels: tuple[str, str], values: tuple[Value, Value], anchors: dict[str, str]) -> str:
     """Two figures of each task that a run has answered, against each other."""
-    figure, axes = pyplot.subplots(figsize=(5, 4.6))
-    points = [(it.task, x(it), y(it)) for it in run.answered]
+    points = [(it.task, *(value(it) for value in values)) for it in run.answered]
     points = [it for it in points if None not in it]
-    if points:
-        scatter(axes, points, anchors)
-        if has_diagonal:
-            ends = [edge(it for _, *both in points for it in both) for edge in (min, max)]
-            axes.plot(ends, ends, color="#888888", linewidth=1)
-    axes.set(xscale="log", yscale="log", xlabel=heading[0], ylabel=heading[1])
-    return svg(figure, " ".join(heading))
+    axes = Axes(*(logarithmic([it[number] for it in points], SQUARE) for number in (1, 2)), *labels)
+    return scattered(axes, points, anchors)
+
+
+def checking_and_solving(run: Lines, anchors: dict[str, str]) -> str:
+    """What it took to solve each task and to check its certificate, with the line on which both are the same."""
+    points = [(it.task, time_of(it), check_time_of(it)) for it in run.answered if it.check]
+    scale = logarithmic((it for _, *both in points for it in both), SQUARE)
+    axes = Axes(scale, scale, "to solve, s of a processor", "to check, s of a processor")
+    axes.parts.append(line(*axes.place(scale.low, scale.low), *axes.place(scale.high, scale.high), "diagonal"))
+    return scattered(axes, points, anchors)
+
+
+def scattered(axes: Axes, points: list[tuple[str, float, float]], anchors: dict[str, str]) -> str:
+    """A plot of these points, each told by its two figures."""
+    keys = scatter(axes, [(task, x, y, f"{shown(x)} and {shown(y)}") for task, x, y in points], anchors)
+    return axes.svg() + keys

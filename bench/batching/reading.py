@@ -6,7 +6,7 @@ import os
 import sys
 from dataclasses import dataclass
 from itertools import combinations
-from typing import Iterator
+from typing import Iterable, Iterator
 
 from batching.layouts import in_order
 from batching.lines import Line, Result, read_lines
@@ -62,9 +62,20 @@ def tasks_of(runs: list[Lines]) -> list[str]:
     return sorted({task for run in runs for task in run.by_task}, key=in_order)
 
 
+def domains_of(tasks: Iterable[str]) -> list[str]:
+    """What stands before the last slash of these tasks' names, in the order of names."""
+    return sorted({domain_of(it) for it in tasks}, key=in_order)
+
+
 def shared(one: Lines, other: Lines) -> list[str]:
     """The tasks of the same texts that two runs have."""
     return [task for task in tasks_of([one]) if task in other.by_task and one.by_task[task].texts == other.by_task[task].texts]
+
+
+def with_other_texts(runs: list[Lines]) -> list[str]:
+    """The tasks whose texts are not the same in all of these runs."""
+    texts = {task: {run.by_task[task].texts for run in runs if task in run.by_task} - {None} for task in tasks_of(runs)}
+    return [task for task, found in texts.items() if len(found) > 1]
 
 
 def is_over(bound: Line, plan: Line) -> bool:

@@ -7,11 +7,12 @@ import ctypes
 import json
 import os
 import platform
+import re
 import resource
 import signal
 
 from batching.layouts import Task
-from batching.lines import ANSWERS, Check, Line, Result
+from batching.lines import ANSWERS, Check, Explained, Line, Result
 from batching.runs import Program, Settings, texts_sum
 from timing import Ended, ended, processor
 
@@ -29,6 +30,11 @@ BY_STATUS = {
 }
 # The status of `check` where a certificate, or the plan beside it, is not accepted.
 REFUSED_BY_CHECK = 12
+# The first line of `explain` where a text is refused, and the lines of the text that it tells next.
+PLACE = re.compile(r"(.*):(\d+):(\d+): fault \d+ \w+")
+MARKED = re.compile(r" *\d* \|")
+# A name between backquotes may have a full stop.
+SENTENCE = re.compile(r"(?:`[^`]*`|[^`])*?\.(?= |$)")
 BY_REASON = {"states": Result.STATES, "instances": Result.INSTANCES, "atoms": Result.ATOMS}
 
 
@@ -84,6 +90,18 @@ def fault_of(end: Ended) -> str | None:
     return next(iter(end.errors.splitlines()), signalled)
 
 
+def explained(task: Task, settings: Settings) -> Explained | None:
+    """Where a text that was refused is at fault, and the first sentence on it; None where the program does not tell."""
+    words = [settings.program.path, "explain", task.domain, task.problem, "--instances", str(settings.instances)]
+    first, *others = within_limits(words, settings).output.split("\n")
+    place = PLACE.match(first)
+    if place is None:
+        return None
+    told = next((it for it in others if not MARKED.match(it)), "")
+    sentence = SENTENCE.match(told)
+    return Explained(place[1], int(place[2]), int(place[3]), sentence[0] if sentence else told)
+
+
 def check(task: Task, settings: Settings, cert: str, plan: str | None, claim: dict) -> Check:
     """Has the checker judge a certificate, which is to show just this claim."""
     words = [settings.checker.path, "check", task.domain, task.problem, cert, "--instances", str(settings.instances), "--json"]
@@ -126,6 +144,8 @@ def outcome(task: Task, settings: Settings, folder: str) -> Line:
         keys.update(judged(task, settings, claim, plan if has_plan else None, cert))
     if result not in ANSWERS:
         keys.update(fault=fault_of(end), bound=told(end).get("bound"))
+    if result is Result.REFUSED:
+        keys.update(explained=explained(task, settings))
     return Line(task.name, result, **keys)
 
 

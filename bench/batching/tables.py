@@ -1,0 +1,60 @@
+"""The tables of a report."""
+
+from __future__ import annotations
+
+import os
+from html import escape
+from typing import Iterable
+
+from batching.lines import ANSWERS, Line, Result
+from batching.reading import Lines, domain_of, domains_of, tasks_of, with_other_texts
+
+
+def row(cells: Iterable[object], kind: str = "td", attributes: str = "") -> str:
+    return f"<tr{attributes}>" + "".join(f"<{kind}>{it}</{kind}>" for it in cells) + "</tr>"
+
+
+def by_domain(runs: list[Lines]) -> str:
+    """A table of how many tasks of each domain had which result."""
+    domains = domains_of(tasks_of(runs))
+    results = [it for it in Result if it not in ANSWERS and any(run.count(it) for run in runs)]
+    heads = ["answered", *(it.value for it in results), "accepted"]
+    group = "".join(f'<th colspan="{len(heads)}">{escape(run.name)}</th>' for run in runs)
+    lines = [f'<tr class="group"><th></th><th></th>{group}</tr>', row(["domain", "tasks", *heads * len(runs)], "th")]
+    for domain in [*domains, None]:
+        cells: list[object] = ["all" if domain is None else escape(domain)]
+        cells.append(sum(domain in (None, domain_of(it)) for it in tasks_of(runs)))
+        for run in runs:
+            is_here = lambda it: domain in (None, domain_of(it.task))
+            has_any = any(map(is_here, run.by_task.values()))
+            cells.append(sum(map(is_here, run.answered)) if has_any else "")
+            cells += [run.count(it, domain) or "" for it in results]
+            cells.append(sum(map(is_here, run.accepted)) if has_any and run.settings.checker else "")
+        lines.append(row(cells, attributes=' class="sum"' if domain is None else ""))
+    return f'<div class="wide"><table>{"".join(lines)}</table></div>'
+
+
+def cells_of(line: Line | None) -> list[object]:
+    """What the table of all tasks has of a line."""
+    if line is None:
+        return ["", "", "", "", "", "", ""]
+    known = lambda value, form: "" if value is None else format(value, form)
+    verdict = "" if line.check is None else "accepted" if line.check.accepted else f"not accepted: {escape(line.check.verdict)}"
+    cost = f"at least {line.bound:,}" if line.cost is None and line.bound is not None else known(line.cost, ",")
+    memory = None if line.peak_bytes is None else line.peak_bytes / 1e6
+    where = f", {escape(os.path.basename(line.explained.place))}" if line.explained else ""
+    return [line.result.value + where, cost, known(line.seconds, ",.2f"), known(memory, ",.0f"), known(line.states, ","),
+            known(line.certificate_bytes, ","), verdict]
+
+
+def all_tasks(runs: list[Lines], anchors: dict[str, str]) -> str:
+    """A table with a row for each task. A name that stands for other texts in another run is marked."""
+    heads = ["result", "cost", "s", "MB", "states", "certificate, bytes", "check"]
+    group = "".join(f'<th colspan="{len(heads)}">{escape(run.name)}</th>' for run in runs)
+    lines = [f'<tr class="group"><th></th>{group}</tr>', row(["task", *heads * len(runs)], "th")]
+    marked = {*with_other_texts(runs)}
+    for task, anchor in anchors.items():
+        cells = (cell for run in runs for cell in cells_of(run.by_task.get(task)))
+        name = escape(task) + ('<span class="otherwise">texts differ</span>' if task in marked else "")
+        lines.append(row([name, *cells], attributes=f' id="{anchor}"'))
+    return f'<div class="wide"><table>{"".join(lines)}</table></div>'
