@@ -1,4 +1,5 @@
 pub mod WordLemmas
+pub mod LaneLemmas
 pub mod PackedLemmas
 pub mod NextLemmas
 pub mod NumberLemmas

@@ -1,5 +1,6 @@
 pub mod Sets
 pub mod Words
+pub mod Lanes
 pub mod Packed
 pub mod Store
 pub mod PlainStore

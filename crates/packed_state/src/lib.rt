@@ -1,6 +1,7 @@
 //! Sets of numbers packed into words of 64 bits.
 #![tactic(auto)]
 
+mod lanes;
 mod packed;
 mod plain;
 mod pool;

@@ -190,7 +190,7 @@ impl PartialEq for Packed {
     ghost laws = { Prim.search (comparing, rules) };
 
     fn eq(&self, other: &Packed) -> bool {
-        self.width == other.width && self.words == other.words
+        self.width == other.width && words::are_same(&self.words, &other.words)
     }
 }
 

@@ -4,6 +4,7 @@ ghost use Rattle.packed_state.specs.Pool.{row_at, mixed, key_of};
 ghost use Rattle.packed_state.specs.Table.{number_of, tag_in, tag_of, IsFirstFree, IsTable};
 
 use crate::table::{FREE, Table, has_tag, number, tag};
+use crate::words::are_same;
 use faults::NoMemory;
 use std::alloc::Global;
 
@@ -137,13 +138,6 @@ impl Pool {
         }
         Ok(table)
     }
-}
-
-/// Whether these are the same words.
-fn are_same(words: &[u64], others: &[u64]) -> bool
-    ensures { IsTrue result ↔ (words.now ≡ others.now) }
-{
-    words == others
 }
 
 /// The key of these words, mixed once more behind the last of them: its lowest bits choose the slot.

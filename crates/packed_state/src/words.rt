@@ -3,6 +3,7 @@ ghost use Rattle.std.specs.Prelude.{◌≡◌, ℕ, true, false, ◌+◌, ◌*�
 ghost use Rattle.std.specs.List.{filter, range_with_len};
 ghost use Rattle.packed_state.specs.Words.{word_has, numbers_of_word, BeginsWith};
 
+use crate::lanes::{self, Includes, IsApart, IsSame, all};
 use faults::NoMemory;
 
 /// How many words the numbers below `width` need.
@@ -65,12 +66,7 @@ pub(crate) fn includes(words: &[u64], part: &[u64]) -> bool
     requires { length words.now ≡ length part.now }
     ensures { IsTrue result ↔ ((k : ℕ) → IsTrue (word_has part.now k) → IsTrue (word_has words.now k)) }
 {
-    'parts: for place in 0..words.len() {
-        if part[place] & !words[place] != 0 {
-            return false;
-        }
-    }
-    true
+    all::<Includes>(words, part)
 }
 
 /// Whether no number is in both.
@@ -78,12 +74,14 @@ pub(crate) fn are_disjoint(words: &[u64], others: &[u64]) -> bool
     requires { length words.now ≡ length others.now }
     ensures { IsTrue result ↔ ((k : ℕ) → ¬ (IsTrue (word_has words.now k) × IsTrue (word_has others.now k))) }
 {
-    'shared: for place in 0..words.len() {
-        if words[place] & others[place] != 0 {
-            return false;
-        }
-    }
-    true
+    all::<IsApart>(words, others)
+}
+
+/// Whether these are the same words.
+pub(crate) fn are_same(words: &[u64], others: &[u64]) -> bool
+    ensures { IsTrue result ↔ (words.now ≡ others.now) }
+{
+    words.len() == others.len() && all::<IsSame>(words, others)
 }
 
 /// Takes the numbers of `deletes` out, and then puts those of `adds` in.
@@ -94,9 +92,7 @@ pub(crate) fn change(words: &mut [u64], deletes: &[u64], adds: &[u64])
     ensures small { (place : ℕ) → slice_index words.new place < 2 ^ 64 }
     ensures has { (k : ℕ) → word_has words.new k ≡ ((word_has words.old k && not (word_has deletes.now k)) || word_has adds.now k) }
 {
-    'words: for place in 0..words.len() {
-        words[place] = words[place] & !deletes[place] | adds[place];
-    }
+    lanes::change(words, deletes, adds);
 }
 
 /// Adds the numbers that are in, rising, to those of `into`. Where memory was refused, some of them are added.

@@ -1,16 +1,11 @@
-use Rattle.std.proofs.Common.{refl, arith}
 use mir.Facts.{Fits-lt-pow}
 use Rattle.packed_state.proofs.WordLemmas.{included_words, not_included}
 use Rattle.packed_state.proofs.words.includes.Goals as goal
 
-pub returns-then-part-place-ne0 : goal.returns-then-part-place-ne0
-returns-then-part-place-ne0 c = (
-  λ is. absurd (cc),
-  λ each. absurd (c.if-part-place-ne0.true (not_included c.args.words.now c.args.part.now c.parts.place (Fits-lt-pow (c.type_inv.words c.parts.place)) (Fits-lt-pow (c.type_inv.part c.parts.place)) each)),
-)
-
 pub returns : goal.returns
-returns c = (
-  λ _. included_words c.args.words.now c.args.part.now c.requires (λ place. Fits-lt-pow (c.type_inv.words place)) (λ k within. c.parts.invariant k (omega arith)),
-  λ _. refl,
-)
+returns c =
+    let words = c.args.words.now in
+    let part = c.args.part.now in (
+      λ is. included_words words part c.requires (λ place. Fits-lt-pow (c.type_inv.words place)) (λ place within. c.all.ensures.0 is place (rw (← c.requires) within)),
+      λ each. c.all.ensures.1 (λ place _. not_included words part place (Fits-lt-pow (c.type_inv.words place)) (Fits-lt-pow (c.type_inv.part place)) each),
+    )

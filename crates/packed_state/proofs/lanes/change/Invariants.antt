@@ -1,0 +1,11 @@
+use Rattle.std.proofs.Common.{◌≡◌, ℕ, ◌*◌, ◌<◌, ◌≤◌, length, get_or, w64}
+use Rattle.std.specs.Prelude.{bit_and, bit_or}
+use Rattle.std.specs.Int.{bit_not}
+use Rattle.packed_state.proofs.LaneLemmas.{IsChangedTo}
+use Rattle.packed_state.proofs.lanes.change.Given as goal
+
+abbrev pub invariant-chunks : goal.invariant-chunks
+invariant-chunks l = IsChangedTo (8 * l.place) l.fn.words l.deletes l.adds l.words
+
+abbrev pub invariant-rest : goal.invariant-rest
+invariant-rest l = IsChangedTo l.place l.fn.words l.deletes l.adds l.words
