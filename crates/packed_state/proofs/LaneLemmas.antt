@@ -1,6 +1,6 @@
 -- What vectors tell of the words in their lanes, and chunks of the words of a whole.
 use Rattle.std.proofs.Common.{◌≡◌, ◌∙◌, ℕ, zero, suc, ◌+◌, ◌-◌, ◌*◌, ◌<◌, ◌≤◌, List, [], ◌∷◌, length, get_or, map, ◌/◌, ◌%◌, refl, sym, ap, subst, inl, inr, arith, w64, ◌↔◌, eqb-true, eq-eqb}
-use Rattle.std.specs.Prelude.{take, drop, bit_and, bit_or, IsTrue, ◌==◌}
+use Rattle.std.specs.Prelude.{drop, bit_and, bit_or, IsTrue, ◌==◌}
 use Rattle.std.specs.Int.Bits.{bit_xor, xor_self, xor_add_and}
 use Rattle.std.specs.Simd.{first_chunks}
 use Rattle.std.specs.Simd.Lanes.{chunk, fold_l, put_chunk, zip2}

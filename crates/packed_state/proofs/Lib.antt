@@ -6,6 +6,5 @@ pub mod NumberLemmas
 pub mod Equality
 pub mod StoreLemmas
 pub mod PlainLemmas
-pub mod TableLemmas
 pub mod PoolLemmas
 pub mod PoolSearch

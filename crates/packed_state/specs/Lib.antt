@@ -4,7 +4,6 @@ pub mod Lanes
 pub mod Packed
 pub mod Store
 pub mod PlainStore
-pub mod Table
 pub mod Pool
 pub mod PooledStore
 pub mod PooledView

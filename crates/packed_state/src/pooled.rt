@@ -16,12 +16,8 @@ use std::alloc::Global;
 pub struct PooledStore {
     width: u32,
     pool: Pool,
-    alloc: Global,
     ghost pooled: { IsPoolOf width pool } by { Prim.hlevel props },
 }
-
-/// How many slots a new store's table has, a power of two: it grows by doubling, and keys choose slots by their lowest bits.
-const FIRST_SLOTS: usize = 64;
 
 impl PooledStore {
     ghost use Rattle.packed_state.specs.Store.{IsPlaced};
@@ -33,8 +29,8 @@ impl PooledStore {
         ensures width { IfOk result (λ store. pooled_width store ≡ width) }
         ensures states { IfOk result (λ store. pooled_states store ≡ []) }
     {
-        let pool = Pool::new(alloc, words::words_for(width), FIRST_SLOTS)?;
-        Ok(PooledStore { width, pool, alloc })
+        let pool = Pool::new(alloc, words::words_for(width));
+        Ok(PooledStore { width, pool })
     }
 
     /// The place of the state with these words, and whether it was new.
@@ -46,11 +42,10 @@ impl PooledStore {
         ensures err { OnErr result (rows_of self.new.pool ≡ rows_of self.old.pool) }
     {
         let place = self.pool.len() as u32;
-        self.pool.make_room(self.alloc)?;
         match self.pool.look_up(words) {
             Ok(place) => Ok((place, false)),
-            Err(slot) => {
-                self.pool.push(words, slot)?;
+            Err(key) => {
+                self.pool.push(words, key)?;
                 Ok((place, true))
             }
         }

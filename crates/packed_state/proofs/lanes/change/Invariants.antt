@@ -1,6 +1,4 @@
-use Rattle.std.proofs.Common.{◌≡◌, ℕ, ◌*◌, ◌<◌, ◌≤◌, length, get_or, w64}
-use Rattle.std.specs.Prelude.{bit_and, bit_or}
-use Rattle.std.specs.Int.{bit_not}
+use Rattle.std.proofs.Common.{◌*◌}
 use Rattle.packed_state.proofs.LaneLemmas.{IsChangedTo}
 use Rattle.packed_state.proofs.lanes.change.Given as goal
 
