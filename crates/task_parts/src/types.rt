@@ -60,32 +60,3 @@ pub fn check_all(
     }
     Ok(())
 }
-
-/// All types that the objects of a type are of: itself and those above it, up to `object`. None where the number is
-/// beyond the last.
-pub fn supertypes(types: &IndexMap<Vec<u8>, Vec<TypeId>>, id: TypeId) -> &[TypeId]
-    ensures { map parts.type_of result.now ≡ supertypes_in (map parts.type_entry_of types.now.entries) id.0 }
-{
-    match types.get_index(id.0 as usize) {
-        Some((_, supertypes)) => supertypes.as_slice(),
-        None => &[],
-    }
-}
-
-/// Whether the type is one of these or stands below one of them.
-pub fn is_below(types: &IndexMap<Vec<u8>, Vec<TypeId>>, wanted: &TypeUnion, id: TypeId) -> bool
-    ensures { result ≡ is_below_in (map parts.type_entry_of types.now.entries) (parts.union_of wanted.now) id.0 }
-{
-    supertypes(types, id).iter().any(|above| wanted.has(*above))
-}
-
-/// Whether each of some types is one of these or stands below one of them.
-pub(crate) fn all_below(
-    types: &IndexMap<Vec<u8>, Vec<TypeId>>,
-    wanted: &TypeUnion,
-    some: &[TypeId],
-) -> bool
-    ensures { result ≡ list_all (is_below_in (map parts.type_entry_of types.now.entries) (parts.union_of wanted.now)) (map parts.type_of some.now) }
-{
-    some.iter().all(|id| is_below(types, wanted, *id))
-}
