@@ -3,11 +3,11 @@ use Rattle.std.specs.Prelude.{◌≡◌, ℕ, List, [], ◌∷◌, map, take, �
 use Rattle.std.specs.Global.{Vec}
 use Rattle.std.specs.Map.{keys_of}
 use Rattle.std.specs.Option.{option_map_or}
-use Rattle.task_parts.specs.declared.schemas.TypeUnion.{TypeUnion}
+use Rattle.task.specs.declared.schemas.TypeUnion.{TypeUnion}
 use Rattle.task_parts.specs.declared.scope.Globals.{Globals}
 use Rattle.task_parts.specs.declared.scope.Scope.{Scope}
 pub use Rattle.task.specs.Names.{keys_in, names_in}
-use Rattle.task_parts.specs.TaskParts.{object_entry_of, predicate_of, type_entry_of, union_of}
+use Rattle.task.specs.TaskParts.{object_entry_of, predicate_of, type_entry_of, union_of}
 use Rattle.model.specs.Task as task
 use Rattle.model.specs.Trees as tree
 use Rattle.model.specs.Trees.{File}

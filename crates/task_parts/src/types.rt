@@ -1,21 +1,20 @@
-//! Types that are not known, and what types stand below.
+//! Types that are not known.
 ghost use Rattle.std.specs.Prelude.{◌≡◌, map, OnOk};
-ghost use Rattle.task_parts.specs.TaskParts as parts;
 ghost use Rattle.task_parts.specs.TypedLists.{declared_of};
 ghost use Rattle.task_parts.specs.Scope.{keys_in};
 ghost use Rattle.syntax_tree.specs.Tree.{file_of};
 ghost use Rattle.task_parts.specs.Walk.{Finds};
 ghost use Rattle.syntax_tree.specs.Tree as read;
-ghost use Rattle.model.specs.Meaning.{is_below_in, supertypes_in};
 ghost use Rattle.model.specs.Typing as typing;
-ghost use Rattle.std.specs.List.{flat_map, list_all};
+ghost use Rattle.std.specs.List.{flat_map};
 
+use crate::TaskFile;
 use crate::typed_lists::Declared;
 use crate::walk::Walk;
-use crate::{TaskFile, TypeId, TypeUnion};
 use faults::{Code, NoMemory};
 use indexmap::IndexMap;
 use syntax_tree::Name;
+use task::TypeId;
 
 /// A type that is not known is refused.
 fn check_type(

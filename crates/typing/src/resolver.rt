@@ -48,11 +48,7 @@ impl FromTrees for Task {
 }
 
 /// The task of a domain and a problem, which are kept.
-fn of_trees(
-    alloc: Global,
-    domain: &Domain<'_>,
-    problem: &Problem<'_>,
-) -> Result<Task, TaskFault>
+fn of_trees(alloc: Global, domain: &Domain<'_>, problem: &Problem<'_>) -> Result<Task, TaskFault>
     ensures well_typed { OnOk result (ListsNoFault (domain_of domain.now) (problem_of problem.now)) }
     ensures task { IfOk result (λ t. task_of t ≡ task_of_trees (domain_of domain.now) (problem_of problem.now)) }
     ensures least { IfErr result (TellsLeastFault (domain_of domain.now) (problem_of problem.now)) }

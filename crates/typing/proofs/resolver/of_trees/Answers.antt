@@ -1,6 +1,6 @@
 use Rattle.std.proofs.Common.{◌≡◌, List, [], ◌∙◌, map, ap, sym, subst}
 use Rattle.syntax_tree.specs.Tree.{domain_of, problem_of, name_of}
-use Rattle.task_parts.specs.TaskParts.{task_of_parts}
+use Rattle.task.specs.TaskParts.{task_of_parts}
 use Rattle.typing.specs.Task.{TellsLeastFault, TellsLeastOf}
 use Rattle.typing.specs.Names.{domain_faults, known_by, stated_faults_in, AreContents, AreDeclared, AreTypesOf, Starts}
 use Rattle.typing.specs.Objects.{AreObjects, AreObjectsOf}
@@ -11,11 +11,11 @@ use Rattle.model.specs.Task.{Name}
 use Rattle.model.specs.Trees.{problem_file, Domain, Problem}
 use Rattle.model.specs.Typing.{object_faults, objects_faults, declared_objects, declared_constants, known_in_problem, object_in, type_names}
 use Rattle.task_parts.proofs.Tells.{tells_here, tells_later}
-use Rattle.typing.proofs.Tasks.{made_by_phases, told_of_types, told_of_contents, IsMade}
+use Rattle.typing.proofs.Tasks.{made_by_phases, told_of_types, told_of_contents, parts_of, IsMade}
 use Rattle.typing.proofs.Costs.{is_some-map}
 use Rattle.faults.proofs.Results.{passed_on}
-use Rattle.typing.proofs.task.Task.of_trees.Goals.{After-is_some}
-use Rattle.typing.proofs.task.Task.of_trees.Goals as goal
+use Rattle.typing.proofs.resolver.of_trees.Goals.{After-is_some}
+use Rattle.typing.proofs.resolver.of_trees.Goals as goal
 
 no_object : {ns : List Name} {d : Domain} {p : Problem} {o : Objects} → AreObjects ns d p o → ns ≡ type_names d → object_faults d p ≡ []
 no_object {d = d} {p = p} are same = sym (ap (λ ns. objects_faults ns (declared_objects d p)) same) ∙ are.right
@@ -69,7 +69,7 @@ returns-in_err-start-clause-least c =
     (tells_later (object_faults d p) _ (no_object c.in_ok-objects.ensures.ok types.names) e
     (tells_later (domain_faults d p) _ c.in_ok-names.ensures.ok.0 e (tells_here (stated_faults_in problem_file (known_in_problem d p) p) [] e told))))
 
-made : (c : After-is_some) → IsMade (domain_of c.args.domain.now) (problem_of c.args.problem.now) (task_of_parts c.in_ok-types.types.by_name.entries c.in_ok-objects.objects.all.entries c.in_ok-names.names.predicates.entries c.in_ok-names.names.functions.entries c.in_ok-names.names.schemas.entries c.in_ok-start.start.init.items c.in_ok-start.start.values.entries c.in_ok-start.start.goal c.is_some.result)
+made : (c : After-is_some) → IsMade (domain_of c.args.domain.now) (problem_of c.args.problem.now) (task_of_parts (parts_of c.in_ok-types.types c.in_ok-objects.objects c.in_ok-names.names c.in_ok-start.start c.is_some.result))
 made c =
     let d = domain_of c.args.domain.now in let p = problem_of c.args.problem.now in
     let types = c.in_ok-types.ensures.ok.1 in let objects = objects_named c.in_ok-objects.ensures.ok types.names in let names = c.in_ok-names.ensures.ok in
@@ -83,8 +83,8 @@ made c =
     made_by_phases d p c.in_ok-types.ensures.ok.0 c.in_ok-types.types types c.in_ok-objects.objects c.in_ok-names.names c.in_ok-start.start contents
     c.is_some.result (c.is_some.ensures ∙ sym (is_some-map name_of c.args.problem.now.metric))
 
-pub invariant_of-result : goal.invariant_of-result
-invariant_of-result c = record { few_types = c.in_ok-types.types.few; few_objects = c.in_ok-objects.objects.few; well_typed = (made c).typed }
+pub from_parts-requires : goal.from_parts-requires
+from_parts-requires c = record { few_types = c.in_ok-types.types.few; few_objects = c.in_ok-objects.objects.few; well_typed = (made (goal.at.from_parts-requires c).After-is_some).typed }
 
 pub returns-clause-well_typed : goal.returns-clause-well_typed
 returns-clause-well_typed c = (made (goal.at.returns-clause-well_typed c).After-is_some).well_typed

@@ -6,7 +6,7 @@ use Rattle.syntax_tree.specs.Tree.{domain_of, problem_of}
 use Rattle.typing.specs.Task.{TaskFault, TellsFault, TellsLeastFault, refusal_of}
 use Rattle.model.specs.Trees.{Domain, Problem}
 use Rattle.model.proofs.TypingFaultsTold.{well_typed, told}
-use Rattle.typing.proofs.task.Task.new.Goals as goal
+use Rattle.typing.proofs.resolver.TaskFromTrees.new.Goals as goal
 
 pub returns-clause-well_typed : goal.returns-clause-well_typed
 returns-clause-well_typed c =
