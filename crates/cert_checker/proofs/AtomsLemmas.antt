@@ -7,8 +7,8 @@ use Rattle.std.proofs.lemmas.List.{map-append}
 use Rattle.std.proofs.lemmas.List.Folds.{list_any_at}
 use Rattle.std.proofs.lemmas.Map.Views.{Contains-from_any}
 use Rattle.indexmap.specs.IndexSet.{insert_key}
-use Rattle.task_parts.specs.declared.atoms.Atom as code
-use Rattle.typing.specs.TaskParts.{atom_of}
+use Rattle.task.specs.declared.atoms.Atom as code
+use Rattle.task.specs.TaskParts.{atom_of}
 use Rattle.formulas.proofs.Equality.{atom_eq, equal_atoms, same_atoms, one_atom}
 use Rattle.model.specs.Task.{Atom, Task}
 use Rattle.model.specs.WellTyped.{is_atom}

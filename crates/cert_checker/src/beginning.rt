@@ -1,6 +1,6 @@
 //! What a certificate says before its states, read line by line.
 ghost use Rattle.std.specs.Prelude.{◌≡◌, pos, ◌+◌, ◌++◌, ◌∷◌, [], IfErr, IfOk, List, OnOk, length};
-ghost use Rattle.typing.specs.Task.{task_of};
+ghost use Rattle.task.specs.Task.{task_of};
 ghost use Rattle.model.specs.Task as model;
 ghost use Rattle.certificate_reader.specs.Lines.{named_atom_of, text_line_of, weights_of};
 ghost use Rattle.certificate_definitions.specs.CertificateNames.{of_dead_end_or_zero};
@@ -16,7 +16,7 @@ use certificate::{Beginning, CertLine, CertReader, Claim, NamedAtom, Potential, 
 use devices::Source;
 use indexmap::IndexSet;
 use std::alloc::Global;
-use typing::Task;
+use task::Task;
 
 /// What no lines have told: version 1, a bound of 0, which is always true, and the constants 0, until their lines come.
 fn nothing_told(alloc: Global) -> Beginning

@@ -3,7 +3,7 @@
 ghost use Rattle.std.specs.Prelude.{◌≡◌, ℕ, List, Some, None, IsTrue, IfErr, IfOk, OnOk, length};
 ghost use Rattle.std.specs.List.{list_all};
 ghost use Rattle.std.specs.Option.{ForSome, option_map};
-ghost use Rattle.typing.specs.Task.{task_of};
+ghost use Rattle.task.specs.Task.{task_of};
 ghost use Rattle.formulas.specs.State.{plan_of};
 ghost use Rattle.model.specs.Meaning.{is_instance};
 ghost use Rattle.certificate_definitions.specs.CertificateChecking.{IsAccepted};
@@ -29,7 +29,7 @@ use certificate::{CertReader, Listing};
 use devices::Source;
 use formulas::Plan;
 use std::alloc::Global;
-use typing::Task;
+use task::Task;
 
 /// What an accepted certificate shows.
 #[derive(Clone, Copy, Debug, PartialEq, Eq)]

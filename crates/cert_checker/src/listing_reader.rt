@@ -1,6 +1,6 @@
 //! A certificate of a task, read from its text.
 ghost use Rattle.std.specs.Prelude.{IfErr, IfOk};
-ghost use Rattle.typing.specs.Task.{task_of};
+ghost use Rattle.task.specs.Task.{task_of};
 ghost use Rattle.certificate_reader.specs.Reader.{source_of};
 ghost use Rattle.cert_checker.specs.Reading.{CountsRefusal, IsFresh, IsLineRefusal, IsRead};
 ghost use Rattle.certificate.specs.Listing.{certificate_in};
@@ -11,7 +11,7 @@ use crate::refusal::Refusal;
 use certificate::{CertReader, Listing, States};
 use devices::Source;
 use std::alloc::Global;
-use typing::Task;
+use task::Task;
 
 /// Reads a certificate, and keeps of each line what it says of the task.
 ///

@@ -1,7 +1,7 @@
 //! Atoms by their names.
 ghost use Rattle.std.specs.Prelude.{◌≡◌, ℕ, ◌≤◌, IfNone, IfSome, IsTrue, List, length, map};
-ghost use Rattle.typing.specs.Task.{task_of};
-ghost use Rattle.typing.specs.TaskParts.{atom_of, object_of};
+ghost use Rattle.task.specs.Task.{task_of};
+ghost use Rattle.task.specs.TaskParts.{atom_of, object_of};
 ghost use Rattle.model.specs.Task as model;
 ghost use Rattle.model.specs.WellTyped.{is_atom};
 ghost use Rattle.model.specs.Fluents.{is_fluent};
@@ -13,7 +13,7 @@ ghost use Rattle.certificate_definitions.specs.CertificateChecking.{NamesFluent}
 use arrayvec::ArrayVec;
 use certificate::NamedAtom;
 use formulas::is_fluent_atom;
-use typing::{Atom, MAX_ARGUMENTS, ObjectId, Task};
+use task::{Atom, MAX_ARGUMENTS, ObjectId, Task};
 
 /// The atom of the task that has these names, if it is well-typed and some action changes its predicate.
 pub(crate) fn fluent_atom_named(task: &Task, name: &NamedAtom) -> Option<Atom>

@@ -1,7 +1,7 @@
 -- The parts of the code's certificates, in the model's terms.
 use Rattle.std.specs.Prelude.{List, map}
-use Rattle.task_parts.specs.declared.atoms.Atom.{Atom}
-use Rattle.task_parts.specs.TaskParts.{atom_of}
+use Rattle.task.specs.declared.atoms.Atom.{Atom}
+use Rattle.task.specs.TaskParts.{atom_of}
 use Rattle.certificate_reader.specs.declared.line.Claim.{Claim}
 use Rattle.certificate_reader.specs.declared.line.StateLine.{StateLine}
 use Rattle.certificate_reader.specs.declared.line.Version.{Version}

@@ -1,6 +1,6 @@
 -- A listing's certificate, by its parts.
 use Rattle.std.specs.Prelude.{map}
-use Rattle.typing.specs.TaskParts.{atom_of}
+use Rattle.task.specs.TaskParts.{atom_of}
 use Rattle.packed_state.specs.PooledView.{pooled_states}
 use Rattle.potential_functions.specs.PotentialFunctions.{PotentialFunction}
 use Rattle.certificate_definitions.specs.Certificates.{Certificate}

@@ -10,7 +10,7 @@ use crate::listing_parts::Potential;
 use certificate_reader::{
     Claim, MAX_ATOMS, MAX_STATE_LINES, MAX_WEIGHT, Mark, NUMBER_LIMIT, StateLine, Version,
 };
-use task_parts::Atom;
+use task::Atom;
 
 /// A claim with the potential functions and the listing of states that are to show it, within the limits of a certificate's
 /// text: at most 1,048,576 atoms, with a weight for each in both functions, and 16,777,216 state lines, each constant and each
@@ -31,7 +31,7 @@ impl Cert {
     ghost use Rattle.std.specs.Prelude.{is_some, IfSome, ◌≤◌};
     ghost use Rattle.certificate.specs.Certificate.{certificate_of};
     ghost use Rattle.certificate_reader.specs.declared.line.TheConstants.{MAX_ATOMS, MAX_STATE_LINES};
-    ghost use Rattle.task_parts.specs.TaskParts.{atom_of};
+    ghost use Rattle.task.specs.TaskParts.{atom_of};
 
     /// The certificate of these parts, and `None` where they exceed a limit of a certificate's text.
     pub fn new(

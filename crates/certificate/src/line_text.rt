@@ -2,8 +2,8 @@
 ghost use Rattle.std.specs.Prelude.{◌≡◌, ◌++◌, map, OnOk};
 ghost use Rattle.std.specs.List.{flat_map};
 ghost use Rattle.std.specs.Fmt.{decimal, signed_decimal};
-ghost use Rattle.typing.specs.Task.{task_of};
-ghost use Rattle.typing.specs.TaskParts.{atom_of, object_of};
+ghost use Rattle.task.specs.Task.{task_of};
+ghost use Rattle.task.specs.TaskParts.{atom_of, object_of};
 ghost use Rattle.model.specs.PlanWriting.{object_name, object_text};
 ghost use Rattle.certificate_reader.specs.Lines.{claim_of, line_of, mark_of, version_of, weights_of};
 ghost use Rattle.certificate_definitions.specs.CertificateText as line;
@@ -14,7 +14,7 @@ ghost use Rattle.certificate.specs.Gathering.{line_of_atom, number_text, state_l
 use certificate_reader::{Claim, Mark, StateLine, Version, Weights};
 use itoa::Buffer;
 use std::alloc::AllocError;
-use typing::{Atom, ObjectId, PredicateId, Task};
+use task::{Atom, ObjectId, PredicateId, Task};
 
 /// Adds the lines of the version, the claim and the constants.
 pub(crate) fn add_head(

@@ -10,7 +10,7 @@ use certificate_reader::{Claim, Version};
 use faults::NoMemory;
 use packed_state::{PooledStore, StateStore};
 use std::alloc::Global;
-use typing::Atom;
+use task::Atom;
 
 /// A certificate of a task, within the limits of a certificate's text: its version, its claim, its potential functions, its
 /// atoms, and the states that it lists, as sets of the numbers of its atoms.
@@ -25,7 +25,7 @@ pub struct Listing {
 impl Listing {
     ghost use Rattle.std.specs.Prelude.{◌≤◌, IfOk, map};
     ghost use Rattle.std.specs.List.{list_all};
-    ghost use Rattle.typing.specs.TaskParts.{atom_of};
+    ghost use Rattle.task.specs.TaskParts.{atom_of};
     ghost use Rattle.packed_state.specs.PooledView.{pooled_width};
     ghost use Rattle.certificate_definitions.specs.Certificates.{is_weight};
     ghost use Rattle.certificate_reader.specs.Lines.{claim_of, version_of};

@@ -7,7 +7,7 @@ use faults::NoMemory;
 use indexmap::IndexSet;
 use packed_state::{PooledStore, StateStore};
 use std::alloc::Global;
-use typing::Atom;
+use task::Atom;
 
 /// A potential function: a constant, and a weight for each atom, in their order.
 #[derive(Drop)]

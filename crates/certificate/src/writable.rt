@@ -1,7 +1,7 @@
 //! What the text of a certificate is written from.
 ghost use Rattle.std.specs.Prelude.{◌≡◌, ℕ, ◌<◌, OnOk, Some, length, map, slice_get};
 ghost use Rattle.packed_state.specs.Packed.{bits_of};
-ghost use Rattle.typing.specs.TaskParts.{atom_of};
+ghost use Rattle.task.specs.TaskParts.{atom_of};
 ghost use Rattle.certificate_reader.specs.Lines.{claim_of, line_of, version_of};
 ghost use Rattle.certificate_definitions.specs.Certificates.{Certificate};
 
@@ -10,7 +10,7 @@ use crate::listing::Listing;
 use certificate_reader::{Claim, StateLine, Version};
 use faults::NoMemory;
 use packed_state::{Packed, StateStore};
-use typing::Atom;
+use task::Atom;
 
 /// A certificate as its text needs it: what stands before its state lines, and these one at a time.
 pub(crate) trait WritableCert {

@@ -3,7 +3,7 @@ ghost use Rattle.std.specs.Prelude.{◌≡◌, ◌++◌, [], OnOk};
 ghost use Rattle.std.specs.Io.KnownBytes.{Appends};
 ghost use Rattle.std.specs.List.{flat_map};
 ghost use Rattle.devices.specs.Devices.{AppendsBeginning, CountsDevice};
-ghost use Rattle.typing.specs.Task.{task_of};
+ghost use Rattle.task.specs.Task.{task_of};
 ghost use Rattle.certificate.specs.Certificate.{certificate_of};
 ghost use Rattle.certificate.specs.Listing.{certificate_in};
 ghost use Rattle.certificate_definitions.specs.CertificateNames.{certificate_text};
@@ -17,7 +17,7 @@ use certificate_reader::{Mark, StateLine};
 use devices::{Sink, WriteFault, write_all};
 use packed_state::Packed;
 use std::alloc::Global;
-use typing::Task;
+use task::Task;
 
 /// From how many bytes on what is held is written.
 const PIECE: usize = 65_536;

@@ -1,7 +1,7 @@
 //! The certificates of answers, which the checker accepts from their texts.
 ghost use Rattle.std.specs.Prelude.{IsTrue};
 ghost use Rattle.std.specs.List.{list_all};
-ghost use Rattle.typing.specs.Task.{task_of};
+ghost use Rattle.task.specs.Task.{task_of};
 ghost use Rattle.formulas.specs.State.{plan_of};
 ghost use Rattle.model.specs.Meaning.{is_instance};
 
@@ -13,8 +13,8 @@ use formulas::Plan;
 use solver::{Answer, Exceeded, Limits, solve};
 use std::alloc::Global;
 use std::test::Fail;
+use task::Task;
 use test_texts::{DONE, FOUR_BALLS, FOUR_BLOCKS, GO, HOP, PAIRS, TIE, Texts, UNTIED, on_task};
-use typing::Task;
 
 /// Tasks, with the most states and the most kept instances: enough for an answer, or for a bound.
 static ANSWERED: [(Texts, u32, u32); 10] = [

@@ -9,8 +9,8 @@ use plan_file::read_plan;
 use std::alloc::Global;
 use std::process::Abort;
 use std::test::Fail;
+use task::Task;
 use test_texts::{Term, atom, atoms, on_task};
-use typing::Task;
 
 /// An open state, or a cut.
 fn mark_of(cut: Option<u64>) -> Mark {

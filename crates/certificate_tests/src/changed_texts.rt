@@ -4,8 +4,8 @@ use cert_checker::{Accepted, RefusalCode};
 use std::alloc::{AllocError, Global};
 use std::process::Abort;
 use std::test::Fail;
+use task::Task;
 use test_texts::{HOP, PATH, Texts, on_task};
-use typing::Task;
 
 /// A task, what its cheapest plan costs, a text, and how many texts that differ from it in one byte are accepted.
 struct Row {

@@ -2,7 +2,7 @@
 ghost use Rattle.std.specs.Prelude.{IsTrue};
 ghost use Rattle.std.specs.List.{list_all};
 ghost use Rattle.std.specs.Option.{ForSome};
-ghost use Rattle.typing.specs.Task.{task_of};
+ghost use Rattle.task.specs.Task.{task_of};
 ghost use Rattle.formulas.specs.State.{plan_of};
 ghost use Rattle.model.specs.Meaning.{is_instance};
 
@@ -11,7 +11,7 @@ use certificate::{Cert, CertReader, Listing, write_cert, write_listing};
 use devices::{Memory, Source, WriteFault};
 use formulas::Plan;
 use std::alloc::Global;
-use typing::{SchemaId, Task};
+use task::{SchemaId, Task};
 
 /// A [`Refusal`] as tests compare it.
 #[derive(Clone, Copy, Debug, PartialEq, Eq)]

@@ -7,8 +7,8 @@ use devices::{Endless, FailsAt, InPieces, Memory};
 use std::alloc::{AllocError, Global};
 use std::process::Abort;
 use std::test::Fail;
+use task::Task;
 use test_texts::{PAIRS, on_task};
-use typing::Task;
 
 /// There is no plan.
 const NO_PLAN: &[u8] =

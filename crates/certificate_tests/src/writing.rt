@@ -7,8 +7,8 @@ use faults::NoMemory;
 use std::alloc::{AllocError, Global};
 use std::process::Abort;
 use std::test::Fail;
+use task::Task;
 use test_texts::{GO, atoms, on_task};
-use typing::Task;
 
 /// The certificate of `GO`'s two atoms that lists a state of both as a dead end so many times.
 fn cert(alloc: Global, count: usize) -> Result<Option<Cert>, NoMemory> {

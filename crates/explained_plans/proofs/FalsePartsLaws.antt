@@ -5,7 +5,7 @@ use Rattle.std.specs.Cmp.{first_so, second_so}
 use Rattle.std.specs.List.{flat_map, list_all}
 use Rattle.std.proofs.lemmas.List.Elements.{All-nil, All-cons, All-append, All-get_or}
 use Rattle.std.proofs.lemmas.Option.{slice_get_within, get_or_from_slice_get}
-use Rattle.task_parts.proofs.Empty.{nil_left, nil_right}
+use Rattle.task.proofs.Lists.{nil_left, nil_right}
 use Rattle.explained_plans.specs.FalseParts.{Part, part_holds, false_parts, false_parts_of_all, itself_if_false, FalsePartsTell}
 use Rattle.model.specs.Task.{Task, Formula, Formulas, atom, equal, and, or, imply, exists, forall, no_formula, more_formulas}
 use Rattle.model.specs.Task as task

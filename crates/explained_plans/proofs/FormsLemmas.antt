@@ -8,12 +8,12 @@ use Rattle.std.specs.Option.{option_map}
 use Rattle.std.proofs.lemmas.Grind.{flat_map-append, fold-append}
 use Rattle.std.proofs.lemmas.List.{append-nil, take_all, take_more}
 use Rattle.std.proofs.lemmas.Option.{slice_get_cases}
-use Rattle.task_parts.specs.declared.schemas.Formula.{Formula}
-use Rattle.task_parts.specs.declared.schemas.Formula as formula
-use Rattle.task_parts.specs.declared.schemas.Effect.{Effect}
-use Rattle.task_parts.specs.declared.schemas.Effect as effect
-use Rattle.task_parts.specs.declared.schemas.Schema.{Schema}
-use Rattle.typing.specs.TaskParts.{effect_of, formula_of, shape_of, shape_of_schema}
+use Rattle.task.specs.declared.schemas.Formula.{Formula}
+use Rattle.task.specs.declared.schemas.Formula as formula
+use Rattle.task.specs.declared.schemas.Effect.{Effect}
+use Rattle.task.specs.declared.schemas.Effect as effect
+use Rattle.task.specs.declared.schemas.Schema.{Schema}
+use Rattle.task.specs.TaskParts.{effect_of, formula_of, shape_of, shape_of_schema}
 use Rattle.formulas.proofs.Trees.{effects_in, effect_of-And, formulas_in, formula_of-And, formula_of-Or}
 use Rattle.model.specs.Task as task
 use Rattle.explained_plans.specs.declared.forms.Forms.{Forms}

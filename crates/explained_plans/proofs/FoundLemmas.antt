@@ -8,13 +8,13 @@ use Rattle.std.proofs.lemmas.Bool.Decides.{nat_tests}
 use Rattle.std.proofs.lemmas.Grind.{flat_map-append}
 use Rattle.std.proofs.lemmas.List.{append-nil, append_assoc, length-append, length-map, length-take-le, length_push, map_push, take_all, take_more, take-append-le}
 use Rattle.std.proofs.lemmas.List.Elements.{All-nil, All-push}
-use Rattle.task_parts.specs.declared.schemas.Formula.{Formula}
-use Rattle.task_parts.specs.declared.schemas.Formula as formula
+use Rattle.task.specs.declared.schemas.Formula.{Formula}
+use Rattle.task.specs.declared.schemas.Formula as formula
 use Rattle.explained_plans.specs.declared.false_parts.Part as part
 use Rattle.explained_plans.specs.declared.false_parts.Found.{Found}
 use Rattle.explained_plans.specs.FalseParts.{Part, false_parts, false_parts_of_all, itself_if_false}
 use Rattle.explained_plans.specs.Parts.{AreFirst, AreFound, Finds, FitsPart, IsFalseIn, most_told, part_of}
-use Rattle.typing.specs.TaskParts.{formula_of}
+use Rattle.task.specs.TaskParts.{formula_of}
 use Rattle.formulas.proofs.Trees.{formulas_in, formula_of-And}
 use Rattle.model.specs.Task as task
 use Rattle.model.specs.Meaning.{State, holds}

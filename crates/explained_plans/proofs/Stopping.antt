@@ -8,8 +8,8 @@ use Rattle.std.proofs.lemmas.List.{length-map, take-map}
 use Rattle.std.proofs.lemmas.Option.{none-some, slice_get_within}
 use Rattle.formulas.specs.declared.instance.Instance.{Instance}
 use Rattle.formulas.specs.State.{instance_of}
-use Rattle.typing.specs.TaskParts.{shape_of_schema}
-use Rattle.typing.proofs.Shapes.{Shape, found}
+use Rattle.task.specs.TaskParts.{shape_of_schema}
+use Rattle.task.proofs.Shapes.{Shape, found}
 use Rattle.explained_plans.specs.declared.explanations.Reasons.{Reasons}
 use Rattle.explained_plans.specs.Histories.{DoRun}
 use Rattle.explained_plans.specs.Explanations.{AreReasons, IsWhyNotApplicable}

@@ -6,7 +6,7 @@ use Rattle.explained_plans.specs.declared.histories.History as history
 use Rattle.explained_plans.specs.declared.histories.History.TheVariants.{Always, ByStep}
 use Rattle.explained_plans.specs.FalseParts.{Part, part_holds}
 use Rattle.explained_plans.specs.Histories.{History, always, by_step, IsHistory}
-use Rattle.typing.specs.TaskParts.{object_of, formula_of}
+use Rattle.task.specs.TaskParts.{object_of, formula_of}
 use Rattle.formulas.specs.State.{FitsFormula}
 use Rattle.model.specs.Task as task
 use Rattle.model.specs.Meaning.{State}

@@ -1,8 +1,8 @@
 //! What is said of a plan for people.
 ghost use Rattle.std.specs.Prelude.{◌≡◌, IsTrue, IfOk, map};
 ghost use Rattle.std.specs.List.{list_all};
-ghost use Rattle.typing.specs.Task.{task_of};
-ghost use Rattle.typing.specs.TaskParts.{object_of, formula_of};
+ghost use Rattle.task.specs.Task.{task_of};
+ghost use Rattle.task.specs.TaskParts.{object_of, formula_of};
 ghost use Rattle.formulas.specs.State.{instance_of, plan_of, FitsFormula};
 ghost use Rattle.explained_plans.specs.Histories.{DoRun};
 ghost use Rattle.explained_plans.specs.Explanations.{verdict_of, AreReasons, IsExplained};
@@ -14,7 +14,7 @@ use crate::histories::{History, histories, state_after};
 use faults::NoMemory;
 use formulas::{Binding, Instance, Plan, amount, cost};
 use std::alloc::Global;
-use typing::{Formula, Task};
+use task::{Formula, Task};
 use validator::{Verdict, validate};
 
 /// Why a formula does not hold after some steps of a plan: the first of its smallest false parts, at most 20, from the left.

@@ -1,8 +1,8 @@
 //! Why a formula does not hold: the smallest of its parts that are false and make it so.
 ghost use Rattle.std.specs.Prelude.{map, IfOk, OnOk};
 ghost use Rattle.std.specs.List.{flat_map};
-ghost use Rattle.typing.specs.Task.{task_of};
-ghost use Rattle.typing.specs.TaskParts.{object_of, formula_of, union_of};
+ghost use Rattle.task.specs.Task.{task_of};
+ghost use Rattle.task.specs.TaskParts.{object_of, formula_of, union_of};
 ghost use Rattle.formulas.specs.State.{state_of, FitsFormula, FitsFormulas};
 ghost use Rattle.explained_plans.specs.FalseParts.{FalsePartsTell, false_parts, itself_if_false};
 ghost use Rattle.explained_plans.specs.Parts.{AreFound, Finds};
@@ -11,7 +11,7 @@ ghost use Rattle.model.specs.Task.{forall};
 use faults::NoMemory;
 use formulas::{Binding, State, copied, holds, objects_of, with_object};
 use std::alloc::Global;
-use typing::{Formula, Task, TypeUnion};
+use task::{Formula, Task, TypeUnion};
 
 /// How many false parts of a formula are told at most.
 pub const MOST_TOLD: usize = 20;

@@ -1,15 +1,15 @@
 //! Which forms stand in the formulas and effects of a task.
 ghost use Rattle.std.specs.Prelude.{◌≡◌, Some, slice_get};
 ghost use Rattle.std.specs.List.{flat_map};
-ghost use Rattle.typing.specs.Task.{task_of};
-ghost use Rattle.typing.specs.TaskParts.{effect_of, formula_of};
+ghost use Rattle.task.specs.Task.{task_of};
+ghost use Rattle.task.specs.TaskParts.{effect_of, formula_of};
 ghost use Rattle.model.specs.Task.{Schema};
 ghost use Rattle.explained_plans.specs.Forms.{AreForms, added, forms_in, forms_in_effect, forms_of_schema};
 
 use crate::summary::yes_or_no;
 use faults::NoMemory;
 use std::alloc::Global;
-use typing::{Effect, Formula, SchemaId, Task};
+use task::{Effect, Formula, SchemaId, Task};
 
 /// Which forms stand in some formulas and effects.
 #[derive(Clone, Copy, Debug, Default, PartialEq, Eq)]

@@ -1,7 +1,7 @@
 //! Formulas as texts, with objects in place of the variables that have them.
 use faults::NoMemory;
 use std::alloc::Global;
-use typing::{Formula, LiftedAtom, ObjectId, Task, Term, TypeId, TypeUnion};
+use task::{Formula, LiftedAtom, ObjectId, Task, Term, TypeId, TypeUnion};
 
 /// Adds the text of the formula, where the first variables in scope have these objects. A variable of a quantifier in it is
 /// told as `?1`, `?2` and so on, by its place in scope behind those; `inner` counts those that are in scope.

@@ -1,7 +1,7 @@
 //! Since when parts of a formula have been false, on the way along the steps of a plan.
 ghost use Rattle.std.specs.Prelude.{◌≡◌, ◌+◌, ℕ, ◌≤◌, IsTrue, All, IfOk, Some, length, map, if◌then◌else◌, slice_get, false};
 ghost use Rattle.std.specs.List.{list_all};
-ghost use Rattle.typing.specs.Task.{task_of};
+ghost use Rattle.task.specs.Task.{task_of};
 ghost use Rattle.formulas.specs.State.{state_of, instance_of};
 ghost use Rattle.explained_plans.specs.declared.false_parts.Part as code;
 ghost use Rattle.explained_plans.specs.Histories.{by_step, IsAfter, DoRun};
@@ -13,7 +13,7 @@ use crate::false_parts::Part;
 use faults::NoMemory;
 use formulas::{Instance, State, apply, holds};
 use std::alloc::Global;
-use typing::Task;
+use task::Task;
 
 /// Since when a part of a formula has been false.
 #[derive(Clone, Copy, Debug, PartialEq, Eq)]

@@ -1,12 +1,12 @@
 //! What a task holds, in a few lines.
 ghost use Rattle.std.specs.Prelude.{◌≡◌, ◌<◌, ◌≤◌, ◌-◌, ◌^◌, length};
-ghost use Rattle.typing.specs.Task.{task_of};
+ghost use Rattle.task.specs.Task.{task_of};
 ghost use Rattle.explained_plans.specs.Forms.{AreForms};
 
 use crate::forms::Forms;
 use faults::NoMemory;
 use std::alloc::Global;
-use typing::{PredicateId, Task};
+use task::{PredicateId, Task};
 
 /// What a task holds.
 #[derive(Clone, Copy, Debug, PartialEq, Eq)]

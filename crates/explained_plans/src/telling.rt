@@ -7,7 +7,7 @@ use faults::NoMemory;
 use formulas::Plan;
 use plan_file::step_text;
 use std::alloc::Global;
-use typing::{Formula, Increase, ObjectId, Task};
+use task::{Formula, Increase, ObjectId, Task};
 
 /// The line that says what is true of the plan, with LF at its end.
 ///

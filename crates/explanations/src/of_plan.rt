@@ -1,7 +1,7 @@
 //! What is said of a plan file.
 ghost use Rattle.std.specs.Prelude.{◌≡◌, ℕ, IfOk, IsTrue, List, Some};
 ghost use Rattle.std.specs.List.{list_all};
-ghost use Rattle.typing.specs.Task.{task_of};
+ghost use Rattle.task.specs.Task.{task_of};
 ghost use Rattle.formulas.specs.State.{plan_of};
 ghost use Rattle.validator.specs.Verdict.{verdict_of};
 ghost use Rattle.explained_plans.specs.Explanations as plans;
@@ -16,9 +16,9 @@ use explained_plans::{PlanExplanation, explain_plan, step_place, tell_details, t
 use faults::NoMemory;
 use formulas::Plan;
 use std::alloc::Global;
+use task::Task;
 use task_files::plan_of_file;
 use text_places::{marked, place_of};
-use typing::Task;
 use validator::Verdict;
 
 /// What is said of the plan of this file for the task of these texts.

@@ -1,6 +1,6 @@
 //! What is said of a task that no plan is handed in for.
 ghost use Rattle.std.specs.Prelude.{IfOk};
-ghost use Rattle.typing.specs.Task.{task_of};
+ghost use Rattle.task.specs.Task.{task_of};
 ghost use Rattle.explanations.specs.Explanations.{IsGrounded, IsOfGrounded};
 
 use crate::explanation::{Explanation, Grounded, Subject};
@@ -8,7 +8,7 @@ use explained_plans::Summary;
 use faults::{NoMemory, Refused};
 use grounding_kept::{GroundLimit, Numbering};
 use std::alloc::{AllocError, Global};
-use typing::Task;
+use task::Task;
 
 /// What the task holds, and what grounding makes of it, where at most so many instances may be kept.
 pub(crate) fn explain_task(

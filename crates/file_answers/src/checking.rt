@@ -1,6 +1,6 @@
 //! From the bytes of a domain file and a problem file, and the text of a certificate, to what the certificate shows.
 ghost use Rattle.std.specs.Prelude.{◌≡◌, ℕ, List, Option, IfOk, IfErr, IfSome, IsErr, IsTrue, None};
-ghost use Rattle.typing.specs.Task.{task_of};
+ghost use Rattle.task.specs.Task.{task_of};
 ghost use Rattle.cert_checker.specs.Reading.{CountsRefusal, IsFresh};
 ghost use Rattle.certificate_reader.specs.Reader.{source_of};
 ghost use Rattle.file_answers.specs.Checked.{IsChecked};
@@ -14,8 +14,8 @@ use cert_checker::{Accepted, Refusal, check};
 use certificate::CertReader;
 use devices::Source;
 use std::alloc::Global;
+use task::Task;
 use task_files::{FileFault, plan_of_file, task_of_files};
-use typing::Task;
 
 /// A task with what is told of a certificate for it.
 #[derive(Drop)]

@@ -1,6 +1,6 @@
 //! From the bytes of a domain file and a problem file to a cheapest plan.
 ghost use Rattle.std.specs.Prelude.{◌≡◌, ℕ, List, IfOk, IfErr, IfSome, IsTrue, None};
-ghost use Rattle.typing.specs.Task.{task_of};
+ghost use Rattle.task.specs.Task.{task_of};
 ghost use Rattle.solver.specs.Solver.{IsTrueAnswer};
 ghost use Rattle.task_files.specs.Files.{told_in};
 ghost use Rattle.model.specs.Task as model;
@@ -10,8 +10,8 @@ ghost use Rattle.model.specs.PlanWriting.{has_names};
 use faults::NoMemory;
 use solver::{Answer, Limits, solve};
 use std::alloc::Global;
+use task::Task;
 use task_files::{FileFault, task_of_files};
-use typing::Task;
 
 /// A task with what was found out of it.
 #[derive(Drop)]

@@ -1,14 +1,14 @@
 //! From the bytes of three files to the verdict.
 ghost use Rattle.std.specs.Prelude.{◌≡◌, ℕ, List, IfOk, IfErr, IfSome, None};
-ghost use Rattle.typing.specs.Task.{task_of};
+ghost use Rattle.task.specs.Task.{task_of};
 ghost use Rattle.validator.specs.Verdict.{verdict_of};
 ghost use Rattle.task_files.specs.Files.{told_in};
 ghost use Rattle.model.specs.Task as model;
 ghost use Rattle.model.specs.Files.{AreRead, IsTaskOf, IsVerdictOf, IsFileFault};
 
 use std::alloc::Global;
+use task::Task;
 use task_files::{FileFault, plan_of_file, task_of_files};
-use typing::Task;
 use validator::{Verdict, validate};
 
 /// What is true of the plan, from the bytes of the three files.

@@ -3,11 +3,11 @@ use Rattle.std.specs.Prelude.{◌≡◌, ℕ, ◌+◌, ◌<◌, ◌≤◌, true,
 use Rattle.std.proofs.Common.{sym, ◌∙◌, ap, get_or, append-nil}
 use Rattle.std.specs.FinSet.{from_list, union, difference}
 use Rattle.std.proofs.lemmas.List.{take_all, take_more, map-append}
-use Rattle.task_parts.specs.declared.atoms.ObjectId.{ObjectId}
-use Rattle.task_parts.specs.declared.atoms.LiftedAtom.{LiftedAtom}
-use Rattle.task_parts.specs.declared.schemas.EffectLiteral.{EffectLiteral}
-use Rattle.task_parts.specs.declared.schemas.EffectLiteral.TheVariants.{Add, Delete}
-use Rattle.typing.specs.TaskParts.{object_of, lifted_atom_of, effect_literal_of}
+use Rattle.task.specs.declared.atoms.ObjectId.{ObjectId}
+use Rattle.task.specs.declared.atoms.LiftedAtom.{LiftedAtom}
+use Rattle.task.specs.declared.schemas.EffectLiteral.{EffectLiteral}
+use Rattle.task.specs.declared.schemas.EffectLiteral.TheVariants.{Add, Delete}
+use Rattle.task.specs.TaskParts.{object_of, lifted_atom_of, effect_literal_of}
 use Rattle.formulas.specs.declared.effects.Change as code
 use Rattle.formulas.specs.declared.change.Pass.{Pass}
 use Rattle.formulas.specs.declared.change.Pass.TheVariants.{Deletes, Adds}

@@ -3,11 +3,11 @@ use Rattle.std.specs.Prelude.{◌≡◌, ℕ, ◌+◌, ◌<◌, ◌≤◌, List,
 use Rattle.std.proofs.Common.{sym, ◌∙◌, ap, get_or}
 use Rattle.std.specs.Global.{Vec}
 use Rattle.std.proofs.lemmas.List.{take_all, take_more, map-append, append_assoc}
-use Rattle.task_parts.specs.declared.schemas.EffectLiteral.{EffectLiteral}
-use Rattle.task_parts.specs.declared.schemas.Formula.{Formula}
-use Rattle.task_parts.specs.declared.schemas.Effect.{Effect}
-use Rattle.task_parts.specs.declared.schemas.Effect as effect
-use Rattle.typing.specs.TaskParts.{effect_literal_of, effect_of, formula_of}
+use Rattle.task.specs.declared.schemas.EffectLiteral.{EffectLiteral}
+use Rattle.task.specs.declared.schemas.Formula.{Formula}
+use Rattle.task.specs.declared.schemas.Effect.{Effect}
+use Rattle.task.specs.declared.schemas.Effect as effect
+use Rattle.task.specs.TaskParts.{effect_literal_of, effect_of, formula_of}
 use Rattle.model.specs.Task as task
 use Rattle.model.specs.Meaning.{change_under, changes_of}
 

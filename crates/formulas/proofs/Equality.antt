@@ -8,11 +8,11 @@ use Rattle.std.specs.Cmp.{IsTotalOrder, on_total, nat_eq_equiv}
 use Rattle.std.specs.Cmp.Lexicographic.{pointwise}
 use Rattle.std.specs.FinSet.{contains, from_list}
 use Rattle.formulas.specs.declared.state.State as code_state
-use Rattle.task_parts.specs.declared.atoms.Atom.{Atom}
-use Rattle.task_parts.specs.declared.atoms.ObjectId.{ObjectId}
-use Rattle.task_parts.specs.contracts.atoms.AtomPartialEq.TheImpl as atom_impl
-use Rattle.task_parts.specs.contracts.atoms.ObjectIdPartialEq.TheImpl as object_impl
-use Rattle.typing.specs.TaskParts.{atom_of, object_of}
+use Rattle.task.specs.declared.atoms.Atom.{Atom}
+use Rattle.task.specs.declared.atoms.ObjectId.{ObjectId}
+use Rattle.task.specs.contracts.atoms.AtomPartialEq.TheImpl as atom_impl
+use Rattle.task.specs.contracts.atoms.ObjectIdPartialEq.TheImpl as object_impl
+use Rattle.task.specs.TaskParts.{atom_of, object_of}
 use Rattle.formulas.specs.State.{state_of}
 use Rattle.formulas.specs.Equality.{are_equal}
 use Rattle.formulas.proofs.States.{model_cmp, contains_in_model, atom_at}

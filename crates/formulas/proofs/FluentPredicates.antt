@@ -7,9 +7,9 @@ use Rattle.std.specs.Global.{Vec}
 use Rattle.std.specs.List.{list_any}
 use Rattle.std.proofs.lemmas.List.{take_all}
 use Rattle.std.proofs.lemmas.List.Folds.{list_any_more, list_any_at}
-use Rattle.task_parts.specs.declared.schemas.Effect.{Effect}
-use Rattle.task_parts.specs.declared.schemas.Effect as effect
-use Rattle.typing.specs.TaskParts.{effect_of}
+use Rattle.task.specs.declared.schemas.Effect.{Effect}
+use Rattle.task.specs.declared.schemas.Effect as effect
+use Rattle.task.specs.TaskParts.{effect_of}
 use Rattle.formulas.proofs.Trees.{effects_in, effect_of-And}
 use Rattle.model.specs.Task.{Union, Schema, Task, Predicate, Atom}
 use Rattle.model.specs.Meaning.{is_of}

@@ -4,13 +4,13 @@ use Rattle.std.proofs.Common.{sym, ◌∙◌, ap, subst}
 use Rattle.std.specs.Cmp.{first_so, second_so}
 use Rattle.std.specs.Cmp.Lexicographic.{pointwise}
 use Rattle.std.specs.Option.{option_map, option_map_or}
-use Rattle.task_parts.specs.declared.atoms.LiftedAtom.{LiftedAtom}
-use Rattle.typing.specs.TaskParts.{lifted_atom_of, shape_of_schema}
+use Rattle.task.specs.declared.atoms.LiftedAtom.{LiftedAtom}
+use Rattle.task.specs.TaskParts.{lifted_atom_of, shape_of_schema}
 use Rattle.formulas.specs.State.{FitsFormula, FitsEffect}
 use Rattle.model.specs.Task as task
 use Rattle.model.specs.WellTyped.{is_task, is_increase, is_formula, is_effect, max_arguments}
 use Rattle.model.specs.Meaning.{is_of, fits, is_instance}
-use Rattle.typing.proofs.Shapes.{Shape, found, typed_schema}
+use Rattle.task.proofs.Shapes.{Shape, found, typed_schema}
 use Rattle.formulas.proofs.Tasks.{function_terms_few}
 
 module _ (t : task.Task) (schema : ℕ) (shape : Shape) (is_shape : Some shape ≡ option_map shape_of_schema (slice_get t.schemas schema)) (objects : List ℕ) where

@@ -2,9 +2,9 @@
 use Rattle.std.proofs.Common.{◌≡◌, ℕ, ◌+◌, ◌<◌, ◌≤◌, Bool, true, false, ◌&&◌, List, [], ◌∷◌, length, map, drop, get_or, refl, sym, ap, ◌∙◌}
 use Rattle.std.specs.Cmp.Lexicographic.{pointwise}
 use Rattle.std.proofs.lemmas.List.{drop_more, drop_all}
-use Rattle.task_parts.specs.declared.atoms.ObjectId.{ObjectId}
-use Rattle.task_parts.specs.declared.schemas.TypeUnion.{TypeUnion}
-use Rattle.typing.specs.TaskParts.{object_of, union_of}
+use Rattle.task.specs.declared.atoms.ObjectId.{ObjectId}
+use Rattle.task.specs.declared.schemas.TypeUnion.{TypeUnion}
+use Rattle.task.specs.TaskParts.{object_of, union_of}
 use Rattle.model.specs.Task.{Task}
 use Rattle.model.specs.Meaning.{is_of}
 

@@ -7,8 +7,8 @@ use Rattle.std.specs.List.{range_with_len}
 use Rattle.std.proofs.lemmas.Bool.Decides.{nat_tests}
 use Rattle.std.proofs.lemmas.List.{length-map, map_push}
 use Rattle.std.proofs.Math.Seq.{take-append_seam}
-use Rattle.task_parts.specs.declared.atoms.ObjectId.{ObjectId}
-use Rattle.typing.specs.TaskParts.{object_of}
+use Rattle.task.specs.declared.atoms.ObjectId.{ObjectId}
+use Rattle.task.specs.TaskParts.{object_of}
 use Rattle.formulas.specs.State.{FitsFormula, FitsEffect}
 use Rattle.model.specs.Task as task
 use Rattle.model.specs.WellTyped.{is_formula, is_effect, max_variables}

@@ -12,11 +12,11 @@ use Rattle.std.specs.List.{list_any}
 use Rattle.std.specs.List.Sorted.{IsStrictlySortedBy}
 use Rattle.std.proofs.lemmas.List.{take_all, take_more, map-append}
 use Rattle.std.specs.FinSet.{contains, from_list_push, insert, remove, from_list, contains-from_list, contains-insert, contains-remove}
-use Rattle.task_parts.specs.declared.atoms.Atom.{Atom}
-use Rattle.task_parts.specs.declared.atoms.ObjectId.{ObjectId}
-use Rattle.task_parts.specs.contracts.atoms.AtomOrd.TheImpl as atom_ord
-use Rattle.task_parts.specs.contracts.atoms.ObjectIdOrd.TheImpl as object_ord
-use Rattle.typing.specs.TaskParts.{atom_of, object_of, AreInOrder}
+use Rattle.task.specs.declared.atoms.Atom.{Atom}
+use Rattle.task.specs.declared.atoms.ObjectId.{ObjectId}
+use Rattle.task.specs.contracts.atoms.AtomOrd.TheImpl as atom_ord
+use Rattle.task.specs.contracts.atoms.ObjectIdOrd.TheImpl as object_ord
+use Rattle.task.specs.TaskParts.{atom_of, object_of, AreInOrder}
 use Rattle.model.specs.Task as task
 use Rattle.model.specs.Meaning.{State, atom_cmp}
 use Rattle.model.proofs.Atoms.{atoms_total, atoms_apart, same_state}

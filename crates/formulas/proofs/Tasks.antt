@@ -10,12 +10,12 @@ use Rattle.std.proofs.lemmas.Bool.Decides.{nat_tests}
 use Rattle.std.proofs.lemmas.List.{take_all, take_more, map-append}
 use Rattle.std.proofs.lemmas.Option.{slice_get_within}
 use Rattle.std.proofs.Math.ListN.{length-map}
-use Rattle.task_parts.specs.declared.atoms.ObjectId.{ObjectId}
-use Rattle.task_parts.specs.declared.atoms.Term.{Term}
-use Rattle.task_parts.specs.declared.atoms.LiftedAtom.{LiftedAtom}
-use Rattle.task_parts.specs.declared.schemas.Formula.{Formula}
-use Rattle.task_parts.specs.declared.schemas.Formula as formula
-use Rattle.typing.specs.TaskParts.{object_of, term_of, lifted_atom_of, formula_of}
+use Rattle.task.specs.declared.atoms.ObjectId.{ObjectId}
+use Rattle.task.specs.declared.atoms.Term.{Term}
+use Rattle.task.specs.declared.atoms.LiftedAtom.{LiftedAtom}
+use Rattle.task.specs.declared.schemas.Formula.{Formula}
+use Rattle.task.specs.declared.schemas.Formula as formula
+use Rattle.task.specs.TaskParts.{object_of, term_of, lifted_atom_of, formula_of}
 use Rattle.formulas.specs.State.{FitsFormula}
 use Rattle.model.specs.Task as task
 use Rattle.model.specs.WellTyped.{is_task, is_term, is_lifted_of, is_lifted_atom, is_formula, has_few_arguments, max_arguments}

@@ -4,11 +4,11 @@ use Rattle.std.proofs.Common.{sym, ◌∙◌, ap}
 use Rattle.std.specs.Global.{Vec}
 use Rattle.std.specs.List.{list_all, list_any, flat_map}
 use mathlib.Core.Former.{Count}
-use Rattle.task_parts.specs.declared.schemas.Formula.{Formula, Row_of-Formula, end_of-Formula, more_of-Formula, items-the_row-Formula, items_hidden-the_row-Formula-0}
-use Rattle.task_parts.specs.declared.schemas.Formula as formula
-use Rattle.task_parts.specs.declared.schemas.Effect.{Effect, Row_of-Effect, end_of-Effect, more_of-Effect, items-the_row-Effect, items_hidden-the_row-Effect-0}
-use Rattle.task_parts.specs.declared.schemas.Effect as effect
-use Rattle.typing.specs.TaskParts.{formula_of, formulas_of, effect_of, effects_of}
+use Rattle.task.specs.declared.schemas.Formula.{Formula, Row_of-Formula, end_of-Formula, more_of-Formula, items-the_row-Formula, items_hidden-the_row-Formula-0}
+use Rattle.task.specs.declared.schemas.Formula as formula
+use Rattle.task.specs.declared.schemas.Effect.{Effect, Row_of-Effect, end_of-Effect, more_of-Effect, items-the_row-Effect, items_hidden-the_row-Effect-0}
+use Rattle.task.specs.declared.schemas.Effect as effect
+use Rattle.task.specs.TaskParts.{formula_of, formulas_of, effect_of, effects_of}
 use Rattle.model.specs.Task as task
 use Rattle.model.specs.WellTyped.{is_formula, are_formulas, is_effect, are_effects}
 use Rattle.model.specs.Meaning.{State, holds, all_hold, some_holds, changes_of, changes_of_all}

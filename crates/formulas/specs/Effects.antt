@@ -5,8 +5,8 @@ use Rattle.std.specs.Option.{option_map_or}
 use Rattle.formulas.specs.declared.effects.GroundLiteral.{GroundLiteral}
 use Rattle.formulas.specs.declared.effects.GroundLiteral.TheVariants.{Adds, Deletes}
 use Rattle.formulas.specs.declared.effects.Change.{Change}
-use Rattle.task_parts.specs.declared.schemas.Formula.{Formula}
-use Rattle.typing.specs.TaskParts.{atom_of, object_of, formula_of}
+use Rattle.task.specs.declared.schemas.Formula.{Formula}
+use Rattle.task.specs.TaskParts.{atom_of, object_of, formula_of}
 use Rattle.model.specs.Task as task
 use Rattle.model.specs.Meaning as meaning
 

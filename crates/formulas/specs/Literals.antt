@@ -1,7 +1,7 @@
 -- The code's literals, in the model's terms.
 use Rattle.formulas.specs.declared.literals.Literal.{Literal}
 use Rattle.formulas.specs.declared.literals.Literal.TheVariants.{IsTrue, IsFalse, AreSame, AreDifferent}
-use Rattle.typing.specs.TaskParts.{atom_of}
+use Rattle.task.specs.TaskParts.{atom_of}
 use Rattle.model.specs.SureLiterals as model
 
 abbrev pub literal_of : Literal → model.Literal

@@ -1,8 +1,8 @@
 -- The objects that a variable goes over, in the model's terms.
 use Rattle.std.specs.Prelude.{ℕ, ◌-◌, List, length, filter}
 use Rattle.std.specs.List.{range_with_len}
-use Rattle.typing.specs.Task.{task_of}
-use Rattle.typing.specs.TaskParts.{union_of}
+use Rattle.task.specs.Task.{task_of}
+use Rattle.task.specs.TaskParts.{union_of}
 use Rattle.formulas.specs.declared.objects.Objects.{Objects}
 use Rattle.model.specs.Meaning.{is_of}
 

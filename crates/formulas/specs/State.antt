@@ -6,7 +6,7 @@ use Rattle.std.specs.List.{list_all}
 use Rattle.formulas.specs.declared.state.State.{State}
 use Rattle.formulas.specs.declared.instance.Instance.{Instance}
 use Rattle.formulas.specs.declared.plan.Plan.{Plan}
-use Rattle.typing.specs.TaskParts.{atom_of, object_of}
+use Rattle.task.specs.TaskParts.{atom_of, object_of}
 use Rattle.model.specs.Task as task
 use Rattle.model.specs.Meaning as meaning
 use Rattle.model.specs.WellTyped.{is_formula, is_effect, is_effect_literal}

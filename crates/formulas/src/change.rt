@@ -1,7 +1,7 @@
 //! Change: the state that an instance leads to.
 ghost use Rattle.std.specs.Prelude.{◌≡◌, ◌∷◌, [], map, IsTrue, IfOk, OnOk};
 ghost use Rattle.std.specs.Option.{option_map};
-ghost use Rattle.typing.specs.Task.{task_of};
+ghost use Rattle.task.specs.Task.{task_of};
 ghost use Rattle.formulas.specs.State.{state_of, instance_of, FitsFormula, FitsChanges};
 ghost use Rattle.formulas.specs.Effects.{change_of, ground_literal_of};
 ghost use Rattle.formulas.specs.Changes.{after_pass};
@@ -15,7 +15,7 @@ use crate::state::State;
 use crate::truth::holds;
 use faults::NoMemory;
 use std::alloc::Global;
-use typing::Task;
+use task::Task;
 
 /// Which literals are carried out.
 #[derive(Clone, Copy)]

@@ -1,13 +1,13 @@
 //! What instances cost.
 ghost use Rattle.std.specs.Prelude.{◌≡◌, slice_get};
 ghost use Rattle.std.specs.Option.{option_and_then};
-ghost use Rattle.typing.specs.Task.{task_of};
+ghost use Rattle.task.specs.Task.{task_of};
 ghost use Rattle.formulas.specs.State.{instance_of};
 ghost use Rattle.model.specs.Meaning.{amount_of, cost_of};
 
 use crate::instance::Instance;
 use crate::truth::ground_atom;
-use typing::{Increase, Task};
+use task::{Increase, Task};
 
 /// What the instance costs: where the total cost is to be least, what its schema increases it by, and else 1.
 pub fn cost(task: &Task, instance: &Instance) -> u32

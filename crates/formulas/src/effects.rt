@@ -1,7 +1,7 @@
 //! What an instance changes, and under which conditions.
 ghost use Rattle.std.specs.Prelude.{◌≡◌, ◌++◌, ◌∷◌, [], map, IsTrue, IfOk, OnOk};
-ghost use Rattle.typing.specs.TaskParts.{object_of, formula_of, effect_literal_of, effect_of};
-ghost use Rattle.typing.specs.Task.{task_of};
+ghost use Rattle.task.specs.TaskParts.{object_of, formula_of, effect_literal_of, effect_of};
+ghost use Rattle.task.specs.Task.{task_of};
 ghost use Rattle.formulas.specs.State.{instance_of, FitsEffect, FitsLiteral, FitsLiterals};
 ghost use Rattle.formulas.specs.Effects.{ground_literal_of, condition_of, change_of};
 ghost use Rattle.model.specs.Meaning.{is_instance, changes_of, changes_of_instance, change_under, ground_literal};
@@ -11,7 +11,7 @@ use crate::objects::objects_of;
 use crate::truth::ground_atom;
 use faults::NoMemory;
 use std::alloc::Global;
-use typing::{Atom, Effect, EffectLiteral, Formula, Task};
+use task::{Atom, Effect, EffectLiteral, Formula, Task};
 
 /// An atom that becomes true, or false.
 #[derive(Debug, Drop)]

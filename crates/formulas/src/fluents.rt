@@ -1,15 +1,15 @@
 //! Which atoms are well-typed, and which predicates the task's actions change.
 ghost use Rattle.std.specs.Prelude.{◌≡◌, ◌&&◌, map};
 ghost use Rattle.std.specs.List.{list_any};
-ghost use Rattle.typing.specs.TaskParts.{atom_of};
+ghost use Rattle.task.specs.TaskParts.{atom_of};
 ghost use Rattle.model.specs.WellTyped as well_typed;
-ghost use Rattle.typing.specs.Task.{task_of};
-ghost use Rattle.typing.specs.TaskParts.{effect_of, effect_literal_of};
+ghost use Rattle.task.specs.Task.{task_of};
+ghost use Rattle.task.specs.TaskParts.{effect_of, effect_literal_of};
 ghost use Rattle.model.specs.Fluents as defined;
 ghost use Rattle.model.specs.Fluents.{touches};
 
 use crate::instance::are_of;
-use typing::{Atom, Effect, EffectLiteral, PredicateId, SchemaId, Task};
+use task::{Atom, Effect, EffectLiteral, PredicateId, SchemaId, Task};
 
 /// Whether the atom is well-typed: its predicate is the task's, and it has an object of its types for each argument.
 pub fn is_atom(task: &Task, atom: &Atom) -> bool

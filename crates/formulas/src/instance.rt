@@ -1,13 +1,13 @@
 //! Instances: schemas with objects for their parameters.
 ghost use Rattle.std.specs.Prelude.{◌≡◌, ◌<◌, [], ◌∷◌, ◌++◌, map, length};
 ghost use Rattle.std.specs.Cmp.Lexicographic.{pointwise};
-ghost use Rattle.typing.specs.Task.{task_of};
-ghost use Rattle.typing.specs.TaskParts.{object_of, union_of};
+ghost use Rattle.task.specs.Task.{task_of};
+ghost use Rattle.task.specs.TaskParts.{object_of, union_of};
 ghost use Rattle.formulas.specs.State.{instance_of};
 ghost use Rattle.model.specs.Meaning as meaning;
 
 use arrayvec::ArrayVec;
-use typing::{MAX_VARIABLES, ObjectId, SchemaId, Task, TypeUnion};
+use task::{MAX_VARIABLES, ObjectId, SchemaId, Task, TypeUnion};
 
 /// The objects of the variables in scope, in order: first those of a schema's parameters, then those of the quantifiers
 /// around.

@@ -24,6 +24,6 @@ pub use literals::{Literal, sure};
 pub use objects::{Objects, objects_of};
 pub use plan::{MAX_STEPS, Plan};
 pub use state::State;
+pub use task::Atom;
 pub use truth::{holds, meets_goal};
-pub use typing::Atom;
 pub use valuation::Valuation;

@@ -1,7 +1,7 @@
 //! What a formula says outright.
 ghost use Rattle.std.specs.Prelude.{◌≡◌, ◌++◌, map, IfOk, OnOk};
-ghost use Rattle.typing.specs.TaskParts.{object_of, formula_of};
-ghost use Rattle.typing.specs.Task.{task_of};
+ghost use Rattle.task.specs.TaskParts.{object_of, formula_of};
+ghost use Rattle.task.specs.Task.{task_of};
 ghost use Rattle.formulas.specs.State.{FitsFormula};
 ghost use Rattle.formulas.specs.Literals.{literal_of};
 ghost use Rattle.model.specs.SureLiterals as literals;
@@ -11,7 +11,7 @@ use crate::objects::objects_of;
 use crate::truth::{ground_atom, named_by};
 use faults::NoMemory;
 use std::alloc::Global;
-use typing::{Atom, Formula, ObjectId, Task};
+use task::{Atom, Formula, ObjectId, Task};
 
 /// What a formula says outright of an atom, or of two objects.
 #[derive(Debug, Drop)]

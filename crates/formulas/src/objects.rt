@@ -1,11 +1,11 @@
 //! The objects that a variable goes over.
 ghost use Rattle.std.specs.Prelude.{◌≡◌};
-ghost use Rattle.typing.specs.TaskParts.{object_of, union_of};
-ghost use Rattle.typing.specs.Task.{task_of};
+ghost use Rattle.task.specs.TaskParts.{object_of, union_of};
+ghost use Rattle.task.specs.Task.{task_of};
 ghost use Rattle.formulas.specs.Objects.{objects_left};
 ghost use Rattle.model.specs.Meaning as meaning;
 
-use typing::{ObjectId, Task, TypeUnion};
+use task::{ObjectId, Task, TypeUnion};
 
 /// The objects of some types, one after another.
 #[derive(Drop)]

@@ -1,12 +1,12 @@
 //! States: which atoms are true.
 ghost use Rattle.std.specs.Prelude.{◌≡◌};
 ghost use Rattle.std.proofs.Props.{props};
-ghost use Rattle.typing.specs.TaskParts.{AreInOrder};
+ghost use Rattle.task.specs.TaskParts.{AreInOrder};
 
 use faults::NoMemory;
 use std::alloc::Global;
 use std::collections::BTreeSet;
-use typing::{Atom, Task};
+use task::{Atom, Task};
 
 /// A state: the set of the atoms that are true.
 #[derive(PartialEq, Eq, Hash, Drop)]
@@ -18,8 +18,8 @@ pub struct State {
 impl State {
     ghost use Rattle.std.specs.Prelude.{map, IfOk, OnOk, OnErr};
     ghost use Rattle.std.specs.FinSet.{empty, contains, from_list, insert, remove};
-    ghost use Rattle.typing.specs.TaskParts.{atom_of};
-    ghost use Rattle.typing.specs.Task.{task_of};
+    ghost use Rattle.task.specs.TaskParts.{atom_of};
+    ghost use Rattle.task.specs.Task.{task_of};
     ghost use Rattle.formulas.specs.State.{state_of};
     ghost use Rattle.model.specs.Meaning.{initial_state};
 

@@ -1,8 +1,8 @@
 //! Truth: which atoms terms name, and whether a formula holds.
 ghost use Rattle.std.specs.Prelude.{◌≡◌, ◌≤◌, length, map};
 ghost use Rattle.std.specs.List.{list_all, list_any};
-ghost use Rattle.typing.specs.TaskParts.{atom_of, object_of, formula_of, lifted_atom_of, term_of, union_of};
-ghost use Rattle.typing.specs.Task.{task_of};
+ghost use Rattle.task.specs.TaskParts.{atom_of, object_of, formula_of, lifted_atom_of, term_of, union_of};
+ghost use Rattle.task.specs.Task.{task_of};
 ghost use Rattle.formulas.specs.State.{state_of, FitsFormula, FitsFormulas};
 ghost use Rattle.model.specs.Task.{exists, forall};
 ghost use Rattle.model.specs.Meaning as meaning;
@@ -12,7 +12,7 @@ use crate::objects::objects_of;
 use crate::state::State;
 use crate::valuation::Valuation;
 use arrayvec::ArrayVec;
-use typing::{Atom, Formula, LiftedAtom, MAX_ARGUMENTS, ObjectId, Task, Term, TypeUnion};
+use task::{Atom, Formula, LiftedAtom, MAX_ARGUMENTS, ObjectId, Task, Term, TypeUnion};
 
 /// Whether the formula holds in the state, where the variables in scope have these objects. The formula is well-typed for
 /// variables of some types that the objects are of. No memory is taken, and what decides ends the search.

@@ -1,12 +1,12 @@
 //! What formulas are true of.
 ghost use Rattle.std.specs.Prelude.{◌≡◌};
 ghost use Rattle.std.specs.FinSet.{contains};
-ghost use Rattle.typing.specs.TaskParts.{atom_of};
+ghost use Rattle.task.specs.TaskParts.{atom_of};
 ghost use Rattle.formulas.specs.State.{state_of};
 ghost use Rattle.model.specs.Meaning as meaning;
 
 use crate::state::State;
-use typing::Atom;
+use task::Atom;
 
 /// Says of each atom whether it is true.
 pub trait Valuation {

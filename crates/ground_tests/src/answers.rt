@@ -3,8 +3,8 @@ use faults::NoMemory;
 use solver::{Answer, Exceeded, Limits, solve};
 use std::alloc::Global;
 use std::test::Fail;
+use task::Task;
 use test_texts::{DONE, FOUR_BALLS, FOUR_BLOCKS, GO, HOP, PAIRS, TIE, Texts, UNTIED, on_task};
-use typing::Task;
 
 /// A limit that is exceeded.
 #[derive(Clone, Copy, Debug, PartialEq, Eq)]

@@ -4,8 +4,8 @@ use grounding::{CountingChange, Ground, NumberedLiteral};
 use std::alloc::{AllocError, Global};
 use std::process::Abort;
 use std::test::Fail;
+use task::Task;
 use test_texts::{HOP, PAIRS, Texts, UNTIED, on_task};
-use typing::Task;
 
 /// A door is shut. One of the changes is under a condition that the start closes off, one under `(and)`.
 const LATCH: Texts = [

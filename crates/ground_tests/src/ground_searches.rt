@@ -7,8 +7,8 @@ use search::{FoundStates, MAX_STATES, NoDeadEnd, NoEstimate, Outcome, best_first
 use solver::GroundSystem;
 use std::alloc::Global;
 use std::test::Fail;
+use task::Task;
 use test_texts::on_task;
-use typing::Task;
 
 /// What is found out, but for the states.
 fn told<S>(outcome: &Outcome<S>) -> Found {

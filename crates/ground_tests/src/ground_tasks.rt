@@ -10,8 +10,8 @@ use packed_state::Packed;
 use std::alloc::Global;
 use std::process::Abort;
 use std::test::Fail;
+use task::Task;
 use test_texts::{GO, HOP, PAIRS, PATH, TIE, Term, Texts, UNTIED, atom, is_of, on_task};
-use typing::Task;
 
 /// A lamp, and a way from the first place to the second, which is seen where the lamp is lit.
 pub(crate) const LAMP: Texts = [

@@ -18,8 +18,8 @@ use search::{DeadEnd, FoundStates, MAX_STATES, Node, Outcome, best_first};
 use solver::{Answer, Exceeded, GroundSystem, Limits, solve};
 use std::alloc::Global;
 use std::test::Fail;
+use task::Task;
 use test_texts::on_task;
-use typing::Task;
 
 /// What the certificate of a search claims that ends so.
 fn claim_of<S>(outcome: &Outcome<S>) -> Claim {

@@ -7,8 +7,8 @@ use Rattle.std.specs.List.{flat_map, list_all}
 use Rattle.std.specs.FinSet.{contains}
 use Rattle.std.proofs.lemmas.Bool.{and_parts}
 use Rattle.std.proofs.lemmas.List.Folds.{list_all-append}
-use Rattle.task_parts.specs.declared.schemas.Formula as code
-use Rattle.typing.specs.TaskParts.{formula_of}
+use Rattle.task.specs.declared.schemas.Formula as code
+use Rattle.task.specs.TaskParts.{formula_of}
 use Rattle.formulas.proofs.Trees.{formulas_in, formula_of-And}
 use Rattle.model.specs.Task.{Task, Formula, Formulas, atom, equal, and, or, not, imply, exists, forall, no_formula, more_formulas}
 use Rattle.model.specs.Meaning.{State, object_of, objects_of, ground_atom, holds, all_hold}

@@ -2,7 +2,7 @@
 use Rattle.std.specs.Prelude.{◌≡◌, ℕ, List, map, slice_get, Option, Some, is_none}
 use Rattle.std.specs.Global.{Box, Vec}
 use Rattle.std.specs.Option.{option_map}
-use Rattle.typing.specs.TaskParts.{object_of, formula_of}
+use Rattle.task.specs.TaskParts.{object_of, formula_of}
 use Rattle.formulas.specs.State.{FitsFormula}
 use Rattle.grounding.specs.Conditions.{IsConditionOf}
 use Rattle.grounding.specs.declared.changes.CountingChange.{CountingChange}

@@ -1,6 +1,6 @@
 //! The changes of an instance that count, by the numbers of their atoms.
 ghost use Rattle.std.specs.Prelude.{◌≡◌, ◌++◌, ◌∷◌, [], map, IfOk, OnOk, IsTrue};
-ghost use Rattle.typing.specs.TaskParts.{atom_of, object_of, formula_of};
+ghost use Rattle.task.specs.TaskParts.{atom_of, object_of, formula_of};
 ghost use Rattle.formulas.specs.State.{instance_of, FitsFormula};
 ghost use Rattle.formulas.specs.Effects.{ground_literal_of, change_of};
 ghost use Rattle.model.specs.Meaning.{is_instance};
@@ -16,7 +16,7 @@ use faults::NoMemory;
 use formulas::{Binding, Change, GroundLiteral, Instance, changes, copied};
 use grounding_kept::Numbering;
 use std::alloc::Global;
-use typing::{Atom, Formula};
+use task::{Atom, Formula};
 
 /// A change that counts: a numbered atom becomes true, or false, under a condition or under none.
 #[derive(Drop)]

@@ -5,7 +5,7 @@
 //! compiled: the formula itself is looked at, and only where its literals are true.
 ghost use Rattle.std.specs.Prelude.{◌≡◌, ◌<◌, length, map, IfOk};
 ghost use Rattle.std.specs.List.{All, list_all};
-ghost use Rattle.typing.specs.TaskParts.{object_of, formula_of};
+ghost use Rattle.task.specs.TaskParts.{object_of, formula_of};
 ghost use Rattle.formulas.specs.State.{FitsFormula};
 ghost use Rattle.formulas.specs.Literals.{literal_of};
 ghost use Rattle.packed_state.specs.Packed.{bits_of};
@@ -27,7 +27,7 @@ use grounding_kept::{NumberedLiteral, Numbering};
 use packed_state::Packed;
 use smallvec::SmallVec;
 use std::alloc::Global;
-use typing::Formula;
+use task::Formula;
 
 /// What a formula asks of a packed state, where the variables in scope have some objects: the literals that it says
 /// outright of numbered atoms, and what is to be asked beyond them.

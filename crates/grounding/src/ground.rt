@@ -19,7 +19,7 @@ use formulas::Instance;
 use grounding_kept::{GroundFault, NumberedLiteral, Numbering};
 use indexmap::IndexSet;
 use std::alloc::Global;
-use typing::{Atom, Task};
+use task::{Atom, Task};
 
 /// A ground task: a task by the numbers of its kept instances and of its atoms. A state of it has a bit for each numbered
 /// atom.
@@ -43,8 +43,8 @@ pub struct Ground<'t> {
 
 impl<'t> Ground<'t> {
     ghost use Rattle.std.specs.Prelude.{All, IfOk, IfErr, IsTrue};
-    ghost use Rattle.typing.specs.Task.{task_of};
-    ghost use Rattle.typing.specs.TaskParts.{atom_of};
+    ghost use Rattle.task.specs.Task.{task_of};
+    ghost use Rattle.task.specs.TaskParts.{atom_of};
     ghost use Rattle.formulas.specs.State.{instance_of};
     ghost use Rattle.model.specs.Fluents.{is_fluent_atom};
     ghost use Rattle.model.specs.ClosedOff.{kept_instances};

@@ -1,10 +1,10 @@
 //! Formulas that say all that they say outright.
 ghost use Rattle.std.specs.Prelude.{◌≡◌, map};
 ghost use Rattle.std.specs.List.{list_all};
-ghost use Rattle.typing.specs.TaskParts.{formula_of};
+ghost use Rattle.task.specs.TaskParts.{formula_of};
 ghost use Rattle.grounding.specs.Outright as outright;
 
-use typing::Formula;
+use task::Formula;
 
 /// Whether the formula is built by `and` and `forall` alone of atoms, equalities and the `not` of one of these, so that it
 /// holds where its sure literals do.

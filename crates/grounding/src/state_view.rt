@@ -7,7 +7,7 @@ ghost use Rattle.grounding_kept.specs.Numbering.{atoms_in};
 use formulas::Valuation;
 use grounding_kept::Numbering;
 use packed_state::Packed;
-use typing::Atom;
+use task::Atom;
 
 /// The state that a packed state stands for, as formulas are judged in it: the numbered atoms whose bits are set, and the
 /// static atoms that are true at the start.

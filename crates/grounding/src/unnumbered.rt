@@ -1,7 +1,7 @@
 //! Literals of atoms that have no number, which are true in every packed state or in none.
 ghost use Rattle.std.specs.Prelude.{◌≡◌, is_some, map};
 ghost use Rattle.std.specs.List.{list_all};
-ghost use Rattle.typing.specs.TaskParts.{atom_of};
+ghost use Rattle.task.specs.TaskParts.{atom_of};
 ghost use Rattle.formulas.specs.Literals.{literal_of};
 ghost use Rattle.model.specs.NumberedAtoms as numbered;
 ghost use Rattle.grounding_kept.specs.Numbering.{task_in, atoms_in};
@@ -9,7 +9,7 @@ ghost use Rattle.grounding.specs.Unnumbered as unnumbered;
 
 use formulas::Literal;
 use grounding_kept::Numbering;
-use typing::Atom;
+use task::Atom;
 
 /// Whether each of the literals has a number, or is true in every packed state.
 pub(crate) fn all_may_hold(numbering: &Numbering<'_>, literals: &[Literal]) -> bool

@@ -8,8 +8,8 @@ use Rattle.std.specs.Option.{option_map, option_map_or}
 use Rattle.std.proofs.lemmas.List.{length-append}
 use Rattle.std.proofs.lemmas.List.Elements.{filter-append}
 use Rattle.std.proofs.lemmas.Option.{slice_get_past}
-use Rattle.typing.specs.TaskParts.{shape_of_schema}
-use Rattle.typing.proofs.Shapes.{Shape, found as schema_found}
+use Rattle.task.specs.TaskParts.{shape_of_schema}
+use Rattle.task.proofs.Shapes.{Shape, found as schema_found}
 use Rattle.formulas.specs.State.{FitsFormulas}
 use Rattle.formulas.proofs.ObjectWalk.{all_of}
 use Rattle.formulas.proofs.Quantifiers.{pointwise_push}

@@ -8,11 +8,11 @@ use Rattle.std.specs.Option.{option_map_or}
 use Rattle.std.specs.FinSet.{contains}
 use Rattle.std.proofs.lemmas.Option.{slice_get_within}
 use Rattle.std.proofs.lemmas.List.Folds.{list_any-append}
-use Rattle.task_parts.specs.declared.atoms.LiftedAtom.{LiftedAtom}
-use Rattle.task_parts.specs.declared.atoms.Term.{Term}
-use Rattle.task_parts.specs.declared.schemas.Formula.{Formula}
-use Rattle.task_parts.specs.declared.schemas.Formula as formula
-use Rattle.typing.specs.TaskParts.{formula_of, lifted_atom_of, term_of}
+use Rattle.task.specs.declared.atoms.LiftedAtom.{LiftedAtom}
+use Rattle.task.specs.declared.atoms.Term.{Term}
+use Rattle.task.specs.declared.schemas.Formula.{Formula}
+use Rattle.task.specs.declared.schemas.Formula as formula
+use Rattle.task.specs.TaskParts.{formula_of, lifted_atom_of, term_of}
 use Rattle.formulas.specs.State.{FitsFormula}
 use Rattle.formulas.proofs.Trees.{sure_by_parts, list_any_map}
 use Rattle.model.specs.Task as task

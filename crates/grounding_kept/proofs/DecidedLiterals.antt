@@ -8,9 +8,9 @@ use Rattle.std.specs.Option.{option_map_or}
 use Rattle.std.proofs.lemmas.Bool.{and_parts, and_from, or_cases, or_left, or_right, ltb-true}
 use Rattle.std.proofs.lemmas.List.Folds.{list_any-append, list_all-append}
 use Rattle.std.proofs.lemmas.List.Elements.{filter-append}
-use Rattle.task_parts.specs.declared.schemas.Formula.{Formula}
-use Rattle.task_parts.specs.declared.schemas.Formula as formula
-use Rattle.typing.specs.TaskParts.{formula_of}
+use Rattle.task.specs.declared.schemas.Formula.{Formula}
+use Rattle.task.specs.declared.schemas.Formula as formula
+use Rattle.task.specs.TaskParts.{formula_of}
 use Rattle.formulas.proofs.Trees.{formulas_in, formula_of-And}
 use Rattle.model.specs.Task as task
 use Rattle.model.specs.Task.{Task, Union, Term, variable, object, atom, equal, and, or, imply, exists, forall, no_formula, more_formulas}

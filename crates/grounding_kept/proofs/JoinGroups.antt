@@ -8,10 +8,10 @@ use Rattle.std.specs.Borrow.{Bor}
 use Rattle.std.specs.FinSet.{contains, contains-from_list}
 use Rattle.std.proofs.lemmas.Bool.{ltb-true, ltb-false, or_left, or_right}
 use Rattle.std.proofs.lemmas.Option.{slice_get_within, slice_get-map, slice_get_read}
-use Rattle.task_parts.specs.declared.atoms.Atom.{Atom}
-use Rattle.task_parts.specs.declared.atoms.ObjectId.{ObjectId}
-use Rattle.task_parts.specs.declared.schemas.Formula.{Formula}
-use Rattle.typing.specs.TaskParts.{atom_of, object_of, term_of, lifted_atom_of, union_of}
+use Rattle.task.specs.declared.atoms.Atom.{Atom}
+use Rattle.task.specs.declared.atoms.ObjectId.{ObjectId}
+use Rattle.task.specs.declared.schemas.Formula.{Formula}
+use Rattle.task.specs.TaskParts.{atom_of, object_of, term_of, lifted_atom_of, union_of}
 use Rattle.grounding_kept.specs.declared.joins.Joint.{Joint}
 use Rattle.grounding_kept.specs.declared.joins.Index.{Index}
 use Rattle.grounding_kept.specs.declared.joins.Join.{Join}

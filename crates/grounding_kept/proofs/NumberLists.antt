@@ -12,9 +12,9 @@ use Rattle.std.proofs.lemmas.Option.{slice_get_within, slice_get_read, slice_get
 use Rattle.indexmap.specs.IndexSet.{insert_key}
 use Rattle.faults.specs.declared.refused.Refused.TheVariants.{At, NoMemory}
 use Rattle.grounding_kept.specs.declared.fault.GroundLimit.TheVariants.{Instances, Atoms}
-use Rattle.task_parts.specs.declared.atoms.Atom.{Atom}
-use Rattle.typing.specs.TaskParts.{atom_of}
-use Rattle.task_parts.proofs.AtomEquality.{eq-alike}
+use Rattle.task.specs.declared.atoms.Atom.{Atom}
+use Rattle.task.specs.TaskParts.{atom_of}
+use Rattle.task.proofs.AtomEquality.{eq-alike}
 use Rattle.formulas.proofs.Equality.{atom_eq, one_atom}
 use Rattle.model.specs.Task as task
 use Rattle.model.specs.Task.{Task}

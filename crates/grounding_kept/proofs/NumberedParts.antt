@@ -6,9 +6,9 @@ use Rattle.std.specs.Option.{option_map}
 use Rattle.std.specs.Ordering.{eq_by_cmp}
 use Rattle.std.proofs.lemmas.List.{length-map, map_push, take_more}
 use Rattle.std.proofs.lemmas.List.Elements.{filter_map-append}
-use Rattle.task_parts.specs.declared.atoms.Atom.{Atom}
-use Rattle.typing.specs.TaskParts.{atom_of}
-use Rattle.task_parts.proofs.AtomEquality.{eq-alike}
+use Rattle.task.specs.declared.atoms.Atom.{Atom}
+use Rattle.task.specs.TaskParts.{atom_of}
+use Rattle.task.proofs.AtomEquality.{eq-alike}
 use Rattle.formulas.proofs.Equality.{atom_eq}
 use Rattle.model.specs.Task as task
 use Rattle.model.specs.Meaning.{atom_cmp}

@@ -4,9 +4,9 @@ use Rattle.std.specs.Prelude.{slice_get}
 use Rattle.std.specs.Option.{option_map}
 use Rattle.std.proofs.lemmas.List.{map_push, take_more, length-append, length-map}
 use Rattle.std.proofs.lemmas.Option.{slice_get-get_or, get_or_from_slice_get, slice_get-map}
-use Rattle.task_parts.specs.declared.atoms.ObjectId.{ObjectId}
-use Rattle.task_parts.specs.declared.schemas.TypeUnion.{TypeUnion}
-use Rattle.typing.specs.TaskParts.{object_of, union_of}
+use Rattle.task.specs.declared.atoms.ObjectId.{ObjectId}
+use Rattle.task.specs.declared.schemas.TypeUnion.{TypeUnion}
+use Rattle.task.specs.TaskParts.{object_of, union_of}
 use Rattle.grounding_kept.specs.declared.parameters.Parameter.{Parameter}
 use Rattle.grounding_kept.specs.Literals.{decided_literals}
 use Rattle.grounding_kept.specs.Parameters.{choice_of, choices_from, lent_formula}

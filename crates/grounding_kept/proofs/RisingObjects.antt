@@ -10,9 +10,9 @@ use Rattle.std.specs.BTreeMap.{is_at}
 use Rattle.std.proofs.lemmas.Bool.{ltb-true, ltb-false}
 use Rattle.std.proofs.lemmas.Cmp.{ranked}
 use Rattle.std.proofs.lemmas.Map.Keys.{sorted_head, sorted_tail}
-use Rattle.task_parts.specs.declared.atoms.ObjectId.{ObjectId}
-use Rattle.task_parts.specs.contracts.atoms.ObjectIdOrd.TheImpl as object_ord
-use Rattle.typing.specs.TaskParts.{object_of}
+use Rattle.task.specs.declared.atoms.ObjectId.{ObjectId}
+use Rattle.task.specs.contracts.atoms.ObjectIdOrd.TheImpl as object_ord
+use Rattle.task.specs.TaskParts.{object_of}
 use Rattle.model.specs.Task.{Task, Union}
 use Rattle.model.specs.Meaning.{is_of, objects_of}
 use Rattle.model.proofs.InstancesLemmas.{is_of-within}

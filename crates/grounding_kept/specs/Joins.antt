@@ -5,9 +5,9 @@ use Rattle.std.specs.List.{list_any}
 use Rattle.std.specs.List.Sorted.{IsStrictlySortedBy}
 use Rattle.std.specs.BTreeSet as sorted
 use Rattle.std.specs.BTreeSet.{BTreeSet}
-use Rattle.task_parts.specs.declared.atoms.ObjectId.{ObjectId}
-use Rattle.task_parts.specs.contracts.atoms.ObjectIdOrd.TheImpl as object_ord
-use Rattle.typing.specs.TaskParts.{term_of, lifted_atom_of, union_of}
+use Rattle.task.specs.declared.atoms.ObjectId.{ObjectId}
+use Rattle.task.specs.contracts.atoms.ObjectIdOrd.TheImpl as object_ord
+use Rattle.task.specs.TaskParts.{term_of, lifted_atom_of, union_of}
 use Rattle.grounding_kept.specs.declared.joins.Joint.{Joint}
 use Rattle.grounding_kept.specs.declared.joins.Index.{Index}
 use Rattle.grounding_kept.specs.declared.joins.Join.{Join}

@@ -1,8 +1,8 @@
 -- Numberings of the code, in the model's terms.
 use Rattle.std.specs.Prelude.{◌≡◌, ℕ, List, map, None, Some}
 use Rattle.faults.specs.declared.refused.Refused.TheVariants.{At, NoMemory}
-use Rattle.typing.specs.Task.{task_of}
-use Rattle.typing.specs.TaskParts.{atom_of}
+use Rattle.task.specs.Task.{task_of}
+use Rattle.task.specs.TaskParts.{atom_of}
 use Rattle.formulas.specs.State.{instance_of}
 use Rattle.grounding_kept.specs.declared.numbering.Numbering.{Numbering}
 use Rattle.grounding_kept.specs.declared.fault.GroundLimit.{GroundLimit}

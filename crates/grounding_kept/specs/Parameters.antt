@@ -1,8 +1,8 @@
 -- The code's parameters, in the model's terms.
 use Rattle.std.specs.Prelude.{ℕ, ◌+◌, List, [], ◌∷◌, map}
 use Rattle.std.specs.Borrow.{Bor}
-use Rattle.task_parts.specs.declared.schemas.Formula.{Formula}
-use Rattle.typing.specs.TaskParts.{object_of, formula_of}
+use Rattle.task.specs.declared.schemas.Formula.{Formula}
+use Rattle.task.specs.TaskParts.{object_of, formula_of}
 use Rattle.grounding_kept.specs.declared.parameters.Parameter.{Parameter}
 use Rattle.grounding_kept.specs.Literals.{decided_literals}
 use Rattle.model.specs.Task as task

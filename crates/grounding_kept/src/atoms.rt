@@ -1,8 +1,8 @@
 //! The numbers of atoms.
 ghost use Rattle.std.specs.Prelude.{◌≡◌, ◌≤◌, ◌<◌, [], ◌∷◌, if◌then◌else◌, map, filter, length, IfOk, IfErr, OnOk, IsTrue};
 ghost use Rattle.std.specs.List.{flat_map, list_all};
-ghost use Rattle.typing.specs.Task.{task_of};
-ghost use Rattle.typing.specs.TaskParts.{atom_of};
+ghost use Rattle.task.specs.Task.{task_of};
+ghost use Rattle.task.specs.TaskParts.{atom_of};
 ghost use Rattle.formulas.specs.State.{instance_of, FitsFormula};
 ghost use Rattle.formulas.specs.Effects.{change_of, ground_literal_of};
 ghost use Rattle.model.specs.Meaning.{is_instance};
@@ -16,7 +16,7 @@ use crate::statics::Statics;
 use formulas::{Change, GroundLiteral, Instance, changes};
 use indexmap::IndexSet;
 use std::alloc::Global;
-use typing::Atom;
+use task::Atom;
 
 /// The most atoms that may have numbers.
 pub const MAX_ATOMS: usize = 1_048_576;

@@ -1,13 +1,13 @@
 //! Which predicates actions change.
 ghost use Rattle.std.specs.Prelude.{◌≡◌, length, map, IfOk};
 ghost use Rattle.std.specs.List.{range_with_len};
-ghost use Rattle.typing.specs.Task.{task_of};
+ghost use Rattle.task.specs.Task.{task_of};
 ghost use Rattle.model.specs.Fluents as model_fluents;
 
 use faults::NoMemory;
 use formulas::is_fluent;
 use std::alloc::Global;
-use typing::{PredicateId, Task};
+use task::{PredicateId, Task};
 
 /// For each predicate of the task, by its number, whether some action adds or deletes an atom of it.
 pub(crate) fn fluents(alloc: Global, task: &Task) -> Result<Vec<bool>, NoMemory>

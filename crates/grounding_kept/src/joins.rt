@@ -10,9 +10,9 @@ ghost use Rattle.std.specs.Prelude.{◌≡◌, ◌⊎◌, false, length, map, fi
 ghost use Rattle.std.specs.Bool.{OnTrue};
 ghost use Rattle.std.specs.Option.{option_map, option_map_or};
 ghost use Rattle.std.specs.List.Sorted.{IsStrictlySortedBy};
-ghost use Rattle.task_parts.specs.contracts.atoms.ObjectIdOrd.TheImpl as object_ord;
-ghost use Rattle.typing.specs.Task.{task_of};
-ghost use Rattle.typing.specs.TaskParts.{atom_of, object_of, formula_of, lifted_atom_of, term_of, union_of};
+ghost use Rattle.task.specs.contracts.atoms.ObjectIdOrd.TheImpl as object_ord;
+ghost use Rattle.task.specs.Task.{task_of};
+ghost use Rattle.task.specs.TaskParts.{atom_of, object_of, formula_of, lifted_atom_of, term_of, union_of};
 ghost use Rattle.model.specs.Task as model_task;
 ghost use Rattle.model.specs.Fluents as model_fluents;
 ghost use Rattle.model.specs.Meaning as meaning;
@@ -26,7 +26,7 @@ use faults::NoMemory;
 use formulas::Binding;
 use std::alloc::Global;
 use std::collections::BTreeSet;
-use typing::{Atom, Formula, LiftedAtom, ObjectId, PredicateId, Task, Term, TypeUnion};
+use task::{Atom, Formula, LiftedAtom, ObjectId, PredicateId, Task, Term, TypeUnion};
 
 /// An atom of a static predicate, where a parameter stands in it, and where a term that is known before it.
 #[derive(Drop)]

@@ -4,8 +4,8 @@
 //! are not gone on with. So does Helmert 2009, "Concise finite-domain representations for PDDL planning tasks", with static
 //! atoms; which atoms the actions can make true is not asked here.
 ghost use Rattle.std.specs.Prelude.{◌≡◌, ◌+◌, ◌≤◌, ◌++◌, [], ◌∷◌, map, filter, length, IfOk, IfErr, OnOk, IsTrue};
-ghost use Rattle.typing.specs.Task.{task_of};
-ghost use Rattle.typing.specs.TaskParts.{object_of};
+ghost use Rattle.task.specs.Task.{task_of};
+ghost use Rattle.task.specs.TaskParts.{object_of};
 ghost use Rattle.formulas.specs.State.{instance_of};
 ghost use Rattle.model.specs.Meaning.{is_instance};
 ghost use Rattle.model.specs.ClosedOff as closed_off;
@@ -19,7 +19,7 @@ use crate::parameters::{Parameter, decided_literals, parameters_of};
 use crate::statics::Statics;
 use formulas::{Binding, Instance, with_object};
 use std::alloc::Global;
-use typing::{Formula, SchemaId};
+use task::{Formula, SchemaId};
 
 /// The kept instances, in the order of all instances, where there are at most `max`.
 ///

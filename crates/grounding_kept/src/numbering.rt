@@ -1,8 +1,8 @@
 //! The kept instances of a task and its numbered atoms.
 ghost use Rattle.std.specs.Prelude.{◌≡◌, ◌≤◌, true, length, map};
 ghost use Rattle.std.proofs.Props.{props};
-ghost use Rattle.typing.specs.Task.{task_of};
-ghost use Rattle.typing.specs.TaskParts.{atom_of};
+ghost use Rattle.task.specs.Task.{task_of};
+ghost use Rattle.task.specs.TaskParts.{atom_of};
 ghost use Rattle.formulas.specs.State.{instance_of};
 ghost use Rattle.model.specs.Task as model_task;
 ghost use Rattle.model.specs.Fluents.{is_fluent};
@@ -19,7 +19,7 @@ use faults::NoMemory;
 use formulas::{Binding, Change, Instance, Literal};
 use indexmap::IndexSet;
 use std::alloc::Global;
-use typing::{Atom, Formula, Task};
+use task::{Atom, Formula, Task};
 
 /// The kept instances of a task and its numbered atoms, each at the place, from 0, that is its number. The atoms are of
 /// fluent predicates, and each has one number.
@@ -38,7 +38,7 @@ impl<'t> Numbering<'t> {
     ghost use Rattle.std.specs.Prelude.{not, ◌&&◌, All, IfOk, IfErr, IsTrue};
     ghost use Rattle.std.specs.List.{filter_map};
     ghost use Rattle.std.specs.FinSet.{contains};
-    ghost use Rattle.typing.specs.TaskParts.{object_of, formula_of};
+    ghost use Rattle.task.specs.TaskParts.{object_of, formula_of};
     ghost use Rattle.formulas.specs.State.{FitsFormula};
     ghost use Rattle.formulas.specs.Effects.{change_of};
     ghost use Rattle.formulas.specs.Literals.{literal_of};

@@ -1,8 +1,8 @@
 //! Literals by the numbers of their atoms.
 ghost use Rattle.std.specs.Prelude.{◌≡◌, ◌≤◌, ◌++◌, ◌∷◌, [], if◌then◌else◌, length, map, IfOk, OnOk};
 ghost use Rattle.std.specs.List.{filter_map};
-ghost use Rattle.typing.specs.Task.{task_of};
-ghost use Rattle.typing.specs.TaskParts.{atom_of, object_of, formula_of};
+ghost use Rattle.task.specs.Task.{task_of};
+ghost use Rattle.task.specs.TaskParts.{atom_of, object_of, formula_of};
 ghost use Rattle.formulas.specs.State.{FitsFormula};
 ghost use Rattle.formulas.specs.Literals.{literal_of};
 ghost use Rattle.model.specs.SureLiterals as sure_literals;
@@ -15,7 +15,7 @@ use faults::NoMemory;
 use formulas::{Binding, Literal, sure};
 use indexmap::IndexSet;
 use std::alloc::Global;
-use typing::{Atom, Formula, Task};
+use task::{Atom, Formula, Task};
 
 /// A numbered atom is true, or false.
 #[derive(Clone, Copy, Debug, Default, PartialEq, Eq)]

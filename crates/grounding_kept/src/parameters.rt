@@ -1,8 +1,8 @@
 //! What a schema's parameters may be, and which literals of its precondition are decided once they have objects.
 ghost use Rattle.std.specs.Prelude.{◌≡◌, ◌+◌, ◌<◌, ◌^◌, [], ◌∷◌, ◌++◌, map, filter, length, IfOk, OnOk};
 ghost use Rattle.std.specs.List.{list_all};
-ghost use Rattle.typing.specs.Task.{task_of};
-ghost use Rattle.typing.specs.TaskParts.{object_of, formula_of, term_of, union_of};
+ghost use Rattle.task.specs.Task.{task_of};
+ghost use Rattle.task.specs.TaskParts.{object_of, formula_of, term_of, union_of};
 ghost use Rattle.model.specs.Meaning as meaning;
 ghost use Rattle.model.proofs.EnumerationLemmas as enumeration;
 ghost use Rattle.grounding_kept.specs.Joins.{IsJoined, AreJoined, AreCandidates};
@@ -14,7 +14,7 @@ use crate::statics::Statics;
 use faults::NoMemory;
 use formulas::Binding;
 use std::alloc::Global;
-use typing::{Formula, ObjectId, Schema, Task, Term, TypeUnion};
+use task::{Formula, ObjectId, Schema, Task, Term, TypeUnion};
 
 /// A parameter of a schema.
 #[derive(Drop)]

@@ -4,7 +4,7 @@ ghost use Rattle.std.specs.Prelude.{◌≡◌, length, map};
 ghost use Rattle.std.specs.List.{range_with_len};
 ghost use Rattle.std.specs.FinSet.{contains};
 ghost use Rattle.std.proofs.Props.{props};
-ghost use Rattle.typing.specs.Task.{task_of};
+ghost use Rattle.task.specs.Task.{task_of};
 ghost use Rattle.formulas.specs.State.{state_of};
 ghost use Rattle.model.specs.Task as model_task;
 ghost use Rattle.model.specs.Fluents as model_fluents;
@@ -14,7 +14,7 @@ use crate::fluents::fluents;
 use faults::NoMemory;
 use formulas::{Binding, Change, Instance, State, amount, copied, holds, objects_of};
 use std::alloc::Global;
-use typing::{Atom, Formula, PredicateId, Task, TypeUnion};
+use task::{Atom, Formula, PredicateId, Task, TypeUnion};
 
 /// A task with its fluent predicates and its initial state.
 #[derive(Drop)]
@@ -30,7 +30,7 @@ pub(crate) struct Statics<'t> {
 impl<'t> Statics<'t> {
     ghost use Rattle.std.specs.Prelude.{◌<◌, ◌&&◌, not, IfOk, IsTrue};
     ghost use Rattle.std.specs.List.{list_any};
-    ghost use Rattle.typing.specs.TaskParts.{atom_of, object_of, formula_of, union_of};
+    ghost use Rattle.task.specs.TaskParts.{atom_of, object_of, formula_of, union_of};
     ghost use Rattle.formulas.specs.State.{FitsFormula, FitsFormulas, instance_of};
     ghost use Rattle.formulas.specs.Effects.{change_of};
     ghost use Rattle.grounding_kept.specs.Parameters.{lent_formula};

@@ -3,7 +3,7 @@
 ghost use Rattle.std.specs.Prelude.{◌≡◌, ◌<◌, List, IsTrue, IfOk, IfErr, IsErrAnd, IfSome, None, Some, ℕ, length, map};
 ghost use Rattle.std.specs.List.{list_all};
 ghost use Rattle.tokens.specs.Told.{told_by};
-ghost use Rattle.typing.specs.Task.{task_of};
+ghost use Rattle.task.specs.Task.{task_of};
 ghost use Rattle.formulas.specs.State.{instance_of, plan_of};
 ghost use Rattle.model.specs.Meaning.{is_instance};
 ghost use Rattle.model.specs.PlanExamples.{ArePlans};
@@ -18,8 +18,8 @@ use crate::word::{Word, refusal};
 use faults::{Code, Fault};
 use formulas::{Instance, Plan};
 use std::alloc::Global;
+use task::Task;
 use tokens::LONGEST_TEXT;
-use typing::Task;
 
 /// The plan that a text is for the task.
 ///

@@ -3,8 +3,8 @@ ghost use Rattle.std.specs.Prelude.{◌≡◌, ◌<◌, ◌≤◌, ◌++◌, ◌
 ghost use Rattle.std.specs.Cmp.Lexicographic.{pointwise};
 ghost use Rattle.std.specs.Option.{option_map};
 ghost use Rattle.tokens.specs.Told.{told_by};
-ghost use Rattle.typing.specs.Task.{task_of};
-ghost use Rattle.typing.specs.TaskParts.{object_of, schema_id_of, union_of};
+ghost use Rattle.task.specs.Task.{task_of};
+ghost use Rattle.task.specs.TaskParts.{object_of, schema_id_of, union_of};
 ghost use Rattle.formulas.specs.State as view;
 ghost use Rattle.plan_file.specs.PlanFile.{step_of, name_of, IsMeaning, IsFirstFault, IsWrongObject, IsNoObject};
 ghost use Rattle.model.specs.Task as model;
@@ -17,7 +17,7 @@ use crate::word::Word;
 use faults::{Code, Fault, NoMemory, Refused, TextRefusal};
 use formulas::{Binding, Instance};
 use std::alloc::Global;
-use typing::{ObjectId, SchemaId, Task, TypeUnion};
+use task::{ObjectId, SchemaId, Task, TypeUnion};
 
 /// What the steps of a text mean, up to one: their instances, in order, or the refusal of the first that is at fault.
 #[derive(Drop)]

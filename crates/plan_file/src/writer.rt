@@ -5,7 +5,7 @@ ghost use Rattle.std.specs.List.{list_all};
 ghost use Rattle.std.specs.Str.Lossy.{utf8_lossy};
 ghost use Rattle.std.specs.String.{string_bytes};
 ghost use Rattle.devices.specs.Devices.{AppendsBeginning, CountsDevice};
-ghost use Rattle.typing.specs.Task.{task_of};
+ghost use Rattle.task.specs.Task.{task_of};
 ghost use Rattle.formulas.specs.State.{instance_of, plan_of};
 ghost use Rattle.model.specs.Task as model;
 ghost use Rattle.model.specs.Files.{IsTaskOf};
@@ -19,7 +19,7 @@ use devices::{Sink, WriteFault, write_all};
 use faults::NoMemory;
 use formulas::{Instance, Plan};
 use std::alloc::{AllocError, Global};
-use typing::{ObjectId, SchemaId, Task};
+use task::{ObjectId, SchemaId, Task};
 
 /// Writes the text of a plan of this cost.
 ///

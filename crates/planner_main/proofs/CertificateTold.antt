@@ -18,7 +18,7 @@ use Rattle.cert_checker.specs.Checking.{Accepts, Refuses}
 use Rattle.model.specs.Task.{Task, Instance}
 use Rattle.certificate_definitions.specs.Certificates.{Certificate}
 use Rattle.model.specs.Files.{IsTaskOf}
-use Rattle.typing.specs.Task.{task_of}
+use Rattle.task.specs.Task.{task_of}
 use Rattle.devices.specs.Texts.{IsText}
 use Rattle.devices.specs.declared.device.WriteFault.{WriteFault}
 use Rattle.file_answers.specs.declared.checking.Checked.{Checked}

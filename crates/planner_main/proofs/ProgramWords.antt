@@ -19,7 +19,7 @@ use Rattle.planner_main.specs.Reported as reported
 use Rattle.planner_main.specs.Reported.{HasText, status_of}
 use Rattle.planner_main.specs.declared.telling.reports.Report.{Report}
 use Rattle.planner_main.specs.declared.telling.reports.Report.TheVariants as report
-use Rattle.typing.specs.Task.{task_of}
+use Rattle.task.specs.Task.{task_of}
 use Rattle.validator.specs.Verdict.{verdict_of}
 use Rattle.model.proofs.TaskNames.{task_has_names}
 use Rattle.cert_checker.specs.declared.refusal.Refusal.{Refusal}

@@ -2,7 +2,7 @@
 use Rattle.std.specs.Prelude.{ℕ, Bool, List, IsTrue, if◌then◌else◌}
 use Rattle.std.specs.String.{string_bytes}
 use Rattle.planner_main.specs.JsonText.{Member}
-use Rattle.typing.specs.Task.{task_of}
+use Rattle.task.specs.Task.{task_of}
 use Rattle.validator.specs.Verdict.{verdict_of}
 use Rattle.planner_main.specs.Objects.{line_of_members, of_answer, of_checked, of_explanation, of_verdict}
 use Rattle.planner_main.specs.AnswerTold as answers

@@ -1,7 +1,7 @@
 //! What the words of a command line ask for, and what is told as JSON.
 ghost use Rattle.std.specs.Prelude.{IsTrue};
 ghost use Rattle.model.specs.PlanWriting.{has_names};
-ghost use Rattle.typing.specs.Task.{task_of};
+ghost use Rattle.task.specs.Task.{task_of};
 
 use faults::NoMemory;
 use planner_main::{

@@ -7,8 +7,8 @@ use plan_file::read_plan;
 use std::alloc::Global;
 use std::process::Abort;
 use std::test::Fail;
+use task::Task;
 use test_texts::{Texts, on_task};
-use typing::Task;
 
 /// Three places, of which the last is closed, and ways between the first two.
 const ROAD: Texts = [

@@ -1,10 +1,9 @@
 //! The laws of reading and of meaning that are stated of all values, and proved, each called once; and the numbers that the
 //! contracts name.
 use formulas::{MAX_STEPS, formula_examples_are_judged, one_state, sure_literals_hold};
+use task::{MAX_ARGUMENTS, MAX_OBJECTS, MAX_VARIABLES};
 use tokens::LONGEST_TEXT;
-use typing::{
-    MAX_ARGUMENTS, MAX_OBJECTS, MAX_VARIABLES, examples_are_typed, supertypes_are_those_above,
-};
+use typing::{examples_are_typed, supertypes_are_those_above};
 use validator::{exactly_one_verdict_is_true, worked_examples_are_true};
 
 #[test]

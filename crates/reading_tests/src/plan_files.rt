@@ -8,8 +8,8 @@ use std::alloc::Global;
 use std::process::Abort;
 use std::test::Fail;
 use std::{env, fs, process};
+use task::Task;
 use test_texts::{HOP, Term, instance, is_of, on_task};
-use typing::Task;
 
 /// Two hops, as they are written.
 const TWO_HOPS: &[u8] = b"(hop a b)\n(hop b c)\n; cost = 6\n";

@@ -7,8 +7,8 @@ use formulas::{
 use std::alloc::Global;
 use std::process::Abort;
 use std::test::Fail;
+use task::{ObjectId, PredicateId, Task};
 use test_texts::{Term, Texts, atom, atoms, instance, is_of, on_task};
-use typing::{ObjectId, PredicateId, Task};
 
 /// Three places, and roads that lead from the first to itself and to the second, and from there to the third.
 const WALK: Texts = [

@@ -3,8 +3,8 @@ use faults::NoMemory;
 use std::alloc::{AllocError, Global};
 use std::process::Abort;
 use std::test::Fail;
+use task::{ObjectId, PredicateId, SchemaId, Task, TypeId, TypeUnion};
 use test_texts::{Term, Texts, atom, on_task};
-use typing::{ObjectId, PredicateId, SchemaId, Task, TypeId, TypeUnion};
 
 /// Names with letters of either case.
 const MIXED: Texts = [

@@ -4,12 +4,12 @@ use Rattle.std.specs.Prelude.{All, Contains, slice_get, if◌then◌else◌}
 use Rattle.std.specs.List.{AllZip, list_any, take-map}
 use Rattle.std.proofs.lemmas.List.{take_more, map-append}
 use Rattle.std.proofs.lemmas.List.Elements.{All-contains}
-use Rattle.task_parts.specs.declared.atoms.Atom as code_atom
+use Rattle.task.specs.declared.atoms.Atom as code_atom
 use Rattle.std.specs.Option.{option_map}
 use Rattle.std.proofs.lemmas.Option.{slice_get-map, slice_get-get_or}
 use Rattle.std.proofs.lemmas.Bool.{and_parts, not-true, true≢false}
 use Rattle.std.proofs.lemmas.Map.Views.{Contains-from_any}
-use Rattle.typing.specs.TaskParts.{atom_of, object_of}
+use Rattle.task.specs.TaskParts.{atom_of, object_of}
 use Rattle.formulas.specs.declared.instance.Instance as code
 use Rattle.formulas.specs.State.{instance_of}
 use Rattle.model.specs.Task.{Task, Instance, Atom}

@@ -1,6 +1,6 @@
 //! The answer to a task.
 ghost use Rattle.std.specs.Prelude.{[], IfOk, IsTrue};
-ghost use Rattle.typing.specs.Task.{task_of};
+ghost use Rattle.task.specs.Task.{task_of};
 ghost use Rattle.grounding.specs.Ground.{task_in, atoms_in, IsGroundOf};
 ghost use Rattle.potential_functions.specs.Fair.{AreDeadFair};
 ghost use Rattle.potentials_improved.specs.FairPotentials.{potentials_in, AreOf};
@@ -23,7 +23,7 @@ use packed_state::PooledStore;
 use potentials_improved::{DeadFair, Fair, Tables};
 use search::{Outcome, best_first};
 use std::alloc::Global;
-use typing::Task;
+use task::Task;
 
 /// What is found out of a task.
 #[derive(Drop)]

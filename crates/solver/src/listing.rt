@@ -8,7 +8,7 @@
 //! line goes no further, and its value, that of fair potentials which the certificate has too, is a lower bound on what is
 //! still to be paid from its state; from a dead line's state no plan leads on, as dead-fair potentials show.
 ghost use Rattle.std.specs.Prelude.{◌≡◌, ◌≤◌, Bool, List, All, [], length, map, IfOk, IsTrue};
-ghost use Rattle.typing.specs.TaskParts.{atom_of};
+ghost use Rattle.task.specs.TaskParts.{atom_of};
 ghost use Rattle.packed_state.specs.Packed.{bits_of};
 ghost use Rattle.packed_state.specs.PooledView.{pooled_states};
 ghost use Rattle.certificate_reader.specs.Lines.{claim_of};

@@ -3,7 +3,7 @@ ghost use Rattle.std.specs.Prelude.{◌≡◌, ℕ, List, IfOk, IfErr, IfSome, I
 ghost use Rattle.std.specs.List.{list_all};
 ghost use Rattle.tokens.specs.Told.{told_by};
 ghost use Rattle.syntax_tree.specs.Tree.{domain_of, problem_of};
-ghost use Rattle.typing.specs.Task.{task_of};
+ghost use Rattle.task.specs.Task.{task_of};
 ghost use Rattle.formulas.specs.State.{plan_of};
 ghost use Rattle.task_files.specs.Files.{told_in};
 ghost use Rattle.model.specs.Task as model;
@@ -18,9 +18,10 @@ use formulas::Plan;
 use plan_file::read_plan;
 use std::alloc::Global;
 use std::fmt;
+use task::Task;
 use thiserror::Error;
 use tokens::scan;
-use typing::{Task, TaskFault, TaskFile, TaskRefusal};
+use typing::{FromTrees, TaskFault, TaskFile, TaskRefusal};
 
 /// One of the three files.
 #[derive(Clone, Copy, Debug, PartialEq, Eq)]

@@ -3,7 +3,7 @@ use Rattle.std.proofs.Common.{◌≡◌, ℕ, cond, Bool, true, false, List, [],
 use Rattle.std.specs.List.{flat_map}
 use Rattle.std.proofs.lemmas.List.{append_assoc}
 use Rattle.std.specs.Global.{Vec}
-use Rattle.task_parts.specs.declared.schemas.TypeUnion.{TypeUnion}
+use Rattle.task.specs.declared.schemas.TypeUnion.{TypeUnion}
 use Rattle.task_parts.specs.Scope.{BeginsWith}
 use Rattle.model.specs.Task as task
 use Rattle.model.specs.Typing.{Declared, Placed, TypingFault, is_known, folded, with_name, known_among, names_of, words_of, refused, refused_word, repeated_after}

@@ -2,16 +2,9 @@
 use Rattle.std.proofs.Common.{◌≡◌, ℕ, ◌≤◌, Bool, true, false, ◌&&◌, List, [], ◌∷◌, ◌++◌, map, length, fold, refl, ap, sym, ◌∙◌, if◌then◌else◌, arith, zero, suc}
 use Rattle.std.proofs.lemmas.Bool.Decides.{nat_tests}
 use Rattle.std.proofs.lemmas.List.{append_assoc, append-nil}
+pub use Rattle.task.proofs.Lists.{nil_left, nil_right}
 use Rattle.model.specs.Task as task
 use Rattle.model.specs.Typing.{Placed, folded, is_known, with_name, repeated_after, one_after, refused}
-
-pub nil_left : {X : Type 0} (xs ys : List X) → xs ++ ys ≡ [] → xs ≡ []
-nil_left [] ys e = refl
-nil_left (x ∷ xs) ys e = absurd (cc)
-
-pub nil_right : {X : Type 0} (xs ys : List X) → xs ++ ys ≡ [] → ys ≡ []
-nil_right [] ys e = e
-nil_right (x ∷ xs) ys e = absurd (cc)
 
 pub not_refused : (code : ℕ) (words : List Placed) → refused code words ≡ [] → words ≡ []
 not_refused code [] e = refl

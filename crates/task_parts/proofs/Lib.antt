@@ -8,4 +8,3 @@ pub mod Empty
 pub mod Declared
 pub mod Arguments
 pub mod Named
-pub mod AtomEquality

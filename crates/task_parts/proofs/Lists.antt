@@ -5,40 +5,12 @@ use Rattle.std.specs.Prelude.{filter}
 use Rattle.std.specs.List.{list_all, list_any, position, position_or_len, range_with_len}
 use Rattle.std.proofs.lemmas.List.FromFn.{filter_of_map_range_with_len_more}
 use Rattle.std.proofs.lemmas.Bool.Decides.{nat_tests}
-
-pub position_or_len-map : {X Y : Type 0} (p : Y → Bool) (f : X → Y) (xs : List X) → position_or_len p (map f xs) ≡ position_or_len (λ x. p (f x)) xs
-position_or_len-map p f [] = refl
-position_or_len-map p f (x ∷ xs) = ap (λ n. cond (not (p (f x))) (1 + n) 0) (position_or_len-map p f xs)
-
-pub list_any-map : {X Y : Type 0} (p : Y → Bool) (f : X → Y) (xs : List X) → list_any p (map f xs) ≡ list_any (λ x. p (f x)) xs
-list_any-map p f [] = refl
-list_any-map p f (x ∷ xs) = ap (λ b. p (f x) || b) (list_any-map p f xs)
-
--- whether a number is that of an element, from either side
-pub any_same : {X : Type 0} (number : X → ℕ) (n : ℕ) (xs : List X) → list_any (λ x. nat_eq (number x) n) xs ≡ list_any (nat_eq n) (map number xs)
-any_same number n [] = refl
-any_same number n (x ∷ xs) = let turned : nat_eq (number x) n ≡ nat_eq n (number x) = grind (arith, nat_tests) in (λ i. turned i || any_same number n xs i)
+pub use Rattle.task.proofs.Lists.{position_or_len-map, list_any-map, any_same, filter_range_more, kept_so, kept_not, position-map, list_all-map}
 
 -- one more of a list of the same
 pub same_more : {X Z : Type 0} (z : Z) (xs : List X) (i : ℕ) → i < length xs → map (λ _. z) (take (i + 1) xs) ≡ map (λ _. z) (take i xs) ++ z ∷ []
 same_more z [] i l = absurd (omega (arith, l))
 same_more z (x ∷ xs) i l = map_more (λ _. z) (x ∷ xs) i x l
-
--- a range that grows by one
-pub filter_range_more : (p : ℕ → Bool) (n : ℕ) → filter p (range_with_len 0 (n + 1)) ≡ filter p (range_with_len 0 n) ++ cond (p n) (n ∷ []) []
-filter_range_more p n =
-    ap (filter p) (sym (map-id (range_with_len 0 (n + 1)))) ∙ filter_of_map_range_with_len_more p (λ k. k) 0 n n (omega arith)
-    ∙ ap (λ ks. filter p ks ++ cond (p n) (n ∷ []) []) (map-id (range_with_len 0 n))
-
--- what is kept of a range that grows by one
-pub kept_so : {X : Type 0} (number : X → ℕ) (p : ℕ → Bool) (n : ℕ) (items : List X) (x : X) → number x ≡ n → p n ≡ true → map number items ≡ filter p (range_with_len 0 n)
-    → map number (items ++ x ∷ []) ≡ filter p (range_with_len 0 (n + 1))
-kept_so number p n items x is so kept =
-    map_push number items x ∙ (λ i. kept i ++ is i ∷ []) ∙ ap (λ b. filter p (range_with_len 0 n) ++ cond b (n ∷ []) []) (sym so) ∙ sym (filter_range_more p n)
-
-pub kept_not : {X : Type 0} (number : X → ℕ) (p : ℕ → Bool) (n : ℕ) (items : List X) → p n ≡ false → map number items ≡ filter p (range_with_len 0 n) → map number items ≡ filter p (range_with_len 0 (n + 1))
-kept_not number p n items not_so kept =
-    kept ∙ sym (append-nil (filter p (range_with_len 0 n))) ∙ ap (λ b. filter p (range_with_len 0 n) ++ cond b (n ∷ []) []) (sym not_so) ∙ sym (filter_range_more p n)
 
 -- some element passes where the first that does stands within the list
 pub list_any-position : {X : Type 0} (p : X → Bool) (xs : List X) → list_any p xs ≡ nat_lt (position_or_len p xs) (length xs)
@@ -71,11 +43,6 @@ position-missing p xs e = by (nat_lt (position_or_len p xs) (length xs)) refl e 
     by : (b : Bool) → nat_lt (position_or_len p xs) (length xs) ≡ b → None ≡ cond b (Some (position_or_len p xs)) None → list_any p xs ≡ b → (length xs ≡ position_or_len p xs) × (list_any p xs ≡ false)
     by true t e is = absurd (cc)
     by false t e is = (let low = position_or_len-le p xs in grind (arith, nat_tests), is)
-
--- a search in a list of names
-pub position-map : {X Y : Type 0} (p : Y → Bool) (f : X → Y) (xs : List X) → position (λ x. p (f x)) xs ≡ position p (map f xs)
-position-map p f xs =
-    (λ i. cond (nat_lt (sym (position_or_len-map p f xs) i) (sym (length-map xs f) i)) (Some (sym (position_or_len-map p f xs) i)) None)
 
 -- the one after this many
 pub one_after-at : {X Y : Type 0} (f : X → Y) (xs : List X) (n : ℕ) (x : X) → n < length xs → x ≡ get_or xs n x → take 1 (drop n (map f xs)) ≡ f x ∷ []
@@ -110,7 +77,3 @@ pub kept_full : {X O N : Type 0} (F : X → N) (view : O → N) (n : ℕ) (xs : 
 kept_full F view n [] i l items kept high = absurd (omega (arith, l))
 kept_full F view n (y ∷ ys) i l items kept high =
     kept ∙ sym (take-full n (map F (take i (y ∷ ys))) (F (get_or (y ∷ ys) i y)) (omega (arith, ap length kept, length-map items view))) ∙ ap (take n) (sym (map_more F (y ∷ ys) i y l))
-
-pub list_all-map : {X Y : Type 0} (p : Y → Bool) (f : X → Y) (xs : List X) → list_all p (map f xs) ≡ list_all (λ x. p (f x)) xs
-list_all-map p f [] = refl
-list_all-map p f (x ∷ xs) = ap (λ b. p (f x) && b) (list_all-map p f xs)

@@ -14,11 +14,8 @@ use Rattle.model.specs.Trees as tree
 use Rattle.model.specs.Trees.{File}
 use Rattle.model.specs.Typing.{folded, is_same, is_known, number_in, with_name, names_of_predicates, refused_word, faults_against}
 use Rattle.task_parts.specs.Scope.{keys_in, names_in}
+pub use Rattle.task.proofs.Tables.{key_is, keys_in-named, named_at}
 use Rattle.task_parts.proofs.Lists.{position_or_len-map, position_or_len-le, list_any-map, position-found, position-map, position-missing}
-
--- a test of the keys for a name
-abbrev pub key_is : List ℕ → Vec ℕ → Bool
-key_is q key = pointwise nat_eq q key.items
 
 -- the number that a name gets by a look-up, and whether it is known
 pub told_of_place : (name : tree.Name) (q : List ℕ) → q ≡ folded name → (keys : List (Vec ℕ)) (count : ℕ) → count ≡ length keys
@@ -37,17 +34,6 @@ told_of_place name q is keys count all None e =
 
 pub number_in-le : (keys : List (Vec ℕ)) (name : tree.Name) → number_in (names_in keys) name ≤ length keys
 number_in-le keys name = omega (arith, position_or_len-le (is_same (folded name)) (names_in keys), length-map keys (λ (k : Vec ℕ). k.items))
-
--- the names that a table shows are its keys
-pub keys_in-named : {V S : Type 0} (shown : Vec ℕ × V → S) (label : S → task.Name) (named : (e : Vec ℕ × V) → label (shown e) ≡ e.0.items) (entries : List (Vec ℕ × V))
-    → keys_in entries ≡ map label (map shown entries)
-keys_in-named shown label named [] = refl
-keys_in-named shown label named (e ∷ es) = λ i. sym (named e) i ∷ keys_in-named shown label named es i
-
--- so a look-up of a key finds the place of the name
-pub named_at : {V S : Type 0} (shown : Vec ℕ × V → S) (label : S → task.Name) (named : (e : Vec ℕ × V) → label (shown e) ≡ e.0.items) (q : List ℕ) (entries : List (Vec ℕ × V))
-    → position (key_is q) (keys_of entries) ≡ position (is_same q) (map label (map shown entries))
-named_at shown label named q entries = position-map (is_same q) (λ (key : Vec ℕ). key.items) (keys_of entries) ∙ ap (position (is_same q)) (keys_in-named shown label named entries)
 
 -- the same of a table whose entries show the names of their keys
 pub told_of_entry : {V S : Type 0} (shown : Vec ℕ × V → S) (label : S → task.Name) (named : (e : Vec ℕ × V) → label (shown e) ≡ e.0.items)

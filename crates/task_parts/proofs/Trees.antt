@@ -3,12 +3,12 @@ use Rattle.std.proofs.Common.{◌≡◌, List, [], ◌∷◌, ◌++◌, map, Opt
 use Rattle.std.specs.Global.{Vec}
 use Rattle.std.specs.List.{flat_map}
 use mathlib.Core.Former.{Count}
-use Rattle.task_parts.specs.declared.schemas.Formula.{Formula, Row_of-Formula, end_of-Formula, more_of-Formula, items-the_row-Formula, items_hidden-the_row-Formula-0}
-use Rattle.task_parts.specs.declared.schemas.Formula as formula
+use Rattle.task.specs.declared.schemas.Formula.{Formula, Row_of-Formula, end_of-Formula, more_of-Formula, items-the_row-Formula, items_hidden-the_row-Formula-0}
+use Rattle.task.specs.declared.schemas.Formula as formula
 use Rattle.syntax_tree.specs.declared.tree.Formula as read_formula
 use Rattle.syntax_tree.specs.Tree as read
 use Rattle.syntax_tree.proofs.Rows as rows
-use Rattle.task_parts.specs.TaskParts.{formula_of, formulas_of}
+use Rattle.task.specs.TaskParts.{formula_of, formulas_of}
 use Rattle.model.specs.Task as task
 use Rattle.model.specs.Trees.{File, formulas}
 use Rattle.model.specs.Typing.{Known, TypingFault, formula_in, formulas_in, formula_faults, formulas_faults, exists_each, forall_each, exists_over, forall_over}

@@ -1,4 +1,3 @@
-pub mod TaskParts
 pub mod Refusals
 pub mod Walk
 pub mod TypedLists

@@ -3,22 +3,15 @@ use Rattle.std.specs.Prelude.{◌≡◌, ℕ, List, [], ◌∷◌, map, take, �
 use Rattle.std.specs.Global.{Vec}
 use Rattle.std.specs.Map.{keys_of}
 use Rattle.std.specs.Option.{option_map_or}
-use Rattle.task_parts.specs.declared.schemas.TypeUnion.{TypeUnion}
+use Rattle.task.specs.declared.schemas.TypeUnion.{TypeUnion}
 use Rattle.task_parts.specs.declared.scope.Globals.{Globals}
 use Rattle.task_parts.specs.declared.scope.Scope.{Scope}
-use Rattle.task_parts.specs.TaskParts.{object_entry_of, predicate_of, type_entry_of, union_of}
+pub use Rattle.task.specs.Names.{keys_in, names_in}
+use Rattle.task.specs.TaskParts.{object_entry_of, predicate_of, type_entry_of, union_of}
 use Rattle.model.specs.Task as task
 use Rattle.model.specs.Trees as tree
 use Rattle.model.specs.Trees.{File}
 use Rattle.model.specs.Typing.{Known, TypingFault, Variable, atom_in, folded, term_faults, misfit_faults}
-
--- the names that a table has
-abbrev pub names_in : List (Vec ℕ) → List task.Name
-names_in keys = map (λ name. name.items) keys
-
--- the names that a table has for something
-abbrev pub keys_in : {V : Type 0} → List (Vec ℕ × V) → List task.Name
-keys_in entries = names_in (keys_of entries)
 
 -- the table has an entry more, by which the name stands for this
 abbrev pub IsAdded : {V : Type 0} → List (Vec ℕ × V) → List (Vec ℕ × V) → tree.Name → V → Type 0

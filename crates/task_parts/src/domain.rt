@@ -13,11 +13,12 @@ use crate::type_names::TypeTable;
 use crate::typed_lists::{Declared, limit};
 use crate::types::check_all;
 use crate::walk::Walk;
-use crate::{TaskFault, TaskFile, TypeId};
+use crate::{TaskFault, TaskFile};
 use faults::{Code, NoMemory};
 use indexmap::IndexMap;
 use std::alloc::Global;
 use syntax_tree::{Domain, Name, Problem};
+use task::TypeId;
 
 /// The most types that a domain may declare.
 const MAX_TYPES: usize = 4095;

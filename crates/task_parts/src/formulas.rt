@@ -1,7 +1,7 @@
 //! Names of formulas become numbers.
 ghost use Rattle.std.specs.Prelude.{◌≡◌, ◌++◌, map, IfOk, OnOk};
 ghost use Rattle.std.specs.List.{flat_map};
-ghost use Rattle.task_parts.specs.TaskParts as parts;
+ghost use Rattle.task.specs.TaskParts as parts;
 ghost use Rattle.task_parts.specs.Scope.{known_over, BeginsWith};
 ghost use Rattle.syntax_tree.specs.Tree.{file_of};
 ghost use Rattle.task_parts.specs.Walk.{Finds};
@@ -13,12 +13,12 @@ use crate::scope::Globals;
 use crate::typed_lists::collect;
 use crate::variables::declare_variables;
 use crate::walk::Walk;
-use crate::{Formula, TypeUnion};
 use faults::NoMemory;
 use indexmap::IndexMap;
 use std::alloc::Global;
 use syntax_tree as tree;
 use syntax_tree::Group;
+use task::{Formula, TypeUnion};
 
 /// An atom as a formula.
 fn atom(

@@ -2,22 +2,22 @@
 ghost use Rattle.std.specs.Prelude.{◌≡◌, ◌≤◌, length, map};
 ghost use Rattle.std.specs.List.{list_any};
 ghost use Rattle.syntax_tree.specs.Tree as read;
-ghost use Rattle.task_parts.specs.TaskParts as parts;
+ghost use Rattle.task.specs.TaskParts as parts;
 ghost use Rattle.model.specs.Typing.{names_of_predicates, total_cost, is_same, word_of};
 
+use crate::TaskFile;
 use crate::type_names::TypeTable;
-use crate::types::{all_below, is_below};
 use crate::walk::Walk;
-use crate::{
-    Atom, LiftedAtom, MAX_ARGUMENTS, ObjectId, Predicate, PredicateId, TaskFile, Term, TypeId,
-    TypeUnion, VariableId,
-};
 use arrayvec::ArrayVec;
 use faults::{Code, NoMemory};
 use indexmap::IndexMap;
 use std::alloc::Global;
 use syntax_tree as tree;
 use syntax_tree::{GroundAtom, Name};
+use task::{
+    Atom, LiftedAtom, MAX_ARGUMENTS, ObjectId, Predicate, PredicateId, Term, TypeId, TypeUnion,
+    VariableId, all_below, is_below,
+};
 
 /// What may be named all over a file: what is declared outside its actions.
 #[derive(Drop)]

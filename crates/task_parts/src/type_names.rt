@@ -1,14 +1,14 @@
 //! The names of types become numbers.
 ghost use Rattle.std.specs.Prelude.{◌≡◌, ◌≤◌, [], ◌∷◌, length, map, IfOk};
-ghost use Rattle.task_parts.specs.TaskParts as parts;
+ghost use Rattle.task.specs.TaskParts as parts;
 
 use crate::typed_lists::Declared;
 use crate::walk::fold;
-use crate::{TypeId, TypeUnion};
 use faults::NoMemory;
 use indexmap::IndexMap;
 use std::alloc::Global;
 use syntax_tree::Name;
+use task::{TypeId, TypeUnion};
 
 /// The types by name, `object` first: each in the place of its number.
 #[derive(Drop)]

@@ -1,21 +1,20 @@
-//! Types that are not known, and what types stand below.
+//! Types that are not known.
 ghost use Rattle.std.specs.Prelude.{◌≡◌, map, OnOk};
-ghost use Rattle.task_parts.specs.TaskParts as parts;
 ghost use Rattle.task_parts.specs.TypedLists.{declared_of};
 ghost use Rattle.task_parts.specs.Scope.{keys_in};
 ghost use Rattle.syntax_tree.specs.Tree.{file_of};
 ghost use Rattle.task_parts.specs.Walk.{Finds};
 ghost use Rattle.syntax_tree.specs.Tree as read;
-ghost use Rattle.model.specs.Meaning.{is_below_in, supertypes_in};
 ghost use Rattle.model.specs.Typing as typing;
-ghost use Rattle.std.specs.List.{flat_map, list_all};
+ghost use Rattle.std.specs.List.{flat_map};
 
+use crate::TaskFile;
 use crate::typed_lists::Declared;
 use crate::walk::Walk;
-use crate::{TaskFile, TypeId, TypeUnion};
 use faults::{Code, NoMemory};
 use indexmap::IndexMap;
 use syntax_tree::Name;
+use task::TypeId;
 
 /// A type that is not known is refused.
 fn check_type(
@@ -59,33 +58,4 @@ pub fn check_all(
         check_types(walk, names, one.file, one.types)?;
     }
     Ok(())
-}
-
-/// All types that the objects of a type are of: itself and those above it, up to `object`. None where the number is
-/// beyond the last.
-pub fn supertypes(types: &IndexMap<Vec<u8>, Vec<TypeId>>, id: TypeId) -> &[TypeId]
-    ensures { map parts.type_of result.now ≡ supertypes_in (map parts.type_entry_of types.now.entries) id.0 }
-{
-    match types.get_index(id.0 as usize) {
-        Some((_, supertypes)) => supertypes.as_slice(),
-        None => &[],
-    }
-}
-
-/// Whether the type is one of these or stands below one of them.
-pub fn is_below(types: &IndexMap<Vec<u8>, Vec<TypeId>>, wanted: &TypeUnion, id: TypeId) -> bool
-    ensures { result ≡ is_below_in (map parts.type_entry_of types.now.entries) (parts.union_of wanted.now) id.0 }
-{
-    supertypes(types, id).iter().any(|above| wanted.has(*above))
-}
-
-/// Whether each of some types is one of these or stands below one of them.
-pub(crate) fn all_below(
-    types: &IndexMap<Vec<u8>, Vec<TypeId>>,
-    wanted: &TypeUnion,
-    some: &[TypeId],
-) -> bool
-    ensures { result ≡ list_all (is_below_in (map parts.type_entry_of types.now.entries) (parts.union_of wanted.now)) (map parts.type_of some.now) }
-{
-    some.iter().all(|id| is_below(types, wanted, *id))
 }

@@ -10,10 +10,10 @@ use crate::type_names::TypeTable;
 use crate::typed_lists::{Declared, limit};
 use crate::types::check_all;
 use crate::walk::{Walk, fold};
-use crate::{MAX_VARIABLES, TypeUnion};
 use faults::{Code, NoMemory};
 use indexmap::IndexMap;
 use std::alloc::Global;
+use task::{MAX_VARIABLES, TypeUnion};
 
 /// The variables that stand in the list before are refused.
 fn check_repeated(alloc: Global, walk: &mut Walk, declared: &[Declared<'_>]) -> Result<(), NoMemory>

@@ -5,8 +5,9 @@ use formulas::{Atom, Instance};
 use pddl_tree::{Domain, Problem, domain, problem};
 use std::alloc::Global;
 use std::test::Fail;
+use task::{ObjectId, PredicateId, SchemaId, Task};
 use tokens::scan;
-use typing::{ObjectId, PredicateId, SchemaId, Task};
+use typing::FromTrees;
 
 /// A predicate or an action, and its objects, by their numbers.
 pub type Term = (usize, &'static [u32]);

@@ -4,8 +4,8 @@ use Rattle.std.specs.Map.{keys_of}
 use Rattle.std.proofs.lemmas.List.{append_assoc, append-nil, drop_more, drop_all, length-map}
 use Rattle.std.specs.Global.{Vec}
 use Rattle.indexmap.specs.IndexMap.{set_value_at}
-use Rattle.task_parts.specs.declared.atoms.TypeId.{TypeId}
-use Rattle.task_parts.specs.TaskParts.{type_entry_of, type_of}
+use Rattle.task.specs.declared.atoms.TypeId.{TypeId}
+use Rattle.task.specs.TaskParts.{type_entry_of, type_of}
 use Rattle.task_parts.specs.Scope.{keys_in}
 use Rattle.model.specs.Typing.{TypingFault, Declared, chain, comes_back, cycle_faults_from, refused_word, types_from, whole_chain}
 use Rattle.task_parts.specs.Walk.{found}

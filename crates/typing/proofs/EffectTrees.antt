@@ -3,12 +3,12 @@ use Rattle.std.proofs.Common.{◌≡◌, List, [], ◌∷◌, ◌++◌, map, Opt
 use Rattle.std.specs.Global.{Vec}
 use Rattle.std.specs.List.{flat_map}
 use mathlib.Core.Former.{Count}
-use Rattle.task_parts.specs.declared.schemas.Effect.{Effect, Row_of-Effect, end_of-Effect, more_of-Effect, items-the_row-Effect, items_hidden-the_row-Effect-0}
-use Rattle.task_parts.specs.declared.schemas.Effect as effect
+use Rattle.task.specs.declared.schemas.Effect.{Effect, Row_of-Effect, end_of-Effect, more_of-Effect, items-the_row-Effect, items_hidden-the_row-Effect-0}
+use Rattle.task.specs.declared.schemas.Effect as effect
 use Rattle.syntax_tree.specs.declared.tree.Effect as read_effect
 use Rattle.syntax_tree.specs.Tree as read
 use Rattle.syntax_tree.proofs.Rows as rows
-use Rattle.task_parts.specs.TaskParts.{effect_of, effects_of}
+use Rattle.task.specs.TaskParts.{effect_of, effects_of}
 use Rattle.model.specs.Task as task
 use Rattle.model.specs.Trees.{File, effects}
 use Rattle.model.specs.Typing.{Known, TypingFault, effect_in, effects_in, effect_faults, effects_faults, each_of}

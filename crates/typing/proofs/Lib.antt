@@ -7,5 +7,4 @@ pub mod Values
 pub mod ChainSteps
 pub mod WellTyped
 pub mod Tasks
-pub mod Shapes
 pub mod TypedTasks

@@ -15,7 +15,8 @@ use Rattle.typing.specs.declared.names.Objects.{Objects}
 use Rattle.typing.specs.declared.names.Start.{Start}
 use Rattle.task_parts.specs.declared.type_names.TypeTable.{TypeTable}
 use Rattle.typing.specs.Names.{type_faults_of, domain_faults, contents_faults, stated_faults_in, AreContents, AreTypesOf}
-use Rattle.task_parts.specs.TaskParts.{task_of_parts}
+use Rattle.task.specs.TaskParts.{task_of_parts}
+use Rattle.task.specs.declared.parts.TaskParts.{TaskParts}
 use Rattle.typing.specs.Task.{TaskFault, TellsLeastOf, TellsLeastFault}
 use Rattle.task_parts.specs.Scope.{narrow_atoms_in}
 use Rattle.task_parts.proofs.Tells.{tells_here, tells_later}
@@ -186,6 +187,20 @@ pub record IsMade (d : tree.Domain) (p : tree.Problem) (made : task.Task) : Type
   pub same : made ≡ task_of_trees d p
   pub typed : is_task made ≡ true
 
+-- what the phases made, as the parts of a task
+abbrev pub parts_of : TypeTable → Objects → Names → Start → Bool → TaskParts
+parts_of types objects names start has_metric = record {
+  types = types.by_name;
+  objects = objects.all;
+  predicates = names.predicates;
+  functions = names.functions;
+  schemas = names.schemas;
+  init = start.init;
+  values = start.values;
+  goal = start.goal;
+  has_metric = has_metric;
+}
+
 module _ (d : tree.Domain) (p : tree.Problem) where
   -- the fault that is told of the types is the pair's
   pub told_of_types : (e : TaskFault) → TellsLeastOf (type_faults_of d p) e → TellsLeastFault d p e
@@ -198,11 +213,11 @@ module _ (d : tree.Domain) (p : tree.Problem) where
         subst (λ fs. TellsLeastOf fs e) (sym (faults_by_parts d p)) (tells_later (type_faults_of d p) _ no_type e (tells_here (contents_faults d p) [] e h))
 
     pub made_by_phases : (types : TypeTable) → AreTypesOf d types → (objects : Objects) (names : Names) (start : Start) → AreContents d p objects names start → (has_metric : Bool) → has_metric ≡ is_some p.metric
-        → IsMade d p (task_of_parts types.by_name.entries objects.all.entries names.predicates.entries names.functions.entries names.schemas.entries start.init.items start.values.entries start.goal has_metric)
+        → IsMade d p (task_of_parts (parts_of types objects names start has_metric))
     made_by_phases types are objects names start hold has_metric metric =
         let known = known_in_problem d p in
         let same_init = hold.start.init ∙ narrow_is_all problem_file known (low_arguments d p no_type hold.no_other hold.start.right) p.init (no_init d p no_type hold.no_other hold.start.right) in
-        let made : task.Task = task_of_parts types.by_name.entries objects.all.entries names.predicates.entries names.functions.entries names.schemas.entries start.init.items start.values.entries start.goal has_metric in
+        let made : task.Task = task_of_parts (parts_of types objects names start has_metric) in
         let same : made ≡ task_of_trees d p =
         λ i. record { types = are.all i; objects = hold.objects i; predicates = hold.names.predicates i; functions = hold.names.functions i; schemas = hold.names.schemas i; init = same_init i; values = hold.start.values i; goal = hold.start.goal i; has_metric = metric i } in
         record {

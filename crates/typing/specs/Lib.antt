@@ -1,4 +1,3 @@
-pub use Rattle.task_parts.specs.TaskParts
 pub use Rattle.task_parts.specs.Refusals
 pub mod Task
 pub mod Chains

@@ -2,15 +2,15 @@
 use Rattle.std.specs.Prelude.{◌≡◌, ℕ, List, [], ◌∷◌, ◌++◌, map}
 use Rattle.std.specs.Global.{Vec}
 use Rattle.std.specs.List.{flat_map}
-use Rattle.task_parts.specs.declared.atoms.TypeId.{TypeId}
+use Rattle.task.specs.declared.atoms.TypeId.{TypeId}
 use Rattle.typing.specs.declared.names.Names.{Names}
 use Rattle.typing.specs.declared.names.Objects.{Objects}
 use Rattle.typing.specs.declared.names.Start.{Start}
 use Rattle.task_parts.specs.declared.type_names.TypeTable.{TypeTable}
-use Rattle.task_parts.specs.declared.schemas.Predicate.{Predicate}
-use Rattle.task_parts.specs.declared.schemas.Schema.{Schema}
+use Rattle.task.specs.declared.schemas.Predicate.{Predicate}
+use Rattle.task.specs.declared.schemas.Schema.{Schema}
 use Rattle.task_parts.specs.Scope.{keys_in, narrow_atoms_in}
-use Rattle.task_parts.specs.TaskParts.{atom_of, formula_of, object_entry_of, predicate_of, schema_of, type_entry_of, value_of}
+use Rattle.task.specs.TaskParts.{atom_of, formula_of, object_entry_of, predicate_of, schema_of, type_entry_of, value_of}
 use Rattle.model.specs.Trees as tree
 use Rattle.model.specs.Trees.{File, problem_file}
 use Rattle.model.specs.Typing.{first_filled, init_faults, formula_faults, function_faults, domain_name_faults, type_declaration_faults, cycle_faults, object_faults, declaration_faults, action_faults, type_names, types_of, objects_of, predicates_of, functions_of, values_after, known_in_domain, known_in_problem, schema_in, formula_in, Known, TypingFault}

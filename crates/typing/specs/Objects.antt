@@ -1,7 +1,7 @@
 -- The constants and the objects of a pair, in the model's terms.
 use Rattle.std.specs.Prelude.{◌≡◌, List, [], map}
 use Rattle.typing.specs.declared.names.Objects.{Objects}
-use Rattle.task_parts.specs.TaskParts.{object_entry_of}
+use Rattle.task.specs.TaskParts.{object_entry_of}
 use Rattle.model.specs.Task as task
 use Rattle.model.specs.Trees as tree
 use Rattle.model.specs.Typing.{Declared, constants_of, objects_of, declared_constants, declared_objects, object_in, objects_faults}

@@ -1,16 +1,10 @@
--- The code's task and the faults that it tells, in the model's terms.
-use Rattle.typing.specs.declared.task.Task.{Task}
+-- The faults that are told of a pair, in the model's terms.
 pub use Rattle.syntax_tree.specs.Tree.{file_of}
 pub use Rattle.task_parts.specs.Refusals.{refusal_of, TaskFault, TellsLeastOf}
 use Rattle.faults.specs.declared.refused.Refused.TheVariants.{At, NoMemory}
-use Rattle.task_parts.specs.TaskParts.{task_of_parts}
-use Rattle.model.specs.Task as task
 use Rattle.model.specs.Trees as tree
 use Rattle.model.specs.TypingFaults as typing_faults
 use Rattle.model.specs.Typing.{faults_of}
-
-abbrev pub task_of : Task → task.Task
-task_of t = task_of_parts t.types.entries t.objects.entries t.predicates.entries t.functions.entries t.schemas.entries t.init.items t.values.entries t.goal t.has_metric
 
 -- the least fault of the pair is told; want of memory says nothing of the pair
 abbrev pub TellsLeastFault : tree.Domain → tree.Problem → TaskFault → Type 0

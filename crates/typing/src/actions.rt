@@ -1,6 +1,6 @@
 //! The actions of a domain.
 ghost use Rattle.std.specs.Prelude.{◌≡◌, [], map, IfErr, IfOk, OnOk};
-ghost use Rattle.task_parts.specs.TaskParts as parts;
+ghost use Rattle.task.specs.TaskParts as parts;
 ghost use Rattle.task_parts.specs.Scope.{known_outside, known_over};
 ghost use Rattle.typing.specs.Task.{file_of, TellsLeastOf};
 ghost use Rattle.task_parts.specs.Walk.{Finds};
@@ -11,11 +11,12 @@ ghost use Rattle.std.specs.List.{flat_map};
 
 use crate::effects::effect;
 use crate::functions::increase;
-use crate::{Schema, TaskFault, TaskFile, TypeUnion};
+use crate::{TaskFault, TaskFile};
 use faults::NoMemory;
 use indexmap::IndexMap;
 use std::alloc::Global;
 use syntax_tree::{Action, Domain};
+use task::{Schema, TypeUnion};
 use task_parts::domain::{declare, put};
 use task_parts::formulas::{enter, formula};
 use task_parts::{Globals, Walk};

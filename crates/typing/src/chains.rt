@@ -1,6 +1,6 @@
 //! The types of a domain, and their chains, from a type to its parent and on up to `object`.
 ghost use Rattle.std.specs.Prelude.{◌≡◌, ◌≤◌, ◌<◌, ◌+◌, [], if◌then◌else◌, length, map, slice_index, IfErr, IfOk, OnOk};
-ghost use Rattle.task_parts.specs.TaskParts as parts;
+ghost use Rattle.task.specs.TaskParts as parts;
 ghost use Rattle.task_parts.specs.TypedLists.{declared_of};
 ghost use Rattle.task_parts.specs.Scope.{keys_in};
 ghost use Rattle.typing.specs.Task.{TellsLeastOf};
@@ -10,11 +10,12 @@ ghost use Rattle.task_parts.specs.Walk.{Finds};
 ghost use Rattle.syntax_tree.specs.Tree as read;
 ghost use Rattle.model.specs.Typing as typing;
 
-use crate::{TaskFault, TaskFile, TypeId};
+use crate::{TaskFault, TaskFile};
 use faults::{Code, NoMemory};
 use indexmap::IndexMap;
 use std::alloc::Global;
 use syntax_tree::{Domain, Problem};
+use task::TypeId;
 use task_parts::typed_lists::{Declared, collect};
 use task_parts::{TypeTable, Walk, domain};
 

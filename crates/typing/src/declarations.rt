@@ -1,6 +1,6 @@
 //! What a domain declares by names with arguments: its predicates, and its functions.
 ghost use Rattle.std.specs.Prelude.{◌≡◌, [], fold, map, IfErr, IfOk, OnOk};
-ghost use Rattle.task_parts.specs.TaskParts as parts;
+ghost use Rattle.task.specs.TaskParts as parts;
 ghost use Rattle.task_parts.specs.Scope.{keys_in};
 ghost use Rattle.typing.specs.Task.{TellsLeastOf};
 ghost use Rattle.task_parts.specs.Walk.{Finds};
@@ -9,11 +9,12 @@ ghost use Rattle.model.specs.Trees.{domain_file};
 ghost use Rattle.model.specs.Typing as typing;
 ghost use Rattle.std.specs.List.{flat_map};
 
-use crate::{MAX_ARGUMENTS, Predicate, TaskFault, TaskFile, TypeUnion};
+use crate::{TaskFault, TaskFile};
 use faults::NoMemory;
 use indexmap::IndexMap;
 use std::alloc::Global;
 use syntax_tree::{Domain, Predicate as Declaration};
+use task::{MAX_ARGUMENTS, Predicate, TypeUnion};
 use task_parts::domain::declare;
 use task_parts::typed_lists::{collect, limit};
 use task_parts::types::check_all;

@@ -1,7 +1,7 @@
 //! Names of effects become numbers.
 ghost use Rattle.std.specs.Prelude.{◌≡◌, ◌++◌, map, IfOk, OnOk};
 ghost use Rattle.std.specs.List.{flat_map};
-ghost use Rattle.task_parts.specs.TaskParts as parts;
+ghost use Rattle.task.specs.TaskParts as parts;
 ghost use Rattle.task_parts.specs.Scope.{known_over};
 ghost use Rattle.typing.specs.Task.{file_of};
 ghost use Rattle.task_parts.specs.Walk.{Finds};
@@ -9,12 +9,12 @@ ghost use Rattle.syntax_tree.specs.Tree as read;
 ghost use Rattle.model.specs.Task as task;
 ghost use Rattle.model.specs.Typing as typing;
 
-use crate::{Effect, EffectLiteral, TypeUnion};
 use faults::NoMemory;
 use indexmap::IndexMap;
 use std::alloc::Global;
 use syntax_tree as tree;
 use syntax_tree::Group;
+use task::{Effect, EffectLiteral, TypeUnion};
 use task_parts::formulas::{enter, formula};
 use task_parts::{Globals, Walk};
 

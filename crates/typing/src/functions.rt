@@ -2,7 +2,7 @@
 ghost use Rattle.std.specs.Prelude.{◌≡◌, [], ◌++◌, drop, if◌then◌else◌, map, slice_get, IfErr, IfOk, OnOk};
 ghost use Rattle.std.specs.List.{flat_map};
 ghost use Rattle.std.specs.Option.{option_map_or};
-ghost use Rattle.task_parts.specs.TaskParts as parts;
+ghost use Rattle.task.specs.TaskParts as parts;
 ghost use Rattle.task_parts.specs.Scope.{keys_in, known_over};
 ghost use Rattle.typing.specs.Task.{file_of, TellsLeastOf};
 ghost use Rattle.task_parts.specs.Walk.{Finds};
@@ -12,12 +12,13 @@ ghost use Rattle.model.specs.Task as task;
 ghost use Rattle.model.specs.Typing as typing;
 
 use crate::declarations::declared;
-use crate::{Increase, Predicate, TaskFault, TaskFile, TypeUnion};
+use crate::{TaskFault, TaskFile};
 use faults::{Code, NoMemory};
 use indexmap::IndexMap;
 use std::alloc::Global;
 use syntax_tree as tree;
 use syntax_tree::{Action, Amount, Domain, Name, Problem};
+use task::{Increase, Predicate, TypeUnion};
 use task_parts::{Globals, TypeTable, Walk, declares_cost};
 
 /// The metric is refused where the total cost is not declared.

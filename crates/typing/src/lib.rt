@@ -10,13 +10,9 @@ mod functions;
 mod laws;
 mod names;
 mod objects;
+mod resolver;
 mod statements;
-mod task;
 
 pub use laws::{examples_are_typed, supertypes_are_those_above};
-pub use task::Task;
-pub use task_parts::{
-    Atom, Effect, EffectLiteral, Formula, Increase, LiftedAtom, MAX_ARGUMENTS, MAX_OBJECTS,
-    MAX_VARIABLES, ObjectId, Predicate, PredicateId, Schema, SchemaId, TaskFault, TaskFile,
-    TaskRefusal, Term, TypeId, TypeUnion, VariableId,
-};
+pub use resolver::FromTrees;
+pub use task_parts::{TaskFault, TaskFile, TaskRefusal};

@@ -1,13 +1,11 @@
 //! The names that a domain and a problem declare, and what the problem says in them.
 ghost use Rattle.std.specs.Prelude.{◌≡◌, ◌≤◌, [], length, IfErr, IfOk};
 
-use crate::{
-    Atom, Formula, Predicate, Schema, TaskFault, TaskFile, TypeId, actions, declarations,
-    functions, statements,
-};
+use crate::{TaskFault, TaskFile, actions, declarations, functions, statements};
 use indexmap::IndexMap;
 use std::alloc::Global;
 use syntax_tree::{Domain, Problem};
+use task::{Atom, Formula, Predicate, Schema, TypeId};
 use task_parts::{Globals, TypeTable};
 
 /// The constants alone, and all objects, the constants first.

@@ -1,6 +1,6 @@
 //! The domain's constants and the problem's objects, and their types.
 ghost use Rattle.std.specs.Prelude.{◌≡◌, ◌≤◌, [], ◌++◌, length, map, take, IfErr, IfOk, OnOk};
-ghost use Rattle.task_parts.specs.TaskParts as parts;
+ghost use Rattle.task.specs.TaskParts as parts;
 ghost use Rattle.task_parts.specs.TypedLists.{declared_of};
 ghost use Rattle.typing.specs.Objects.{AreMade, AreObjects};
 ghost use Rattle.task_parts.specs.Scope.{keys_in};
@@ -11,11 +11,12 @@ ghost use Rattle.model.specs.Trees.{domain_file, problem_file};
 ghost use Rattle.model.specs.Typing as typing;
 
 use crate::names::Objects;
-use crate::{MAX_OBJECTS, TaskFault, TaskFile, TypeId};
+use crate::{TaskFault, TaskFile};
 use faults::NoMemory;
 use indexmap::IndexMap;
 use std::alloc::Global;
 use syntax_tree::{Domain, Group, Problem};
+use task::{MAX_OBJECTS, TypeId};
 use task_parts::domain::declare;
 use task_parts::typed_lists::{Declared, add, limit};
 use task_parts::types::check_all;

@@ -1,6 +1,6 @@
 //! What a problem states: its initial state and its goal.
 ghost use Rattle.std.specs.Prelude.{◌≡◌, [], ◌∷◌, ◌++◌, drop, if◌then◌else◌, map, IfErr, IfOk, OnOk};
-ghost use Rattle.task_parts.specs.TaskParts as parts;
+ghost use Rattle.task.specs.TaskParts as parts;
 ghost use Rattle.typing.specs.Task.{file_of, TellsLeastOf};
 ghost use Rattle.task_parts.specs.Scope.{known_of, known_outside, known_over, narrow_atoms_in};
 ghost use Rattle.task_parts.specs.Walk.{found, least_of, Finds};
@@ -9,11 +9,12 @@ ghost use Rattle.model.specs.Trees as tree;
 ghost use Rattle.model.specs.Typing as typing;
 ghost use Rattle.std.specs.List.{flat_map};
 
-use crate::{Atom, Formula, TaskFault, TaskFile, TypeUnion};
+use crate::{TaskFault, TaskFile};
 use faults::{Code, NoMemory};
 use indexmap::IndexMap;
 use std::alloc::Global;
 use syntax_tree::{Fact, InitialCost, InitialValue, Problem};
+use task::{Atom, Formula, TypeUnion};
 use task_parts::formulas::formula;
 use task_parts::{Globals, Scope, Walk};
 

@@ -1,7 +1,7 @@
 //! What is said of a plan.
 ghost use Rattle.std.specs.Prelude.{IsTrue, IfOk};
 ghost use Rattle.std.specs.List.{list_all};
-ghost use Rattle.typing.specs.Task.{task_of};
+ghost use Rattle.task.specs.Task.{task_of};
 ghost use Rattle.formulas.specs.State.{plan_of};
 ghost use Rattle.validator.specs.Verdict.{verdict_of, ExactlyOneVerdict};
 ghost use Rattle.model.specs.Runs.{IsVerdict};
@@ -11,7 +11,7 @@ ghost use Rattle.model.specs.Examples.{WorkedExamples};
 use faults::NoMemory;
 use formulas::{Plan, State, apply, cost, meets_goal};
 use std::alloc::Global;
-use typing::Task;
+use task::Task;
 
 /// What is said of a plan.
 #[derive(Clone, Copy, Debug, PartialEq, Eq)]

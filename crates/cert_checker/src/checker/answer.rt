@@ -2,7 +2,7 @@
 ghost use Rattle.std.specs.Prelude.{◌≡◌, ℕ, None, IsTrue, IfErr, IfOk};
 ghost use Rattle.std.specs.List.{list_all};
 ghost use Rattle.std.specs.Option.{ForSome, option_map};
-ghost use Rattle.typing.specs.Task.{task_of};
+ghost use Rattle.task.specs.Task.{task_of};
 ghost use Rattle.formulas.specs.State.{plan_of};
 ghost use Rattle.certificate_reader.specs.Lines.{claim_of};
 ghost use Rattle.cert_checker.specs.CertChecker.{Answers, IsFirstRefusal, IsShown, IsTrueRefusal};
@@ -17,7 +17,7 @@ use crate::refusal::{Refusal, RefusalCode};
 use certificate::Claim;
 use formulas::Plan;
 use std::alloc::Global;
-use typing::Task;
+use task::Task;
 use validator::{Verdict, validate};
 
 /// What a certificate's claim, which is true, shows: of all plans, or that the plan handed in, if it costs no more, is

@@ -1,6 +1,6 @@
 //! Whether no action leads out of the listing at less than is claimed.
 ghost use Rattle.std.specs.Prelude.{◌≡◌, ◌≢◌, ℕ, ◌+◌, ◌<◌, ◌↔◌, AllPairs, List, length, slice_get, Option, None, Some, IsTrue, IfErr, IfOk, OnOk};
-ghost use Rattle.typing.specs.Task.{task_of};
+ghost use Rattle.task.specs.Task.{task_of};
 ghost use Rattle.packed_state.specs.Packed.{bits_of};
 ghost use Rattle.grounding.specs.Ground.{task_in, atoms_in, IsGroundOf};
 ghost use Rattle.certificate_reader.specs.Lines.{claim_of};
@@ -27,7 +27,7 @@ use certificate::{Claim, Listing, Mark};
 use grounding::{Ground, GroundFault};
 use packed_state::Packed;
 use std::alloc::Global;
-use typing::Task;
+use task::Task;
 
 /// Grounds the task, and checks the certificate: whether its potentials are fair and those of dead ends dead-fair, whether
 /// the initial state is listed at cost 0, and the state lines in order.

@@ -1,7 +1,7 @@
 //! `check`: what a certificate shows, from files.
 ghost use Rattle.std.specs.Prelude.{◌≡◌, ℕ, IfErr, IfOk, IfSome, IsTrue, List, ◌∷◌, Option};
 ghost use Rattle.cert_checker.specs.Reading.{IsFresh};
-ghost use Rattle.typing.specs.Task.{task_of};
+ghost use Rattle.task.specs.Task.{task_of};
 ghost use Rattle.certificate_reader.specs.Reader.{source_of};
 ghost use Rattle.task_files.specs.Inputs.{IsInputFault};
 ghost use Rattle.task_files.specs.Files.{text_in};

@@ -8,7 +8,7 @@ ghost use Rattle.task_files.specs.Files.{text_in};
 ghost use Rattle.planner_main.specs.Solution.{IsBegun, TellsReport, cert_of, cert_text, in_file, plan_text};
 ghost use Rattle.devices.specs.Written.{AreWritten};
 ghost use Rattle.devices.specs.Devices.{CountsDevice};
-ghost use Rattle.typing.specs.Task.{task_of};
+ghost use Rattle.task.specs.Task.{task_of};
 ghost use Rattle.certificate.specs.Listing.{certificate_in};
 ghost use Rattle.certificate_definitions.specs.CertificateNames.{certificate_text};
 
@@ -19,7 +19,7 @@ use certificate::{Listing, write_listing};
 use devices::{Bytes, Document, Files, Sink, WriteFault, write_all, write_file};
 use solver::{Answer, Exceeded};
 use std::alloc::Global;
-use typing::Task;
+use task::Task;
 
 /// Writes the files that are wanted of a report, first that of the certificate, and then what it is told as to the standard output:
 /// the status. What is told is made before any file is written.

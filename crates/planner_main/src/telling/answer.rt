@@ -1,6 +1,6 @@
 //! What an answer is told as: the text of the plan, or a line.
 ghost use Rattle.std.specs.Prelude.{◌≡◌, IfOk};
-ghost use Rattle.typing.specs.Task.{task_of};
+ghost use Rattle.task.specs.Task.{task_of};
 ghost use Rattle.formulas.specs.State.{plan_of};
 ghost use Rattle.std.specs.String.{string_bytes};
 ghost use Rattle.planner_main.specs.AnswerTold.{limit_line, text_of};
@@ -11,7 +11,7 @@ use formulas::Plan;
 use plan_file::write_plan;
 use solver::{Answer, Exceeded};
 use std::alloc::{AllocError, Global};
-use typing::Task;
+use task::Task;
 
 /// The text that an answer is told as: the plan and its cost, `unsolvable`, or that a limit is exceeded, with what each plan costs
 /// at least where it is that of the states. The error is that memory was refused, as in the calls below.

@@ -1,7 +1,7 @@
 //! What the checker's answer is told as: a line.
 ghost use Rattle.std.specs.Prelude.{◌≡◌, IfOk, IsTrue};
 ghost use Rattle.std.specs.String.{string_bytes};
-ghost use Rattle.typing.specs.Task.{task_of};
+ghost use Rattle.task.specs.Task.{task_of};
 ghost use Rattle.formulas.specs.State.{instance_of};
 ghost use Rattle.planner_main.specs.CheckTold.{IsToldRefusal, accepted_line, failure_of, instance_refused, line_of, line_refused, plain_refused};
 ghost use Rattle.model.specs.PlanWriting.{has_names};
@@ -12,7 +12,7 @@ use faults::NoMemory;
 use formulas::Instance;
 use plan_file::step_text;
 use std::alloc::{AllocError, Global};
-use typing::Task;
+use task::Task;
 
 /// The number of a limit, which is told without a line.
 const LIMIT: u8 = 55;

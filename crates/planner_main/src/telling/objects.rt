@@ -3,7 +3,7 @@ ghost use Rattle.std.specs.Prelude.{◌≡◌, IfOk, IsTrue, map};
 ghost use Rattle.std.specs.String.{string_bytes};
 ghost use Rattle.planner_main.specs.JsonText.{object_text};
 ghost use Rattle.formulas.specs.State.{plan_of};
-ghost use Rattle.typing.specs.Task.{task_of};
+ghost use Rattle.task.specs.Task.{task_of};
 ghost use Rattle.validator.specs.Verdict.{verdict_of};
 ghost use Rattle.planner_main.specs.CheckTold.{IsToldRefusal};
 ghost use Rattle.planner_main.specs.Objects.{of_accepted, of_answer, of_checked, of_exceeded, of_explanation, of_plan, of_refused, of_verdict};
@@ -16,7 +16,7 @@ use formulas::Plan;
 use plan_file::step_text;
 use solver::{Answer, Exceeded};
 use std::alloc::{AllocError, Global};
-use typing::Task;
+use task::Task;
 use validator::Verdict;
 
 /// The object of a verdict, in compact text. The error is that memory was refused, as in the calls below.

@@ -2,8 +2,8 @@ use Rattle.std.proofs.Common.{rules, ◌≡◌, List, ◌++◌, ◌∷◌, [], m
 use Rattle.std.specs.Prelude.{ℤ}
 use Rattle.std.specs.Int.{w64}
 use Rattle.std.proofs.lemmas.Int.{to_z-of_z}
-use Rattle.typing.specs.Task.{task_of}
-use Rattle.typing.specs.TaskParts.{atom_of}
+use Rattle.task.specs.Task.{task_of}
+use Rattle.task.specs.TaskParts.{atom_of}
 use Rattle.certificate_reader.specs.Lines.{claim_of, named_atom_of, version_of, weights_of}
 use Rattle.certificate_definitions.specs.CertificateText.{WeightedAtom, atom}
 use Rattle.certificate_definitions.specs.CertificateChecking.{not_fluent}

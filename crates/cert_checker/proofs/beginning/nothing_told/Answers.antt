@@ -1,6 +1,6 @@
 use Rattle.std.proofs.Common.{List, [], map, sym, subst}
-use Rattle.task_parts.specs.declared.atoms.Atom as code
-use Rattle.typing.specs.TaskParts.{atom_of}
+use Rattle.task.specs.declared.atoms.Atom as code
+use Rattle.task.specs.TaskParts.{atom_of}
 use Rattle.model.specs.Claims.{bound}
 use Rattle.certificate_definitions.specs.Certificates.{one}
 use Rattle.potential_functions.specs.PotentialFunctions.{PotentialFunction}

@@ -1,6 +1,6 @@
 use Rattle.std.proofs.Common.{◌≡◌, [], ◌∷◌, ◌++◌, true, refl, sym, ◌∙◌, subst, arith}
 use Rattle.faults.proofs.Results.{passed_on}
-use Rattle.typing.specs.Task.{task_of}
+use Rattle.task.specs.Task.{task_of}
 use Rattle.certificate_reader.specs.Lines.{text_line_of}
 use Rattle.certificate_reader.specs.Reader.{IsHandedOut, source_of}
 use Rattle.cert_checker.specs.Told.{is_body}

@@ -1,6 +1,6 @@
 -- some lines were read, and have told what is kept of them, and no state
 use Rattle.std.proofs.Common.{◌≡◌, ◌-◌, List, []}
-use Rattle.typing.specs.Task.{task_of}
+use Rattle.task.specs.Task.{task_of}
 use Rattle.certificate_definitions.specs.CertificateText.{TextLine}
 use Rattle.certificate_reader.specs.Reader.{lines_read, source_of}
 use Rattle.cert_checker.specs.Told.{states_told}

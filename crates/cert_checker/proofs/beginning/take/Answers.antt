@@ -3,7 +3,7 @@ use Rattle.std.specs.Prelude.{ℤ}
 use Rattle.std.specs.Int.{w64}
 use Rattle.std.proofs.lemmas.Int.{to_z-of_z}
 use Rattle.faults.proofs.Results.{passed_on}
-use Rattle.typing.specs.Task.{task_of}
+use Rattle.task.specs.Task.{task_of}
 use Rattle.certificate_reader.specs.Lines.{claim_of, text_line_of, version_of, weights_of}
 use Rattle.certificate_definitions.specs.CertificateText.{TextLine, BeginCertificate}
 use Rattle.certificate_definitions.specs.CertificateNames.{of_dead_end_or_zero}

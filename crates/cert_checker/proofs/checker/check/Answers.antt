@@ -1,7 +1,7 @@
 use Rattle.std.proofs.Common.{inl}
 use Rattle.std.specs.Option.{option_map}
 use Rattle.faults.proofs.Results.{passed_on}
-use Rattle.typing.specs.Task.{task_of}
+use Rattle.task.specs.Task.{task_of}
 use Rattle.formulas.specs.State.{plan_of}
 use Rattle.certificate_reader.specs.Reader.{source_of}
 use Rattle.certificate.specs.Listing.{certificate_in}

@@ -1,7 +1,7 @@
 -- the lines up to the next one have been taken
 use Rattle.std.proofs.Common.{◌≡◌, ◌+◌, ◌-◌, map, length}
 use Rattle.std.specs.Option.{option_map_or}
-use Rattle.typing.specs.Task.{task_of}
+use Rattle.task.specs.Task.{task_of}
 use Rattle.packed_state.specs.PooledView.{pooled_states, pooled_width}
 use Rattle.certificate_reader.specs.Reader.{lines_read, source_of}
 use Rattle.certificate.specs.ListingParts.{listed_of}

@@ -1,5 +1,5 @@
 use Rattle.std.proofs.Common.{rules, ◌<◌, length, map, sym}
-use Rattle.typing.specs.Task.{task_of}
+use Rattle.task.specs.Task.{task_of}
 use Rattle.model.specs.PlanText.{object_names}
 use Rattle.certificate_reader.specs.Lines.{name_of}
 use Rattle.cert_checker.proofs.NamesLemmas.{got, unnamed}

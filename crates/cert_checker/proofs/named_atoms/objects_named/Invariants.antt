@@ -1,7 +1,7 @@
 -- the objects so far are those of the names so far
 use Rattle.std.proofs.Common.{◌≡◌, length, map, take}
-use Rattle.typing.specs.Task.{task_of}
-use Rattle.typing.specs.TaskParts.{object_of}
+use Rattle.task.specs.Task.{task_of}
+use Rattle.task.specs.TaskParts.{object_of}
 use Rattle.model.specs.PlanText.{object_names}
 use Rattle.certificate_reader.specs.Lines.{name_of}
 use Rattle.certificate_definitions.specs.CertificateNames.{AreNumbersOf}

@@ -1,7 +1,7 @@
 use Rattle.std.proofs.Common.{◌∙◌, ◌++◌, ap, codes, map}
 use Rattle.std.specs.List.{flat_map}
-use Rattle.typing.specs.Task.{task_of}
-use Rattle.typing.specs.TaskParts.{atom_of, object_of}
+use Rattle.task.specs.Task.{task_of}
+use Rattle.task.specs.TaskParts.{atom_of, object_of}
 use Rattle.model.specs.PlanWriting.{object_text}
 use Rattle.certificate_reader.specs.Lines.{weights_of}
 use Rattle.certificate_definitions.specs.CertificateNames.{predicate_name}

@@ -1,8 +1,8 @@
 use Rattle.std.proofs.Common.{rules, arith, ◌≡◌, [], ◌+◌, ◌∙◌, ◌++◌, ap, sym, subst, append-nil, drop, get_or, length, pos, take, to_z, of_z}
 use Rattle.std.specs.Int.{w64}
 use Rattle.std.specs.List.{flat_map}
-use Rattle.typing.specs.Task.{task_of}
-use Rattle.typing.specs.TaskParts.{atom_of}
+use Rattle.task.specs.Task.{task_of}
+use Rattle.task.specs.TaskParts.{atom_of}
 use Rattle.devices.specs.Devices.{AppendsBeginning}
 use Rattle.certificate_reader.specs.Lines.{weights_of}
 use Rattle.certificate_definitions.specs.CertificateText.{Weights}

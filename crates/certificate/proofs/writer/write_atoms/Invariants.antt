@@ -1,6 +1,6 @@
 use Rattle.std.proofs.Common.{◌≡◌, take}
 use Rattle.std.specs.List.{flat_map}
-use Rattle.typing.specs.Task.{task_of}
+use Rattle.task.specs.Task.{task_of}
 use Rattle.certificate.specs.Gathering.{IsPassedOn, atom_line, atoms_weighed}
 use Rattle.certificate.proofs.writer.write_atoms.Given as goal
 

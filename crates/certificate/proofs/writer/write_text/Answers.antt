@@ -3,7 +3,7 @@ use Rattle.std.proofs.lemmas.Int.{to_z-of_z}
 use Rattle.std.proofs.Common.{rules, ◌≡◌, ◌∙◌, ◌++◌, [], ap, subst, to_z, of_z}
 use Rattle.std.specs.Io.KnownBytes.{Appends}
 use Rattle.std.specs.Prelude.{OnOk}
-use Rattle.typing.specs.Task.{task_of}
+use Rattle.task.specs.Task.{task_of}
 use Rattle.devices.specs.Devices.{AppendsBeginning}
 use Rattle.certificate_definitions.specs.CertificateText.{Weights, last, whole_line}
 use Rattle.certificate_definitions.specs.CertificateNames.{certificate_text, weights_in}

@@ -1,5 +1,5 @@
 use Rattle.std.proofs.Common.{ap, ◌∙◌, ◌++◌, ◌∷◌, []}
-use Rattle.typing.specs.Task.{task_of}
+use Rattle.task.specs.Task.{task_of}
 use Rattle.formulas.specs.State.{instance_of}
 use Rattle.formulas.proofs.ChangeLists.{mapped_more, mapped_whole}
 use Rattle.model.specs.Meaning.{cost_of}

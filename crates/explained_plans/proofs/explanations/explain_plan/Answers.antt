@@ -1,5 +1,5 @@
 use Rattle.std.proofs.Common.{subst}
-use Rattle.typing.specs.Task.{task_of}
+use Rattle.task.specs.Task.{task_of}
 use Rattle.formulas.specs.State.{plan_of}
 use Rattle.validator.specs.Verdict.{verdict_of}
 use Rattle.model.specs.Runs.{IsVerdict}

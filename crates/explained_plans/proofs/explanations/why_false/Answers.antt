@@ -1,5 +1,5 @@
 use Rattle.std.proofs.Common.{rules, ◌≡◌, ◌∙◌, ap, subst, map, length}
-use Rattle.typing.specs.Task.{task_of}
+use Rattle.task.specs.Task.{task_of}
 use Rattle.formulas.specs.State.{state_of, instance_of}
 use Rattle.explained_plans.specs.Parts.{AreHistories}
 use Rattle.explained_plans.proofs.HistoryLemmas.{false_after}

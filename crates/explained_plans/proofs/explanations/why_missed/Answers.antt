@@ -1,7 +1,7 @@
 use Rattle.std.proofs.Common.{ap, sym, subst, map, true, ◌≡◌}
 use Rattle.std.specs.List.{list_all}
-use Rattle.typing.specs.Task.{task_of}
-use Rattle.typing.specs.TaskParts.{formula_of, object_of}
+use Rattle.task.specs.Task.{task_of}
+use Rattle.task.specs.TaskParts.{formula_of, object_of}
 use Rattle.formulas.specs.State.{plan_of}
 use Rattle.formulas.proofs.Instances.{goal_fits}
 use Rattle.explained_plans.specs.Histories.{DoRun}

@@ -1,7 +1,7 @@
 use Rattle.std.proofs.Common.{sym, ap, ◌∙◌, ◌-◌, map, take, refl}
 use Rattle.std.specs.Option.{option_map}
-use Rattle.typing.specs.Task.{task_of}
-use Rattle.typing.specs.TaskParts.{object_of, shape_of}
+use Rattle.task.specs.Task.{task_of}
+use Rattle.task.specs.TaskParts.{object_of, shape_of}
 use Rattle.formulas.specs.State.{plan_of}
 use Rattle.formulas.proofs.Instances.{precondition_fits}
 use Rattle.explained_plans.proofs.Stopping.{before_all, before_run, schema_is_some, step_is_one, told, turned}

@@ -1,9 +1,9 @@
 use Rattle.std.proofs.Common.{rules, ℕ, List, refl, ◌∙◌, ap, sym, subst, map, ◌++◌, ◌∷◌, []}
 use Rattle.std.specs.Prelude.{OnOk}
 use Rattle.std.specs.List.{flat_map}
-use Rattle.task_parts.specs.declared.schemas.Formula.{the_lemmas}
-use Rattle.typing.specs.Task.{task_of}
-use Rattle.typing.specs.TaskParts.{object_of, formula_of, union_of}
+use Rattle.task.specs.declared.schemas.Formula.{the_lemmas}
+use Rattle.task.specs.Task.{task_of}
+use Rattle.task.specs.TaskParts.{object_of, formula_of, union_of}
 use Rattle.formulas.specs.State.{state_of, FitsFormula}
 use Rattle.formulas.specs.Objects.{objects_left}
 use Rattle.formulas.proofs.Trees.{typed_by_all}

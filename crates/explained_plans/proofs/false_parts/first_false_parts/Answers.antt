@@ -1,5 +1,5 @@
 use Rattle.std.proofs.Common.{[], false, refl}
-use Rattle.typing.specs.Task.{task_of}
+use Rattle.task.specs.Task.{task_of}
 use Rattle.formulas.specs.State.{state_of}
 use Rattle.explained_plans.proofs.FoundLemmas.{found_none}
 use Rattle.explained_plans.proofs.false_parts.first_false_parts.Goals as goal

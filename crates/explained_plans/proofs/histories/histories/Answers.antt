@@ -1,6 +1,6 @@
 use Rattle.std.proofs.Common.{arith, ◌≡◌, sym, length, map}
 use Rattle.std.proofs.lemmas.List.{length-map}
-use Rattle.typing.specs.Task.{task_of}
+use Rattle.task.specs.Task.{task_of}
 use Rattle.formulas.specs.State.{state_of, instance_of}
 use Rattle.explained_plans.proofs.Running.{is_one, is_applicable, one_more}
 use Rattle.explained_plans.proofs.HistoryLemmas.{histories_more, histories_whole}

@@ -1,4 +1,4 @@
-use Rattle.typing.specs.Task.{task_of}
+use Rattle.task.specs.Task.{task_of}
 use Rattle.formulas.specs.State.{state_of}
 use Rattle.explained_plans.proofs.HistoryLemmas.{IsLookedSoFar}
 use Rattle.explained_plans.proofs.histories.look.Given as goal

@@ -1,4 +1,4 @@
-use Rattle.typing.specs.Task.{task_of}
+use Rattle.task.specs.Task.{task_of}
 use Rattle.formulas.specs.State.{state_of}
 use Rattle.explained_plans.proofs.Running.{is_one, is_applicable, one_more}
 use Rattle.explained_plans.proofs.histories.state_after.Goals as goal

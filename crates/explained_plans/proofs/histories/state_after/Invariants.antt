@@ -1,5 +1,5 @@
 use Rattle.std.proofs.Common.{◌≡◌, take, map, Some}
-use Rattle.typing.specs.Task.{task_of}
+use Rattle.task.specs.Task.{task_of}
 use Rattle.formulas.specs.State.{state_of, instance_of}
 use Rattle.model.specs.Runs.{run}
 use Rattle.model.specs.Meaning.{initial_state, system_of}

@@ -1,5 +1,5 @@
 use Rattle.std.proofs.Common.{arith}
-use Rattle.typing.specs.Task.{task_of}
+use Rattle.task.specs.Task.{task_of}
 use Rattle.model.specs.Task.{Predicate}
 use Rattle.explained_plans.proofs.Counting.{one_more, no_more}
 use Rattle.explained_plans.proofs.summary.function_count.Goals as goal

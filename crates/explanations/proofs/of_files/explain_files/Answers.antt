@@ -1,6 +1,6 @@
 use Rattle.std.proofs.Common.{sym, ap, subst}
 use Rattle.std.specs.Prelude.{IfOk}
-use Rattle.typing.specs.Task.{task_of}
+use Rattle.task.specs.Task.{task_of}
 use Rattle.task_files.specs.Files.{told_in}
 use Rattle.task_files.proofs.FilesRead.{task_input}
 use Rattle.explanations.specs.Explanations.{IsTrueOf, text_in}

@@ -1,6 +1,6 @@
 use Rattle.std.specs.Prelude.{Some}
 use Rattle.formulas.specs.State.{plan_of}
-use Rattle.typing.specs.Task.{task_of}
+use Rattle.task.specs.Task.{task_of}
 use Rattle.explanations.proofs.ExplanationLemmas.{refused_explained, steps_explained}
 use Rattle.explanations.proofs.of_plan.explain_plan_file.Goals as goal
 

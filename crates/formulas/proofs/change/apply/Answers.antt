@@ -1,6 +1,6 @@
 use Rattle.std.proofs.Common.{map, sym, subst, ap, ◌∙◌}
-use Rattle.typing.specs.TaskParts.{shape_of, object_of}
-use Rattle.typing.specs.Task.{task_of}
+use Rattle.task.specs.TaskParts.{shape_of, object_of}
+use Rattle.task.specs.Task.{task_of}
 use Rattle.formulas.specs.State.{instance_of, FitsChanges}
 use Rattle.formulas.specs.Effects.{change_of}
 use Rattle.formulas.proofs.ChangesFit.{instance-changes-fit}

@@ -1,5 +1,5 @@
 use Rattle.std.proofs.Common.{◌∙◌, ap, sym}
-use Rattle.typing.specs.Task.{task_of}
+use Rattle.task.specs.Task.{task_of}
 use Rattle.formulas.specs.State.{state_of}
 use Rattle.formulas.specs.Effects.{change_of}
 use Rattle.model.proofs.ListLemmas.{Contains-map}

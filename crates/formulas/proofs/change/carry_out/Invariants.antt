@@ -1,5 +1,5 @@
 use Rattle.std.proofs.Common.{◌≡◌}
-use Rattle.typing.specs.Task.{task_of}
+use Rattle.task.specs.Task.{task_of}
 use Rattle.formulas.specs.State.{state_of}
 use Rattle.formulas.specs.Changes.{after_pass}
 use Rattle.formulas.proofs.CarriedOut.{literals_before}

@@ -1,7 +1,7 @@
 use Rattle.std.proofs.Common.{◌∙◌, ap, sym, ◌∷◌, []}
 use Rattle.std.specs.List.{each_same}
 use Rattle.std.specs.FinSet.{insert}
-use Rattle.typing.specs.TaskParts.{atom_of}
+use Rattle.task.specs.TaskParts.{atom_of}
 use Rattle.formulas.specs.State.{state_of}
 use Rattle.formulas.specs.Changes.{after_pass}
 use Rattle.formulas.specs.Effects.{ground_literal_of}

@@ -1,6 +1,6 @@
 use Rattle.std.proofs.Common.{ap, map}
-use Rattle.typing.specs.TaskParts.{increase_of, object_of, shape_of}
-use Rattle.typing.specs.Task.{task_of}
+use Rattle.task.specs.TaskParts.{increase_of, object_of, shape_of}
+use Rattle.task.specs.Task.{task_of}
 use Rattle.formulas.proofs.Instances.{function_few}
 use Rattle.formulas.proofs.costs.amount.Goals as goal
 

@@ -1,7 +1,7 @@
 use Rattle.std.proofs.Common.{◌∙◌, sym, map}
-use Rattle.typing.specs.Task.{task_of}
-use Rattle.task_parts.specs.declared.schemas.EffectLiteral.{EffectLiteral}
-use Rattle.typing.specs.TaskParts.{object_of, formula_of, effect_literal_of}
+use Rattle.task.specs.Task.{task_of}
+use Rattle.task.specs.declared.schemas.EffectLiteral.{EffectLiteral}
+use Rattle.task.specs.TaskParts.{object_of, formula_of, effect_literal_of}
 use Rattle.formulas.specs.Effects.{change_of}
 use Rattle.model.specs.Meaning.{Change, change_under}
 use Rattle.model.specs.WellTyped.{is_effect_literal}

@@ -1,5 +1,5 @@
 use Rattle.std.proofs.Common.{◌≡◌, map, take, ◌++◌}
-use Rattle.typing.specs.TaskParts.{object_of, formula_of, effect_literal_of}
+use Rattle.task.specs.TaskParts.{object_of, formula_of, effect_literal_of}
 use Rattle.formulas.specs.Effects.{change_of}
 use Rattle.model.specs.Meaning.{change_under}
 use Rattle.formulas.proofs.effects.add_changes_under.Given as goal

@@ -1,6 +1,6 @@
 use Rattle.std.proofs.Common.{map}
-use Rattle.typing.specs.Task.{task_of}
-use Rattle.typing.specs.TaskParts.{object_of, shape_of}
+use Rattle.task.specs.Task.{task_of}
+use Rattle.task.specs.TaskParts.{object_of, shape_of}
 use Rattle.formulas.proofs.Instances.{effect_fits}
 use Rattle.formulas.proofs.effects.changes.Goals as goal
 

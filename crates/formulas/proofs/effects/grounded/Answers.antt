@@ -1,4 +1,4 @@
-use Rattle.typing.specs.Task.{task_of}
+use Rattle.task.specs.Task.{task_of}
 use Rattle.formulas.proofs.CarriedOut.{add_few, delete_few}
 use Rattle.formulas.proofs.effects.grounded.Goals as goal
 

@@ -1,6 +1,6 @@
 use Rattle.std.proofs.Common.{◌≡◌, false, take}
 use Rattle.std.specs.List.{list_any}
-use Rattle.typing.specs.TaskParts.{effect_of}
+use Rattle.task.specs.TaskParts.{effect_of}
 use Rattle.model.specs.Fluents.{touches}
 use Rattle.formulas.proofs.fluents.+touches.Given as goal
 

@@ -1,9 +1,9 @@
 use Rattle.std.proofs.Common.{◌∙◌, ap}
 use Rattle.std.specs.Prelude.{slice_get}
-use Rattle.typing.specs.Task.{task_of}
-use Rattle.typing.specs.TaskParts.{shape_of}
+use Rattle.task.specs.Task.{task_of}
+use Rattle.task.specs.TaskParts.{shape_of}
 use Rattle.model.specs.Fluents.{touches}
-use Rattle.typing.proofs.Shapes.{Shape, found as schema_found}
+use Rattle.task.proofs.Shapes.{Shape, found as schema_found}
 use Rattle.formulas.proofs.FluentPredicates.{fluent_here, fluent_later}
 use Rattle.formulas.proofs.fluents.is_fluent.Goals as goal
 

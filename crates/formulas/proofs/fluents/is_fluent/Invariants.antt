@@ -1,6 +1,6 @@
 use Rattle.std.proofs.Common.{◌≡◌, drop}
 use Rattle.std.specs.List.{list_any}
-use Rattle.typing.specs.Task.{task_of}
+use Rattle.task.specs.Task.{task_of}
 use Rattle.model.specs.Task.{Schema}
 use Rattle.model.specs.Fluents as defined
 use Rattle.formulas.proofs.fluents.is_fluent.Given as goal

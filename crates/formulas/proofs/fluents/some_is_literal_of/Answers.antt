@@ -1,5 +1,5 @@
 use Rattle.std.proofs.Common.{◌∙◌, sym}
-use Rattle.typing.specs.TaskParts.{effect_literal_of}
+use Rattle.task.specs.TaskParts.{effect_literal_of}
 use Rattle.model.specs.Fluents.{is_literal_of}
 use Rattle.formulas.proofs.Trees.{list_any_map}
 use Rattle.formulas.proofs.FluentPredicates.{any_more, any_here, any_nowhere}

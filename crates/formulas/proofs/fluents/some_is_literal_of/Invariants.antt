@@ -1,6 +1,6 @@
 use Rattle.std.proofs.Common.{◌≡◌, false, take}
 use Rattle.std.specs.List.{list_any}
-use Rattle.typing.specs.TaskParts.{effect_literal_of}
+use Rattle.task.specs.TaskParts.{effect_literal_of}
 use Rattle.model.specs.Fluents.{is_literal_of}
 use Rattle.formulas.proofs.fluents.some_is_literal_of.Given as goal
 

@@ -1,7 +1,7 @@
 use Rattle.std.proofs.Common.{rules, arith, ◌≡◌, ◌∙◌, sym}
 use Rattle.std.proofs.lemmas.Slice.Zip.{zip_turn, zip_end}
-use Rattle.typing.specs.Task.{task_of}
-use Rattle.typing.specs.TaskParts.{object_of, union_of}
+use Rattle.task.specs.Task.{task_of}
+use Rattle.task.specs.TaskParts.{object_of, union_of}
 use Rattle.model.specs.Meaning.{is_of}
 use Rattle.formulas.proofs.Pointwise.{code_is_of, pointwise-both, pair_fails, pairs_pass}
 use Rattle.formulas.proofs.instance.are_of.Goals as goal

@@ -1,6 +1,6 @@
 use Rattle.std.proofs.Common.{◌≡◌, drop, length}
 use Rattle.std.specs.Cmp.Lexicographic.{pointwise}
-use Rattle.typing.specs.Task.{task_of}
+use Rattle.task.specs.Task.{task_of}
 use Rattle.formulas.proofs.Pointwise.{code_is_of}
 use Rattle.formulas.proofs.instance.are_of.Given as goal
 

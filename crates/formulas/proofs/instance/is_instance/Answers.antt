@@ -1,7 +1,7 @@
 use Rattle.std.proofs.Common.{◌∙◌, map}
 use Rattle.std.specs.Cmp.Lexicographic.{pointwise}
-use Rattle.typing.specs.TaskParts.{shape_of, object_of, union_of}
-use Rattle.typing.specs.Task.{task_of}
+use Rattle.task.specs.TaskParts.{shape_of, object_of, union_of}
+use Rattle.task.specs.Task.{task_of}
 use Rattle.model.specs.Meaning.{is_of}
 use Rattle.formulas.proofs.Instances.{instance_by_objects}
 use Rattle.formulas.proofs.instance.is_instance.Goals as goal

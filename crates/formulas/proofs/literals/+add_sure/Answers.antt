@@ -1,11 +1,11 @@
 use Rattle.std.proofs.Common.{rules, ℕ, refl, ◌∙◌, ap, sym, subst, map, ◌++◌, ◌∷◌, [], List}
 use Rattle.std.specs.List.{flat_map}
 use Rattle.std.proofs.lemmas.List.{take_all}
-use Rattle.task_parts.specs.declared.schemas.Formula.{the_lemmas}
-use Rattle.typing.specs.Task.{task_of}
+use Rattle.task.specs.declared.schemas.Formula.{the_lemmas}
+use Rattle.task.specs.Task.{task_of}
 use Rattle.formulas.specs.State.{FitsFormula}
 use Rattle.formulas.specs.Literals.{literal_of}
-use Rattle.typing.specs.TaskParts.{object_of, formula_of, union_of}
+use Rattle.task.specs.TaskParts.{object_of, formula_of, union_of}
 use Rattle.model.specs.Task.{forall}
 use Rattle.formulas.specs.Objects.{objects_left}
 use Rattle.model.specs.SureLiterals.{Literal, sure}

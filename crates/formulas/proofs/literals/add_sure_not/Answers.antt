@@ -1,4 +1,4 @@
-use Rattle.typing.specs.Task.{task_of}
+use Rattle.task.specs.Task.{task_of}
 use Rattle.formulas.proofs.Tasks.{atom_few}
 use Rattle.formulas.proofs.literals.add_sure_not.Goals as goal
 

@@ -1,9 +1,9 @@
 use Rattle.std.proofs.Common.{rules, arith, ℕ, Bool, refl, ◌∙◌, ap, sym, subst, map, ◌++◌, ◌∷◌, []}
 use Rattle.std.specs.List.{list_all, list_any}
-use Rattle.task_parts.specs.declared.schemas.Formula.{the_lemmas}
-use Rattle.typing.specs.Task.{task_of}
+use Rattle.task.specs.declared.schemas.Formula.{the_lemmas}
+use Rattle.task.specs.Task.{task_of}
 use Rattle.formulas.specs.State.{FitsFormula}
-use Rattle.typing.specs.TaskParts.{object_of, formula_of, union_of}
+use Rattle.task.specs.TaskParts.{object_of, formula_of, union_of}
 use Rattle.model.specs.Task.{Formula}
 use Rattle.model.specs.Meaning as meaning
 use Rattle.model.specs.WellTyped.{is_formula}

@@ -1,6 +1,6 @@
 use Rattle.std.proofs.Common.{◌∙◌, ap, map, length, arith}
-use Rattle.task_parts.specs.declared.atoms.Term.TheVariants.{Variable}
-use Rattle.typing.specs.TaskParts.{object_of, term_of}
+use Rattle.task.specs.declared.atoms.Term.TheVariants.{Variable}
+use Rattle.task.specs.TaskParts.{object_of, term_of}
 use Rattle.model.specs.Meaning as meaning
 use Rattle.formulas.proofs.Tasks.{named_more, named_whole}
 use Rattle.formulas.proofs.truth.ground_atom.Goals as goal

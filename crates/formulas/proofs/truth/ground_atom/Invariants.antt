@@ -1,5 +1,5 @@
 use Rattle.std.proofs.Common.{◌≡◌, length, map, take}
-use Rattle.typing.specs.TaskParts.{object_of, term_of}
+use Rattle.task.specs.TaskParts.{object_of, term_of}
 use Rattle.model.specs.Meaning as meaning
 use Rattle.formulas.proofs.truth.ground_atom.Given as goal
 

@@ -1,6 +1,6 @@
 use Rattle.std.proofs.Common.{◌∙◌, ap, map}
-use Rattle.typing.specs.Task.{task_of}
-use Rattle.typing.specs.TaskParts.{object_of}
+use Rattle.task.specs.Task.{task_of}
+use Rattle.task.specs.TaskParts.{object_of}
 use Rattle.formulas.specs.State.{state_of}
 use Rattle.model.specs.Meaning as meaning
 use Rattle.formulas.proofs.Instances.{goal_fits}

@@ -1,8 +1,8 @@
 use Rattle.std.proofs.Common.{◌≡◌, ◌∙◌, ℕ, sym, ap, List, [], ◌∷◌, length, arith}
 use Rattle.std.specs.Prelude.{◌==◌, vec_len}
 use Rattle.std.proofs.lemmas.Bool.{ne_eqb}
-use Rattle.task_parts.specs.declared.schemas.Formula.{Formula}
-use Rattle.typing.specs.TaskParts.{formula_of}
+use Rattle.task.specs.declared.schemas.Formula.{Formula}
+use Rattle.task.specs.TaskParts.{formula_of}
 use Rattle.formulas.proofs.Trees.{formula_of-And, formulas_in}
 use Rattle.model.specs.Task.{and}
 use Rattle.model.specs.ClosedOff as closed_off

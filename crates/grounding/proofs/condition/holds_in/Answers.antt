@@ -1,5 +1,5 @@
 use Rattle.std.proofs.Common.{map}
-use Rattle.typing.specs.TaskParts.{object_of, formula_of}
+use Rattle.task.specs.TaskParts.{object_of, formula_of}
 use Rattle.packed_state.specs.Packed.{bits_of}
 use Rattle.grounding_kept.specs.Numbering.{task_in, atoms_in}
 use Rattle.grounding.proofs.Conditions.{literals-below}

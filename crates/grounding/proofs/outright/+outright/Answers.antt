@@ -1,5 +1,5 @@
 use Rattle.std.proofs.Common.{◌∙◌, sym}
-use Rattle.typing.specs.TaskParts.{formula_of}
+use Rattle.task.specs.TaskParts.{formula_of}
 use Rattle.model.proofs.Tests.{passes_not, passes_whole, passes_map}
 use Rattle.grounding.specs.Outright as outright
 use Rattle.grounding.proofs.OutrightLemmas.{outright_by_all}

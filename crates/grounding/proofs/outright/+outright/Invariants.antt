@@ -1,6 +1,6 @@
 use Rattle.std.proofs.Common.{◌≡◌, true, take}
 use Rattle.std.specs.List.{list_all}
-use Rattle.typing.specs.TaskParts.{formula_of}
+use Rattle.task.specs.TaskParts.{formula_of}
 use Rattle.grounding.specs.Outright as outright
 use Rattle.grounding.proofs.outright.+outright.Given as goal
 

@@ -1,7 +1,7 @@
 use Rattle.std.proofs.Common.{◌≡◌, ◌∙◌, Some, ap, map}
 use Rattle.std.specs.Prelude.{slice_get}
 use Rattle.std.specs.Option.{option_map}
-use Rattle.typing.specs.TaskParts.{object_of, shape_of, shape_of_schema}
+use Rattle.task.specs.TaskParts.{object_of, shape_of, shape_of_schema}
 use Rattle.formulas.proofs.Instances.{precondition_fits}
 use Rattle.grounding_kept.specs.Numbering.{task_in}
 use Rattle.model.specs.Task.{Task}

@@ -1,7 +1,7 @@
 use Rattle.std.proofs.Common.{[], ◌∷◌, ap, map}
 use Rattle.faults.proofs.Results.{passed_on}
-use Rattle.task_parts.specs.declared.atoms.Atom.{Atom}
-use Rattle.typing.specs.TaskParts.{atom_of}
+use Rattle.task.specs.declared.atoms.Atom.{Atom}
+use Rattle.task.specs.TaskParts.{atom_of}
 use Rattle.model.specs.NumberedAtoms.{with_atoms}
 use Rattle.model.proofs.NumberingLemmas.{numbered-end}
 use Rattle.grounding_kept.specs.Atoms.{TellsAtoms}

@@ -1,7 +1,7 @@
 use Rattle.std.proofs.Common.{◌≡◌, ◌≤◌, [], ◌∷◌, map, length, drop}
 use Rattle.std.specs.List.{flat_map}
-use Rattle.task_parts.specs.declared.atoms.Atom.{Atom}
-use Rattle.typing.specs.TaskParts.{atom_of}
+use Rattle.task.specs.declared.atoms.Atom.{Atom}
+use Rattle.task.specs.TaskParts.{atom_of}
 use Rattle.model.specs.NumberedAtoms.{with_atoms}
 use Rattle.grounding_kept.proofs.atoms.number_all.Given as goal
 

@@ -1,7 +1,7 @@
 use Rattle.std.proofs.Common.{ap, map}
 use Rattle.faults.proofs.Results.{passed_on}
-use Rattle.typing.specs.Task.{task_of}
-use Rattle.typing.specs.TaskParts.{atom_of}
+use Rattle.task.specs.Task.{task_of}
+use Rattle.task.specs.TaskParts.{atom_of}
 use Rattle.model.specs.NumberedAtoms.{with_atoms, initial_fluent_atoms}
 use Rattle.model.proofs.NumberingLemmas.{numbered-end}
 use Rattle.grounding_kept.specs.Atoms.{TellsAtoms}

@@ -1,7 +1,7 @@
 use Rattle.std.proofs.Common.{◌≡◌, ◌≤◌, map, length, drop}
 use Rattle.std.specs.List.{flat_map}
-use Rattle.typing.specs.Task.{task_of}
-use Rattle.typing.specs.TaskParts.{atom_of}
+use Rattle.task.specs.Task.{task_of}
+use Rattle.task.specs.TaskParts.{atom_of}
 use Rattle.model.specs.NumberedAtoms.{with_atoms, initial_fluent_atoms}
 use Rattle.grounding_kept.proofs.NumberLists.{if_fluent}
 use Rattle.grounding_kept.proofs.atoms.number_initial.Given as goal

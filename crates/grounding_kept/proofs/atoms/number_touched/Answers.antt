@@ -1,8 +1,8 @@
 use Rattle.std.proofs.Common.{◌∙◌, ap, sym, map}
 use Rattle.std.specs.List.{flat_map}
 use Rattle.faults.proofs.Results.{passed_on}
-use Rattle.typing.specs.Task.{task_of}
-use Rattle.typing.specs.TaskParts.{atom_of}
+use Rattle.task.specs.Task.{task_of}
+use Rattle.task.specs.TaskParts.{atom_of}
 use Rattle.formulas.specs.State.{instance_of}
 use Rattle.formulas.specs.declared.instance.Instance.{Instance}
 use Rattle.model.specs.Meaning.{is_instance}

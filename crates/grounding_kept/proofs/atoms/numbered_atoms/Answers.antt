@@ -1,8 +1,8 @@
 use Rattle.std.proofs.Common.{◌∙◌, ◌≡◌, [], ap, subst, map, List}
 use Rattle.std.specs.List.{flat_map, list_all}
 use Rattle.faults.proofs.Results.{passed_on}
-use Rattle.typing.specs.Task.{task_of}
-use Rattle.typing.specs.TaskParts.{atom_of}
+use Rattle.task.specs.Task.{task_of}
+use Rattle.task.specs.TaskParts.{atom_of}
 use Rattle.model.specs.Task.{Atom}
 use Rattle.model.specs.Meaning.{is_instance}
 use Rattle.model.specs.ClosedOff.{kept_instances}

@@ -1,6 +1,6 @@
 use Rattle.std.proofs.Common.{◌≡◌, ◌∙◌, ◌+◌, ◌<◌, ◌≤◌, sym, ap, length, arith, ◌∷◌, []}
 use Rattle.std.proofs.lemmas.List.{length-append}
-use Rattle.typing.specs.Task.{task_of}
+use Rattle.task.specs.Task.{task_of}
 use Rattle.model.specs.Fluents as model_fluents
 use Rattle.grounding_kept.proofs.FluentTable.{table-more, table-whole, there, past}
 use Rattle.grounding_kept.proofs.fluents.fluents.Goals as goal

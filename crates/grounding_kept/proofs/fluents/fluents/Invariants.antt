@@ -1,6 +1,6 @@
 use Rattle.std.proofs.Common.{◌≡◌, length, map, ◌-◌, ◌≤◌}
 use Rattle.std.specs.List.{range_with_len}
-use Rattle.typing.specs.Task.{task_of}
+use Rattle.task.specs.Task.{task_of}
 use Rattle.model.specs.Fluents as model_fluents
 use Rattle.grounding_kept.proofs.fluents.fluents.Given as goal
 

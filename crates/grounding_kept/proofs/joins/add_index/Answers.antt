@@ -1,4 +1,4 @@
-use Rattle.typing.specs.Task.{task_of}
+use Rattle.task.specs.Task.{task_of}
 use Rattle.grounding_kept.proofs.JoinGroups.{index-added}
 use Rattle.grounding_kept.proofs.joins.add_index.Goals as goal
 

@@ -1,5 +1,5 @@
-use Rattle.typing.specs.Task.{task_of}
-use Rattle.typing.specs.TaskParts.{formula_of, lifted_atom_of}
+use Rattle.task.specs.Task.{task_of}
+use Rattle.task.specs.TaskParts.{formula_of, lifted_atom_of}
 use Rattle.model.specs.Task as model_task
 use Rattle.grounding_kept.proofs.JoinGroups.{adds-more}
 use Rattle.grounding_kept.proofs.joins.add_indexes.Goals as goal

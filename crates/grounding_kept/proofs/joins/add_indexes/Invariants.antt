@@ -1,5 +1,5 @@
-use Rattle.typing.specs.Task.{task_of}
-use Rattle.typing.specs.TaskParts.{formula_of}
+use Rattle.task.specs.Task.{task_of}
+use Rattle.task.specs.TaskParts.{formula_of}
 use Rattle.grounding_kept.specs.Joins.{AddsIndexes}
 use Rattle.grounding_kept.proofs.joins.add_indexes.Given as goal
 

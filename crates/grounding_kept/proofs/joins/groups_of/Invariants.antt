@@ -1,5 +1,5 @@
 use Rattle.std.proofs.Common.{map}
-use Rattle.typing.specs.TaskParts.{atom_of}
+use Rattle.task.specs.TaskParts.{atom_of}
 use Rattle.grounding_kept.specs.Joins.{ArePlaced}
 use Rattle.grounding_kept.proofs.joins.groups_of.Given as goal
 

@@ -1,8 +1,8 @@
 use Rattle.std.proofs.Common.{◌≡◌, filter, map}
 use Rattle.std.specs.Map.Iter.{deref}
-use Rattle.task_parts.specs.declared.atoms.ObjectId.{ObjectId}
-use Rattle.typing.specs.Task.{task_of}
-use Rattle.typing.specs.TaskParts.{union_of}
+use Rattle.task.specs.declared.atoms.ObjectId.{ObjectId}
+use Rattle.task.specs.Task.{task_of}
+use Rattle.task.specs.TaskParts.{union_of}
 use Rattle.model.specs.Meaning.{is_of}
 use Rattle.grounding_kept.proofs.joins.objects_in.Given as goal
 

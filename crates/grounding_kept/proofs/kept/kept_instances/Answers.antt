@@ -1,6 +1,6 @@
 use Rattle.std.proofs.Common.{◌+◌, map}
 use Rattle.faults.proofs.Results.{passed_on}
-use Rattle.typing.specs.Task.{task_of}
+use Rattle.task.specs.Task.{task_of}
 use Rattle.formulas.specs.State.{instance_of}
 use Rattle.model.specs.ClosedOff.{is_kept, kept_instances}
 use Rattle.model.proofs.EnumerationLemmas.{instances_left}

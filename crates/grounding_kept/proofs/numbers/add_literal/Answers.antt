@@ -1,5 +1,5 @@
 use Rattle.std.proofs.Common.{◌∙◌, map, refl, sym}
-use Rattle.typing.specs.TaskParts.{atom_of}
+use Rattle.task.specs.TaskParts.{atom_of}
 use Rattle.grounding_kept.specs.declared.numbers.NumberedLiteral.{NumberedLiteral}
 use Rattle.grounding_kept.proofs.NumberedParts.{literal-pushed, literal-unnumbered}
 use Rattle.grounding_kept.proofs.numbers.add_literal.Goals as goal

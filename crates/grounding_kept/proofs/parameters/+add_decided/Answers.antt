@@ -1,7 +1,7 @@
 use Rattle.std.proofs.Common.{◌∙◌, ◌++◌, ap, sym, map}
 use Rattle.std.specs.List.{flat_map}
 use Rattle.std.proofs.lemmas.List.{take_all}
-use Rattle.typing.specs.TaskParts.{formula_of}
+use Rattle.task.specs.TaskParts.{formula_of}
 use Rattle.grounding_kept.specs.Literals.{decided_literals}
 use Rattle.grounding_kept.specs.Parameters.{lent_formula}
 use Rattle.grounding_kept.proofs.DecidedLiterals.{decided_by_parts}

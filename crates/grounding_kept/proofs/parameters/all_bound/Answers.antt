@@ -1,5 +1,5 @@
 use Rattle.std.proofs.Common.{◌∙◌, sym}
-use Rattle.typing.specs.TaskParts.{term_of}
+use Rattle.task.specs.TaskParts.{term_of}
 use Rattle.model.proofs.EnumerationLemmas.{is_bound}
 use Rattle.model.proofs.Tests.{passes_not_index, passes_whole, passes_map}
 use Rattle.grounding_kept.proofs.parameters.all_bound.Goals as goal

@@ -1,6 +1,6 @@
 use Rattle.std.proofs.Common.{◌≡◌, true, take}
 use Rattle.std.specs.List.{list_all}
-use Rattle.typing.specs.TaskParts.{term_of}
+use Rattle.task.specs.TaskParts.{term_of}
 use Rattle.model.proofs.EnumerationLemmas.{is_bound}
 use Rattle.grounding_kept.proofs.parameters.all_bound.Given as goal
 

@@ -1,6 +1,6 @@
 use Rattle.std.proofs.Common.{◌≡◌, ◌+◌, length, sym, subst, arith}
-use Rattle.typing.specs.Task.{task_of}
-use Rattle.typing.specs.TaskParts.{formula_of}
+use Rattle.task.specs.Task.{task_of}
+use Rattle.task.specs.TaskParts.{formula_of}
 use Rattle.grounding_kept.specs.Joins.{IsJoined, AreJoined}
 use Rattle.grounding_kept.proofs.ObjectLists.{parameters-more}
 use Rattle.grounding_kept.proofs.JoinGroups.{joined-more}

@@ -1,6 +1,6 @@
 use Rattle.std.proofs.Common.{◌≡◌, map, take, length}
-use Rattle.typing.specs.Task.{task_of}
-use Rattle.typing.specs.TaskParts.{formula_of, union_of}
+use Rattle.task.specs.Task.{task_of}
+use Rattle.task.specs.TaskParts.{formula_of, union_of}
 use Rattle.grounding_kept.specs.Parameters.{choice_of, choices_from}
 use Rattle.grounding_kept.specs.Joins.{AreJoined}
 use Rattle.grounding_kept.proofs.parameters.parameters_of.Given as goal

@@ -1,6 +1,6 @@
 use Rattle.std.proofs.Common.{rules, arith, ◌≡◌, ◌++◌, ◌∷◌, [], ◌∙◌, ◌≤◌, sym, ap, subst, ⊎_elim, length, map, List}
 use Rattle.std.proofs.lemmas.Result.{err_from_is_err_and}
-use Rattle.typing.specs.Task.{task_of}
+use Rattle.task.specs.Task.{task_of}
 use Rattle.formulas.specs.State.{instance_of}
 use Rattle.tokens.specs.Told.{told_by}
 use Rattle.faults.proofs.Results.{if_ok, if_err}

@@ -1,5 +1,5 @@
 use Rattle.std.proofs.Common.{◌≤◌, ◌-◌, length}
-use Rattle.typing.specs.Task.{task_of}
+use Rattle.task.specs.Task.{task_of}
 use Rattle.plan_file.specs.PlanFile.{place_of}
 use Rattle.plan_file.proofs.ReadSoFar.{IsReadSoFar}
 use Rattle.plan_file.proofs.reader.instances_of.Given as goal

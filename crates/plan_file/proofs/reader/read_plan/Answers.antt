@@ -3,7 +3,7 @@ use Rattle.std.specs.Prelude.{is_some}
 use Rattle.std.proofs.lemmas.Bool.{cases_Bool}
 use Rattle.std.proofs.lemmas.List.{length-map}
 use Rattle.std.proofs.lemmas.Result.{err_from_is_err_and}
-use Rattle.typing.specs.Task.{task_of}
+use Rattle.task.specs.Task.{task_of}
 use Rattle.formulas.specs.State as view
 use Rattle.model.proofs.PlanMeaning.{are_instances}
 use Rattle.plan_file.proofs.PlanSteps.{none_of_plan, few_instances}

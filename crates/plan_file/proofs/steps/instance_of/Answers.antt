@@ -3,8 +3,8 @@ use Rattle.std.specs.Option.{option_map}
 use Rattle.std.proofs.lemmas.List.{length-map}
 use Rattle.std.proofs.lemmas.Result.{err_from_is_err_and}
 use Rattle.tokens.specs.Told.{told_by}
-use Rattle.typing.specs.Task.{task_of}
-use Rattle.typing.specs.TaskParts.{schema_id_of, union_of}
+use Rattle.task.specs.Task.{task_of}
+use Rattle.task.specs.TaskParts.{schema_id_of, union_of}
 use Rattle.formulas.specs.State as view
 use Rattle.model.specs.PlanText.{IsNumberOf, schema_names}
 use Rattle.plan_file.specs.PlanFile.{step_of, name_of}

@@ -3,8 +3,8 @@ use Rattle.std.specs.Cmp.Lexicographic.{pointwise}
 use Rattle.std.proofs.lemmas.List.{take_all, length_push}
 use Rattle.std.proofs.lemmas.Result.{err_from_is_err_and}
 use Rattle.std.proofs.lemmas.Slice.Zip.{zip_turn, zip_end}
-use Rattle.typing.specs.Task.{task_of}
-use Rattle.typing.specs.TaskParts.{object_of, union_of}
+use Rattle.task.specs.Task.{task_of}
+use Rattle.task.specs.TaskParts.{object_of, union_of}
 use Rattle.model.specs.Meaning.{is_of}
 use Rattle.model.specs.PlanText.{AreNumbersOf, object_names}
 use Rattle.plan_file.specs.PlanFile.{name_of}

@@ -1,7 +1,7 @@
 use Rattle.std.proofs.Common.{◌≡◌, true, length, map, take}
 use Rattle.std.specs.Cmp.Lexicographic.{pointwise}
-use Rattle.typing.specs.Task.{task_of}
-use Rattle.typing.specs.TaskParts.{object_of, union_of}
+use Rattle.task.specs.Task.{task_of}
+use Rattle.task.specs.TaskParts.{object_of, union_of}
 use Rattle.model.specs.Meaning.{is_of}
 use Rattle.model.specs.PlanText.{AreNumbersOf, object_names}
 use Rattle.plan_file.specs.PlanFile.{name_of}

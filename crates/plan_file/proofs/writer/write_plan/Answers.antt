@@ -1,4 +1,4 @@
-use Rattle.typing.specs.Task.{task_of}
+use Rattle.task.specs.Task.{task_of}
 use Rattle.formulas.specs.State.{instance_of, plan_of}
 use Rattle.model.specs.PlanWriting.{step_line, cost_line}
 use Rattle.plan_file.proofs.WritingLemmas.{piece_partly, last_partly}

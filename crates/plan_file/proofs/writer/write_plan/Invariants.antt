@@ -1,7 +1,7 @@
 use Rattle.std.proofs.Common.{◌≡◌, map, take}
 use Rattle.std.specs.Io.KnownBytes.{Appends}
 use Rattle.std.specs.List.{flat_map}
-use Rattle.typing.specs.Task.{task_of}
+use Rattle.task.specs.Task.{task_of}
 use Rattle.formulas.specs.State.{instance_of}
 use Rattle.model.specs.PlanWriting.{step_line}
 use Rattle.plan_file.proofs.writer.write_plan.Given as goal

@@ -1,7 +1,7 @@
 use Rattle.std.proofs.Common.{◌≡◌, ◌∙◌, ◌<◌, sym, ap, subst, length, List, ℕ, arith}
 use Rattle.std.specs.Prelude.{All}
 use Rattle.std.proofs.lemmas.List.{length-map}
-use Rattle.typing.specs.TaskParts.{atom_of}
+use Rattle.task.specs.TaskParts.{atom_of}
 use Rattle.formulas.specs.State.{plan_of}
 use Rattle.packed_state.specs.PooledView.{pooled_states}
 use Rattle.search.specs.Outcome.{AreFound, AreMoreReachable}

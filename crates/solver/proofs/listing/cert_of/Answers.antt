@@ -1,6 +1,6 @@
 use Rattle.std.proofs.Common.{◌≡◌, ◌∙◌, Bool, List, [], length, sym, ap, subst, map, arith}
 use Rattle.std.specs.Prelude.{All}
-use Rattle.typing.specs.TaskParts.{atom_of}
+use Rattle.task.specs.TaskParts.{atom_of}
 use Rattle.packed_state.specs.PooledView.{pooled_states}
 use Rattle.search.specs.Outcome as search
 use Rattle.certificate_reader.specs.Lines.{claim_of}

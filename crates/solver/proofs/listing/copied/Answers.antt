@@ -1,6 +1,6 @@
 use Rattle.std.proofs.Common.{◌∙◌, ap, arith, map}
 use Rattle.std.specs.List.{each_same}
-use Rattle.typing.specs.TaskParts.{atom_of}
+use Rattle.task.specs.TaskParts.{atom_of}
 use Rattle.formulas.proofs.States.{copied}
 use Rattle.solver.proofs.LoopLemmas.{atoms_next}
 use Rattle.solver.proofs.listing.copied.Goals as goal

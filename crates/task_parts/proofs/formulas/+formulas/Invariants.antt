@@ -1,6 +1,6 @@
 use Rattle.std.proofs.Common.{◌≡◌, map, take, drop}
 use Rattle.std.specs.List.{flat_map}
-use Rattle.task_parts.specs.TaskParts as parts
+use Rattle.task.specs.TaskParts as parts
 use Rattle.task_parts.specs.Scope.{known_over}
 use Rattle.syntax_tree.specs.Tree.{file_of}
 use Rattle.task_parts.specs.Walk.{found, least_of}

@@ -1,7 +1,7 @@
 use Rattle.std.proofs.Common.{◌∙◌, ◌++◌, map, ap, sym}
 use Rattle.std.proofs.lemmas.List.{map_push}
 use Rattle.std.specs.Option.{option_to_list}
-use Rattle.task_parts.specs.TaskParts as parts
+use Rattle.task.specs.TaskParts as parts
 use Rattle.model.specs.Task as task
 use Rattle.model.specs.Typing as typing
 use Rattle.task_parts.proofs.Trees.{exists_each-push}

@@ -4,7 +4,7 @@ use Rattle.std.specs.Map.{keys_of}
 use Rattle.std.proofs.lemmas.Map.Made.{is_some-lookup}
 use Rattle.std.specs.List.{list_any}
 use Rattle.model.specs.Typing.{is_same, total_cost}
-use Rattle.task_parts.specs.TaskParts.{predicate_of}
+use Rattle.task.specs.TaskParts.{predicate_of}
 use Rattle.task_parts.proofs.Lists.{list_any-map}
 use Rattle.task_parts.proofs.Tables.{key_is, keys_in-named}
 use Rattle.task_parts.proofs.scope.declares_cost.Goals as goal

@@ -1,6 +1,6 @@
 use Rattle.std.proofs.Common.{◌≡◌, ◌∙◌, List, [], map, ap}
 use Rattle.std.proofs.lemmas.Result.{IfOk-weaker}
-use Rattle.task_parts.specs.TaskParts as parts
+use Rattle.task.specs.TaskParts as parts
 use Rattle.task_parts.specs.Scope.{known_outside, variable_entry_of}
 use Rattle.task_parts.specs.Walk.{found, least_of}
 use Rattle.syntax_tree.specs.Tree as read

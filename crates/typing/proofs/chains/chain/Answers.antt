@@ -1,6 +1,6 @@
 use Rattle.std.proofs.Common.{◌≡◌, ◌∙◌, ◌++◌, ◌-◌, ◌+◌, length, map, ap, arith}
 use Rattle.std.proofs.lemmas.List.{length-map, map_push}
-use Rattle.task_parts.specs.TaskParts as parts
+use Rattle.task.specs.TaskParts as parts
 use Rattle.model.specs.Typing as typing
 use Rattle.typing.proofs.ChainSteps.{one_type_more, root_ends, steps_end}
 use Rattle.typing.proofs.chains.chain.Goals as goal

@@ -1,5 +1,5 @@
 use Rattle.std.proofs.Common.{map}
-use Rattle.task_parts.specs.TaskParts as parts
+use Rattle.task.specs.TaskParts as parts
 use Rattle.task_parts.specs.TypedLists.{declared_of}
 use Rattle.task_parts.specs.Walk.{least_of}
 use Rattle.typing.proofs.ChainSteps.{cycle_step, cycle_end}

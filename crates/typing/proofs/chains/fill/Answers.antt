@@ -2,7 +2,7 @@ use Rattle.std.proofs.Common.{◌≡◌, ◌≤◌, ◌<◌, ◌∙◌, ◌+◌,
 use Rattle.std.proofs.lemmas.List.{length-map, take_all}
 use Rattle.indexmap.specs.IndexMap.{set_value_at}
 use Rattle.indexmap.proofs.CallerLemmas.{index_map_len-with_value_at, keys-with_value_at}
-use Rattle.task_parts.specs.TaskParts as parts
+use Rattle.task.specs.TaskParts as parts
 use Rattle.task_parts.specs.Scope.{keys_in, names_in}
 use Rattle.model.specs.Typing as typing
 use Rattle.typing.proofs.ChainSteps.{one_filled, length_keys}

@@ -5,7 +5,7 @@ use Rattle.task_parts.specs.Scope.{keys_in}
 use Rattle.syntax_tree.specs.Tree as read
 use Rattle.model.specs.Trees.{domain_file}
 use Rattle.model.specs.Typing as typing
-use Rattle.task_parts.specs.TaskParts as parts
+use Rattle.task.specs.TaskParts as parts
 use Rattle.task_parts.proofs.Found as finding
 use Rattle.task_parts.proofs.Tables.{keys_in-named}
 use Rattle.task_parts.proofs.Empty as empty

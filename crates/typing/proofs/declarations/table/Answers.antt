@@ -1,6 +1,6 @@
 use Rattle.std.proofs.Common.{map}
 use Rattle.task_parts.specs.Walk.{least_of}
-use Rattle.task_parts.specs.TaskParts as parts
+use Rattle.task.specs.TaskParts as parts
 use Rattle.task_parts.specs.Scope.{keys_in}
 use Rattle.syntax_tree.specs.Tree as read
 use Rattle.model.specs.Trees.{domain_file}

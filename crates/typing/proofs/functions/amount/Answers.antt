@@ -1,6 +1,6 @@
 use Rattle.std.proofs.Common.{◌≡◌, ◌∙◌, ap, sym, subst}
 use Rattle.task_parts.specs.Scope.{known_over}
-use Rattle.task_parts.specs.TaskParts as parts
+use Rattle.task.specs.TaskParts as parts
 use Rattle.syntax_tree.specs.Tree as read
 use Rattle.model.specs.Task as task
 use Rattle.model.specs.Typing as typing

@@ -3,7 +3,7 @@ use Rattle.std.specs.List.{list_any}
 use Rattle.std.specs.Option.{option_map_or}
 use Rattle.task_parts.specs.Scope.{keys_in}
 use Rattle.task_parts.specs.Walk.{found, least_of}
-use Rattle.task_parts.specs.TaskParts as parts
+use Rattle.task.specs.TaskParts as parts
 use Rattle.syntax_tree.specs.Tree as read
 use Rattle.model.specs.Trees as tree
 use Rattle.model.specs.Trees.{problem_file}

@@ -1,7 +1,7 @@
 use Rattle.std.proofs.Common.{◌≡◌, ◌≤◌, ◌∙◌, List, [], ◌++◌, map, length, take, drop, ap, sym, arith}
 use Rattle.std.proofs.lemmas.List.{length-map, length-take, map-append, take-append-drop, take-map}
 use Rattle.task_parts.specs.Scope.{keys_in}
-use Rattle.task_parts.specs.TaskParts.{object_entry_of}
+use Rattle.task.specs.TaskParts.{object_entry_of}
 use Rattle.task_parts.specs.TypedLists.{declared_of}
 use Rattle.model.specs.Typing as typing
 use Rattle.task_parts.proofs.Empty as empty

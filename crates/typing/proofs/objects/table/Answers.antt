@@ -1,6 +1,6 @@
 use Rattle.std.proofs.Common.{◌∙◌, [], map, ap, sym}
 use Rattle.task_parts.specs.Walk.{found, least_of}
-use Rattle.task_parts.specs.TaskParts as parts
+use Rattle.task.specs.TaskParts as parts
 use Rattle.task_parts.specs.TypedLists.{declared_of, placed_of}
 use Rattle.task_parts.specs.Scope.{keys_in}
 use Rattle.model.specs.Typing as typing

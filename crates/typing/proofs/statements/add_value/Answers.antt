@@ -2,7 +2,7 @@ use Rattle.std.proofs.Common.{◌≡◌, ◌∙◌, None, Some, if◌then◌else
 use Rattle.std.specs.Option.{option_map}
 use Rattle.task_parts.specs.Scope.{known_of}
 use Rattle.task_parts.specs.Walk.{found, least_of}
-use Rattle.task_parts.specs.TaskParts as parts
+use Rattle.task.specs.TaskParts as parts
 use Rattle.syntax_tree.specs.Tree as read
 use Rattle.model.specs.Trees as tree
 use Rattle.model.specs.Typing as typing

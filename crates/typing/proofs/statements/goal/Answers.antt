@@ -2,7 +2,7 @@ use Rattle.std.proofs.Common.{◌≡◌, ◌∙◌, None, ap}
 use Rattle.typing.specs.Task.{file_of}
 use Rattle.task_parts.specs.Scope.{known_outside, known_over}
 use Rattle.task_parts.specs.Walk.{found, least_of}
-use Rattle.task_parts.specs.TaskParts as parts
+use Rattle.task.specs.TaskParts as parts
 use Rattle.syntax_tree.specs.Tree as read
 use Rattle.model.specs.Typing as typing
 use Rattle.task_parts.proofs.Tells as telling

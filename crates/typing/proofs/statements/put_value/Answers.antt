@@ -1,13 +1,13 @@
 use Rattle.std.proofs.Common.{◌≡◌, ◌∙◌, map, ap, sym}
 use Rattle.indexmap.proofs.CallerLemmas.{insert_entry-new}
 use Rattle.task_parts.specs.Walk.{found, least_of}
-use Rattle.task_parts.specs.TaskParts as parts
+use Rattle.task.specs.TaskParts as parts
 use Rattle.syntax_tree.specs.Tree.{file_of, name_of}
 use Rattle.std.proofs.lemmas.List.{map_push}
 use Rattle.model.specs.Task as task
 use Rattle.model.specs.Meaning.{value_in}
 use Rattle.model.specs.Typing as typing
-use Rattle.task_parts.proofs.AtomEquality.{atom_eq, value-alike}
+use Rattle.task.proofs.AtomEquality.{atom_eq, value-alike}
 use Rattle.typing.proofs.Values.{kept_before, told_by_first, put_last, not_told}
 use Rattle.typing.proofs.statements.put_value.Goals.{After-copied}
 use Rattle.typing.proofs.statements.put_value.Goals as goal

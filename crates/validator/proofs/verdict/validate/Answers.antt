@@ -1,7 +1,7 @@
 use Rattle.std.proofs.Common.{arith, refl, ◌∙◌, ap, sym, length, subst, ◌≤◌, Some}
 use Rattle.std.specs.Option.{option_map}
 use Rattle.std.proofs.Math.ListN.{length-map}
-use Rattle.typing.specs.Task.{task_of}
+use Rattle.task.specs.Task.{task_of}
 use Rattle.formulas.specs.State.{state_of, instance_of, plan_of}
 use Rattle.model.specs.Meaning.{is_instance, system_of}
 use Rattle.model.proofs.Tests.{passes_got}

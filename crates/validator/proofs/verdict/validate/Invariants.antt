@@ -1,5 +1,5 @@
 use Rattle.std.proofs.Common.{◌≡◌, ◌≤◌, ◌*◌, take, Some}
-use Rattle.typing.specs.Task.{task_of}
+use Rattle.task.specs.Task.{task_of}
 use Rattle.formulas.specs.State.{state_of, plan_of}
 use Rattle.model.specs.Runs.{run, cost_of_all}
 use Rattle.model.specs.Meaning.{system_of}

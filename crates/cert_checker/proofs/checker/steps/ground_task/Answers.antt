@@ -1,4 +1,4 @@
-use Rattle.typing.specs.Task.{task_of}
+use Rattle.task.specs.Task.{task_of}
 use Rattle.certificate.specs.Listing.{certificate_in}
 use Rattle.cert_checker.proofs.OrderLemmas.{atoms_right, states_right_all, first_limit}
 use Rattle.cert_checker.proofs.checker.steps.ground_task.Goals as goal

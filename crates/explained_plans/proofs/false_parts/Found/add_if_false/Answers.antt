@@ -1,8 +1,8 @@
 use Rattle.std.proofs.Common.{arith, List, sym, ◌∙◌, ap, subst, map, length, ◌≡◌, true, refl}
-use Rattle.task_parts.specs.declared.atoms.ObjectId.{ObjectId}
+use Rattle.task.specs.declared.atoms.ObjectId.{ObjectId}
 use Rattle.explained_plans.specs.declared.false_parts.Part as part
-use Rattle.typing.specs.Task.{task_of}
-use Rattle.typing.specs.TaskParts.{object_of, formula_of}
+use Rattle.task.specs.Task.{task_of}
+use Rattle.task.specs.TaskParts.{object_of, formula_of}
 use Rattle.formulas.specs.State.{state_of, FitsFormula}
 use Rattle.explained_plans.proofs.FoundLemmas.{as_part, finds_no_room, finds_itself}
 use Rattle.explained_plans.proofs.false_parts.Found.add_if_false.Goals as goal

@@ -1,5 +1,5 @@
 use Rattle.std.proofs.Common.{◌∙◌, sym, ap}
-use Rattle.typing.specs.TaskParts.{formula_of}
+use Rattle.task.specs.TaskParts.{formula_of}
 use Rattle.explained_plans.specs.Forms.{added, forms_in}
 use Rattle.explained_plans.proofs.FormsLemmas.{added_all, added_next, forms_by_and, forms_by_or}
 use Rattle.explained_plans.proofs.forms.Forms.+look.Goals as goal

@@ -1,6 +1,6 @@
 use Rattle.std.proofs.Common.{◌≡◌, take}
 use Rattle.std.specs.List.{flat_map}
-use Rattle.typing.specs.TaskParts.{formula_of}
+use Rattle.task.specs.TaskParts.{formula_of}
 use Rattle.explained_plans.specs.Forms.{added, forms_in}
 use Rattle.explained_plans.proofs.forms.Forms.+look.Given as goal
 

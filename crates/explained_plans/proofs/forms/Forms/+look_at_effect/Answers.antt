@@ -1,5 +1,5 @@
 use Rattle.std.proofs.Common.{◌∙◌, sym, ap}
-use Rattle.typing.specs.TaskParts.{effect_of}
+use Rattle.task.specs.TaskParts.{effect_of}
 use Rattle.explained_plans.specs.Forms.{added, forms_in_effect}
 use Rattle.explained_plans.proofs.FormsLemmas.{added_all, forms_by_both}
 use Rattle.explained_plans.proofs.forms.Forms.+look_at_effect.Goals as goal

@@ -1,5 +1,5 @@
 use Rattle.std.proofs.Common.{◌<◌, ◌≤◌, subst}
-use Rattle.typing.specs.Task.{task_of}
+use Rattle.task.specs.Task.{task_of}
 use Rattle.explained_plans.specs.Forms.{added, forms_in}
 use Rattle.explained_plans.proofs.FormsLemmas.{all_are_forms, all_schemas, none, schemas_next}
 use Rattle.explained_plans.proofs.forms.Forms.of.Goals as goal

@@ -1,6 +1,6 @@
 use Rattle.std.proofs.Common.{◌≡◌, take}
 use Rattle.std.specs.List.{flat_map}
-use Rattle.typing.specs.Task.{task_of}
+use Rattle.task.specs.Task.{task_of}
 use Rattle.explained_plans.specs.Forms.{added, forms_in, forms_of_schema}
 use Rattle.explained_plans.proofs.FormsLemmas.{none}
 use Rattle.explained_plans.proofs.forms.Forms.of.Given as goal

@@ -1,6 +1,6 @@
 use Rattle.std.proofs.Common.{arith, rules, ◌∙◌, ap, sym, length}
-use Rattle.typing.specs.TaskParts.{union_of}
-use Rattle.typing.specs.Task.{task_of}
+use Rattle.task.specs.TaskParts.{union_of}
+use Rattle.task.specs.Task.{task_of}
 use Rattle.formulas.proofs.ObjectWalk.{from_passing, from_failing, from_end}
 use Rattle.model.specs.Meaning.{is_of}
 use Rattle.formulas.proofs.objects.ObjectsIterator.next.Goals as goal

@@ -1,6 +1,6 @@
 use Rattle.std.proofs.Common.{◌≡◌, length}
-use Rattle.typing.specs.TaskParts.{union_of}
-use Rattle.typing.specs.Task.{task_of}
+use Rattle.task.specs.TaskParts.{union_of}
+use Rattle.task.specs.Task.{task_of}
 use Rattle.formulas.specs.Objects.{objects_left}
 use Rattle.formulas.proofs.ObjectWalk.{from_on}
 use Rattle.model.specs.Meaning.{is_of}

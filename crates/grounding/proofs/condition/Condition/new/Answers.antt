@@ -1,6 +1,6 @@
 use Rattle.std.proofs.Common.{◌≡◌, ◌∙◌, ap, map}
 use Rattle.std.specs.List.{list_all, filter_map}
-use Rattle.typing.specs.TaskParts.{object_of, formula_of}
+use Rattle.task.specs.TaskParts.{object_of, formula_of}
 use Rattle.formulas.specs.Literals.{literal_of}
 use Rattle.model.specs.SureLiterals.{sure}
 use Rattle.model.specs.NumberedLiterals.{numbered_literal}

@@ -3,7 +3,7 @@ use Rattle.std.specs.Prelude.{slice_get}
 use Rattle.std.specs.FinSet.{contains}
 use Rattle.std.specs.Option.{option_map}
 use Rattle.std.proofs.lemmas.Option.{slice_get-map}
-use Rattle.typing.specs.TaskParts.{atom_of}
+use Rattle.task.specs.TaskParts.{atom_of}
 use Rattle.model.specs.Meaning.{initial_state}
 use Rattle.grounding.specs.Ground.{task_in, atoms_in}
 use Rattle.grounding.proofs.ground.Ground.is_initial.Goals as goal

@@ -1,5 +1,5 @@
 use Rattle.std.proofs.Common.{ap, map, subst, sym}
-use Rattle.typing.specs.TaskParts.{object_of, formula_of}
+use Rattle.task.specs.TaskParts.{object_of, formula_of}
 use Rattle.formulas.specs.State.{FitsFormula}
 use Rattle.grounding.specs.declared.changes.ChangeCondition.{ChangeCondition}
 use Rattle.grounding.specs.Changes.{guard_of_condition, guard_in}

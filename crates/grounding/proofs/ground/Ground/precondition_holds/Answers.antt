@@ -3,8 +3,8 @@ use Rattle.std.specs.Prelude.{slice_get}
 use Rattle.std.specs.Option.{option_map}
 use Rattle.std.proofs.lemmas.List.{length-map}
 use Rattle.packed_state.specs.Packed.{bits_of}
-use Rattle.typing.specs.TaskParts.{object_of, shape_of, shape_of_schema}
-use Rattle.typing.proofs.Shapes.{Shape, found}
+use Rattle.task.specs.TaskParts.{object_of, shape_of, shape_of_schema}
+use Rattle.task.proofs.Shapes.{Shape, found}
 use Rattle.formulas.specs.State.{instance_of}
 use Rattle.formulas.proofs.Instances.{precondition_fits}
 use Rattle.grounding.specs.Conditions.{IsConditionOf}

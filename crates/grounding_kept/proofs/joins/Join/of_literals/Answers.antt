@@ -1,4 +1,4 @@
-use Rattle.typing.specs.Task.{task_of}
+use Rattle.task.specs.Task.{task_of}
 use Rattle.grounding_kept.proofs.JoinGroups.{indexes-more}
 use Rattle.grounding_kept.proofs.joins.Join.of_literals.Goals as goal
 

@@ -1,5 +1,5 @@
 use Rattle.std.proofs.Common.{map}
-use Rattle.typing.specs.Task.{task_of}
+use Rattle.task.specs.Task.{task_of}
 use Rattle.grounding_kept.specs.Parameters.{lent_formula}
 use Rattle.grounding_kept.specs.Joins.{AreIndexes}
 use Rattle.grounding_kept.proofs.joins.Join.of_literals.Given as goal

@@ -1,5 +1,5 @@
 use Rattle.std.proofs.Common.{map}
-use Rattle.typing.specs.TaskParts.{object_of}
+use Rattle.task.specs.TaskParts.{object_of}
 use Rattle.grounding_kept.proofs.JoinGroups.{smaller-group}
 use Rattle.grounding_kept.proofs.joins.Join.smallest_group.Goals as goal
 

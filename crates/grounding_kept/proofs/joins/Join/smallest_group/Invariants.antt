@@ -1,5 +1,5 @@
 use Rattle.std.proofs.Common.{map, IfSome}
-use Rattle.typing.specs.TaskParts.{object_of}
+use Rattle.task.specs.TaskParts.{object_of}
 use Rattle.grounding_kept.specs.Joins.{IsGroupAmong}
 use Rattle.grounding_kept.proofs.joins.Join.smallest_group.Given as goal
 

@@ -1,7 +1,7 @@
 use Rattle.std.proofs.Common.{◌≡◌, ◌≤◌, ◌++◌, map, length, drop}
 use Rattle.std.specs.Prelude.{filter}
-use Rattle.typing.specs.Task.{task_of}
-use Rattle.typing.specs.TaskParts.{object_of}
+use Rattle.task.specs.Task.{task_of}
+use Rattle.task.specs.TaskParts.{object_of}
 use Rattle.formulas.specs.State.{instance_of}
 use Rattle.model.specs.ClosedOff.{is_kept}
 use Rattle.model.proofs.EnumerationLemmas.{begun}

@@ -1,7 +1,7 @@
 use Rattle.std.proofs.Common.{◌∙◌, ◌≡◌, ◌++◌, ap, subst, map, length, List, arith}
 use Rattle.std.specs.Prelude.{filter, OnOk, IfErr}
-use Rattle.typing.specs.Task.{task_of}
-use Rattle.typing.specs.TaskParts.{object_of, formula_of, shape_of}
+use Rattle.task.specs.Task.{task_of}
+use Rattle.task.specs.TaskParts.{object_of, formula_of, shape_of}
 use Rattle.formulas.specs.State.{instance_of}
 use Rattle.model.specs.Task.{Instance}
 use Rattle.model.specs.ClosedOff.{is_kept}

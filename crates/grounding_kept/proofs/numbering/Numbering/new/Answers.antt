@@ -1,7 +1,7 @@
 use Rattle.std.proofs.Common.{ap, subst, map}
 use Rattle.std.specs.Prelude.{IfOk, IfErr}
-use Rattle.typing.specs.Task.{task_of}
-use Rattle.typing.specs.TaskParts.{atom_of}
+use Rattle.task.specs.Task.{task_of}
+use Rattle.task.specs.TaskParts.{atom_of}
 use Rattle.grounding_kept.specs.Numbering.{IsNumberingOf, TellsLimit}
 use Rattle.grounding_kept.proofs.numbering.Numbering.new.Goals as goal
 

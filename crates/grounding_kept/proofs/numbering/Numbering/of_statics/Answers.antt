@@ -1,8 +1,8 @@
 use Rattle.std.proofs.Common.{◌≤◌, ◌∙◌, ap, map, length, arith, refl}
 use Rattle.std.proofs.lemmas.List.{length-map}
 use Rattle.faults.proofs.Results.{passed_on}
-use Rattle.typing.specs.Task.{task_of}
-use Rattle.typing.specs.TaskParts.{atom_of}
+use Rattle.task.specs.Task.{task_of}
+use Rattle.task.specs.TaskParts.{atom_of}
 use Rattle.formulas.specs.State.{instance_of}
 use Rattle.model.specs.ClosedOff as closed_off
 use Rattle.model.specs.Limits.{max_numbered_atoms}

@@ -1,8 +1,8 @@
 use Rattle.std.proofs.Common.{ap, subst, map, length, IfSome}
 use Rattle.std.specs.List.{each_same}
 use Rattle.std.proofs.lemmas.List.{length-map}
-use Rattle.typing.specs.Task.{task_of}
-use Rattle.typing.specs.TaskParts.{object_of}
+use Rattle.task.specs.Task.{task_of}
+use Rattle.task.specs.TaskParts.{object_of}
 use Rattle.grounding_kept.specs.Parameters.{choice_of}
 use Rattle.grounding_kept.specs.Joins.{IsGroup}
 use Rattle.grounding_kept.proofs.JoinGroups.{all-candidates, group-candidates}

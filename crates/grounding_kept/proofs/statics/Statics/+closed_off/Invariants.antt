@@ -1,7 +1,7 @@
 use Rattle.std.proofs.Common.{◌≡◌, ℕ, Bool, false, map, take, ◌++◌, ◌∷◌, []}
 use Rattle.std.specs.List.{list_any}
-use Rattle.typing.specs.Task.{task_of}
-use Rattle.typing.specs.TaskParts.{object_of, formula_of}
+use Rattle.task.specs.Task.{task_of}
+use Rattle.task.specs.TaskParts.{object_of, formula_of}
 use Rattle.formulas.specs.Objects.{objects_left}
 use Rattle.formulas.proofs.ObjectWalk.{AreAmong}
 use Rattle.model.specs.ClosedOff as closed_off

@@ -1,6 +1,6 @@
 use Rattle.std.proofs.Common.{Bool, ◌∙◌, sym, map}
-use Rattle.typing.specs.Task.{task_of}
-use Rattle.typing.specs.TaskParts.{object_of}
+use Rattle.task.specs.Task.{task_of}
+use Rattle.task.specs.TaskParts.{object_of}
 use Rattle.model.specs.Task.{Formula}
 use Rattle.model.specs.ClosedOff.{is_closed_off}
 use Rattle.model.specs.WellTyped.{is_formula}

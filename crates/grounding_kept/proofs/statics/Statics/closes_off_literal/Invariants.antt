@@ -1,7 +1,7 @@
 use Rattle.std.proofs.Common.{◌≡◌, false, map, take}
 use Rattle.std.specs.List.{list_any}
-use Rattle.typing.specs.Task.{task_of}
-use Rattle.typing.specs.TaskParts.{object_of}
+use Rattle.task.specs.Task.{task_of}
+use Rattle.task.specs.TaskParts.{object_of}
 use Rattle.model.specs.ClosedOff as closed_off
 use Rattle.grounding_kept.specs.Parameters.{lent_formula}
 use Rattle.grounding_kept.proofs.statics.Statics.closes_off_literal.Given as goal

@@ -1,6 +1,6 @@
 use Rattle.std.proofs.Common.{◌∙◌, sym, map}
-use Rattle.typing.specs.Task.{task_of}
-use Rattle.typing.specs.TaskParts.{object_of}
+use Rattle.task.specs.Task.{task_of}
+use Rattle.task.specs.TaskParts.{object_of}
 use Rattle.formulas.specs.State.{state_of}
 use Rattle.grounding_kept.proofs.Closings.{not_atom-fluent, not_atom-static, not_equal-closed, predicate_within}
 use Rattle.grounding_kept.proofs.statics.Statics.closes_off_not.Goals as goal

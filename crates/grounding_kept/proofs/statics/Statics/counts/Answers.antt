@@ -1,6 +1,6 @@
 use Rattle.std.proofs.Common.{◌∙◌, not, ap, sym, subst, map}
-use Rattle.typing.specs.Task.{task_of}
-use Rattle.typing.specs.TaskParts.{object_of}
+use Rattle.task.specs.Task.{task_of}
+use Rattle.task.specs.TaskParts.{object_of}
 use Rattle.formulas.specs.State.{FitsFormula}
 use Rattle.formulas.specs.Effects.{condition_of}
 use Rattle.model.specs.ClosedOff.{is_closed_off}

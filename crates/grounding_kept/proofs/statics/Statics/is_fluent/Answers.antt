@@ -1,5 +1,5 @@
 use Rattle.std.proofs.Common.{◌∙◌, length, arith}
-use Rattle.typing.specs.Task.{task_of}
+use Rattle.task.specs.Task.{task_of}
 use Rattle.model.specs.Fluents as model_fluents
 use Rattle.grounding_kept.proofs.FluentTable.{table-at, table-long}
 use Rattle.grounding_kept.proofs.statics.Statics.is_fluent.Goals as goal

@@ -1,6 +1,6 @@
 use Rattle.std.proofs.Common.{◌∙◌, sym}
-use Rattle.typing.specs.Task.{task_of}
-use Rattle.typing.specs.TaskParts.{atom_of}
+use Rattle.task.specs.Task.{task_of}
+use Rattle.task.specs.TaskParts.{atom_of}
 use Rattle.grounding_kept.proofs.NumberLists.{true-within}
 use Rattle.grounding_kept.proofs.statics.Statics.is_initial_static.Goals as goal
 

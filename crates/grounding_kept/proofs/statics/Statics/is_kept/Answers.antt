@@ -1,6 +1,6 @@
 use Rattle.std.proofs.Common.{map}
-use Rattle.typing.specs.Task.{task_of}
-use Rattle.typing.specs.TaskParts.{object_of, shape_of}
+use Rattle.task.specs.Task.{task_of}
+use Rattle.task.specs.TaskParts.{object_of, shape_of}
 use Rattle.formulas.proofs.Instances.{precondition_fits}
 use Rattle.grounding_kept.proofs.statics.Statics.is_kept.Goals as goal
 

@@ -1,6 +1,6 @@
 use Rattle.std.proofs.Common.{rules, ◌≡◌, ◌++◌, ◌∷◌, [], map, true, false}
 use Rattle.std.specs.Prelude.{is_some}
-use Rattle.typing.specs.Task.{task_of}
+use Rattle.task.specs.Task.{task_of}
 use Rattle.formulas.specs.State as view
 use Rattle.plan_file.specs.PlanFile.{step_of}
 use Rattle.plan_file.proofs.ReadSoFar.{none_taken, instance_taken}

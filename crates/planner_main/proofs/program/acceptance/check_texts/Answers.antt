@@ -1,5 +1,5 @@
 use Rattle.std.proofs.Common.{refl, sym, ◌∙◌}
-use Rattle.typing.specs.Task.{task_of}
+use Rattle.task.specs.Task.{task_of}
 use Rattle.devices.specs.Texts.{items_in}
 use Rattle.planner_main.proofs.CertificateTold.{checked_in, fails_as_counted, told_unfailed}
 use Rattle.planner_main.proofs.program.acceptance.check_texts.Goals as goal

@@ -1,6 +1,6 @@
 use Rattle.std.proofs.Common.{◌≡◌, [], ◌∷◌, refl}
 use Rattle.planner_main.specs.Members.{members_of}
-use Rattle.typing.specs.Task.{task_of}
+use Rattle.task.specs.Task.{task_of}
 use Rattle.planner_main.specs.Objects.{of_answer}
 use Rattle.planner_main.proofs.JsonTold.{told_as_meant}
 use Rattle.planner_main.proofs.telling.objects.answer_object.Goals as goal

@@ -1,6 +1,6 @@
 use Rattle.std.proofs.Common.{◌≡◌, map, take}
 use Rattle.std.specs.String.{string_bytes}
-use Rattle.typing.specs.Task.{task_of}
+use Rattle.task.specs.Task.{task_of}
 use Rattle.formulas.specs.State.{instance_of}
 use Rattle.model.specs.PlanWriting.{step_text}
 use Rattle.planner_main.proofs.telling.objects.step_texts.Given as goal

@@ -3,8 +3,8 @@ use Rattle.std.specs.List.{list_all}
 use Rattle.std.proofs.lemmas.List.{length-map}
 use Rattle.std.proofs.lemmas.Iterator.{YieldsList-from_slice}
 use Rattle.std.proofs.lemmas.Iterator.Search.{all_from_yields_List}
-use Rattle.task_parts.specs.declared.atoms.ObjectId.{ObjectId}
-use Rattle.task_parts.specs.TaskParts.{object_of, object_entry_of}
+use Rattle.task.specs.declared.atoms.ObjectId.{ObjectId}
+use Rattle.task.specs.TaskParts.{object_of, object_entry_of}
 use Rattle.task_parts.proofs.Lists.{list_all-map}
 use Rattle.task_parts.proofs.scope.Scope.all_known.Goals as goal
 

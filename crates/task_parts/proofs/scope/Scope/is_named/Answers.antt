@@ -4,7 +4,7 @@ use Rattle.std.proofs.lemmas.Bool.{leb-true, le-leb, ltb-true}
 use Rattle.std.proofs.lemmas.List.{length-map}
 use Rattle.syntax_tree.specs.Tree.{name_of, ground_atom_of}
 use Rattle.task_parts.specs.Scope.{known_of}
-use Rattle.task_parts.specs.TaskParts.{object_of, predicate_of}
+use Rattle.task.specs.TaskParts.{object_of, predicate_of}
 use Rattle.model.specs.Task as task
 use Rattle.task_parts.proofs.Named.{all_named, not_named, objects_known}
 use Rattle.task_parts.proofs.scope.Scope.is_named.Goals.{then-atom-len, else-atom-len}

@@ -6,7 +6,7 @@ use Rattle.model.specs.Typing.{refused_word, number_in, is_known, names_of_objec
 use Rattle.syntax_tree.specs.Tree.{name_of}
 use Rattle.syntax_tree.specs.Tree.{file_of}
 use Rattle.task_parts.specs.Refusals.{refusal_of}
-use Rattle.task_parts.specs.TaskParts.{object_entry_of}
+use Rattle.task.specs.TaskParts.{object_entry_of}
 use Rattle.task_parts.specs.Walk.{found, least_of}
 use Rattle.task_parts.proofs.Tables.{told_of_entry, number_in-le, keys_in-named}
 use Rattle.task_parts.proofs.scope.Scope.object.Goals.{After-number-number}

@@ -4,7 +4,7 @@ use Rattle.std.proofs.lemmas.Option.{slice_get-map}
 use Rattle.model.specs.Meaning.{is_below_in}
 use Rattle.model.specs.Task as task
 use Rattle.task_parts.specs.Scope.{known_of}
-use Rattle.task_parts.specs.TaskParts as parts
+use Rattle.task.specs.TaskParts as parts
 use Rattle.task_parts.proofs.scope.Scope.object_fits.Goals as goal
 
 pub returns-in-Some : goal.returns-in-Some

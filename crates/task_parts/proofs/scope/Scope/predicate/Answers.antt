@@ -3,7 +3,7 @@ use Rattle.std.specs.Option.{option_map}
 use Rattle.syntax_tree.specs.Tree.{name_of}
 use Rattle.model.specs.Typing.{refused_word, number_in, names_of_predicates, predicate_faults, TypingFault}
 use Rattle.std.proofs.lemmas.List.{length-map}
-use Rattle.task_parts.specs.TaskParts.{predicate_of, union_of}
+use Rattle.task.specs.TaskParts.{predicate_of, union_of}
 use Rattle.task_parts.specs.Scope.{known_of}
 use Rattle.syntax_tree.specs.Tree.{file_of}
 use Rattle.task_parts.specs.Refusals.{refusal_of}

@@ -5,7 +5,7 @@ use Rattle.std.proofs.lemmas.Option.{slice_get-map}
 use Rattle.model.specs.Meaning.{is_below_in}
 use Rattle.model.specs.Typing.{Variable}
 use Rattle.task_parts.specs.Scope.{known_of, variable_entry_of}
-use Rattle.task_parts.specs.TaskParts as parts
+use Rattle.task.specs.TaskParts as parts
 use Rattle.task_parts.proofs.scope.Scope.variable_fits.Goals as goal
 
 pub returns-in-Some : goal.returns-in-Some

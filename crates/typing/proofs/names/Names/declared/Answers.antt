@@ -1,7 +1,7 @@
 use Rattle.std.proofs.Common.{◌≡◌, [], ◌∷◌, ◌∙◌, map, ap, sym, subst}
 use Rattle.syntax_tree.specs.Tree.{domain_of, problem_of}
 use Rattle.typing.specs.Task.{TellsLeastOf}
-use Rattle.task_parts.specs.TaskParts as parts
+use Rattle.task.specs.TaskParts as parts
 use Rattle.typing.specs.Names.{domain_faults, known_in}
 use Rattle.model.specs.Typing.{declaration_faults, function_faults, action_faults, known_in_domain, predicates_of, predicate_in, schema_in, type_names, first_filled}
 use Rattle.task_parts.proofs.Tells.{tells_here, tells_later}

@@ -1,0 +1,4 @@
+pub mod Lists
+pub mod Tables
+pub mod AtomEquality
+pub mod Shapes

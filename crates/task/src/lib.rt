@@ -1,0 +1,18 @@
+//! A planning task: types, objects, predicates, functions and action schemas, each by its number, where the task begins, and what is
+//! to be reached. It knows nothing of the texts that it may come from.
+#![tactic(auto)]
+
+mod atoms;
+mod parts;
+mod schemas;
+mod task;
+mod types;
+
+pub use atoms::{
+    Atom, LiftedAtom, MAX_ARGUMENTS, MAX_OBJECTS, MAX_VARIABLES, ObjectId, PredicateId, SchemaId,
+    Term, TypeId, VariableId,
+};
+pub use parts::TaskParts;
+pub use schemas::{Effect, EffectLiteral, Formula, Increase, Predicate, Schema, TypeUnion};
+pub use task::Task;
+pub use types::{all_below, is_below, supertypes};

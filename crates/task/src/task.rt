@@ -1,0 +1,224 @@
+//! The task: a value of its own, from which its parts are got.
+ghost use Rattle.std.specs.Prelude.{IsTrue, ◌≤◌, length};
+ghost use Rattle.task.specs.TaskParts.{task_of_parts};
+ghost use Rattle.model.specs.WellTyped.{is_task};
+
+use crate::atoms::{Atom, MAX_VARIABLES, ObjectId, PredicateId, SchemaId, TypeId};
+use crate::parts::TaskParts;
+use crate::schemas::{Formula, Predicate, Schema, TypeUnion};
+use crate::types::{is_below, supertypes};
+use faults::NoMemory;
+use std::alloc::Global;
+
+/// A planning task with numbers for names. It is well-typed.
+#[derive(Drop)]
+pub struct Task {
+    parts: TaskParts,
+    ghost few_types: { length parts.types.entries ≤ 4096 },
+    ghost few_objects: { length parts.objects.entries ≤ 65535 },
+    ghost well_typed: { IsTrue (is_task (task_of_parts parts)) },
+}
+
+impl Task {
+    ghost use Rattle.std.specs.Prelude.{◌≡◌, length, map, position, slice_get, IfOk, IfSome};
+    ghost use Rattle.std.specs.Option.{option_copied, option_map};
+    ghost use Rattle.task.specs.Task.{task_of};
+    ghost use Rattle.task.specs.TaskParts.{atom_of, formula_of, object_of, predicate_id_of, schema_id_of, shape_of, shape_of_schema, type_of, union_of};
+    ghost use Rattle.model.specs.Meaning.{supertypes_of, is_of, is_below, objects_of, value_in};
+    ghost use Rattle.model.specs.Typing.{is_same};
+
+    /// The task of these parts.
+    pub fn from_parts(parts: TaskParts) -> Task
+        requires few_types { length parts.types.entries ≤ 4096 }
+        requires few_objects { length parts.objects.entries ≤ 65535 }
+        requires well_typed { IsTrue (is_task (task_of_parts parts)) }
+        ensures { task_of result ≡ task_of_parts parts }
+    {
+        Task { parts }
+    }
+
+    /// The initial state's atoms, as they stand in the problem: one may stand there twice.
+    pub fn init(&self) -> &[Atom]
+        ensures { map atom_of result.now ≡ (task_of self.now).init }
+    {
+        self.parts.init.as_slice()
+    }
+
+    /// The value that the problem gives to a function of objects, and `None` where it gives it none. The function's number
+    /// stands in the place of the predicate's. No memory is taken.
+    pub fn value(&self, function: &Atom) -> Option<u32>
+        ensures { result ≡ value_in (task_of self.now).values (atom_of function.now) }
+    {
+        self.parts.values.get(function).copied()
+    }
+
+    /// What is to be reached.
+    pub fn goal(&self) -> &Formula
+        ensures { formula_of result.now ≡ (task_of self.now).goal }
+    {
+        &self.parts.goal
+    }
+
+    /// Whether the total cost is to be least; without it, the count of steps is.
+    pub fn has_metric(&self) -> bool
+        ensures { result ≡ (task_of self.now).has_metric }
+    {
+        self.parts.has_metric
+    }
+
+    /// How many types there are, `object` among them.
+    pub fn type_count(&self) -> usize
+        ensures { result ≡ length (task_of self.now).types }
+    {
+        self.parts.types.len()
+    }
+
+    /// The type of this name, which is given in lower case.
+    pub fn type_named(&self, folded: &[u8]) -> Option<TypeId>
+        ensures { option_map type_of result ≡ position (is_same folded.now) (map (λ t. t.name) (task_of self.now).types) }
+    {
+        let number = self.parts.types.get_index_of(folded)?;
+        Some(TypeId(number as u16))
+    }
+
+    /// The type's name, in lower case, and `None` where the number is beyond the last.
+    pub fn type_name(&self, id: TypeId) -> Option<&[u8]>
+        ensures { option_copied result ≡ option_map (λ t. t.name) (slice_get (task_of self.now).types id.0) }
+    {
+        let (name, _) = self.parts.types.get_index(id.0 as usize)?;
+        Some(name.as_slice())
+    }
+
+    /// All types that the objects of a type are of: itself and those above it, up to `object`. None where the number is
+    /// beyond the last.
+    pub fn supertypes(&self, id: TypeId) -> &[TypeId]
+        ensures { map type_of result.now ≡ supertypes_of (task_of self.now) id.0 }
+    {
+        supertypes(&self.parts.types, id)
+    }
+
+    /// Whether the object is of one of these types; false where the number is beyond the last.
+    pub fn is_of(&self, object: ObjectId, types: &TypeUnion) -> bool
+        ensures { result ≡ is_of (task_of self.now) (union_of types.now) object.0 }
+    {
+        match self.parts.objects.get_index(object.0 as usize) {
+            Some((_, declared)) => self.is_below(*declared, types),
+            None => false,
+        }
+    }
+
+    /// Whether the type is one of these or stands below one of them.
+    pub(crate) fn is_below(&self, id: TypeId, types: &TypeUnion) -> bool
+        ensures { result ≡ is_below (task_of self.now) (union_of types.now) id.0 }
+    {
+        is_below(&self.parts.types, types, id)
+    }
+
+    /// The objects of these types, in order, each once.
+    pub fn objects_of(&self, alloc: Global, types: &TypeUnion) -> Result<Vec<ObjectId>, NoMemory>
+        ensures { IfOk result (λ objects. map object_of objects.items ≡ objects_of (task_of self.now) (union_of types.now)) }
+    {
+        let mut objects = Vec::new(alloc);
+        for number in 0..self.parts.objects.len() {
+            let object = ObjectId(number as u32);
+            if self.is_of(object, types) {
+                objects.push(object)?;
+            }
+        }
+        Ok(objects)
+    }
+
+    /// How many objects there are.
+    pub fn object_count(&self) -> usize
+        ensures { result ≡ length (task_of self.now).objects }
+    {
+        self.parts.objects.len()
+    }
+
+    /// How many action schemas there are.
+    pub fn schema_count(&self) -> usize
+        ensures { result ≡ length (task_of self.now).schemas }
+    {
+        self.parts.schemas.len()
+    }
+
+    /// The schema of this number, and `None` where the number is beyond the last.
+    pub fn schema(&self, id: SchemaId) -> Option<&Schema>
+        ensures shape { option_map (λ s. shape_of s.now) result ≡ option_map shape_of_schema (slice_get (task_of self.now).schemas id.0) }
+        ensures few { IfSome result (λ s. length s.now.parameters.items ≤ MAX_VARIABLES) }
+    {
+        let (_, schema) = self.parts.schemas.get_index(id.0)?;
+        Some(schema)
+    }
+
+    /// The predicate of this number, and `None` where the number is beyond the last.
+    pub fn predicate(&self, id: PredicateId) -> Option<&Predicate>
+        ensures { option_map (λ p. map union_of p.now.arguments.items) result ≡ option_map (λ p. p.arguments) (slice_get (task_of self.now).predicates id.0) }
+    {
+        self.parts.predicates.get_index(id.0).map(|entry| entry.1)
+    }
+
+    /// The object of this name, which is given in lower case.
+    pub fn object_named(&self, folded: &[u8]) -> Option<ObjectId>
+        ensures { option_map object_of result ≡ position (is_same folded.now) (map (λ o. o.name) (task_of self.now).objects) }
+    {
+        let number = self.parts.objects.get_index_of(folded)?;
+        Some(ObjectId(number as u32))
+    }
+
+    /// The schema of this name, which is given in lower case.
+    pub fn schema_named(&self, folded: &[u8]) -> Option<SchemaId>
+        ensures { option_map schema_id_of result ≡ position (is_same folded.now) (map (λ s. s.name) (task_of self.now).schemas) }
+    {
+        let number = self.parts.schemas.get_index_of(folded)?;
+        Some(SchemaId(number))
+    }
+
+    /// The predicate of this name, which is given in lower case.
+    pub fn predicate_named(&self, folded: &[u8]) -> Option<PredicateId>
+        ensures { option_map predicate_id_of result ≡ position (is_same folded.now) (map (λ p. p.name) (task_of self.now).predicates) }
+    {
+        let number = self.parts.predicates.get_index_of(folded)?;
+        Some(PredicateId(number))
+    }
+
+    /// The function of this name, which is given in lower case: its number stands in the place of a predicate's.
+    pub fn function_named(&self, folded: &[u8]) -> Option<PredicateId>
+        ensures { option_map predicate_id_of result ≡ position (is_same folded.now) (map (λ p. p.name) (task_of self.now).functions) }
+    {
+        let number = self.parts.functions.get_index_of(folded)?;
+        Some(PredicateId(number))
+    }
+
+    /// The function's name, in lower case, and `None` where the number is beyond the last.
+    pub fn function_name(&self, id: PredicateId) -> Option<&[u8]>
+        ensures { option_copied result ≡ option_map (λ p. p.name) (slice_get (task_of self.now).functions id.0) }
+    {
+        let (name, _) = self.parts.functions.get_index(id.0)?;
+        Some(name.as_slice())
+    }
+
+    /// The object's name, in lower case, and `None` where the number is beyond the last.
+    pub fn object_name(&self, id: ObjectId) -> Option<&[u8]>
+        ensures { option_copied result ≡ option_map (λ o. o.name) (slice_get (task_of self.now).objects id.0) }
+    {
+        let (name, _) = self.parts.objects.get_index(id.0 as usize)?;
+        Some(name.as_slice())
+    }
+
+    /// The predicate's name, in lower case, and `None` where the number is beyond the last.
+    pub fn predicate_name(&self, id: PredicateId) -> Option<&[u8]>
+        ensures { option_copied result ≡ option_map (λ p. p.name) (slice_get (task_of self.now).predicates id.0) }
+    {
+        let (name, _) = self.parts.predicates.get_index(id.0)?;
+        Some(name.as_slice())
+    }
+
+    /// The schema's name, in lower case, and `None` where the number is beyond the last.
+    pub fn schema_name(&self, id: SchemaId) -> Option<&[u8]>
+        ensures { option_copied result ≡ option_map (λ s. s.name) (slice_get (task_of self.now).schemas id.0) }
+    {
+        let (name, _) = self.parts.schemas.get_index(id.0)?;
+        Some(name.as_slice())
+    }
+}

@@ -1,0 +1,71 @@
+//! The task of a domain and a problem.
+ghost use Rattle.std.specs.Prelude.{◌≡◌, IfErr, IfOk, OnOk};
+ghost use Rattle.task.specs.Task.{task_of};
+ghost use Rattle.typing.specs.Task.{TellsFault, TellsLeastFault};
+ghost use Rattle.model.specs.Task as task;
+ghost use Rattle.model.specs.TypingFaults as typing_faults;
+ghost use Rattle.syntax_tree.specs.Tree.{domain_of, problem_of};
+ghost use Rattle.model.specs.Typing.{task_of_trees, ListsNoFault};
+
+use crate::names::Names;
+use crate::{TaskFault, chains, objects};
+use std::alloc::Global;
+use syntax_tree::{Domain, Problem};
+use task::{Task, TaskParts};
+
+/// A task is made of trees.
+pub trait FromTrees: Sized {
+    /// The task that it is.
+    ghost task_in: { Self → task.Task };
+
+    /// The task of a domain and a problem: each name becomes its number.
+    ///
+    /// # Errors
+    /// The least fault of the pair, where it has one; [`TaskFault::NoMemory`] where memory is refused.
+    ///
+    /// # Examples
+    /// A domain with `(:constants a)` and a problem for it with `(:objects b)` make a task of two objects, the constant
+    /// first:
+    ///
+    /// ```
+    /// let task = Task::new(alloc, domain, problem)?;
+    /// assert_eq!(rt; task.object_count(), 2);
+    /// ```
+    ///
+    /// With `(:objects a)` the problem is refused by `Duplicate` at its `a`.
+    fn new(alloc: Global, domain: Domain<'_>, problem: Problem<'_>) -> Result<Self, TaskFault>
+        ensures well_typed { OnOk result (typing_faults.IsWellTyped (domain_of domain.entry) (problem_of problem.entry)) }
+        ensures task { IfOk result (λ t. task_in t ≡ task_of_trees (domain_of domain.entry) (problem_of problem.entry)) }
+        ensures least { IfErr result (TellsFault (domain_of domain.entry) (problem_of problem.entry)) };
+}
+
+impl FromTrees for Task {
+    ghost task_in = { task_of };
+
+    fn new(alloc: Global, domain: Domain<'_>, problem: Problem<'_>) -> Result<Task, TaskFault> {
+        of_trees(alloc, &domain, &problem)
+    }
+}
+
+/// The task of a domain and a problem, which are kept.
+fn of_trees(alloc: Global, domain: &Domain<'_>, problem: &Problem<'_>) -> Result<Task, TaskFault>
+    ensures well_typed { OnOk result (ListsNoFault (domain_of domain.now) (problem_of problem.now)) }
+    ensures task { IfOk result (λ t. task_of t ≡ task_of_trees (domain_of domain.now) (problem_of problem.now)) }
+    ensures least { IfErr result (TellsLeastFault (domain_of domain.now) (problem_of problem.now)) }
+{
+    let types = chains::types(alloc, domain, problem)?;
+    let objects = objects::of_pair(alloc, &types, domain, problem)?;
+    let names = Names::declared(alloc, &types, &objects, domain, problem)?;
+    let start = names.stated(alloc, &types, &objects, problem)?;
+    Ok(Task::from_parts(TaskParts {
+        types: types.by_name,
+        objects: objects.all,
+        predicates: names.predicates,
+        functions: names.functions,
+        schemas: names.schemas,
+        init: start.init,
+        values: start.values,
+        goal: start.goal,
+        has_metric: problem.metric.is_some(),
+    }))
+}
