@@ -4,3 +4,4 @@ pub mod WholeText
 pub mod SetsLemmas
 pub mod WideningLemmas
 pub mod NumbersLemmas
+pub mod ListedLemmas
