@@ -65,7 +65,7 @@ names_its_atoms c keeps l among =
     let (place, at) = Contains-place c.lines l among in
     names_atoms c.version (length c.atoms) l (passes_got (is_state_line c.version (length c.atoms)) c.lines place l at all)
 
-pub holds_lines : (listing : Listing) (width : ℕ) → pooled_width (store_in listing) ≡ width → HoldsLines (certificate_of listing) width (store_in listing)
+pub holds_lines : (listing : Cert) (width : ℕ) → pooled_width (store_in listing) ≡ width → HoldsLines (certificate_of listing) width (store_in listing)
 holds_lines listing width wide = record {
   wide = wide;
   sets = subst (λ w. pooled_states (store_in listing) ≡ map (packed_line w) (certificate_of listing).lines) wide (sym (sets_are listing));

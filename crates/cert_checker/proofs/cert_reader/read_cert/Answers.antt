@@ -92,16 +92,16 @@ states-preserved g c =
       failures = c.in_ok-next.ensures.failures ∙ c.states.invariant.failures;
     }
 
-pub new-requires-2-clause-limits : goal.new-requires-2-clause-limits
-new-requires-2-clause-limits g c =
+pub from_parts-requires-clause-limits : goal.from_parts-requires-clause-limits
+from_parts-requires-clause-limits g c =
     let states = c.states.states in
     let certificate = certificate_with c.in_ok-header.header states in
     let read = read_whole g.R.Source.remaining (task_of c.args.task.now) c.args.reader.now c.states.reader c.in_ok-header.header
     (pooled_width states.sets) (map listed_of states.marks.items) (pooled_states states.sets) (rw c.in_default.is at c.states.invariant.so_far) in
     limits_kept (task_of c.args.task.now) read.text certificate read.is_text
 
-pub new-requires-2-clause-marked : goal.new-requires-2-clause-marked
-new-requires-2-clause-marked g c =
+pub from_parts-requires-clause-marked : goal.from_parts-requires-clause-marked
+from_parts-requires-clause-marked g c =
     let states = c.states.states in
     as_many_listed g.R.Source.remaining (task_of c.args.task.now) c.args.reader.now c.states.reader c.in_ok-header.header
     (pooled_width states.sets) states.marks.items (pooled_states states.sets) (rw c.in_default.is at c.states.invariant.so_far)
@@ -110,6 +110,6 @@ pub returns-clause-read : goal.returns-clause-read
 returns-clause-read g c =
     let task = task_of c.args.task.now in
     let states = c.states.states in
-    subst (IsRead g.R.Source.remaining task c.args.reader.now c.states.reader) (sym c.new-2.ensures.certificate)
+    subst (IsRead g.R.Source.remaining task c.args.reader.now c.states.reader) (sym c.from_parts.ensures.certificate)
     (read_whole g.R.Source.remaining task c.args.reader.now c.states.reader c.in_ok-header.header
     (pooled_width states.sets) (map listed_of states.marks.items) (pooled_states states.sets) (rw c.in_default.is at c.states.invariant.so_far))
