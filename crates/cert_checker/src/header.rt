@@ -115,7 +115,11 @@ fn add_atom(
         });
     }
     header.bounds.values.weights.push(weights.of_value)?;
-    header.bounds.dead_ends.weights.push(dead_end_weight(weights))?;
+    header
+        .bounds
+        .dead_ends
+        .weights
+        .push(dead_end_weight(weights))?;
     Ok(())
 }
 

@@ -16,7 +16,7 @@ use Rattle.packed_state.specs.Store.{sets_in}
 use Rattle.packed_state.specs.Words.{bits_in}
 use Rattle.packed_state.proofs.PackedLemmas.{length-bits}
 use Rattle.potential_functions.specs.PotentialFunctions.{PotentialFunction}
-use Rattle.certificate_definitions.specs.Certificates.{Version, one, two, StateLine, are_potentials, is_claim, is_dead_end_weight, is_mark, is_number, is_state_line, is_weight, rise}
+use Rattle.certificate_definitions.specs.Certificates.{Version, one, two, StateLine, are_potentials, is_dead_end_weight, is_mark, is_number, is_state_line, is_weight, rise}
 use Rattle.model.proofs.ListLemmas.{Contains-cases, Contains-filter, Contains-here, Contains-none, Contains-range, Contains-there, filter-Contains}
 use Rattle.certificate_reader.proofs.OneText.{rise_more}
 use Rattle.certificate.specs.ListedSets.{Marked, line_with, lines_with, marked, numbers_of}
@@ -26,6 +26,7 @@ use Rattle.certificate.specs.declared.states.Listed.{Listed}
 use Rattle.certificate.specs.declared.states.States.{States}
 use Rattle.certificate.specs.CertificateParts.{certificate_with, potential_of}
 use Rattle.certificate.specs.Certificate.{certificate_of, store_in}
+use Rattle.certificate.proofs.LimitsLemmas.{Limits, limits_of}
 use Rattle.certificate.proofs.SetsLemmas.{numbers_back, rise_below}
 use Rattle.certificate.proofs.WideningLemmas.{IsBelow, has-at_width, length-at_width}
 
@@ -186,24 +187,8 @@ module _ (cert : Cert) where
   as_many : length marks ≡ length sets
   as_many = length-map cert.states.marks.items listed_of ∙ cert.marked
 
-  -- the limits are those of the lines, and of the potential functions
-  record Limits : Type 0 where
-    few : nat_le (length (certificate_of cert).lines) 16777216 ≡ true
-    lines : list_all (is_state_line version count) (certificate_of cert).lines ≡ true
-    potentials : are_potentials is_weight count (certificate_of cert).potentials ≡ true
-    dead_ends : are_potentials (is_dead_end_weight version) count (certificate_of cert).dead_ends ≡ true
-
-  limits : Limits
-  limits =
-      let c = certificate_of cert in
-      let most = is_claim c.claim && nat_le (length c.atoms) 1048576 in
-      let many = nat_le (length c.lines) 16777216 in
-      let each = list_all (is_state_line version count) c.lines in
-      let potentials = are_potentials is_weight count c.potentials in
-      let (first, dead_ends) = and_parts (most && many && each && potentials) (are_potentials (is_dead_end_weight version) count c.dead_ends) cert.within_limits in
-      let (first, potentials) = and_parts (most && many && each) potentials first in
-      let (first, lines) = and_parts (most && many) each first in
-      record { few = (and_parts most many first).1; lines = lines; potentials = potentials; dead_ends = dead_ends }
+  limits : Limits (certificate_of cert)
+  limits = limits_of (certificate_of cert) cert.within_limits
 
   rises : All (Rises count) sets
   rises = all_rise version count marks sets as_many limits.lines
@@ -230,8 +215,11 @@ module _ (cert : Cert) where
   pub count_of_lines : length (certificate_of cert).lines ≡ length (pooled_states (store_in cert))
   count_of_lines = lines_count marks sets as_many
 
+  pub few_atoms : length (certificate_of cert).atoms ≤ 1048576
+  few_atoms = leb-true count 1048576 limits.few_atoms
+
   pub few_lines : length (certificate_of cert).lines ≤ 16777216
-  few_lines = leb-true (length (certificate_of cert).lines) 16777216 limits.few
+  few_lines = leb-true (length (certificate_of cert).lines) 16777216 limits.few_lines
 
   -- a line by its mark and its set
   pub line_read : (i : ℕ) (read : List Listed) (mark : Listed) (set : List Bool) → map listed_of read ≡ map marked (certificate_of cert).lines → slice_get read i ≡ Some mark

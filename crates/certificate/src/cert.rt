@@ -44,11 +44,7 @@ impl Cert {
     ///
     /// # Errors
     /// Where memory is refused.
-    pub fn new(
-        alloc: Global,
-        header: Header,
-        lines: &[StateLine],
-    ) -> Result<Option<Cert>, NoMemory>
+    pub fn new(alloc: Global, header: Header, lines: &[StateLine]) -> Result<Option<Cert>, NoMemory>
         ensures within { IfOk result (λ made. IsSome made ↔ (IsTrue (keeps_limits (certificate_with_lines header (map line_of lines.now))) × ListOnce (map line_of lines.now))) }
         ensures parts { IfOk result (λ made. IfSome made (λ cert. certificate_of cert ≡ certificate_with_lines header (map line_of lines.now))) }
     {

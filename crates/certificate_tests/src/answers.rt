@@ -52,12 +52,7 @@ fn is_no_plan_shown(alloc: Global, task: &Task, cert: &Cert) -> Result<bool, Wri
 }
 
 /// Whether the certificate of the bound at a limit is accepted.
-fn is_bound_shown(
-    alloc: Global,
-    task: &Task,
-    cost: u64,
-    cert: &Cert,
-) -> Result<bool, WriteFault> {
+fn is_bound_shown(alloc: Global, task: &Task, cost: u64, cert: &Cert) -> Result<bool, WriteFault> {
     let answer = check_cert(alloc, task, cert, None, 1_000_000)?;
     Ok(answer == Ok(Accepted::AtLeast { cost }))
 }

@@ -344,7 +344,13 @@ static ONCE: [(&[Line], bool); 5] = [
 #[test]
 fn no_state_is_listed_twice(rt: HostRuntime) -> Result<(), Fail> {
     for (number, (lines, fits)) in ONCE.iter().enumerate() {
-        let made = cert_of(rt.alloc(), Claim::Bound(0), &[(0, &[]), (1, &[])], POTENTIALS, *lines)?;
+        let made = cert_of(
+            rt.alloc(),
+            Claim::Bound(0),
+            &[(0, &[]), (1, &[])],
+            POTENTIALS,
+            *lines,
+        )?;
         assert_eq!(rt; made.is_some(), *fits, "row {number}");
     }
     Ok(())

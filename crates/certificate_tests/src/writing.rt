@@ -1,9 +1,7 @@
 //! Certificates that are written to sinks that fail.
 ghost use Rattle.std.specs.Prelude.{◌<◌};
 
-use certificate::{
-    Bounds, Cert, Claim, Header, Mark, Potential, StateLine, Version, write_cert,
-};
+use certificate::{Bounds, Cert, Claim, Header, Mark, Potential, StateLine, Version, write_cert};
 use devices::{FailsAt, InPieces, Memory, WriteFault};
 use faults::NoMemory;
 use indexmap::IndexSet;

@@ -34,12 +34,7 @@ pub(super) fn fair_potentials(
     ensures wrong { IfErr result (IsTrueAnyway (task_in grounded.now) (certificate_of cert.now)) }
     ensures first { IfErr result (IsFirstGrounded (task_in grounded.now) (certificate_of cert.now)) }
 {
-    let potentials = at_width(
-        alloc,
-        cert.constant(),
-        cert.weights(),
-        grounded.width(),
-    )?;
+    let potentials = at_width(alloc, cert.constant(), cert.weights(), grounded.width())?;
     match potentials.fair(alloc, grounded)? {
         Fairness::Fair => Ok(potentials),
         Fairness::Instance(number) => Err(Refusal::Unfair(kept_instance(grounded, number))),
