@@ -54,12 +54,13 @@ impl States {
     {
         let set = Packed::new(alloc, self.sets.width(), &line.atoms)?;
         let (_, is_new) = self.sets.insert_if_new(&set)?;
-        if is_new {
-            self.marks.push(Listed {
-                cost: line.cost,
-                mark: line.mark,
-            })?;
+        if !is_new {
+            return Ok(false);
         }
-        Ok(is_new)
+        self.marks.push(Listed {
+            cost: line.cost,
+            mark: line.mark,
+        })?;
+        Ok(true)
     }
 }

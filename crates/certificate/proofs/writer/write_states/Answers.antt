@@ -6,6 +6,7 @@ use Rattle.devices.specs.Devices.{AppendsBeginning}
 use Rattle.certificate.specs.Gathering.{IsPassedOn, state_line}
 use Rattle.model.proofs.Pieces.{parts_split}
 use Rattle.certificate.proofs.GatheringLemmas.{passed_nothing, passed_held, passed_then, passed_partly, passed_beginning, line_more}
+use Rattle.packed_state.specs.PooledView.{pooled_width}
 use Rattle.certificate.specs.Certificate.{certificate_of}
 use Rattle.certificate.proofs.writer.write_states.Goals as goal
 use Rattle.certificate.proofs.writer.write_states.Goals.{In_ok-add_state}
@@ -13,7 +14,7 @@ use Rattle.certificate.proofs.writer.write_states.Given.{Over}
 
 pub loop-place-init : goal.loop-place-init
 loop-place-init g c = record {
-  width = ap length c.in-Ok.ensures ∙ length-map-range_with_len _ 0 c.width.result ∙ c.width.ensures;
+  width = ap length c.in-Ok.ensures ∙ length-map-range_with_len _ 0 c.width.result ∙ c.width.ensures ∙ ap pooled_width c.sets.ensures;
   passed = passed_nothing _ _;
   failures = refl;
   name = refl;

@@ -11,7 +11,7 @@ use Rattle.certificate.proofs.cert.Cert.new.Goals as goal
 
 pub returns-then-not-keeps_limits-clause-within : goal.returns-then-not-keeps_limits-clause-within
 returns-then-not-keeps_limits-clause-within c =
-    (λ none. false≢true none, λ both. false≢true (sym c.if-not-keeps_limits.true ∙ c.keeps_limits.ensures ∙ both.0))
+    (λ none. absurd (false≢true none), λ both. absurd (false≢true (sym c.if-not-keeps_limits.true ∙ c.keeps_limits.ensures ∙ both.0)))
 
 pub overflow_cast-len : goal.overflow_cast-len
 overflow_cast-len c =
@@ -34,21 +34,21 @@ states_of-requires-clause-few c =
 
 pub from_parts-requires-clause-limits : goal.from_parts-requires-clause-limits
 from_parts-requires-clause-limits c =
-    subst (λ lines. IsTrue (keeps_limits (certificate_with_lines c.args.header lines))) (sym (rw c.in-Some.is at c.in_ok-states_of.ensures.lines))
+    subst (λ lines. IsTrue (keeps_limits (certificate_with_lines c.args.header lines))) (sym (rw c.in-Some.is at c.in_ok-states.ensures.lines))
     (sym c.keeps_limits.ensures ∙ c.if-not-keeps_limits.false)
 
 pub from_parts-requires-clause-marked : goal.from_parts-requires-clause-marked
-from_parts-requires-clause-marked c = rw c.in-Some.is at c.in_ok-states_of.ensures.marked
+from_parts-requires-clause-marked c = rw c.in-Some.is at c.in_ok-states.ensures.marked
 
 pub returns-in-Some-clause-within : goal.returns-in-Some-clause-within
 returns-in-Some-clause-within c =
-    (λ some. (sym c.keeps_limits.ensures ∙ c.if-not-keeps_limits.false, rw c.in-Some.is at c.in_ok-states_of.ensures.once), λ both. refl)
+    (λ some. (sym c.keeps_limits.ensures ∙ c.if-not-keeps_limits.false, rw c.in-Some.is at c.in_ok-states.ensures.once), λ both. refl)
 
 pub returns-in-Some-clause-parts : goal.returns-in-Some-clause-parts
 returns-in-Some-clause-parts c =
-    c.from_parts.ensures.certificate ∙ ap (certificate_with_lines c.args.header) (rw c.in-Some.is at c.in_ok-states_of.ensures.lines)
+    c.from_parts.ensures.certificate ∙ ap (certificate_with_lines c.args.header) (rw c.in-Some.is at c.in_ok-states.ensures.lines)
 
 pub returns-in-None-clause-within : goal.returns-in-None-clause-within
 returns-in-None-clause-within c =
-    let twice = rw c.in-None.is at c.in_ok-states_of.ensures.twice in
-    (λ none. false≢true none, λ both. twice both.1)
+    let twice = rw c.in-None.is at c.in_ok-states.ensures.twice in
+    (λ none. absurd (false≢true none), λ both. absurd (twice both.1))
