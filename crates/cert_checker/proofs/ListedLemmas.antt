@@ -5,18 +5,17 @@ use Rattle.std.specs.List.{list_all}
 use Rattle.std.proofs.lemmas.List.{map-append}
 use Rattle.std.proofs.lemmas.List.Elements.{All-push, filter_map-append}
 use Rattle.std.proofs.lemmas.List.Folds.{list_all-append}
-use Rattle.packed_state.specs.Store.{IsPlaced}
 use Rattle.packed_state.specs.Sets.{set_of}
 use Rattle.model.specs.Task.{Task}
 use Rattle.model.specs.Claims.{Claim, none}
 use Rattle.certificate_definitions.specs.Certificates.{StateLine, rise}
-use Rattle.model.proofs.ListLemmas.{Contains-filter_map, filter_map-Contains, Contains-got, Contains-map, Contains-place, map-Contains}
+use Rattle.model.proofs.ListLemmas.{Contains-filter_map, filter_map-Contains, Contains-map, Contains-place, map-Contains}
 use Rattle.model.proofs.Tests.{passes_got}
 use Rattle.certificate_definitions.specs.CertificateText.{TextLine, version, claims, constant, atom, listed, last}
 use Rattle.certificate_definitions.specs.CertificateChecking.{IsCut, IsWrongAfter, ListsAtoms, not_fluent, repeated_atom, repeated_state, cut_not_allowed}
 use Rattle.certificate.specs.ListedSets.{Marked, marked}
 use Rattle.cert_checker.specs.Told.{Heading, HaveTold, state_in, states_told}
-use Rattle.cert_checker.specs.Listed.{HaveListed, IsAdded}
+use Rattle.cert_checker.specs.Listed.{HaveListed}
 use Rattle.certificate.proofs.SetsLemmas.{one_set}
 use Rattle.cert_checker.proofs.ToldLemmas.{told_else}
 
@@ -24,11 +23,6 @@ use Rattle.cert_checker.proofs.ToldLemmas.{told_else}
 pub both_told : {T E A B C : Type 0} (r : Result T E) → (A → B → C) → OnOk r A → OnOk r B → OnOk r C
 both_told (Ok x) joined a b = joined a b
 both_told (Err e) joined a b = tt
-
--- what was put into the store, or found there
-pub added_there : {X : Type 0} (old new : List X) (x y : X) (place : ℕ) (is_new : Bool) → x ≡ y → IsPlaced old new x place is_new → IsAdded old new y is_new
-added_there old new x y place true same (absent, pushed, at) = (λ among. absent (subst (Contains old) (sym same) among), pushed ∙ ap (λ z. old ++ z ∷ []) same)
-added_there old new x y place false same (there, kept) = (subst (Contains old) same (Contains-got old place x there), kept)
 
 -- a state that is told stands in the lines, and one that stands there is told
 told_state : (lines : List TextLine) (l : StateLine) → Contains (states_told lines) l → Contains lines (listed l)

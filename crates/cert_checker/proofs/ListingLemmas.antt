@@ -20,10 +20,10 @@ use Rattle.certificate_reader.specs.Reader.{IsAnswer, has_failed, lines_read}
 use Rattle.model.proofs.ListLemmas.{Contains-here, Contains-there}
 use Rattle.certificate.specs.ListedSets.{Marked, line_with, lines_with, marked}
 use Rattle.cert_checker.specs.Told.{atoms_told, is_body, names_told, states_told}
-use Rattle.certificate.specs.declared.listing_parts.Listed.{Listed}
+use Rattle.certificate.specs.declared.states.Listed.{Listed}
 use Rattle.cert_checker.specs.Listed.{HaveListed, IsFit}
-use Rattle.certificate.specs.ListingParts.{listed_of, potential_of}
-use Rattle.certificate.specs.declared.listing_parts.Beginning.{Beginning}
+use Rattle.certificate.specs.CertificateParts.{listed_of, potential_of}
+use Rattle.certificate.specs.declared.header.Header.{Header}
 use Rattle.cert_checker.specs.Taking.{HasTaken}
 use Rattle.cert_checker.specs.Reading.{IsAt, IsBegun, IsListedSoFar, IsRead}
 use Rattle.certificate.proofs.SetsLemmas.{numbers_back}
@@ -62,17 +62,17 @@ constant_stands c =
     Contains-there (version c.version) (claims c.claim ∷ constant c.constants ∷ body_of c) (constant c.constants)
     (Contains-there (claims c.claim) (constant c.constants ∷ body_of c) (constant c.constants) (Contains-here (constant c.constants) (body_of c)))
 
-module _ {R : Type 0} (remaining : R → Option (List ℕ)) (task : Task) (first now : CertReader R) (beginning : Beginning) where
+module _ {R : Type 0} (remaining : R → Option (List ℕ)) (task : Task) (first now : CertReader R) (header : Header) where
   abbrev claim : Claim
-  claim = claim_of beginning.claim
+  claim = claim_of header.claim
 
   abbrev atoms : List Atom
-  atoms = map atom_of beginning.atoms.keys
+  atoms = map atom_of header.atoms.keys
 
   whole_begins : (lines : List TextLine) → AreWhole lines → BeginCertificate lines
   whole_begins lines whole = ([], subst AreWhole (sym (append-nil lines)) whole)
 
-  pub few_begun : (next : Option CertLine) → IsBegun remaining task first now beginning next → length atoms ≤ most_atoms
+  pub few_begun : (next : Option CertLine) → IsBegun remaining task first now header next → length atoms ≤ most_atoms
   few_begun (Some line) (before, at, told, no_state, body) =
       let few = few_atoms_told before (begin_front before (text_line_of line) (have_begun remaining first now (before ++ text_line_of line ∷ []) at)) in
       let same = names_length task before atoms told.named in
@@ -92,12 +92,12 @@ module _ {R : Type 0} (remaining : R → Option (List ℕ)) (task : Task) (first
       sets_are = no_sets ∙ ap (map (λ (l : StateLine). set_of width l.atoms)) (sym none_told);
     }
 
-    pub none_listed : marks ≡ [] → sets ≡ [] → (next : Option CertLine) → IsBegun remaining task first now beginning next → IsListedSoFar remaining task first now beginning width marks sets next
+    pub none_listed : marks ≡ [] → sets ≡ [] → (next : Option CertLine) → IsBegun remaining task first now header next → IsListedSoFar remaining task first now header width marks sets next
     none_listed no_marks no_sets (Some line) (before, at, told, no_state, body) = (before, at, told, nothing no_marks no_sets before no_state, body)
     none_listed no_marks no_sets None (lines, over, told, no_state) = (lines, over, told, nothing no_marks no_sets lines no_state)
 
     -- the next line is fit to be listed
-    pub fit_next : (line : CertLine) → width ≡ length atoms → IsListedSoFar remaining task first now beginning width marks sets (Some line) → IsFit width sets (text_line_of line)
+    pub fit_next : (line : CertLine) → width ≡ length atoms → IsListedSoFar remaining task first now header width marks sets (Some line) → IsFit width sets (text_line_of line)
     fit_next line wide (before, at, told, have, body) =
         subst (λ n. IsFit n sets (text_line_of line)) (names_length task before atoms told.named ∙ sym wide)
         (fit_there before (text_line_of line) (have_begun remaining first now (before ++ text_line_of line ∷ []) at) sets
@@ -106,15 +106,15 @@ module _ {R : Type 0} (remaining : R → Option (List ℕ)) (task : Task) (first
     -- the text is read to its end
     abbrev certificate : Certificate
     certificate = record {
-      version = version_of beginning.version;
+      version = version_of header.version;
       claim = claim;
       atoms = atoms;
-      potentials = potential_of beginning.potential;
-      dead_ends = potential_of beginning.dead_ends;
+      potentials = potential_of header.bounds.values;
+      dead_ends = potential_of header.bounds.dead_ends;
       lines = lines_with marks sets;
     }
 
-    pub read_whole : IsListedSoFar remaining task first now beginning width marks sets None → IsRead remaining task first now certificate
+    pub read_whole : IsListedSoFar remaining task first now header width marks sets None → IsRead remaining task first now certificate
     read_whole (lines, over, told, have) = by_certificate over.whole
       where
         states_are : lines_with marks sets ≡ states_told lines
@@ -150,9 +150,9 @@ module _ {R : Type 0} (remaining : R → Option (List ℕ)) (task : Task) (first
         }
 
     -- what comes behind a line that was taken
-    module _ (before : List TextLine) (line : TextLine) (at : IsAt remaining first now (before ++ line ∷ [])) (told : HasTaken task (before ++ line ∷ []) beginning)
+    module _ (before : List TextLine) (line : TextLine) (at : IsAt remaining first now (before ++ line ∷ [])) (told : HasTaken task (before ++ line ∷ []) header)
         (have : HaveListed (before ++ line ∷ []) claim width marks sets) (body : is_body line ≡ true) (next : CertReader R) (going : has_failed next ≡ false) where
-      pub so_far_next : (answer : Option CertLine) → IsAnswer remaining now next (before ++ line ∷ []) (Ok answer) → IsListedSoFar remaining task first next beginning width marks sets answer
+      pub so_far_next : (answer : Option CertLine) → IsAnswer remaining now next (before ++ line ∷ []) (Ok answer) → IsListedSoFar remaining task first next header width marks sets answer
       so_far_next (Some other) handed =
           let there = at_next remaining first now (before ++ line ∷ []) at next (text_line_of other) handed going in (
             before ++ line ∷ [],
@@ -170,8 +170,8 @@ module _ {R : Type 0} (remaining : R → Option (List ℕ)) (task : Task) (first
       fewer_left None over = omega (arith, at.read.count, over.read.count, few_read remaining first now (before ++ line ∷ []) at)
 
 -- there is a mark for each set
-pub as_many_listed : {R : Type 0} (remaining : R → Option (List ℕ)) (task : Task) (first now : CertReader R) (beginning : Beginning) (width : ℕ) (marks : List Listed)
-    (sets : List (List Bool)) → IsListedSoFar remaining task first now beginning width (map listed_of marks) sets None → length marks ≡ length sets
-as_many_listed remaining task first now beginning width marks sets (lines, over, told, have) =
+pub as_many_listed : {R : Type 0} (remaining : R → Option (List ℕ)) (task : Task) (first now : CertReader R) (header : Header) (width : ℕ) (marks : List Listed)
+    (sets : List (List Bool)) → IsListedSoFar remaining task first now header width (map listed_of marks) sets None → length marks ≡ length sets
+as_many_listed remaining task first now header width marks sets (lines, over, told, have) =
     sym (length-map marks listed_of) ∙ ap length have.marks_are ∙ length-map (states_told lines) marked
     ∙ sym (length-map (states_told lines) (λ (l : StateLine). set_of width l.atoms)) ∙ sym (ap length have.sets_are)

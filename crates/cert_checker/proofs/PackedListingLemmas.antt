@@ -6,8 +6,8 @@ use Rattle.std.proofs.lemmas.Option.{slice_get_within, slice_get-get_or}
 use Rattle.packed_state.specs.declared.pooled.PooledStore.{PooledStore}
 use Rattle.packed_state.specs.PooledView.{pooled_states, pooled_width}
 use Rattle.packed_state.specs.Store.{AreDistinct}
-use Rattle.certificate.specs.declared.listing.Listing.{Listing}
-use Rattle.certificate.specs.Listing.{certificate_in, store_in}
+use Rattle.certificate.specs.declared.cert.Cert.{Cert}
+use Rattle.certificate.specs.Certificate.{certificate_of, store_in}
 use Rattle.certificate.proofs.NumbersLemmas.{sets_are}
 use Rattle.cert_checker.specs.FluentAtoms.{AreFluent}
 use Rattle.cert_checker.specs.CheckedLines.{HasCost, Stands, IsListedAt}
@@ -65,12 +65,12 @@ names_its_atoms c keeps l among =
     let (place, at) = Contains-place c.lines l among in
     names_atoms c.version (length c.atoms) l (passes_got (is_state_line c.version (length c.atoms)) c.lines place l at all)
 
-pub holds_lines : (listing : Listing) (width : ℕ) → pooled_width (store_in listing) ≡ width → HoldsLines (certificate_in listing) width (store_in listing)
+pub holds_lines : (listing : Cert) (width : ℕ) → pooled_width (store_in listing) ≡ width → HoldsLines (certificate_of listing) width (store_in listing)
 holds_lines listing width wide = record {
   wide = wide;
-  sets = subst (λ w. pooled_states (store_in listing) ≡ map (packed_line w) (certificate_in listing).lines) wide (sym (sets_are listing));
+  sets = subst (λ w. pooled_states (store_in listing) ≡ map (packed_line w) (certificate_of listing).lines) wide (sym (sets_are listing));
   distinct = unlike (pooled_states (store_in listing)) (store_in listing).pooled.stored.distinct;
-  named = names_its_atoms (certificate_in listing) listing.within_limits;
+  named = names_its_atoms (certificate_of listing) listing.within_limits;
 }
 
 -- ---- the states

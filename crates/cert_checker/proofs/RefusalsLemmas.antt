@@ -6,9 +6,9 @@ use Rattle.std.proofs.lemmas.Bool.{cases_order, eq-eqb, false≢true}
 use Rattle.cert_checker.specs.declared.refusal.Refusal.{Refusal}
 use Rattle.cert_checker.specs.declared.refusal.Refusal.TheVariants as refusal
 use Rattle.cert_checker.specs.declared.refusal.RefusalCode.{RefusalCode}
-use Rattle.certificate.specs.declared.listing_parts.Listed.{Listed}
+use Rattle.certificate.specs.declared.states.Listed.{Listed}
 use Rattle.certificate_reader.specs.Lines.{mark_of}
-use Rattle.certificate.specs.ListingParts.{listed_of}
+use Rattle.certificate.specs.CertificateParts.{listed_of}
 use Rattle.certificate.specs.ListedSets.{Marked, marked}
 use Rattle.std.proofs.lemmas.List.{length-map}
 use Rattle.cert_checker.specs.Reasons.{reason_of}

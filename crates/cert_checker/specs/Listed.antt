@@ -1,5 +1,5 @@
 -- What lines of a certificate's text have listed.
-use Rattle.std.specs.Prelude.{◌≡◌, ℕ, ◌<◌, Bool, length, IsTrue, MatchBool, List, [], ◌∷◌, ◌++◌, map, All, Contains}
+use Rattle.std.specs.Prelude.{◌≡◌, ℕ, ◌<◌, Bool, length, IsTrue, List, map, All}
 use Rattle.std.specs.List.{list_all}
 use Rattle.packed_state.specs.Sets.{set_of}
 use Rattle.model.specs.Claims.{Claim, none}
@@ -16,10 +16,6 @@ pub record HaveListed (lines : List TextLine) (claim : Claim) (width : ℕ) (mar
   pub marks_are : marks ≡ map marked (states_told lines)
   pub allowed : claim ≡ none → All (λ (l : StateLine). ¬ IsCut l.mark) (states_told lines)
   pub sets_are : sets ≡ map (λ (l : StateLine). set_of width l.atoms) (states_told lines)
-
--- one more is put behind some, if it is not among them
-abbrev pub IsAdded : {X : Type 0} → List X → List X → X → Bool → Type 0
-IsAdded old new x is_new = MatchBool is_new ((¬ Contains old x) × (new ≡ old ++ x ∷ [])) (Contains old x × (new ≡ old))
 
 -- where the line lists a state, its numbers rise below the width, and there is room for one more
 abbrev pub IsFit : ℕ → List (List Bool) → TextLine → Type 0

@@ -2,7 +2,7 @@
 use Rattle.std.specs.Prelude.{◌≡◌, List, length}
 use Rattle.packed_state.specs.declared.packed.Packed.{Packed}
 use Rattle.packed_state.specs.Packed.{bits_of}
-use Rattle.certificate.specs.Listing.{certificate_in}
+use Rattle.certificate.specs.Certificate.{certificate_of}
 use Rattle.grounding.specs.Ground.{task_in, atoms_in}
 use Rattle.cert_checker.specs.declared.checker.packed.PackedListing.{PackedListing}
 use Rattle.model.specs.Task.{Atom, Task}
@@ -17,7 +17,7 @@ abbrev pub atoms_at : PackedListing → List Atom
 atoms_at listing = atoms_in listing.grounded.now
 
 abbrev pub certificate_at : PackedListing → Certificate
-certificate_at listing = certificate_in listing.listing.now
+certificate_at listing = certificate_of listing.cert.now
 
 -- the packed state is of the ground task
 abbrev pub IsPacked : PackedListing → Packed → Type 0

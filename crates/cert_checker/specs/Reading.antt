@@ -14,7 +14,7 @@ use Rattle.certificate_definitions.specs.CertificateText.{TextLine, AreWhole, te
 use Rattle.certificate_definitions.specs.CertificateChecking.{AreRight, IsCut, IsLineFault}
 use Rattle.certificate_reader.specs.declared.reader.CertReader.{CertReader}
 use Rattle.certificate_reader.specs.Reader.{HasRead, has_failed, source_of, waits_in}
-use Rattle.certificate.specs.declared.listing_parts.Beginning.{Beginning}
+use Rattle.certificate.specs.declared.header.Header.{Header}
 use Rattle.cert_checker.specs.declared.refusal.RefusalCode.{RefusalCode}
 use Rattle.cert_checker.specs.declared.refusal.RefusalCode.TheVariants.{Truncated}
 use Rattle.cert_checker.specs.declared.refusal.Refusal.{Refusal}
@@ -60,12 +60,12 @@ IsLineRefusal remaining task first now refusal.Device = Unit {0}
 IsLineRefusal remaining task first now _ = ⊥
 
 -- The lines up to the next one have told this; the next one lists a state, or is the last, or the text has ended.
-abbrev pub IsBegun : {R : Type 0} → (remaining : R → Option (List ℕ)) → Task → (first now : CertReader R) → Beginning → Option CertLine → Type 0
-IsBegun remaining task first now beginning (Some line) =
-    (before : List TextLine) × IsAt remaining first now (before ++ text_line_of line ∷ []) × HasTaken task before beginning
+abbrev pub IsBegun : {R : Type 0} → (remaining : R → Option (List ℕ)) → Task → (first now : CertReader R) → Header → Option CertLine → Type 0
+IsBegun remaining task first now header (Some line) =
+    (before : List TextLine) × IsAt remaining first now (before ++ text_line_of line ∷ []) × HasTaken task before header
     × (states_told before ≡ []) × (is_body (text_line_of line) ≡ true)
-IsBegun remaining task first now beginning None =
-    (lines : List TextLine) × IsAtLast remaining first now lines × HasTaken task lines beginning × (states_told lines ≡ [])
+IsBegun remaining task first now header None =
+    (lines : List TextLine) × IsAtLast remaining first now lines × HasTaken task lines header × (states_told lines ≡ [])
 
 -- the failure of a device counts one failure, another answer none
 abbrev pub CountsRefusal : {T : Type 0} → (before after : ℕ) → Result T Refusal → Type 0
@@ -73,12 +73,12 @@ CountsRefusal before after (Err refusal.Device) = after ≡ one_more before
 CountsRefusal before after _ = after ≡ before
 
 -- The lines up to the next one have told and listed this; the next one lists a state, or is the last, or the text has ended.
-abbrev pub IsListedSoFar : {R : Type 0} → (remaining : R → Option (List ℕ)) → Task → (first now : CertReader R) → Beginning → (width : ℕ) → List Marked → List (List Bool) → Option CertLine → Type 0
-IsListedSoFar remaining task first now beginning width marks sets (Some line) =
-    (before : List TextLine) × IsAt remaining first now (before ++ text_line_of line ∷ []) × HasTaken task before beginning
-    × HaveListed before (claim_of beginning.claim) width marks sets × (is_body (text_line_of line) ≡ true)
-IsListedSoFar remaining task first now beginning width marks sets None =
-    (lines : List TextLine) × IsAtLast remaining first now lines × HasTaken task lines beginning × HaveListed lines (claim_of beginning.claim) width marks sets
+abbrev pub IsListedSoFar : {R : Type 0} → (remaining : R → Option (List ℕ)) → Task → (first now : CertReader R) → Header → (width : ℕ) → List Marked → List (List Bool) → Option CertLine → Type 0
+IsListedSoFar remaining task first now header width marks sets (Some line) =
+    (before : List TextLine) × IsAt remaining first now (before ++ text_line_of line ∷ []) × HasTaken task before header
+    × HaveListed before (claim_of header.claim) width marks sets × (is_body (text_line_of line) ≡ true)
+IsListedSoFar remaining task first now header width marks sets None =
+    (lines : List TextLine) × IsAtLast remaining first now lines × HasTaken task lines header × HaveListed lines (claim_of header.claim) width marks sets
 
 -- What came to the end is the text of this certificate of the task, and nothing is wrong with any of its lines.
 pub record IsRead {R : Type 0} (remaining : R → Option (List ℕ)) (task : Task) (first now : CertReader R) (c : Certificate) : Type 0 where

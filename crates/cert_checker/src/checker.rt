@@ -9,7 +9,7 @@ ghost use Rattle.model.specs.Meaning.{is_instance};
 ghost use Rattle.certificate_definitions.specs.CertificateChecking.{IsAccepted};
 ghost use Rattle.certificate_reader.specs.Reader.{source_of};
 ghost use Rattle.cert_checker.specs.Reading.{CountsRefusal, IsFresh};
-ghost use Rattle.certificate.specs.Listing.{certificate_in};
+ghost use Rattle.certificate.specs.Certificate.{certificate_of};
 ghost use Rattle.model.specs.Limits.{max_numbered_atoms};
 ghost use Rattle.model.specs.Grounding.{limit_told};
 ghost use Rattle.certificate_definitions.specs.Certificates.{IsClosedFor, lines_of};
@@ -23,9 +23,9 @@ mod packed;
 mod steps;
 mod weights;
 
-use crate::listing_reader::read_listing;
+use crate::cert_reader::read_cert;
 use crate::refusal::Refusal;
-use certificate::{CertReader, Listing};
+use certificate::{Cert, CertReader};
 use devices::Source;
 use formulas::Plan;
 use std::alloc::Global;
@@ -53,7 +53,7 @@ pub enum Accepted {
 /// task's, and nothing was read of the reader. Each line is taken as it comes, and no text is kept.
 ///
 /// # Errors
-/// The first that applies: the first line at fault, as [`read_listing`] tells it (40 to 44, 52 and 55); 55 where the task
+/// The first that applies: the first line at fault, as [`read_cert`] tells it (40 to 44, 52 and 55); 55 where the task
 /// keeps more than `max_instances` instances once it is grounded, or would number more than 1,048,576 atoms; the first
 /// instance that may lose more than it costs (46), or 47 where more than 0 may be left at a goal; the first that may lose
 /// anything of what tells dead ends (56), or 57 where more than 0 of it may be left at a goal; 45 where the initial state is
@@ -83,8 +83,8 @@ pub fn check<R: Source>(
     ensures refused { IfErr result (Refuses R.remaining (task_of task.now) reader.old reader.new (option_map (λ p. plan_of p.now) plan.entry) max_instances) }
     ensures failures { CountsRefusal (R.failures (source_of reader.old)) (R.failures (source_of reader.new)) result }
 {
-    let listing = read_listing(alloc, task, reader)?;
-    judge(alloc, task, listing, plan, max_instances)
+    let cert = read_cert(alloc, task, reader)?;
+    judge(alloc, task, cert, plan, max_instances)
 }
 
 /// Decides whether a certificate none of whose lines is at fault is closed for the task, and whether the plan, if one is
@@ -92,21 +92,21 @@ pub fn check<R: Source>(
 fn judge(
     alloc: Global,
     task: &Task,
-    listing: Listing,
+    cert: Cert,
     plan: Option<&Plan>,
     max_instances: u32,
 ) -> Result<Accepted, Refusal>
     requires instances { ForSome plan (λ p. IsTrue (list_all (is_instance (task_of task.now)) (plan_of p.now))) }
-    requires fluent { AreFluent (task_of task.now) (certificate_in listing).atoms }
-    requires allowed { CutsAreAllowed (task_of task.now) (certificate_in listing) (length (lines_of (task_of task.now) (certificate_in listing))) }
+    requires fluent { AreFluent (task_of task.now) (certificate_of cert).atoms }
+    requires allowed { CutsAreAllowed (task_of task.now) (certificate_of cert) (length (lines_of (task_of task.now) (certificate_of cert))) }
     ensures shown { IfOk result (IsShown (task_of task.now) (option_map (λ p. plan_of p.now) plan.entry)) }
-    ensures closed { OnOk result (IsClosedFor (task_of task.now) (certificate_in listing)) }
-    ensures answers { IfOk result (Answers (certificate_in listing).claim (option_map (λ p. plan_of p.now) plan.entry)) }
-    ensures within { OnOk result (limit_told max_instances max_numbered_atoms (task_of task.now) (certificate_in listing).atoms ≡ None) }
-    ensures refused { IfErr result (IsTrueRefusal (task_of task.now) (certificate_in listing) (option_map (λ p. plan_of p.now) plan.entry) max_instances) }
-    ensures first { IfErr result (IsFirstRefusal (task_of task.now) (certificate_in listing) (option_map (λ p. plan_of p.now) plan.entry) max_instances) }
+    ensures closed { OnOk result (IsClosedFor (task_of task.now) (certificate_of cert)) }
+    ensures answers { IfOk result (Answers (certificate_of cert).claim (option_map (λ p. plan_of p.now) plan.entry)) }
+    ensures within { OnOk result (limit_told max_instances max_numbered_atoms (task_of task.now) (certificate_of cert).atoms ≡ None) }
+    ensures refused { IfErr result (IsTrueRefusal (task_of task.now) (certificate_of cert) (option_map (λ p. plan_of p.now) plan.entry) max_instances) }
+    ensures first { IfErr result (IsFirstRefusal (task_of task.now) (certificate_of cert) (option_map (λ p. plan_of p.now) plan.entry) max_instances) }
 {
-    let claim = listing.claim();
-    steps::check_listing(alloc, task, listing, max_instances)?;
+    let claim = cert.claim();
+    steps::check_cert(alloc, task, cert, max_instances)?;
     answer::answer(alloc, task, claim, plan)
 }

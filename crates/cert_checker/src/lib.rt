@@ -2,18 +2,18 @@
 //! it accepts is true of every plan of the task.
 #![tactic(auto)]
 
-mod beginning;
+mod cert_reader;
 mod checker;
+mod header;
 mod laws;
 mod listed_states;
-mod listing_reader;
 mod named_atoms;
 mod refusal;
 
+pub use cert_reader::read_cert;
 pub use checker::{Accepted, check};
 pub use laws::{
     closed_certificates_are_accepted, closed_claim_holds, examples_are_judged,
     solving_list_stays_listed, written_certificates_read_back,
 };
-pub use listing_reader::read_listing;
 pub use refusal::{Refusal, RefusalCode};

@@ -1,7 +1,6 @@
 //! The states that a certificate lists, as sets of the numbers of its atoms.
-ghost use Rattle.std.specs.Prelude.{◌≡◌, ℕ, ◌+◌, ◌<◌, ◌↔◌, ◌++◌, ◌∷◌, [], All, IfErr, IfOk, IsTrue, List, OnOk, length, map};
+ghost use Rattle.std.specs.Prelude.{◌≡◌, ℕ, ◌+◌, ◌<◌, ◌↔◌, ◌++◌, ◌∷◌, [], All, IfErr, IsTrue, List, OnOk, length, map};
 ghost use Rattle.packed_state.specs.PooledView.{pooled_width, pooled_states};
-ghost use Rattle.packed_state.specs.Sets.{set_of};
 ghost use Rattle.model.specs.Task as model;
 ghost use Rattle.model.specs.Claims as claims;
 ghost use Rattle.certificate_definitions.specs.Certificates.{rise};
@@ -10,13 +9,11 @@ ghost use Rattle.certificate_definitions.specs.CertificateChecking.{IsCut};
 ghost use Rattle.certificate_definitions.specs.CertificateText.{TextLine, listed};
 ghost use Rattle.cert_checker.specs.Told.{Heading, HaveTold, is_body};
 ghost use Rattle.cert_checker.specs.Taking.{IsWrongNow};
-ghost use Rattle.cert_checker.specs.Listed.{HaveListed, IsAdded, IsFit};
-ghost use Rattle.certificate.specs.ListingParts.{listed_of};
+ghost use Rattle.cert_checker.specs.Listed.{HaveListed, IsFit};
+ghost use Rattle.certificate.specs.CertificateParts.{listed_of};
 
 use crate::refusal::{Refusal, RefusalCode};
-use certificate::{CertLine, Claim, Listed, Mark, StateLine, States};
-use faults::NoMemory;
-use packed_state::{Packed, PooledStore, StateStore};
+use certificate::{CertLine, Claim, Mark, StateLine, States};
 use std::alloc::Global;
 
 /// Takes the line of this number, from 1, under this claim.
@@ -42,7 +39,7 @@ fn take(
         → HaveListed before (claim_of claim) (pooled_width states.old.sets) (map listed_of states.old.marks.items) (pooled_states states.old.sets)
         → IsWrongNow task before (listed (line_of line.now)) refusal) }
 {
-    if !add_set(alloc, &mut states.sets, &line.atoms)? {
+    if !states.push(alloc, line)? {
         return Err(Refusal::Line {
             code: RefusalCode::Repeated,
             line: number,
@@ -54,10 +51,6 @@ fn take(
             line: number,
         });
     }
-    states.marks.push(Listed {
-        cost: line.cost,
-        mark: line.mark,
-    })?;
     Ok(())
 }
 
@@ -85,18 +78,6 @@ pub(crate) fn take_line(
         CertLine::Listed(line) => take(states, alloc, claim, &line, number),
         _ => Ok(()),
     }
-}
-
-/// Puts the set of these numbers behind the others, and answers `true`, if it is not among them.
-fn add_set(alloc: Global, sets: &mut PooledStore, numbers: &[u32]) -> Result<bool, NoMemory>
-    requires below { All (λ number. number < pooled_width sets.old) numbers.now }
-    requires room { length (pooled_states sets.old) < 16777216 }
-    ensures width { pooled_width sets.new ≡ pooled_width sets.old }
-    ensures added { IfOk result (IsAdded (pooled_states sets.old) (pooled_states sets.new) (set_of (pooled_width sets.old) numbers.now)) }
-{
-    let set = Packed::new(alloc, sets.width(), numbers)?;
-    let (_, is_new) = sets.insert_if_new(&set)?;
-    Ok(is_new)
 }
 
 /// Whether the line is a cut, and it is claimed that no plan solves the task.

@@ -1,4 +1,4 @@
--- The numbers of sets, and what they say of a listing.
+-- The numbers of sets, and what they say of a cert.
 use Rattle.std.proofs.Common.{◌≡◌, ℕ, zero, suc, ◌<◌, ◌≤◌, Bool, true, false, List, [], ◌∷◌, get_or, inl, inr, map, length, refl, sym, ap, ◌∙◌, subst, arith}
 use Rattle.std.specs.Prelude.{◌&&◌, ◌==◌, ℤ, pos, negsuc, All, Contains, Err, Ok, OnOk, Result, Some, nat_le, slice_get}
 use Rattle.std.specs.List.{list_all, list_any, range_with_len}
@@ -16,16 +16,17 @@ use Rattle.packed_state.specs.Store.{sets_in}
 use Rattle.packed_state.specs.Words.{bits_in}
 use Rattle.packed_state.proofs.PackedLemmas.{length-bits}
 use Rattle.potential_functions.specs.PotentialFunctions.{PotentialFunction}
-use Rattle.certificate_definitions.specs.Certificates.{Version, one, two, StateLine, are_potentials, is_claim, is_dead_end_weight, is_mark, is_number, is_state_line, is_weight, rise}
+use Rattle.certificate_definitions.specs.Certificates.{Version, one, two, StateLine, are_potentials, is_dead_end_weight, is_mark, is_number, is_state_line, is_weight, rise}
 use Rattle.model.proofs.ListLemmas.{Contains-cases, Contains-filter, Contains-here, Contains-none, Contains-range, Contains-there, filter-Contains}
 use Rattle.certificate_reader.proofs.OneText.{rise_more}
 use Rattle.certificate.specs.ListedSets.{Marked, line_with, lines_with, marked, numbers_of}
-use Rattle.certificate.specs.declared.listing.Listing.{Listing}
-use Rattle.certificate.specs.ListingParts.{listed_of}
-use Rattle.certificate.specs.declared.listing_parts.Listed.{Listed}
-use Rattle.certificate.specs.declared.listing_parts.States.{States}
-use Rattle.certificate.specs.ListingParts.{certificate_with, potential_of}
-use Rattle.certificate.specs.Listing.{certificate_in, store_in}
+use Rattle.certificate.specs.declared.cert.Cert.{Cert}
+use Rattle.certificate.specs.CertificateParts.{listed_of}
+use Rattle.certificate.specs.declared.states.Listed.{Listed}
+use Rattle.certificate.specs.declared.states.States.{States}
+use Rattle.certificate.specs.CertificateParts.{certificate_with, potential_of}
+use Rattle.certificate.specs.Certificate.{certificate_of, store_in}
+use Rattle.certificate.proofs.LimitsLemmas.{Limits, limits_of}
 use Rattle.certificate.proofs.SetsLemmas.{numbers_back, rise_below}
 use Rattle.certificate.proofs.WideningLemmas.{IsBelow, has-at_width, length-at_width}
 
@@ -143,7 +144,7 @@ lines_wide count wide (mark ∷ marks) (set ∷ sets) enough same rises =
     let here = same_numbers count wide set enough (All-contains (Rises count) (set ∷ sets) set rises (Contains-here set sets)) in
     λ i. record { cost = mark.cost; mark = mark.mark; atoms = here i } ∷ lines_wide count wide marks sets enough (omega (arith, same)) (All-tail (Rises count) set sets rises) i
 
--- ---- of a listing
+-- ---- of a cert
 
 set_lengths : (store : PooledStore) → All (λ (set : List Bool). length set ≡ pooled_width store) (pooled_states store)
 unfolding sets_in
@@ -170,87 +171,74 @@ dead_end_weights_are version (w ∷ weights) are =
     let (here, more) = and_parts (is_dead_end_weight version w) (list_all (is_dead_end_weight version) weights) are in
     λ i. dead_end_weight version w here i && dead_end_weights_are version weights more i
 
-module _ (listing : Listing) where
+module _ (cert : Cert) where
   abbrev marks : List Marked
-  marks = map listed_of listing.states.marks.items
+  marks = map listed_of cert.states.marks.items
 
   abbrev sets : List (List Bool)
-  sets = pooled_states (store_in listing)
+  sets = pooled_states (store_in cert)
 
   abbrev version : Version
-  version = (certificate_in listing).version
+  version = (certificate_of cert).version
 
   abbrev count : ℕ
-  count = length (certificate_in listing).atoms
+  count = length (certificate_of cert).atoms
 
   as_many : length marks ≡ length sets
-  as_many = length-map listing.states.marks.items listed_of ∙ listing.marked
+  as_many = length-map cert.states.marks.items listed_of ∙ cert.marked
 
-  -- the limits are those of the lines, and of the potential functions
-  record Limits : Type 0 where
-    few : nat_le (length (certificate_in listing).lines) 16777216 ≡ true
-    lines : list_all (is_state_line version count) (certificate_in listing).lines ≡ true
-    potentials : are_potentials is_weight count (certificate_in listing).potentials ≡ true
-    dead_ends : are_potentials (is_dead_end_weight version) count (certificate_in listing).dead_ends ≡ true
-
-  limits : Limits
-  limits =
-      let c = certificate_in listing in
-      let most = is_claim c.claim && nat_le (length c.atoms) 1048576 in
-      let many = nat_le (length c.lines) 16777216 in
-      let each = list_all (is_state_line version count) c.lines in
-      let potentials = are_potentials is_weight count c.potentials in
-      let (first, dead_ends) = and_parts (most && many && each && potentials) (are_potentials (is_dead_end_weight version) count c.dead_ends) listing.within_limits in
-      let (first, potentials) = and_parts (most && many && each) potentials first in
-      let (first, lines) = and_parts (most && many) each first in
-      record { few = (and_parts most many first).1; lines = lines; potentials = potentials; dead_ends = dead_ends }
+  limits : Limits (certificate_of cert)
+  limits = limits_of (certificate_of cert) cert.within_limits
 
   rises : All (Rises count) sets
   rises = all_rise version count marks sets as_many limits.lines
 
-  pub constant_within : is_weight listing.beginning.potential.constant ≡ true
-  constant_within = (potential_parts is_weight count (potential_of listing.beginning.potential) limits.potentials).0
+  pub constant_within : is_weight cert.header.bounds.values.constant ≡ true
+  constant_within = (potential_parts is_weight count (potential_of cert.header.bounds.values) limits.potentials).0
 
-  pub weights_within : (length listing.beginning.potential.weights.items ≡ count) × (list_all is_weight listing.beginning.potential.weights.items ≡ true)
-  weights_within = let (_, many, weights) = potential_parts is_weight count (potential_of listing.beginning.potential) limits.potentials in (many, weights)
+  pub weights_within : (length cert.header.bounds.values.weights.items ≡ count) × (list_all is_weight cert.header.bounds.values.weights.items ≡ true)
+  weights_within = let (_, many, weights) = potential_parts is_weight count (potential_of cert.header.bounds.values) limits.potentials in (many, weights)
 
-  pub dead_end_constant_within : is_weight listing.beginning.dead_ends.constant ≡ true
+  pub dead_end_constant_within : is_weight cert.header.bounds.dead_ends.constant ≡ true
   dead_end_constant_within =
-      dead_end_weight version listing.beginning.dead_ends.constant (potential_parts (is_dead_end_weight version) count (potential_of listing.beginning.dead_ends) limits.dead_ends).0
+      dead_end_weight version cert.header.bounds.dead_ends.constant (potential_parts (is_dead_end_weight version) count (potential_of cert.header.bounds.dead_ends) limits.dead_ends).0
 
-  pub dead_end_weights_within : (length listing.beginning.dead_ends.weights.items ≡ count) × (list_all is_weight listing.beginning.dead_ends.weights.items ≡ true)
+  pub dead_end_weights_within : (length cert.header.bounds.dead_ends.weights.items ≡ count) × (list_all is_weight cert.header.bounds.dead_ends.weights.items ≡ true)
   dead_end_weights_within =
-      let (_, many, weights) = potential_parts (is_dead_end_weight version) count (potential_of listing.beginning.dead_ends) limits.dead_ends in
-      (many, dead_end_weights_are version listing.beginning.dead_ends.weights.items weights)
+      let (_, many, weights) = potential_parts (is_dead_end_weight version) count (potential_of cert.header.bounds.dead_ends) limits.dead_ends in
+      (many, dead_end_weights_are version cert.header.bounds.dead_ends.weights.items weights)
 
-  pub marks_are : map listed_of listing.states.marks.items ≡ map marked (certificate_in listing).lines
+  pub marks_are : map listed_of cert.states.marks.items ≡ map marked (certificate_of cert).lines
   marks_are = sym (marked_back marks sets as_many)
 
   -- there is a set for each line, and there are few
-  pub count_of_lines : length (certificate_in listing).lines ≡ length (pooled_states (store_in listing))
+  pub count_of_lines : length (certificate_of cert).lines ≡ length (pooled_states (store_in cert))
   count_of_lines = lines_count marks sets as_many
 
-  pub few_lines : length (certificate_in listing).lines ≤ 16777216
-  few_lines = leb-true (length (certificate_in listing).lines) 16777216 limits.few
+  pub few_atoms : length (certificate_of cert).atoms ≤ 1048576
+  few_atoms = leb-true count 1048576 limits.few_atoms
+
+  pub few_lines : length (certificate_of cert).lines ≤ 16777216
+  few_lines = leb-true (length (certificate_of cert).lines) 16777216 limits.few_lines
 
   -- a line by its mark and its set
-  pub line_read : (i : ℕ) (read : List Listed) (mark : Listed) (set : List Bool) → map listed_of read ≡ map marked (certificate_in listing).lines → slice_get read i ≡ Some mark
-      → slice_get (pooled_states (store_in listing)) i ≡ Some set → slice_get (certificate_in listing).lines i ≡ Some (line_with (listed_of mark) set)
+  pub line_read : (i : ℕ) (read : List Listed) (mark : Listed) (set : List Bool) → map listed_of read ≡ map marked (certificate_of cert).lines → slice_get read i ≡ Some mark
+      → slice_get (pooled_states (store_in cert)) i ≡ Some set → slice_get (certificate_of cert).lines i ≡ Some (line_with (listed_of mark) set)
   line_read i read mark set are at_mark at_set =
       line_at marks sets i (listed_of mark) set
       (ap (λ (ms : List Marked). slice_get ms i) (sym (are ∙ sym marks_are)) ∙ slice_get-map listed_of read i ∙ ap (option_map listed_of) at_mark) at_set
 
   -- the sets are those of the lines' numbers
-  pub sets_are : map (λ (l : StateLine). set_of (pooled_width (store_in listing)) l.atoms) (certificate_in listing).lines ≡ pooled_states (store_in listing)
-  sets_are = sets_of_lines (pooled_width (store_in listing)) marks sets as_many (set_lengths (store_in listing))
+  pub sets_are : map (λ (l : StateLine). set_of (pooled_width (store_in cert)) l.atoms) (certificate_of cert).lines ≡ pooled_states (store_in cert)
+  sets_are = sets_of_lines (pooled_width (store_in cert)) marks sets as_many (set_lengths (store_in cert))
 
-  module _ (wide : ℕ) (enough : length (certificate_in listing).atoms ≤ wide) where
-    pub all_below : All (IsBelow wide) (pooled_states (store_in listing))
+  module _ (wide : ℕ) (enough : length (certificate_of cert).atoms ≤ wide) where
+    pub all_below : All (IsBelow wide) (pooled_states (store_in cert))
     all_below = λ k d within. is_below count wide (get_or sets k d) enough (rises k d within)
 
-    pub same_certificate : (states : States) → states.marks.items ≡ listing.states.marks.items → pooled_states states.sets ≡ map (at_width wide) (pooled_states (store_in listing))
-        → certificate_with listing.beginning states ≡ certificate_in listing
+    pub same_certificate : (states : States) → states.marks.items ≡ cert.states.marks.items → pooled_states states.sets ≡ map (at_width wide) (pooled_states (store_in cert))
+        → certificate_with cert.header states ≡ certificate_of cert
     same_certificate states same are =
         let lines = (λ i. lines_with (map listed_of (same i)) (are i)) ∙ lines_wide count wide marks sets enough as_many rises in
-        let c = certificate_in listing in
+        let c = certificate_of cert in
         λ i. record { version = c.version; claim = c.claim; atoms = c.atoms; potentials = c.potentials; dead_ends = c.dead_ends; lines = lines i }

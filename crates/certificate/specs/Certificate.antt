@@ -1,7 +1,12 @@
 -- The code's certificate, in the model's terms.
+use Rattle.packed_state.specs.declared.pooled.PooledStore.{PooledStore}
+use Rattle.certificate_definitions.specs.Certificates.{Certificate}
 use Rattle.certificate.specs.declared.cert.Cert.{Cert}
-use Rattle.certificate.specs.CertificateParts.{certificate_of_parts}
-use Rattle.certificate_definitions.specs.Certificates as certificates
+use Rattle.certificate.specs.CertificateParts.{certificate_with}
 
-abbrev pub certificate_of : Cert → certificates.Certificate
-certificate_of c = certificate_of_parts c.version c.claim c.potential c.dead_ends c.atoms.items c.lines.items
+abbrev pub certificate_of : Cert → Certificate
+certificate_of cert = certificate_with cert.header cert.states
+
+-- the sets that its states are, and what they are of
+abbrev pub store_in : Cert → PooledStore
+store_in cert = cert.states.sets

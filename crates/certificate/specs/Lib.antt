@@ -2,5 +2,4 @@ pub mod CertificateParts
 pub mod Certificate
 pub mod Gathering
 pub mod ListedSets
-pub mod ListingParts
 pub mod Listing

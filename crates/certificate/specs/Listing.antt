@@ -1,12 +1,24 @@
--- A listing as a certificate of its task.
-use Rattle.packed_state.specs.declared.pooled.PooledStore.{PooledStore}
-use Rattle.certificate_definitions.specs.Certificates.{Certificate}
-use Rattle.certificate.specs.declared.listing.Listing.{Listing}
-use Rattle.certificate.specs.ListingParts.{certificate_with}
+-- States that are listed one after another.
+use Rattle.std.specs.Prelude.{◌≡◌, ◌≢◌, Bool, List, [], ◌∷◌, ◌++◌, map, AllPairs, Contains, MatchBool}
+use Rattle.packed_state.specs.PooledView.{pooled_states, pooled_width}
+use Rattle.packed_state.specs.Sets.{set_of}
+use Rattle.certificate_definitions.specs.Certificates.{StateLine}
+use Rattle.certificate.specs.declared.states.States.{States}
+use Rattle.certificate.specs.CertificateParts.{listed_of}
+use Rattle.certificate.specs.ListedSets.{marked}
 
-abbrev pub certificate_in : Listing → Certificate
-certificate_in listing = certificate_with listing.beginning listing.states
+-- no state is listed twice
+abbrev pub ListOnce : List StateLine → Type 0
+ListOnce lines = AllPairs (λ (k l : StateLine). k.atoms ≢ l.atoms) lines
 
--- the sets that its states are, and what they are of
-abbrev pub store_in : Listing → PooledStore
-store_in listing = listing.states.sets
+-- the set of the line's atoms, as wide as the others
+abbrev pub set_in : States → StateLine → List Bool
+set_in states line = set_of (pooled_width states.sets) line.atoms
+
+-- the line's state is put behind the others, if it is not among them
+abbrev pub IsPushed : (old new : States) → StateLine → Bool → Type 0
+IsPushed old new line is_new =
+    MatchBool is_new
+    ((¬ Contains (pooled_states old.sets) (set_in old line)) × (pooled_states new.sets ≡ pooled_states old.sets ++ set_in old line ∷ [])
+    × (map listed_of new.marks.items ≡ map listed_of old.marks.items ++ marked line ∷ []))
+    (Contains (pooled_states old.sets) (set_in old line))

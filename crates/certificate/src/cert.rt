@@ -1,241 +1,192 @@
-//! Certificates in memory.
-ghost use Rattle.std.specs.Prelude.{◌≡◌, IsTrue, length, map};
-ghost use Rattle.std.specs.List.{list_all};
-ghost use Rattle.certificate_definitions.specs.Certificates.{is_number, is_weight, is_dead_end_weight, is_claim, is_mark, rise, is_state_line, are_potentials, keeps_limits};
-ghost use Rattle.certificate_reader.specs.Lines.{claim_of, line_of, mark_of, version_of};
-ghost use Rattle.certificate.specs.ListingParts.{potential_of};
-ghost use Rattle.certificate.specs.CertificateParts.{certificate_of_parts};
+//! A certificate of a task.
+ghost use Rattle.std.specs.Prelude.{◌≡◌, IsTrue, length};
+ghost use Rattle.certificate_definitions.specs.Certificates.{keeps_limits};
+ghost use Rattle.packed_state.specs.PooledView.{pooled_states};
+ghost use Rattle.certificate.specs.CertificateParts.{certificate_with};
 
-use crate::listing_parts::Potential;
-use certificate_reader::{
-    Claim, MAX_ATOMS, MAX_STATE_LINES, MAX_WEIGHT, Mark, NUMBER_LIMIT, StateLine, Version,
-};
+use crate::header::Header;
+use crate::limits::keeps_limits;
+use crate::listing::states_of;
+use crate::states::{Listed, States};
+use crate::widening::widened;
+use certificate_reader::{Claim, StateLine, Version};
+use faults::NoMemory;
+use packed_state::{Packed, PooledStore, StateStore};
+use std::alloc::Global;
 use task::Atom;
 
-/// A claim with the potential functions and the listing of states that are to show it, within the limits of a certificate's
-/// text: at most 1,048,576 atoms, with a weight for each in both functions, and 16,777,216 state lines, each constant and each
-/// weight at most 2,147,483,647 either way, each other number below 2 to the power 60, and the atoms of each line strictly
-/// rising and below the count of atoms. In version 1 no state is listed as a dead end, and the function that tells them is 0.
+/// A certificate of a task, within the limits of a certificate's text: its version, its claim, its potential functions, its
+/// atoms, and the states that it lists, as sets of the numbers of its atoms.
 #[derive(Drop)]
 pub struct Cert {
-    version: Version,
-    claim: Claim,
-    potential: Potential,
-    dead_ends: Potential,
-    atoms: Vec<Atom>,
-    lines: Vec<StateLine>,
-    pub ghost within_limits: { IsTrue (keeps_limits (certificate_of_parts version claim potential dead_ends atoms.items lines.items)) },
+    header: Header,
+    states: States,
+    pub ghost within_limits: { IsTrue (keeps_limits (certificate_with header states)) },
+    ghost marked: { length states.marks.items ≡ length (pooled_states states.sets) },
 }
 
 impl Cert {
-    ghost use Rattle.std.specs.Prelude.{is_some, IfSome, ◌≤◌};
-    ghost use Rattle.certificate.specs.Certificate.{certificate_of};
-    ghost use Rattle.certificate_reader.specs.declared.line.TheConstants.{MAX_ATOMS, MAX_STATE_LINES};
+    ghost use Rattle.std.specs.Prelude.{◌<◌, ◌≤◌, ◌↔◌, IfOk, IfSome, IsSome, OnOk, Some, map, slice_get};
+    ghost use Rattle.std.specs.List.{list_all};
     ghost use Rattle.task.specs.TaskParts.{atom_of};
+    ghost use Rattle.packed_state.specs.Packed.{bits_of};
+    ghost use Rattle.packed_state.specs.PooledView.{pooled_width};
+    ghost use Rattle.certificate_definitions.specs.Certificates.{is_weight};
+    ghost use Rattle.certificate_reader.specs.Lines.{claim_of, line_of, version_of};
+    ghost use Rattle.certificate_reader.specs.declared.line.TheConstants.{MAX_ATOMS, MAX_STATE_LINES};
+    ghost use Rattle.certificate.specs.CertificateParts.{certificate_with_lines, listed_of};
+    ghost use Rattle.certificate.specs.ListedSets.{marked};
+    ghost use Rattle.certificate.specs.Listing.{ListOnce};
+    ghost use Rattle.certificate.specs.Certificate.{certificate_of, store_in};
 
-    /// The certificate of these parts, and `None` where they exceed a limit of a certificate's text.
-    pub fn new(
-        version: Version,
-        claim: Claim,
-        potential: Potential,
-        dead_ends: Potential,
-        atoms: Vec<Atom>,
-        lines: Vec<StateLine>,
-    ) -> Option<Cert>
-        ensures within { is_some result ≡ keeps_limits (certificate_of_parts version claim potential dead_ends atoms.items lines.items) }
-        ensures parts { IfSome result (λ c. certificate_of c ≡ certificate_of_parts version claim potential dead_ends atoms.items lines.items) }
+    /// The certificate that begins so and lists the states of these lines, in their order; `None` where it would exceed a limit
+    /// of a certificate's text, or list a state twice, as none does that shows its claim.
+    ///
+    /// # Errors
+    /// Where memory is refused.
+    pub fn new(alloc: Global, header: Header, lines: &[StateLine]) -> Result<Option<Cert>, NoMemory>
+        ensures within { IfOk result (λ made. IsSome made ↔ (IsTrue (keeps_limits (certificate_with_lines header (map line_of lines.now))) × ListOnce (map line_of lines.now))) }
+        ensures parts { IfOk result (λ made. IfSome made (λ cert. certificate_of cert ≡ certificate_with_lines header (map line_of lines.now))) }
     {
-        if is_claim(claim)
-            && atoms.len() <= MAX_ATOMS
-            && lines.len() <= MAX_STATE_LINES
-            && are_state_lines(version, &lines, atoms.len())
-            && are_potentials(&potential, atoms.len())
-            && are_dead_ends(version, &dead_ends, atoms.len())
-        {
-            Some(Cert {
-                version,
-                claim,
-                potential,
-                dead_ends,
-                atoms,
-                lines,
-            })
-        } else {
-            None
+        if !keeps_limits(&header, lines) {
+            return Ok(None);
         }
+        match states_of(alloc, header.atoms.len() as u32, lines)? {
+            Some(states) => Ok(Some(Cert::from_parts(header, states))),
+            None => Ok(None),
+        }
+    }
+
+    /// The certificate that begins so and lists these states, with as many marks as sets, within the limits of a certificate's
+    /// text.
+    pub fn from_parts(header: Header, states: States) -> Cert
+        requires limits { IsTrue (keeps_limits (certificate_with header states)) }
+        requires marked { length states.marks.items ≡ length (pooled_states states.sets) }
+        ensures certificate { certificate_of result ≡ certificate_with header states }
+        ensures sets { store_in result ≡ states.sets }
+    {
+        Cert { header, states }
     }
 
     /// The version of its text.
     pub fn version(&self) -> Version
         ensures { version_of result ≡ (certificate_of self.now).version }
     {
-        self.version
+        self.header.version
     }
 
     /// What it claims of all plans.
     pub fn claim(&self) -> Claim
         ensures { claim_of result ≡ (certificate_of self.now).claim }
     {
-        self.claim
-    }
-
-    /// Its atoms, which its lines name by their places here, from 0.
-    pub fn atoms(&self) -> &[Atom]
-        ensures atoms { map atom_of result.now ≡ (certificate_of self.now).atoms }
-        ensures at_most { length result.now ≤ MAX_ATOMS }
-    {
-        self.atoms.as_slice()
+        self.header.claim
     }
 
     /// The constant of its potential function.
     pub fn constant(&self) -> i64
-        ensures { result ≡ (certificate_of self.now).potentials.constant }
+        ensures constant { result ≡ (certificate_of self.now).potentials.constant }
+        ensures within_limits { IsTrue (is_weight result) }
     {
-        self.potential.constant
+        self.header.bounds.values.constant
     }
 
     /// The weights of its atoms, in their order.
     pub fn weights(&self) -> &[i64]
         ensures weights { result.now ≡ (certificate_of self.now).potentials.weights }
         ensures one_for_each { length result.now ≡ length (certificate_of self.now).atoms }
+        ensures within_limits { IsTrue (list_all is_weight result.now) }
     {
-        self.potential.weights.as_slice()
+        self.header.bounds.values.weights.as_slice()
     }
 
     /// The constant of the potential function that tells dead ends.
     pub fn dead_end_constant(&self) -> i64
-        ensures { result ≡ (certificate_of self.now).dead_ends.constant }
+        ensures constant { result ≡ (certificate_of self.now).dead_ends.constant }
+        ensures within_limits { IsTrue (is_weight result) }
     {
-        self.dead_ends.constant
+        self.header.bounds.dead_ends.constant
     }
 
     /// The weights of its atoms that tell dead ends, in their order.
     pub fn dead_end_weights(&self) -> &[i64]
         ensures weights { result.now ≡ (certificate_of self.now).dead_ends.weights }
         ensures one_for_each { length result.now ≡ length (certificate_of self.now).atoms }
+        ensures within_limits { IsTrue (list_all is_weight result.now) }
     {
-        self.dead_ends.weights.as_slice()
+        self.header.bounds.dead_ends.weights.as_slice()
     }
 
-    /// Its state lines, in order.
-    pub fn lines(&self) -> &[StateLine]
-        ensures lines { map line_of result.now ≡ (certificate_of self.now).lines }
+    /// Its atoms, which its states name by their places here, from 0.
+    pub fn atoms(&self) -> &[Atom]
+        ensures atoms { map atom_of result.now ≡ (certificate_of self.now).atoms }
+        ensures at_most { length result.now ≤ MAX_ATOMS }
+    {
+        self.header.atoms.as_slice()
+    }
+
+    /// The costs of its states, and what is said of each, in the order of their lines.
+    pub fn marks(&self) -> &[Listed]
+        ensures marks { map listed_of result.now ≡ map marked (certificate_of self.now).lines }
         ensures at_most { length result.now ≤ MAX_STATE_LINES }
-        ensures within_limits { IsTrue (list_all (is_state_line (certificate_of self.now).version (length (certificate_of self.now).atoms)) (map line_of result.now)) }
     {
-        self.lines.as_slice()
+        self.states.marks.as_slice()
     }
-}
 
-/// Whether the number may stand in a certificate.
-fn is_number(number: u64) -> bool
-    ensures { result ≡ is_number number }
-{
-    number < NUMBER_LIMIT
-}
-
-/// Whether the claim may stand in a certificate.
-fn is_claim(claim: Claim) -> bool
-    ensures { result ≡ is_claim (claim_of claim) }
-{
-    match claim {
-        Claim::Bound(least) => is_number(least),
-        Claim::Unsolvable => true,
+    /// Its states, in the order of their lines: the sets of their atoms' numbers.
+    pub fn sets(&self) -> &PooledStore
+        ensures { result.now ≡ store_in self.now }
+    {
+        &self.states.sets
     }
-}
 
-/// Whether these are a constant and a weight for each of this many atoms.
-fn are_potentials(potential: &Potential, atom_count: usize) -> bool
-    ensures { result ≡ are_potentials is_weight atom_count (potential_of potential.now) }
-{
-    is_weight(potential.constant)
-        && potential.weights.len() == atom_count
-        && are_weights(&potential.weights)
-}
-
-/// Whether they may tell dead ends in a certificate of this version and of this many atoms.
-fn are_dead_ends(version: Version, potential: &Potential, atom_count: usize) -> bool
-    ensures { result ≡ are_potentials (is_dead_end_weight (version_of version)) atom_count (potential_of potential.now) }
-{
-    is_dead_end_weight(version, potential.constant)
-        && potential.weights.len() == atom_count
-        && are_dead_end_weights(version, &potential.weights)
-}
-
-/// Whether each number may be a weight.
-fn are_weights(weights: &[i64]) -> bool
-    ensures { result ≡ list_all is_weight weights.now }
-{
-    weights.iter().all(|weight| is_weight(*weight))
-}
-
-/// Whether each number may be a weight that tells dead ends.
-fn are_dead_end_weights(version: Version, weights: &[i64]) -> bool
-    ensures { result ≡ list_all (is_dead_end_weight (version_of version)) weights.now }
-{
-    weights
-        .iter()
-        .all(|weight| is_dead_end_weight(version, *weight))
-}
-
-/// Whether the number may be a weight.
-fn is_weight(number: i64) -> bool
-    ensures { result ≡ is_weight number }
-{
-    -MAX_WEIGHT <= number && number <= MAX_WEIGHT
-}
-
-/// Whether the number may be a weight that tells dead ends, of which version 1 has none.
-fn is_dead_end_weight(version: Version, number: i64) -> bool
-    ensures { result ≡ is_dead_end_weight (version_of version) number }
-{
-    match version {
-        Version::One => number == 0,
-        Version::Two => is_weight(number),
+    /// How many states it lists.
+    pub fn line_count(&self) -> usize
+        ensures { result ≡ length (certificate_of self.now).lines }
+    {
+        self.marks().len()
     }
-}
 
-/// Whether each line may stand in a certificate of this version and of this many atoms.
-fn are_state_lines(version: Version, lines: &[StateLine], atom_count: usize) -> bool
-    ensures { result ≡ list_all (is_state_line (version_of version) atom_count) (map line_of lines.now) }
-{
-    for line in lines {
-        if !is_state_line(version, line, atom_count) {
-            return false;
+    /// Reads the state line at this place, from 0, by a set that is as wide as its sets, which each line uses again.
+    ///
+    /// # Errors
+    /// Where memory is refused.
+    pub fn read_line(
+        &self,
+        place: usize,
+        set: &mut Packed,
+        line: &mut StateLine,
+    ) -> Result<(), NoMemory>
+        requires there { place < length (certificate_of self.now).lines }
+        requires width { length (bits_of set.old) ≡ pooled_width (store_in self.now) }
+        ensures width { length (bits_of set.new) ≡ pooled_width (store_in self.now) }
+        ensures line { OnOk result (slice_get (certificate_of self.now).lines place ≡ Some (line_of line.new)) }
+    {
+        let listed = self.marks()[place];
+        self.sets().get(place as u32, set);
+        line.cost = listed.cost;
+        line.mark = listed.mark;
+        set.list_numbers(&mut line.atoms)
+    }
+
+    /// The same certificate, with its sets as such of numbers below this width, which is at least the count of its atoms.
+    /// The sets are made anew where they are of another width.
+    ///
+    /// # Errors
+    /// Where memory is refused.
+    pub fn at_width(self, alloc: Global, width: u32) -> Result<Cert, NoMemory>
+        requires { length (certificate_of self).atoms ≤ width }
+        ensures same { IfOk result (λ cert. certificate_of cert ≡ certificate_of self) }
+        ensures width { IfOk result (λ cert. pooled_width (store_in cert) ≡ width) }
+    {
+        if self.states.sets.width() == width {
+            return Ok(self);
         }
+        let Cert { header, states } = self;
+        let sets = widened(alloc, &states.sets, width)?;
+        let states = States {
+            marks: states.marks,
+            sets,
+        };
+        Ok(Cert::from_parts(header, states))
     }
-    true
-}
-
-/// Whether the line may stand in a certificate of this version and of this many atoms.
-fn is_state_line(version: Version, line: &StateLine, atom_count: usize) -> bool
-    ensures { result ≡ is_state_line (version_of version) atom_count (line_of line.now) }
-{
-    is_number(line.cost) && is_mark(version, line.mark) && rise(&line.atoms, atom_count)
-}
-
-/// Whether a state may be marked so in a certificate of this version.
-fn is_mark(version: Version, mark: Mark) -> bool
-    ensures { result ≡ is_mark (version_of version) (mark_of mark) }
-{
-    match mark {
-        Mark::Open => true,
-        Mark::Cut { rest } => is_number(rest),
-        Mark::Dead => version == Version::Two,
-    }
-}
-
-/// Whether the numbers are strictly rising and below the count.
-fn rise(numbers: &[u32], atom_count: usize) -> bool
-    ensures { result ≡ rise atom_count 0 numbers.now }
-{
-    let mut least = 0;
-    for number in numbers {
-        let number = *number as usize;
-        if number < least || number >= atom_count {
-            return false;
-        }
-        least = number + 1;
-    }
-    true
 }

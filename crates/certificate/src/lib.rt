@@ -3,11 +3,12 @@
 #![tactic(auto)]
 
 mod cert;
+mod header;
+mod limits;
 mod line_text;
 mod listing;
-mod listing_parts;
+mod states;
 mod widening;
-mod writable;
 mod writer;
 
 pub use cert::Cert;
@@ -19,6 +20,6 @@ pub use certificate_reader::{
 pub use devices::{
     Device, DeviceFault, Endless, FailsAt, InPieces, Memory, Sink, Source, WriteFault, write_all,
 };
-pub use listing::Listing;
-pub use listing_parts::{Beginning, Listed, Potential, States};
-pub use writer::{write_cert, write_listing};
+pub use header::{Bounds, Header, Potential};
+pub use states::{Listed, States};
+pub use writer::write_cert;

@@ -5,17 +5,14 @@ ghost use Rattle.std.specs.List.{flat_map};
 ghost use Rattle.devices.specs.Devices.{AppendsBeginning, CountsDevice};
 ghost use Rattle.task.specs.Task.{task_of};
 ghost use Rattle.certificate.specs.Certificate.{certificate_of};
-ghost use Rattle.certificate.specs.Listing.{certificate_in};
 ghost use Rattle.certificate_definitions.specs.CertificateNames.{certificate_text};
 ghost use Rattle.certificate.specs.Gathering.{IsPassedOn, atom_line, atoms_weighed, state_line};
 
 use crate::cert::Cert;
 use crate::line_text::{add_atom, add_head, add_last, add_state, weights_in};
-use crate::listing::Listing;
-use crate::writable::WritableCert;
 use certificate_reader::{Mark, StateLine};
 use devices::{Sink, WriteFault, write_all};
-use packed_state::Packed;
+use packed_state::{Packed, StateStore};
 use std::alloc::Global;
 use task::Task;
 
@@ -45,39 +42,6 @@ pub fn write_cert<W: Sink>(
     ensures failures { CountsDevice (W.failures out.old) (W.failures out.new) result }
     ensures name { W.name out.new ≡ W.name out.old }
 {
-    write_text(alloc, task, cert, out)
-}
-
-/// Writes the text of a listing of the task's states, as `write_cert` does of a certificate that is made in memory.
-///
-/// # Errors
-/// The device failed, or memory was refused. It has then taken a beginning of the text.
-pub fn write_listing<W: Sink>(
-    alloc: Global,
-    task: &Task,
-    listing: &Listing,
-    out: &mut W,
-) -> Result<(), WriteFault>
-    ensures text { OnOk result (Appends (W.taken out.old) (W.taken out.new) (certificate_text (task_of task.now) (certificate_in listing.now))) }
-    ensures beginning { AppendsBeginning (W.taken out.old) (W.taken out.new) (certificate_text (task_of task.now) (certificate_in listing.now)) }
-    ensures failures { CountsDevice (W.failures out.old) (W.failures out.new) result }
-    ensures name { W.name out.new ≡ W.name out.old }
-{
-    write_text(alloc, task, listing, out)
-}
-
-/// Writes the text of what is a certificate of the task.
-fn write_text<C: WritableCert, W: Sink>(
-    alloc: Global,
-    task: &Task,
-    cert: &C,
-    out: &mut W,
-) -> Result<(), WriteFault>
-    ensures text { OnOk result (Appends (W.taken out.old) (W.taken out.new) (certificate_text (task_of task.now) (C.certificate cert.now))) }
-    ensures beginning { AppendsBeginning (W.taken out.old) (W.taken out.new) (certificate_text (task_of task.now) (C.certificate cert.now)) }
-    ensures failures { CountsDevice (W.failures out.old) (W.failures out.new) result }
-    ensures name { W.name out.new ≡ W.name out.old }
-{
     let mut held = Vec::new(alloc);
     let version = cert.version();
     let constants = weights_in(version, cert.constant(), cert.dead_end_constant());
@@ -89,14 +53,14 @@ fn write_text<C: WritableCert, W: Sink>(
 }
 
 /// Writes the lines of the atoms, each with its weights, behind the bytes that are held.
-fn write_atoms<C: WritableCert, W: Sink>(
+fn write_atoms<W: Sink>(
     task: &Task,
-    cert: &C,
+    cert: &Cert,
     held: &mut Vec<u8>,
     out: &mut W,
 ) -> Result<(), WriteFault>
-    ensures text { OnOk result (IsPassedOn (W.taken out.old) (W.taken out.new) held.old.items held.new.items (flat_map (atom_line (task_of task.now) (C.certificate cert.now).version) (atoms_weighed (C.certificate cert.now)))) }
-    ensures beginning { AppendsBeginning (W.taken out.old) (W.taken out.new) (held.old.items ++ flat_map (atom_line (task_of task.now) (C.certificate cert.now).version) (atoms_weighed (C.certificate cert.now))) }
+    ensures text { OnOk result (IsPassedOn (W.taken out.old) (W.taken out.new) held.old.items held.new.items (flat_map (atom_line (task_of task.now) (certificate_of cert.now).version) (atoms_weighed (certificate_of cert.now)))) }
+    ensures beginning { AppendsBeginning (W.taken out.old) (W.taken out.new) (held.old.items ++ flat_map (atom_line (task_of task.now) (certificate_of cert.now).version) (atoms_weighed (certificate_of cert.now))) }
     ensures failures { CountsDevice (W.failures out.old) (W.failures out.new) result }
     ensures name { W.name out.new ≡ W.name out.old }
 {
@@ -114,18 +78,18 @@ fn write_atoms<C: WritableCert, W: Sink>(
 }
 
 /// Writes the lines of the listed states behind the bytes that are held.
-fn write_states<C: WritableCert, W: Sink>(
+fn write_states<W: Sink>(
     alloc: Global,
-    cert: &C,
+    cert: &Cert,
     held: &mut Vec<u8>,
     out: &mut W,
 ) -> Result<(), WriteFault>
-    ensures text { OnOk result (IsPassedOn (W.taken out.old) (W.taken out.new) held.old.items held.new.items (flat_map state_line (C.certificate cert.now).lines)) }
-    ensures beginning { AppendsBeginning (W.taken out.old) (W.taken out.new) (held.old.items ++ flat_map state_line (C.certificate cert.now).lines) }
+    ensures text { OnOk result (IsPassedOn (W.taken out.old) (W.taken out.new) held.old.items held.new.items (flat_map state_line (certificate_of cert.now).lines)) }
+    ensures beginning { AppendsBeginning (W.taken out.old) (W.taken out.new) (held.old.items ++ flat_map state_line (certificate_of cert.now).lines) }
     ensures failures { CountsDevice (W.failures out.old) (W.failures out.new) result }
     ensures name { W.name out.new ≡ W.name out.old }
 {
-    let Ok(mut set) = Packed::empty(alloc, cert.width()) else {
+    let Ok(mut set) = Packed::empty(alloc, cert.sets().width()) else {
         return Err(WriteFault::NoMemory);
     };
     let mut line = StateLine {

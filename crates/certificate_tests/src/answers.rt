@@ -5,9 +5,9 @@ ghost use Rattle.task.specs.Task.{task_of};
 ghost use Rattle.formulas.specs.State.{plan_of};
 ghost use Rattle.model.specs.Meaning.{is_instance};
 
-use crate::helpers::check_listing;
+use crate::helpers::check_cert;
 use cert_checker::Accepted;
-use certificate::Listing;
+use certificate::Cert;
 use devices::WriteFault;
 use formulas::Plan;
 use solver::{Answer, Exceeded, Limits, solve};
@@ -36,29 +36,24 @@ fn is_plan_shown(
     task: &Task,
     steps: &Plan,
     cost: u64,
-    cert: &Listing,
+    cert: &Cert,
 ) -> Result<bool, WriteFault>
     requires { IsTrue (list_all (is_instance (task_of task.now)) (plan_of steps.now)) }
 {
-    let with_plan = check_listing(alloc, task, cert, Some(steps), 1_000_000)?;
-    let without = check_listing(alloc, task, cert, None, 1_000_000)?;
+    let with_plan = check_cert(alloc, task, cert, Some(steps), 1_000_000)?;
+    let without = check_cert(alloc, task, cert, None, 1_000_000)?;
     Ok(with_plan == Ok(Accepted::Optimal { cost }) && without == Ok(Accepted::AtLeast { cost }))
 }
 
 /// Whether the certificate that there is no plan is accepted.
-fn is_no_plan_shown(alloc: Global, task: &Task, cert: &Listing) -> Result<bool, WriteFault> {
-    let answer = check_listing(alloc, task, cert, None, 1_000_000)?;
+fn is_no_plan_shown(alloc: Global, task: &Task, cert: &Cert) -> Result<bool, WriteFault> {
+    let answer = check_cert(alloc, task, cert, None, 1_000_000)?;
     Ok(answer == Ok(Accepted::Unsolvable))
 }
 
 /// Whether the certificate of the bound at a limit is accepted.
-fn is_bound_shown(
-    alloc: Global,
-    task: &Task,
-    cost: u64,
-    cert: &Listing,
-) -> Result<bool, WriteFault> {
-    let answer = check_listing(alloc, task, cert, None, 1_000_000)?;
+fn is_bound_shown(alloc: Global, task: &Task, cost: u64, cert: &Cert) -> Result<bool, WriteFault> {
+    let answer = check_cert(alloc, task, cert, None, 1_000_000)?;
     Ok(answer == Ok(Accepted::AtLeast { cost }))
 }
 

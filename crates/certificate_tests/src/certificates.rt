@@ -1,16 +1,20 @@
 //! The checker on small tasks: certificates that are accepted, and certificates with one condition broken.
-use crate::helpers::{Answer, check_cert, check_text};
+use crate::forged::text_of_row;
+use crate::helpers::{Answer, check_source, check_text};
 use crate::listings::{
     ACCEPTED, FEW_ATOMS, LIMITED, Line, Listings, PLANNED, Row, TEXTS, WRONG_ATOMS, WRONG_LINES,
 };
-use certificate::{Cert, Claim, Mark, Potential, StateLine, Version};
+use certificate::{Bounds, Cert, Claim, Header, Mark, Potential, StateLine, Version};
+use devices::Memory;
 use faults::NoMemory;
+use indexmap::IndexSet;
+use packed_state::{Packed, StateStore};
 use plan_file::read_plan;
 use std::alloc::Global;
 use std::process::Abort;
 use std::test::Fail;
-use task::Task;
-use test_texts::{Term, atom, atoms, on_task};
+use test_texts::{Term, atom, on_task};
+use task::{Atom, Task};
 
 /// An open state, or a cut.
 fn mark_of(cut: Option<u64>) -> Mark {
@@ -34,6 +38,21 @@ fn state_lines(alloc: Global, rows: &[Line]) -> Result<Vec<StateLine>, NoMemory>
     Ok(lines)
 }
 
+/// The atoms of these predicates and objects, of which no two are the same.
+fn atom_set(alloc: Global, rows: &[Term]) -> Result<IndexSet<Atom>, NoMemory> {
+    let mut atoms = IndexSet::new(alloc);
+    for row in rows {
+        atoms.insert(atom(row.0, row.1))?;
+    }
+    Ok(atoms)
+}
+
+/// The potential function of this constant and these weights.
+fn potential(alloc: Global, constant: i64, weights: &[i64]) -> Result<Potential, NoMemory> {
+    let weights = Vec::from_slice(alloc, weights)?;
+    Ok(Potential { constant, weights })
+}
+
 /// The certificate of these parts in version 1, and `None` where they exceed its limits.
 fn cert_of(
     alloc: Global,
@@ -42,47 +61,42 @@ fn cert_of(
     potentials: (i64, &[i64]),
     lines: &[Line],
 ) -> Result<Option<Cert>, NoMemory> {
-    let atoms = atoms(alloc, rows)?;
-    let potential = Potential {
-        constant: potentials.0,
-        weights: Vec::from_slice(alloc, potentials.1)?,
-    };
-    let dead_ends = Potential {
-        constant: 0,
-        weights: vec![in alloc; 0; rows.len()]?,
+    let zeros = vec![in alloc; 0; rows.len()]?;
+    let header = Header {
+        version: Version::One,
+        claim,
+        atoms: atom_set(alloc, rows)?,
+        bounds: Bounds {
+            values: potential(alloc, potentials.0, potentials.1)?,
+            dead_ends: potential(alloc, 0, &zeros)?,
+        },
     };
     let lines = state_lines(alloc, lines)?;
-    Ok(Cert::new(Version::One, claim, potential, dead_ends, atoms, lines))
+    Cert::new(alloc, header, &lines)
 }
 
-/// The certificate of a row of the listings.
-fn cert_of_row(alloc: Global, listings: &Listings, row: &Row) -> Result<Cert, Fail> {
-    let weights = vec![in alloc; 0; listings.atoms.len()]?;
-    let made = cert_of(alloc, row.0, listings.atoms, (0, &weights), row.1)?;
-    Ok(made.ok_or("beyond the limits")?)
-}
-
-/// What the checker answers to the certificate, and to the plan of this text, if there is one.
+/// What the checker answers to the certificate of this text, and to the plan of this text, if there is one.
 fn answer_to(
     alloc: Global,
     task: &Task,
-    cert: &Cert,
+    cert: Vec<u8>,
     plan: Option<&str>,
     max_instances: u32,
 ) -> Result<Answer, Fail> {
     match plan {
-        None => Ok(check_cert(alloc, task, cert, None, max_instances)?),
+        None => Ok(check_text(alloc, task, cert, max_instances)),
         Some(text) => {
             let plan = read_plan(alloc, task, text.as_bytes())?;
-            Ok(check_cert(alloc, task, cert, Some(&plan), max_instances)?)
+            let source = Memory::new(cert);
+            Ok(check_source(alloc, task, source, Some(&plan), max_instances))
         }
     }
 }
 
 /// What the checker answers to a row of the listings.
 fn answer(alloc: Global, task: &Task, listings: &Listings, row: &Row) -> Result<Answer, Fail> {
-    let cert = cert_of_row(alloc, listings, row)?;
-    answer_to(alloc, task, &cert, row.2, listings.max_instances)
+    let text = text_of_row(alloc, task, listings, row)?;
+    answer_to(alloc, task, text, row.2, listings.max_instances)
 }
 
 /// The checker answers each row of the listings as it says.
@@ -175,12 +189,26 @@ static WITHIN: [(Claim, Line, bool); 11] = [
     (Claim::Bound(0), (0, None, &[0, 1, 2]), false),
 ];
 
-/// Whether the certificate makes this claim, with two atoms and this line.
-fn has_its_parts(cert: &Cert, claim: Claim, line: &Line) -> bool {
-    match (cert.atoms(), cert.lines()) {
-        ([_, second], [only]) => {
-            (only.cost, only.mark, only.atoms.as_slice()) == (line.0, mark_of(line.1), line.2)
-                && cert.claim() == claim
+/// Whether the certificate lists the state of this line, and no other.
+fn lists_only(alloc: Global, cert: &Cert, line: &Line) -> Result<bool, NoMemory> {
+    if cert.line_count() != 1 {
+        return Ok(false);
+    }
+    let mut set = Packed::empty(alloc, cert.sets().width())?;
+    let mut only = StateLine {
+        cost: 0,
+        mark: Mark::Open,
+        atoms: Vec::new(alloc),
+    };
+    cert.read_line(0, &mut set, &mut only)?;
+    Ok((only.cost, only.mark, only.atoms.as_slice()) == (line.0, mark_of(line.1), line.2))
+}
+
+/// Whether the certificate makes this claim, with two atoms and these potentials.
+fn has_its_header(cert: &Cert, claim: Claim) -> bool {
+    match cert.atoms() {
+        [_, second] => {
+            cert.claim() == claim
                 && cert.constant() == POTENTIALS.0
                 && cert.weights() == POTENTIALS.1
                 && *second == atom(1, &[])
@@ -193,7 +221,7 @@ fn has_its_parts(cert: &Cert, claim: Claim, line: &Line) -> bool {
 fn is_made(alloc: Global, claim: Claim, line: &Line) -> Result<Option<bool>, NoMemory> {
     let cert = cert_of(alloc, claim, &[(0, &[]), (1, &[])], POTENTIALS, &[*line])?;
     match &cert {
-        Some(cert) => Ok(Some(has_its_parts(cert, claim, line))),
+        Some(cert) => Ok(Some(has_its_header(cert, claim) && lists_only(alloc, cert, line)?)),
         None => Ok(None),
     }
 }
@@ -259,29 +287,21 @@ fn cert_in(
     mark: Mark,
     dead_ends: (i64, &[i64]),
 ) -> Result<Option<Cert>, NoMemory> {
-    let potential = Potential {
-        constant: 0,
-        weights: vec![in alloc; 0, 0]?,
+    let header = Header {
+        version,
+        claim: Claim::Unsolvable,
+        atoms: atom_set(alloc, &[(0, &[]), (1, &[])])?,
+        bounds: Bounds {
+            values: potential(alloc, 0, &[0, 0])?,
+            dead_ends: potential(alloc, dead_ends.0, dead_ends.1)?,
+        },
     };
-    let dead_ends = Potential {
-        constant: dead_ends.0,
-        weights: Vec::from_slice(alloc, dead_ends.1)?,
-    };
-    let atoms = atoms(alloc, &[(0, &[]), (1, &[])])?;
     let state = StateLine {
         cost: 0,
         mark,
         atoms: vec![in alloc; 0]?,
     };
-    let lines = vec![in alloc; state]?;
-    Ok(Cert::new(
-        version,
-        Claim::Unsolvable,
-        potential,
-        dead_ends,
-        atoms,
-        lines,
-    ))
+    Cert::new(alloc, header, &[state])
 }
 
 /// Whether there is a certificate of these parts, and it has them.
@@ -296,7 +316,7 @@ fn is_made_in(
             cert.version() == version
                 && cert.dead_end_constant() == dead_ends.0
                 && cert.dead_end_weights() == dead_ends.1
-                && cert.lines().iter().all(|line| line.mark == mark),
+                && cert.marks().iter().all(|listed| listed.mark == mark),
         ),
         None => Ok(false),
     }
@@ -307,6 +327,31 @@ fn versions_keep_their_limits(rt: HostRuntime) -> Result<(), Fail> {
     for (number, (version, mark, constant, weights, fits)) in VERSIONS.iter().enumerate() {
         let is_made = is_made_in(rt.alloc(), *version, *mark, (*constant, *weights))?;
         assert_eq!(rt; is_made, *fits, "row {number}");
+    }
+    Ok(())
+}
+
+/// Lists of states, and whether a certificate of two atoms may have each: none that has a state twice.
+#[rattlefmt::skip]
+static ONCE: [(&[Line], bool); 5] = [
+    (&[], true),
+    (&[(0, None, &[0]), (0, None, &[1]), (0, None, &[0, 1]), (0, None, &[])], true),
+    (&[(0, None, &[0]), (0, None, &[0])], false),
+    (&[(0, None, &[0, 1]), (1, None, &[1]), (2, Some(3), &[0, 1])], false),
+    (&[(0, None, &[]), (1, None, &[1]), (1, Some(0), &[])], false),
+];
+
+#[test]
+fn no_state_is_listed_twice(rt: HostRuntime) -> Result<(), Fail> {
+    for (number, (lines, fits)) in ONCE.iter().enumerate() {
+        let made = cert_of(
+            rt.alloc(),
+            Claim::Bound(0),
+            &[(0, &[]), (1, &[])],
+            POTENTIALS,
+            *lines,
+        )?;
+        assert_eq!(rt; made.is_some(), *fits, "row {number}");
     }
     Ok(())
 }

@@ -7,7 +7,7 @@ ghost use Rattle.formulas.specs.State.{plan_of};
 ghost use Rattle.model.specs.Meaning.{is_instance};
 
 use cert_checker::{Accepted, Refusal, RefusalCode, check};
-use certificate::{Cert, CertReader, Listing, write_cert, write_listing};
+use certificate::{Cert, CertReader, write_cert};
 use devices::{Memory, Source, WriteFault};
 use formulas::Plan;
 use std::alloc::Global;
@@ -87,20 +87,5 @@ pub(crate) fn check_cert(
 {
     let mut text = Memory::empty(alloc);
     write_cert(alloc, task, cert, &mut text)?;
-    Ok(check_source(alloc, task, text, plan, max_instances))
-}
-
-/// The same of a listing.
-pub(crate) fn check_listing(
-    alloc: Global,
-    task: &Task,
-    listing: &Listing,
-    plan: Option<&Plan>,
-    max_instances: u32,
-) -> Result<Answer, WriteFault>
-    requires { ForSome plan (λ p. IsTrue (list_all (is_instance (task_of task.now)) (plan_of p.now))) }
-{
-    let mut text = Memory::empty(alloc);
-    write_listing(alloc, task, listing, &mut text)?;
     Ok(check_source(alloc, task, text, plan, max_instances))
 }

@@ -8,6 +8,8 @@ mod certificates;
 #[cfg(test)]
 mod changed_texts;
 #[cfg(test)]
+mod forged;
+#[cfg(test)]
 mod helpers;
 #[cfg(test)]
 mod laws;

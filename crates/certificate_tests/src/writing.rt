@@ -1,50 +1,73 @@
 //! Certificates that are written to sinks that fail.
 ghost use Rattle.std.specs.Prelude.{◌<◌};
 
-use certificate::{Cert, Claim, Mark, Potential, StateLine, Version, write_cert};
+use certificate::{Bounds, Cert, Claim, Header, Mark, Potential, StateLine, Version, write_cert};
 use devices::{FailsAt, InPieces, Memory, WriteFault};
 use faults::NoMemory;
+use indexmap::IndexSet;
 use std::alloc::{AllocError, Global};
 use std::process::Abort;
 use std::test::Fail;
+use test_texts::{GO, atom, on_task};
 use task::Task;
-use test_texts::{GO, atoms, on_task};
 
-/// The certificate of `GO`'s two atoms that lists a state of both as a dead end so many times.
-fn cert(alloc: Global, count: usize) -> Result<Option<Cert>, NoMemory> {
+/// How many atoms the certificates have: the two of `GO`, and others, which the task has no names for.
+const ATOMS: u32 = 12;
+
+/// The numbers of the atoms of a state, which are the places of the ones in its number.
+fn atoms_of(alloc: Global, state: u32) -> Result<Vec<u32>, AllocError> {
+    let mut atoms = Vec::new(alloc);
+    for atom in 0..ATOMS {
+        if state >> atom & 1 == 1 {
+            atoms.push(atom)?;
+        }
+    }
+    Ok(atoms)
+}
+
+/// The certificate that lists the first so many states as dead ends.
+fn cert(alloc: Global, count: u32) -> Result<Option<Cert>, NoMemory> {
     let mut lines = Vec::new(alloc);
-    for _ in 0..count {
-        let atoms = vec![in alloc; 0, 1]?;
+    for state in 0..count {
         lines.push(StateLine {
             cost: 0,
             mark: Mark::Dead,
-            atoms,
+            atoms: atoms_of(alloc, state)?,
         })?;
     }
-    let atoms = atoms(alloc, &[(0, &[]), (1, &[])])?;
-    let potential = Potential {
+    let mut atoms = IndexSet::new(alloc);
+    for predicate in 0..ATOMS {
+        atoms.insert(atom(predicate as usize, &[]))?;
+    }
+    let values = Potential {
         constant: 0,
-        weights: vec![in alloc; 0, 0]?,
+        weights: vec![in alloc; 0; ATOMS as usize]?,
     };
     let dead_ends = Potential {
         constant: 1,
-        weights: vec![in alloc; -1, 2]?,
+        weights: vec![in alloc; -1; ATOMS as usize]?,
     };
-    Ok(Cert::new(
-        Version::Two,
-        Claim::Bound(0),
-        potential,
-        dead_ends,
+    let header = Header {
+        version: Version::Two,
+        claim: Claim::Bound(0),
         atoms,
-        lines,
-    ))
+        bounds: Bounds { values, dead_ends },
+    };
+    Cert::new(alloc, header, &lines)
 }
 
 /// Its text.
-fn text(alloc: Global, count: usize) -> Result<Vec<u8>, AllocError> {
+fn text(alloc: Global, count: u32) -> Result<Vec<u8>, AllocError> {
     let mut text =
-        b"pddl-cert 2\nclaim bound 0\nconstant 0 1\natom 0 -1 (p)\natom 0 2 (q)\n".to_vec(alloc)?;
-    text.extend_from_slice(b"dead 0 0 1\n".repeat(alloc, count)?.as_slice())?;
+        b"pddl-cert 2\nclaim bound 0\nconstant 0 1\natom 0 -1 (p)\natom 0 -1 (q)\n".to_vec(alloc)?;
+    text.extend_from_slice(b"atom 0 -1 ()\n".repeat(alloc, 10)?.as_slice())?;
+    for state in 0..count {
+        text.extend_from_slice(b"dead 0")?;
+        for atom in &atoms_of(alloc, state)? {
+            text.extend_from_slice(format!(in alloc; " {atom}")?.as_bytes())?;
+        }
+        text.extend_from_slice(b"\n")?;
+    }
     text.extend_from_slice(format!(in alloc; "end {count}\n")?.as_bytes())?;
     Ok(text)
 }
@@ -98,7 +121,7 @@ fn a_certificate_is_begun_where_a_write_fails(rt: HostRuntime) -> Result<(), Fai
 }
 
 /// How many states are listed of which the text has more bytes than are held before they are written.
-const MANY: usize = 8_000;
+const MANY: u32 = 4_000;
 
 /// Whether the sink that takes a thousand bytes at a write, of which the one after so many fails, takes a beginning of the
 /// text, and no less than it was given but for one piece that was shorter, and what is told is so.

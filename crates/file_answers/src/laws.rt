@@ -9,8 +9,8 @@ ghost use Rattle.certificate_definitions.specs.Certificates.{Certificate};
 ghost use Rattle.certificate_definitions.specs.CertificateRefusals.{IsPlanWithin};
 ghost use Rattle.certificate_definitions.specs.CertificateNames.{IsTextOf, certificate_text};
 ghost use Rattle.certificate_definitions.specs.CertificateChecking.{IsAccepted};
-ghost use Rattle.certificate.specs.declared.listing.Listing.{Listing};
-ghost use Rattle.certificate.specs.Listing.{certificate_in};
+ghost use Rattle.certificate.specs.declared.cert.Cert.{Cert};
+ghost use Rattle.certificate.specs.Certificate.{certificate_of};
 ghost use Rattle.cert_checker.specs.declared.checker.Accepted.TheVariants.{AtLeast};
 ghost use Rattle.solver.specs.declared.answer.Answer.TheVariants.{Unknown};
 ghost use Rattle.solver.specs.declared.answer.Exceeded.TheVariants.{States};
@@ -27,7 +27,7 @@ pub fn solved_certificates_are_accepted()
         → IsTextOf task (certificate_text task c) c × IsAccepted task (certificate_text task c) plan
         × (limit_told most max_numbered_atoms task c.atoms ≡ None) }
     // That of the limit of states is accepted for what it claims, which is true: each list that solves costs at least this.
-    ensures at_a_limit { (domain problem : List ℕ) (task : Task) (states instances least : ℕ) (cert : Listing)
+    ensures at_a_limit { (domain problem : List ℕ) (task : Task) (states instances least : ℕ) (cert : Cert)
         → IsTaskOf domain problem task → IsTrueAnswer task states instances (Unknown (States least cert))
-        → IsAcceptedAs task (certificate_text task (certificate_in cert)) None instances (AtLeast least) }
+        → IsAcceptedAs task (certificate_text task (certificate_of cert)) None instances (AtLeast least) }
 {}

@@ -9,7 +9,7 @@ use crate::answers::{Found, found};
 use crate::fairness::weighing;
 use crate::ground_searches::{got, have_same, states_of, with_no_estimate};
 use crate::plain_tasks::ROWS;
-use certificate::{Claim, Listed, Listing, Mark};
+use certificate::{Cert, Claim, Listed, Mark};
 use faults::NoMemory;
 use grounding::{Ground, GroundFault};
 use packed_state::{Packed, PlainStore, StateStore};
@@ -80,7 +80,7 @@ fn is_of<S: StateStore>(
     fair: &Fair<'_, '_>,
     dead_ends: &DeadFair<'_, '_>,
     outcome: &Outcome<S>,
-    cert: &Listing,
+    cert: &Cert,
 ) -> Result<bool, NoMemory> {
     let Some(found) = states_of(outcome) else {
         return Ok(false);
@@ -100,7 +100,7 @@ fn is_found(
     fair: &Fair<'_, '_>,
     dead_ends: &DeadFair<'_, '_>,
     most: u32,
-    cert: &Listing,
+    cert: &Cert,
 ) -> Result<bool, NoMemory>
     requires fair { ground_in fair.now ≡ ground.now }
     requires dead_ends { dead.ground_in dead_ends.now ≡ ground.now }
@@ -118,7 +118,7 @@ fn is_found_by(
     ground: &Ground<'_>,
     fair: &Fair<'_, '_>,
     most: u32,
-    cert: &Listing,
+    cert: &Cert,
 ) -> Result<bool, NoMemory>
     requires { ground_in fair.now ≡ ground.now }
 {
@@ -140,7 +140,7 @@ fn is_found_by_both(
     alloc: Global,
     ground: &Ground<'_>,
     most: u32,
-    cert: &Listing,
+    cert: &Cert,
 ) -> Result<bool, NoMemory> {
     let Some(potentials) = weighing(alloc, cert.constant(), cert.weights())? else {
         return Ok(false);
@@ -155,7 +155,7 @@ fn is_found_by_both(
 }
 
 /// Whether the certificate, which has the task's numbered atoms, is of what the search over the plain store finds.
-fn is_same(alloc: Global, task: &Task, limits: Limits, cert: &Listing) -> Result<bool, NoMemory> {
+fn is_same(alloc: Global, task: &Task, limits: Limits, cert: &Cert) -> Result<bool, NoMemory> {
     match &Ground::new(alloc, task, &[], limits.instances()) {
         Ok(ground) if ground.atoms().as_slice() == cert.atoms() => {
             is_found_by_both(alloc, ground, limits.states(), cert)
@@ -166,7 +166,7 @@ fn is_same(alloc: Global, task: &Task, limits: Limits, cert: &Listing) -> Result
 }
 
 /// The certificate of an answer, if it has one.
-fn cert_of(answer: &Answer) -> Option<&Listing> {
+fn cert_of(answer: &Answer) -> Option<&Cert> {
     match answer {
         Answer::Plan { cert, .. } => Some(cert),
         Answer::Unsolvable { cert } => Some(cert),

@@ -6,8 +6,8 @@ use Rattle.task.specs.Task.{task_of}
 use Rattle.solver.specs.declared.answer.Answer.{Answer}
 use Rattle.solver.specs.declared.answer.Answer.TheVariants.{Plan, Unsolvable, Unknown}
 use Rattle.solver.specs.declared.answer.Exceeded.TheVariants.{Instances, Atoms, States}
-use Rattle.certificate.specs.declared.listing.Listing.{Listing}
-use Rattle.certificate.specs.Listing.{certificate_in}
+use Rattle.certificate.specs.declared.cert.Cert.{Cert}
+use Rattle.certificate.specs.Certificate.{certificate_of}
 use Rattle.certificate_definitions.specs.CertificateNames.{certificate_text}
 use Rattle.devices.specs.Written.{NamedText, AreWrittenPartly}
 use Rattle.planner_main.specs.Asked.{Outputs}
@@ -19,7 +19,7 @@ use Rattle.model.specs.PlanWriting as plans
 
 -- the certificate of an answer: of a plan, of there being none, or, where the limit of states is exceeded, of what each plan
 -- costs at least
-abbrev pub cert_of : Answer → Option Listing
+abbrev pub cert_of : Answer → Option Cert
 cert_of (Plan steps cost cert) = Some cert
 cert_of (Unsolvable cert) = Some cert
 cert_of (Unknown Instances) = None
@@ -28,7 +28,7 @@ cert_of (Unknown (States least cert)) = Some cert
 
 -- the text of the certificate of what is reported, if it has one: an answer to a task has
 abbrev pub cert_text : Report → Option (List ℕ)
-cert_text (report.Solve solved) = option_map (λ (cert : Listing). certificate_text (task_of solved.task) (certificate_in cert)) (cert_of solved.answer)
+cert_text (report.Solve solved) = option_map (λ (cert : Cert). certificate_text (task_of solved.task) (certificate_of cert)) (cert_of solved.answer)
 cert_text (report.Validate verdict) = None
 cert_text (report.Check checked) = None
 cert_text (report.Explain e) = None

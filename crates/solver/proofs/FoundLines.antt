@@ -6,9 +6,9 @@ use Rattle.std.proofs.lemmas.List.{length-map, map-append}
 use Rattle.search.specs.declared.nodes.Node.{Node}
 use Rattle.search.specs.Outcome.{line_of, lines_of, IsCut}
 use Rattle.search.specs.Outcome as search
-use Rattle.certificate.specs.declared.listing_parts.Listed.{Listed}
+use Rattle.certificate.specs.declared.states.Listed.{Listed}
 use Rattle.certificate.specs.ListedSets.{lines_with}
-use Rattle.certificate.specs.ListingParts.{listed_of}
+use Rattle.certificate.specs.CertificateParts.{listed_of}
 use Rattle.solver.specs.Listing.{mark_of_line, state_line}
 use Rattle.model.specs.Claims.{Mark, opened, cut, dead, Line}
 use Rattle.model.proofs.ListLemmas.{Contains-cases, Contains-none, Contains-got}

@@ -2,7 +2,7 @@
 use Rattle.std.specs.Prelude.{◌≡◌, ℕ, IsTrue, [], None, Some}
 use Rattle.std.specs.List.{list_all}
 use Rattle.formulas.specs.State.{plan_of}
-use Rattle.certificate.specs.Listing.{certificate_in}
+use Rattle.certificate.specs.Certificate.{certificate_of}
 use Rattle.solver.specs.declared.answer.Answer.{Answer}
 use Rattle.solver.specs.declared.answer.Answer.TheVariants.{Plan, Unsolvable, Unknown}
 use Rattle.solver.specs.declared.answer.Exceeded.TheVariants.{Instances, Atoms, States}
@@ -28,18 +28,18 @@ abbrev pub IsTrueAnswer : Task → ℕ → ℕ → Answer → Type 0
 IsTrueAnswer task states instances (Plan steps cost cert) =
     IsOptimal (system_of task) (plan_of steps) × (cost_of_all (system_of task) (plan_of steps) ≡ cost)
     × IsTrue (list_all (is_instance task) (plan_of steps))
-    × IsShownBy task (bound cost) states (certificate_in cert)
-    × HasSettledOrHigh task (certificate_in cert)
-    × AreOpenWithin task cost (certificate_in cert)
+    × IsShownBy task (bound cost) states (certificate_of cert)
+    × HasSettledOrHigh task (certificate_of cert)
+    × AreOpenWithin task cost (certificate_of cert)
     × (limit_told instances max_numbered_atoms task [] ≡ None)
 IsTrueAnswer task states instances (Unsolvable cert) =
-    IsUnsolvable (system_of task) × IsShownBy task none states (certificate_in cert) × HasSettledOrHigh task (certificate_in cert)
+    IsUnsolvable (system_of task) × IsShownBy task none states (certificate_of cert) × HasSettledOrHigh task (certificate_of cert)
     × (limit_told instances max_numbered_atoms task [] ≡ None)
 IsTrueAnswer task states instances (Unknown Instances) = limit_told instances max_numbered_atoms task [] ≡ Some of_instances
 IsTrueAnswer task states instances (Unknown Atoms) = limit_told instances max_numbered_atoms task [] ≡ Some of_atoms
 IsTrueAnswer task states instances (Unknown (States least cert)) =
     AreMoreReachable (system_of task) states × (limit_told instances max_numbered_atoms task [] ≡ None)
     × CostsAtLeast (system_of task) least
-    × IsShownBy task (bound least) states (certificate_in cert)
-    × HasSettledOrHigh task (certificate_in cert)
-    × IsAtLimit task least states (certificate_in cert)
+    × IsShownBy task (bound least) states (certificate_of cert)
+    × HasSettledOrHigh task (certificate_of cert)
+    × IsAtLimit task least states (certificate_of cert)

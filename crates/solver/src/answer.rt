@@ -15,7 +15,7 @@ use crate::limits::Limits;
 use crate::listing::cert_of;
 use crate::steps::plan_of;
 use crate::system::GroundSystem;
-use certificate::{Claim, Listing};
+use certificate::{Cert, Claim};
 use faults::{NoMemory, Refused};
 use formulas::Plan;
 use grounding::{Ground, GroundLimit};
@@ -35,12 +35,12 @@ pub enum Answer {
         /// What they cost together.
         cost: u64,
         /// It shows that no plan costs less.
-        cert: Listing,
+        cert: Cert,
     },
     /// There is no plan.
     Unsolvable {
         /// It shows that there is none.
-        cert: Listing,
+        cert: Cert,
     },
     /// A limit is exceeded.
     Unknown(Exceeded),
@@ -58,7 +58,7 @@ pub enum Exceeded {
         /// What every plan costs at least.
         bound: u64,
         /// It shows that no plan costs less.
-        cert: Listing,
+        cert: Cert,
     },
 }
 

@@ -12,8 +12,8 @@ ghost use Rattle.task.specs.TaskParts.{atom_of};
 ghost use Rattle.packed_state.specs.Packed.{bits_of};
 ghost use Rattle.packed_state.specs.PooledView.{pooled_states};
 ghost use Rattle.certificate_reader.specs.Lines.{claim_of};
-ghost use Rattle.certificate.specs.Listing.{certificate_in};
-ghost use Rattle.certificate.specs.ListingParts as parts;
+ghost use Rattle.certificate.specs.Certificate.{certificate_of};
+ghost use Rattle.certificate.specs.CertificateParts as parts;
 ghost use Rattle.certificate_reader.specs.declared.line.TheConstants.{MAX_ATOMS, MAX_STATE_LINES};
 ghost use Rattle.search.specs.Outcome as search;
 ghost use Rattle.search.specs.Outcome.{AreFound};
@@ -27,7 +27,7 @@ ghost use Rattle.model.specs.NumberedAtoms.{numbered_atoms, are_distinct};
 ghost use Rattle.model.specs.Grounding.{ground_system};
 ghost use Rattle.certificate_definitions.specs.Certificates.{is_claim};
 
-use certificate::{Beginning, Claim, Listed, Listing, Mark, Potential, States, Version};
+use certificate::{Bounds, Cert, Claim, Header, Listed, Mark, Potential, States, Version};
 use faults::NoMemory;
 use formulas::Atom;
 use indexmap::IndexSet;
@@ -44,25 +44,27 @@ pub(crate) fn cert_of(
     dead_ends: &DeadFair<'_, '_>,
     claim: Claim,
     found: FoundStates<PooledStore>,
-) -> Result<Listing, NoMemory>
+) -> Result<Cert, NoMemory>
     requires claim { IsTrue (is_claim (claim_of claim)) }
     requires dead_ends { dead.ground_in dead_ends.now ≡ ground_in fair.now }
     requires atoms { atoms_in (ground_in fair.now) ≡ numbered_atoms (task_in (ground_in fair.now)) [] }
     requires few { length (atoms_in (ground_in fair.now)) ≤ MAX_ATOMS }
     requires found { AreFound (ground_system (task_in (ground_in fair.now)) (atoms_in (ground_in fair.now))) (value (potentials_in fair.now)) (is_dead_by (dead.potentials_in dead_ends.now)) (claim_of claim) MAX_STATE_LINES (pooled_states found.store) found.nodes.items }
-    ensures { IfOk result (λ cert. certificate_in cert ≡ found_certificate (claim_of claim) (atoms_in (ground_in fair.now)) (potentials_in fair.now) (dead.potentials_in dead_ends.now) (pooled_states found.store) found.nodes.items) }
+    ensures { IfOk result (λ cert. certificate_of cert ≡ found_certificate (claim_of claim) (atoms_in (ground_in fair.now)) (potentials_in fair.now) (dead.potentials_in dead_ends.now) (pooled_states found.store) found.nodes.items) }
 {
     let potentials = fair.potentials();
-    let beginning = Beginning {
+    let header = Header {
         version: Version::Two,
         claim,
         atoms: copied(alloc, fair.ground().atoms().as_slice())?,
-        potential: potential_of(alloc, potentials)?,
-        dead_ends: potential_of(alloc, dead_ends.potentials())?,
+        bounds: Bounds {
+            values: potential_of(alloc, potentials)?,
+            dead_ends: potential_of(alloc, dead_ends.potentials())?,
+        },
     };
     let marks = marks(alloc, potentials, dead_ends, &found)?;
     let sets = found.store;
-    Ok(Listing::new(beginning, States { marks, sets }))
+    Ok(Cert::from_parts(header, States { marks, sets }))
 }
 
 /// The same constant and weights.

@@ -1,13 +1,13 @@
 //! A certificate's listing in the ground task.
 ghost use Rattle.std.proofs.Props.{props};
 ghost use Rattle.grounding.specs.Ground.{task_in, atoms_in};
-ghost use Rattle.certificate.specs.Listing.{certificate_in, store_in};
+ghost use Rattle.certificate.specs.Certificate.{certificate_of, store_in};
 ghost use Rattle.cert_checker.specs.PackedLines.{IsPackedListing};
 ghost use Rattle.cert_checker.specs.Weights.{HasItsWeights};
 ghost use Rattle.potentials.specs.Potentials.{potentials_of};
 ghost use Rattle.std.specs.Prelude.{length};
 
-use certificate::Listing;
+use certificate::Cert;
 use grounding::Ground;
 use packed_state::{Packed, StateStore};
 use potentials::Potentials;
@@ -17,12 +17,12 @@ use potentials::Potentials;
 #[derive(Drop)]
 pub(super) struct PackedListing<'a, 't> {
     pub(super) grounded: &'a Ground<'t>,
-    pub(super) listing: &'a Listing,
+    pub(super) cert: &'a Cert,
     potentials: &'a Potentials,
     dead_ends: &'a Potentials,
-    ghost listed: { IsPackedListing (task_in grounded.now) (atoms_in grounded.now) (certificate_in listing.now) (store_in listing.now) } by { Prim.hlevel props },
-    ghost valued: { HasItsWeights (certificate_in listing.now).potentials (length (atoms_in grounded.now)) (potentials_of potentials.now) } by { Prim.hlevel props },
-    ghost dead_ends_valued: { HasItsWeights (certificate_in listing.now).dead_ends (length (atoms_in grounded.now)) (potentials_of dead_ends.now) } by { Prim.hlevel props },
+    ghost listed: { IsPackedListing (task_in grounded.now) (atoms_in grounded.now) (certificate_of cert.now) (store_in cert.now) } by { Prim.hlevel props },
+    ghost valued: { HasItsWeights (certificate_of cert.now).potentials (length (atoms_in grounded.now)) (potentials_of potentials.now) } by { Prim.hlevel props },
+    ghost dead_ends_valued: { HasItsWeights (certificate_of cert.now).dead_ends (length (atoms_in grounded.now)) (potentials_of dead_ends.now) } by { Prim.hlevel props },
 }
 
 impl<'a, 't> PackedListing<'a, 't> {
@@ -39,20 +39,20 @@ impl<'a, 't> PackedListing<'a, 't> {
     /// That of the certificate.
     pub(super) fn new(
         grounded: &'a Ground<'t>,
-        listing: &'a Listing,
+        cert: &'a Cert,
         potentials: &'a Potentials,
         dead_ends: &'a Potentials,
     ) -> PackedListing<'a, 't>
-        requires fluent { AreFluent (task_in grounded.now) (certificate_in listing.now).atoms }
-        requires numbered { atoms_in grounded.now ≡ numbered_atoms (task_in grounded.now) (certificate_in listing.now).atoms }
-        requires width { pooled_width (store_in listing.now) ≡ length (atoms_in grounded.now) }
-        requires weights { HasItsWeights (certificate_in listing.now).potentials (length (atoms_in grounded.now)) (potentials_of potentials.now) }
-        requires dead_ends { HasItsWeights (certificate_in listing.now).dead_ends (length (atoms_in grounded.now)) (potentials_of dead_ends.now) }
-        ensures same { (task_at result ≡ task_in grounded.now) × (certificate_at result ≡ certificate_in listing.now) }
+        requires fluent { AreFluent (task_in grounded.now) (certificate_of cert.now).atoms }
+        requires numbered { atoms_in grounded.now ≡ numbered_atoms (task_in grounded.now) (certificate_of cert.now).atoms }
+        requires width { pooled_width (store_in cert.now) ≡ length (atoms_in grounded.now) }
+        requires weights { HasItsWeights (certificate_of cert.now).potentials (length (atoms_in grounded.now)) (potentials_of potentials.now) }
+        requires dead_ends { HasItsWeights (certificate_of cert.now).dead_ends (length (atoms_in grounded.now)) (potentials_of dead_ends.now) }
+        ensures same { (task_at result ≡ task_in grounded.now) × (certificate_at result ≡ certificate_of cert.now) }
     {
         PackedListing {
             grounded,
-            listing,
+            cert,
             potentials,
             dead_ends,
         }
@@ -66,7 +66,7 @@ impl<'a, 't> PackedListing<'a, 't> {
         ensures state { (cost : ℕ) (mark : Mark) → HasCost (certificate_at self.now) place cost mark
             → Stands (task_at self.now) (certificate_at self.now) place (state_at self.now into.new) cost mark }
     {
-        self.listing.sets().get(place as u32, into);
+        self.cert.sets().get(place as u32, into);
     }
 
     /// The cost at which the state is listed, if it is.
@@ -76,8 +76,8 @@ impl<'a, 't> PackedListing<'a, 't> {
             (¬ IsListed (lines_of (task_at self.now) (certificate_at self.now)) (state_at self.now state.now))
             (IsListedAt (lines_of (task_at self.now) (certificate_at self.now)) (state_at self.now state.now)) }
     {
-        match self.listing.sets().find(state) {
-            Some(place) => Some(self.listing.marks()[place as usize].cost),
+        match self.cert.sets().find(state) {
+            Some(place) => Some(self.cert.marks()[place as usize].cost),
             None => None,
         }
     }

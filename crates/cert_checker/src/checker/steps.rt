@@ -4,7 +4,7 @@ ghost use Rattle.task.specs.Task.{task_of};
 ghost use Rattle.packed_state.specs.Packed.{bits_of};
 ghost use Rattle.grounding.specs.Ground.{task_in, atoms_in, IsGroundOf};
 ghost use Rattle.certificate_reader.specs.Lines.{claim_of};
-ghost use Rattle.certificate.specs.Listing.{certificate_in};
+ghost use Rattle.certificate.specs.Certificate.{certificate_of};
 ghost use Rattle.cert_checker.specs.CertChecker.{IsFirstRefusal, IsTrueRefusal};
 ghost use Rattle.cert_checker.specs.FluentAtoms.{AreFluent};
 ghost use Rattle.cert_checker.specs.CheckedLines.{AreFairFor, CutsAreAllowed, IsCutClosed, IsFirstGrounded, IsLineClosed, IsOpenClosed, IsRightGrounded, IsRightUpTo, IsTrueAnyway, Stands};
@@ -23,7 +23,7 @@ ghost use Rattle.cert_checker.specs.declared.refusal.Refusal.TheVariants as Refu
 use crate::checker::packed::PackedListing;
 use crate::checker::weights::{dead_fair_potentials, fair_potentials};
 use crate::refusal::{Refusal, RefusalCode};
-use certificate::{Claim, Listing, Mark};
+use certificate::{Cert, Claim, Mark};
 use grounding::{Ground, GroundFault};
 use packed_state::Packed;
 use std::alloc::Global;
@@ -31,38 +31,38 @@ use task::Task;
 
 /// Grounds the task, and checks the certificate: whether its potentials are fair and those of dead ends dead-fair, whether
 /// the initial state is listed at cost 0, and the state lines in order.
-pub(super) fn check_listing(
+pub(super) fn check_cert(
     alloc: Global,
     task: &Task,
-    listing: Listing,
+    cert: Cert,
     max_instances: u32,
 ) -> Result<(), Refusal>
-    requires atoms { AreFluent (task_of task.now) (certificate_in listing).atoms }
-    requires distinct { AllPairs (λ (k l : claims.Line meaning.State). k.state ≢ l.state) (lines_of (task_of task.now) (certificate_in listing)) }
-    requires allowed { CutsAreAllowed (task_of task.now) (certificate_in listing) (length (lines_of (task_of task.now) (certificate_in listing))) }
-    ensures right { OnOk result (IsRightUpTo (task_of task.now) (certificate_in listing) max_instances (length (lines_of (task_of task.now) (certificate_in listing)))) }
-    ensures wrong { IfErr result (λ e. (plan : Option (List model_task.Instance)) → IsTrueRefusal (task_of task.now) (certificate_in listing) plan max_instances e) }
-    ensures first { IfErr result (λ e. (plan : Option (List model_task.Instance)) → IsFirstRefusal (task_of task.now) (certificate_in listing) plan max_instances e) }
+    requires atoms { AreFluent (task_of task.now) (certificate_of cert).atoms }
+    requires distinct { AllPairs (λ (k l : claims.Line meaning.State). k.state ≢ l.state) (lines_of (task_of task.now) (certificate_of cert)) }
+    requires allowed { CutsAreAllowed (task_of task.now) (certificate_of cert) (length (lines_of (task_of task.now) (certificate_of cert))) }
+    ensures right { OnOk result (IsRightUpTo (task_of task.now) (certificate_of cert) max_instances (length (lines_of (task_of task.now) (certificate_of cert)))) }
+    ensures wrong { IfErr result (λ e. (plan : Option (List model_task.Instance)) → IsTrueRefusal (task_of task.now) (certificate_of cert) plan max_instances e) }
+    ensures first { IfErr result (λ e. (plan : Option (List model_task.Instance)) → IsFirstRefusal (task_of task.now) (certificate_of cert) plan max_instances e) }
 {
-    let grounded = ground_task(alloc, task, &listing, max_instances)?;
-    check_grounded(alloc, &grounded, listing)
+    let grounded = ground_task(alloc, task, &cert, max_instances)?;
+    check_grounded(alloc, &grounded, cert)
 }
 
 /// The ground task in which the certificate's atoms have the first numbers.
 fn ground_task<'t>(
     alloc: Global,
     task: &'t Task,
-    listing: &Listing,
+    cert: &Cert,
     max_instances: u32,
 ) -> Result<Ground<'t>, Refusal>
-    requires atoms { AreFluent (task_of task.now) (certificate_in listing.now).atoms }
-    requires distinct { AllPairs (λ (k l : claims.Line meaning.State). k.state ≢ l.state) (lines_of (task_of task.now) (certificate_in listing.now)) }
-    requires allowed { CutsAreAllowed (task_of task.now) (certificate_in listing.now) (length (lines_of (task_of task.now) (certificate_in listing.now))) }
-    ensures right { IfOk result (IsGroundOf (task_of task.now) (certificate_in listing.now).atoms max_instances) }
-    ensures wrong { IfErr result (λ e. (plan : Option (List model_task.Instance)) → IsTrueRefusal (task_of task.now) (certificate_in listing.now) plan max_instances e) }
-    ensures first { IfErr result (λ e. (plan : Option (List model_task.Instance)) → IsFirstRefusal (task_of task.now) (certificate_in listing.now) plan max_instances e) }
+    requires atoms { AreFluent (task_of task.now) (certificate_of cert.now).atoms }
+    requires distinct { AllPairs (λ (k l : claims.Line meaning.State). k.state ≢ l.state) (lines_of (task_of task.now) (certificate_of cert.now)) }
+    requires allowed { CutsAreAllowed (task_of task.now) (certificate_of cert.now) (length (lines_of (task_of task.now) (certificate_of cert.now))) }
+    ensures right { IfOk result (IsGroundOf (task_of task.now) (certificate_of cert.now).atoms max_instances) }
+    ensures wrong { IfErr result (λ e. (plan : Option (List model_task.Instance)) → IsTrueRefusal (task_of task.now) (certificate_of cert.now) plan max_instances e) }
+    ensures first { IfErr result (λ e. (plan : Option (List model_task.Instance)) → IsFirstRefusal (task_of task.now) (certificate_of cert.now) plan max_instances e) }
 {
-    match Ground::new(alloc, task, listing.atoms(), max_instances) {
+    match Ground::new(alloc, task, cert.atoms(), max_instances) {
         Ok(grounded) => Ok(grounded),
         Err(GroundFault::At(_)) => Err(Refusal::Plain(RefusalCode::Limit)),
         Err(GroundFault::NoMemory) => Err(Refusal::NoMemory),
@@ -70,17 +70,17 @@ fn ground_task<'t>(
 }
 
 /// Checks the certificate by the ground task in which its atoms have the first numbers.
-fn check_grounded(alloc: Global, grounded: &Ground<'_>, listing: Listing) -> Result<(), Refusal>
-    requires fluent { AreFluent (task_in grounded.now) (certificate_in listing).atoms }
-    requires numbered { atoms_in grounded.now ≡ numbered_atoms (task_in grounded.now) (certificate_in listing).atoms }
-    ensures right { OnOk result (IsRightGrounded (task_in grounded.now) (certificate_in listing)) }
-    ensures wrong { IfErr result (IsTrueAnyway (task_in grounded.now) (certificate_in listing)) }
-    ensures first { IfErr result (IsFirstGrounded (task_in grounded.now) (certificate_in listing)) }
+fn check_grounded(alloc: Global, grounded: &Ground<'_>, cert: Cert) -> Result<(), Refusal>
+    requires fluent { AreFluent (task_in grounded.now) (certificate_of cert).atoms }
+    requires numbered { atoms_in grounded.now ≡ numbered_atoms (task_in grounded.now) (certificate_of cert).atoms }
+    ensures right { OnOk result (IsRightGrounded (task_in grounded.now) (certificate_of cert)) }
+    ensures wrong { IfErr result (IsTrueAnyway (task_in grounded.now) (certificate_of cert)) }
+    ensures first { IfErr result (IsFirstGrounded (task_in grounded.now) (certificate_of cert)) }
 {
-    let listing = listing.at_width(alloc, grounded.width())?;
-    let potentials = fair_potentials(alloc, &listing, grounded)?;
-    let dead_ends = dead_fair_potentials(alloc, &listing, grounded)?;
-    let packed = PackedListing::new(grounded, &listing, &potentials, &dead_ends);
+    let cert = cert.at_width(alloc, grounded.width())?;
+    let potentials = fair_potentials(alloc, &cert, grounded)?;
+    let dead_ends = dead_fair_potentials(alloc, &cert, grounded)?;
+    let packed = PackedListing::new(grounded, &cert, &potentials, &dead_ends);
     check_packed(alloc, &packed)
 }
 
@@ -124,7 +124,7 @@ fn check_lines(alloc: Global, listing: &PackedListing) -> Result<(), Refusal>
     let mut state = Packed::empty(alloc, width)?;
     let mut next = Packed::empty(alloc, width)?;
     let mut numbers = Vec::new(alloc);
-    for place in 0..listing.listing.marks().len() {
+    for place in 0..listing.cert.marks().len() {
         check_line(listing, place, &mut state, &mut next, &mut numbers)?;
     }
     Ok(())
@@ -149,7 +149,7 @@ fn check_line(
     ensures first { IfErr result (λ e. (plan : Option (List model_task.Instance)) (most : ℕ) → IsRightUpTo (task_at listing.now) (certificate_at listing.now) most place
         → IsFirstRefusal (task_at listing.now) (certificate_at listing.now) plan most e) }
 {
-    let listed = listing.listing.marks()[place];
+    let listed = listing.cert.marks()[place];
     listing.get(place, state);
     match listed.mark {
         Mark::Open => check_open(listing, place, listed.cost, state, next, numbers),
@@ -198,8 +198,8 @@ fn check_goal(
     ensures first { IfErr result (λ e. (plan : Option (List model_task.Instance)) (most : ℕ) → IsRightUpTo (task_at listing.now) (certificate_at listing.now) most place
         → IsFirstRefusal (task_at listing.now) (certificate_at listing.now) plan most e) }
 {
-    if listing.grounded.meets_goal(state) && !allows(listing.listing.claim(), cost) {
-        Err(state_line(RefusalCode::GoalOpen, listing.listing, place))
+    if listing.grounded.meets_goal(state) && !allows(listing.cert.claim(), cost) {
+        Err(state_line(RefusalCode::GoalOpen, listing.cert, place))
     } else {
         Ok(())
     }
@@ -231,10 +231,10 @@ fn check_successors(
     for &number in numbers {
         listing.grounded.successor(number, state, next);
         let Some(listed) = listing.cost_of(next) else {
-            return Err(state_line(RefusalCode::SuccessorMissing, listing.listing, place));
+            return Err(state_line(RefusalCode::SuccessorMissing, listing.cert, place));
         };
         if listed > cost + u64::from(listing.grounded.cost(number)) {
-            return Err(state_line(RefusalCode::SuccessorDearer, listing.listing, place));
+            return Err(state_line(RefusalCode::SuccessorDearer, listing.cert, place));
         }
     }
     Ok(())
@@ -258,10 +258,10 @@ fn check_cut(
     ensures first { IfErr result (λ e. (plan : Option (List model_task.Instance)) (most : ℕ) → IsRightUpTo (task_at listing.now) (certificate_at listing.now) most place
         → IsFirstRefusal (task_at listing.now) (certificate_at listing.now) plan most e) }
 {
-    if rest <= listing.value(state) && allows(listing.listing.claim(), cost + rest) {
+    if rest <= listing.value(state) && allows(listing.cert.claim(), cost + rest) {
         Ok(())
     } else {
-        Err(state_line(RefusalCode::CutWeak, listing.listing, place))
+        Err(state_line(RefusalCode::CutWeak, listing.cert, place))
     }
 }
 
@@ -278,7 +278,7 @@ fn check_dead(listing: &PackedListing, place: usize, state: &Packed) -> Result<(
     if listing.is_dead_end(state) {
         Ok(())
     } else {
-        Err(state_line(RefusalCode::NotDead, listing.listing, place))
+        Err(state_line(RefusalCode::NotDead, listing.cert, place))
     }
 }
 
@@ -293,12 +293,12 @@ fn allows(claim: Claim, cost: u64) -> bool
 }
 
 /// The refusal of the state line at this place, from 0, by its line.
-fn state_line(code: RefusalCode, listing: &Listing, place: usize) -> Refusal
-    requires { place < length (certificate_in listing.now).lines }
-    ensures { result ≡ Refusal.Line code (state_line (certificate_in listing.now) place) }
+fn state_line(code: RefusalCode, cert: &Cert, place: usize) -> Refusal
+    requires { place < length (certificate_of cert.now).lines }
+    ensures { result ≡ Refusal.Line code (state_line (certificate_of cert.now) place) }
 {
     Refusal::Line {
         code,
-        line: 4 + listing.atoms().len() as u64 + place as u64,
+        line: 4 + cert.atoms().len() as u64 + place as u64,
     }
 }

@@ -4,7 +4,7 @@ ghost use Rattle.formulas.specs.State.{instance_of};
 ghost use Rattle.grounding.specs.Ground.{task_in, atoms_in};
 ghost use Rattle.potentials.specs.Fairness.{TellsDead};
 ghost use Rattle.potentials.specs.Potentials.{potentials_of};
-ghost use Rattle.certificate.specs.Listing.{certificate_in};
+ghost use Rattle.certificate.specs.Certificate.{certificate_of};
 ghost use Rattle.cert_checker.specs.FluentAtoms.{AreFluent};
 ghost use Rattle.cert_checker.specs.CheckedLines.{IsFirstGrounded, IsTrueAnyway};
 ghost use Rattle.cert_checker.specs.Weights.{HasItsWeights};
@@ -14,7 +14,7 @@ ghost use Rattle.potential_functions.specs.PotentialFunctions.{AreInRange};
 ghost use Rattle.potential_functions.specs.Fair.{AreFair, AreDeadFair};
 
 use crate::refusal::{Refusal, RefusalCode};
-use certificate::Listing;
+use certificate::Cert;
 use faults::NoMemory;
 use formulas::{Instance, copied};
 use grounding::Ground;
@@ -24,22 +24,17 @@ use std::alloc::Global;
 /// The certificate's potentials, if they are fair for the ground task, in which its atoms have the first numbers.
 pub(super) fn fair_potentials(
     alloc: Global,
-    listing: &Listing,
+    cert: &Cert,
     grounded: &Ground<'_>,
 ) -> Result<Potentials, Refusal>
-    requires fluent { AreFluent (task_in grounded.now) (certificate_in listing.now).atoms }
-    requires numbered { atoms_in grounded.now ≡ numbered_atoms (task_in grounded.now) (certificate_in listing.now).atoms }
-    ensures weights { IfOk result (λ p. HasItsWeights (certificate_in listing.now).potentials (length (atoms_in grounded.now)) (potentials_of p)) }
-    ensures fair { OnOk result (AreFair (task_in grounded.now) (numbered_atoms (task_in grounded.now) (certificate_in listing.now).atoms) (certificate_in listing.now).potentials) }
-    ensures wrong { IfErr result (IsTrueAnyway (task_in grounded.now) (certificate_in listing.now)) }
-    ensures first { IfErr result (IsFirstGrounded (task_in grounded.now) (certificate_in listing.now)) }
+    requires fluent { AreFluent (task_in grounded.now) (certificate_of cert.now).atoms }
+    requires numbered { atoms_in grounded.now ≡ numbered_atoms (task_in grounded.now) (certificate_of cert.now).atoms }
+    ensures weights { IfOk result (λ p. HasItsWeights (certificate_of cert.now).potentials (length (atoms_in grounded.now)) (potentials_of p)) }
+    ensures fair { OnOk result (AreFair (task_in grounded.now) (numbered_atoms (task_in grounded.now) (certificate_of cert.now).atoms) (certificate_of cert.now).potentials) }
+    ensures wrong { IfErr result (IsTrueAnyway (task_in grounded.now) (certificate_of cert.now)) }
+    ensures first { IfErr result (IsFirstGrounded (task_in grounded.now) (certificate_of cert.now)) }
 {
-    let potentials = at_width(
-        alloc,
-        listing.constant(),
-        listing.weights(),
-        grounded.width(),
-    )?;
+    let potentials = at_width(alloc, cert.constant(), cert.weights(), grounded.width())?;
     match potentials.fair(alloc, grounded)? {
         Fairness::Fair => Ok(potentials),
         Fairness::Instance(number) => Err(Refusal::Unfair(kept_instance(grounded, number))),
@@ -51,21 +46,21 @@ pub(super) fn fair_potentials(
 /// numbers, and its potentials are fair.
 pub(super) fn dead_fair_potentials(
     alloc: Global,
-    listing: &Listing,
+    cert: &Cert,
     grounded: &Ground<'_>,
 ) -> Result<Potentials, Refusal>
-    requires fluent { AreFluent (task_in grounded.now) (certificate_in listing.now).atoms }
-    requires numbered { atoms_in grounded.now ≡ numbered_atoms (task_in grounded.now) (certificate_in listing.now).atoms }
-    requires fair { AreFair (task_in grounded.now) (numbered_atoms (task_in grounded.now) (certificate_in listing.now).atoms) (certificate_in listing.now).potentials }
-    ensures weights { IfOk result (λ p. HasItsWeights (certificate_in listing.now).dead_ends (length (atoms_in grounded.now)) (potentials_of p)) }
-    ensures dead_fair { OnOk result (AreDeadFair (task_in grounded.now) (numbered_atoms (task_in grounded.now) (certificate_in listing.now).atoms) (certificate_in listing.now).dead_ends) }
-    ensures wrong { IfErr result (IsTrueAnyway (task_in grounded.now) (certificate_in listing.now)) }
-    ensures first { IfErr result (IsFirstGrounded (task_in grounded.now) (certificate_in listing.now)) }
+    requires fluent { AreFluent (task_in grounded.now) (certificate_of cert.now).atoms }
+    requires numbered { atoms_in grounded.now ≡ numbered_atoms (task_in grounded.now) (certificate_of cert.now).atoms }
+    requires fair { AreFair (task_in grounded.now) (numbered_atoms (task_in grounded.now) (certificate_of cert.now).atoms) (certificate_of cert.now).potentials }
+    ensures weights { IfOk result (λ p. HasItsWeights (certificate_of cert.now).dead_ends (length (atoms_in grounded.now)) (potentials_of p)) }
+    ensures dead_fair { OnOk result (AreDeadFair (task_in grounded.now) (numbered_atoms (task_in grounded.now) (certificate_of cert.now).atoms) (certificate_of cert.now).dead_ends) }
+    ensures wrong { IfErr result (IsTrueAnyway (task_in grounded.now) (certificate_of cert.now)) }
+    ensures first { IfErr result (IsFirstGrounded (task_in grounded.now) (certificate_of cert.now)) }
 {
     let potentials = at_width(
         alloc,
-        listing.dead_end_constant(),
-        listing.dead_end_weights(),
+        cert.dead_end_constant(),
+        cert.dead_end_weights(),
         grounded.width(),
     )?;
     match dead_fairness(alloc, &potentials, grounded)? {

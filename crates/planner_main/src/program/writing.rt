@@ -9,13 +9,13 @@ ghost use Rattle.planner_main.specs.Solution.{IsBegun, TellsReport, cert_of, cer
 ghost use Rattle.devices.specs.Written.{AreWritten};
 ghost use Rattle.devices.specs.Devices.{CountsDevice};
 ghost use Rattle.task.specs.Task.{task_of};
-ghost use Rattle.certificate.specs.Listing.{certificate_in};
+ghost use Rattle.certificate.specs.Certificate.{certificate_of};
 ghost use Rattle.certificate_definitions.specs.CertificateNames.{certificate_text};
 
 use crate::failures::Failure;
 use crate::program::outputs::Outputs;
 use crate::telling::{Report, json_text, report_text, status_of, told};
-use certificate::{Listing, write_listing};
+use certificate::{Cert, write_cert};
 use devices::{Bytes, Document, Files, Sink, WriteFault, write_all, write_file};
 use solver::{Answer, Exceeded};
 use std::alloc::Global;
@@ -69,7 +69,7 @@ fn save<F: Files, D: Document>(
 
 /// The text of the certificate of what is reported, if it has one.
 fn cert_text(alloc: Global, report: &Report) -> Option<CertText<'_>>
-    ensures { option_map (λ it. certificate_text (task_of it.task.now) (certificate_in it.cert.now)) result ≡ cert_text report.now }
+    ensures { option_map (λ it. certificate_text (task_of it.task.now) (certificate_of it.cert.now)) result ≡ cert_text report.now }
 {
     match report {
         Report::Solve(solved) => match cert_of(&solved.answer) {
@@ -84,7 +84,7 @@ fn cert_text(alloc: Global, report: &Report) -> Option<CertText<'_>>
 }
 
 /// The certificate of an answer, if it has one.
-fn cert_of(answer: &Answer) -> Option<&Listing>
+fn cert_of(answer: &Answer) -> Option<&Cert>
     ensures { option_map (λ cert. cert.now) result ≡ cert_of answer.now }
 {
     match answer {
@@ -114,13 +114,13 @@ fn plan_text<'a>(report: &Report, text: &'a [u8]) -> Option<Bytes<'a>>
 struct CertText<'a> {
     alloc: Global,
     task: &'a Task,
-    cert: &'a Listing,
+    cert: &'a Cert,
 }
 
 impl Document for CertText<'_> {
-    ghost text = { λ it. certificate_text (task_of it.task.now) (certificate_in it.cert.now) };
+    ghost text = { λ it. certificate_text (task_of it.task.now) (certificate_of it.cert.now) };
 
     fn write_to<S: Sink>(&self, sink: &mut S) -> Result<(), WriteFault> {
-        write_listing(self.alloc, self.task, self.cert, sink)
+        write_cert(self.alloc, self.task, self.cert, sink)
     }
 }

@@ -7,7 +7,7 @@ use Rattle.certificate_definitions.specs.CertificateText.{TextLine}
 use Rattle.cert_checker.specs.Told.{Heading, HaveTold, is_body}
 use Rattle.cert_checker.specs.Taking.{IsWrongNow}
 use Rattle.cert_checker.specs.Listed.{HaveListed}
-use Rattle.certificate.specs.ListingParts.{listed_of}
+use Rattle.certificate.specs.CertificateParts.{listed_of}
 use Rattle.certificate.proofs.SetsLemmas.{rise_below}
 use Rattle.cert_checker.proofs.ListedLemmas.{both_told}
 use Rattle.cert_checker.proofs.PlacedLemmas.{last_tells}

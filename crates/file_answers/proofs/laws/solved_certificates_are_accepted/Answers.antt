@@ -1,6 +1,6 @@
 use Rattle.std.proofs.Common.{◌≡◌, None, refl, sym, subst}
 use Rattle.cert_checker.proofs.WrittenLemmas.{closed_is_accepted, closed_reads_back}
-use Rattle.certificate.specs.Listing.{certificate_in}
+use Rattle.certificate.specs.Certificate.{certificate_of}
 use Rattle.model.specs.Limits.{max_numbered_atoms}
 use Rattle.model.specs.Grounding.{limit_told}
 use Rattle.certificate_definitions.specs.CertificateRefusals.{IsPlanWithin}
@@ -21,7 +21,7 @@ returns-clause-accepted c = λ domain problem task claim k most_states most plan
 pub returns-clause-at_a_limit : goal.returns-clause-at_a_limit
 returns-clause-at_a_limit c = λ domain problem task states instances least cert read is_true.
     let (_, told, at_least, shown, _, _) = is_true in
-    let k = certificate_in cert in
+    let k = certificate_of cert in
     let well = task_is_typed domain problem task read in
     let has_names = task_has_atom_names domain problem task read in
     record {

@@ -5,7 +5,7 @@ use Rattle.task.specs.TaskParts.{atom_of}
 use Rattle.formulas.specs.State.{plan_of}
 use Rattle.packed_state.specs.PooledView.{pooled_states}
 use Rattle.search.specs.Outcome.{AreFound, AreMoreReachable}
-use Rattle.certificate.specs.Listing.{certificate_in}
+use Rattle.certificate.specs.Certificate.{certificate_of}
 use Rattle.grounding.specs.declared.ground.Ground.{Ground}
 use Rattle.grounding.specs.Ground.{task_in, atoms_in}
 use Rattle.potential_functions.specs.PotentialFunctions.{value, is_dead_by}
@@ -90,7 +90,7 @@ returns-in_ok-cert-in-Found c =
     let states = pooled_states c.in-Found.states.store in
     let nodes = c.in-Found.states.nodes.items in
     let cost = c.in-Found.cost in
-    let cert = certificate_in c.in_ok-cert-in-Found.cert in
+    let cert = certificate_of c.in_ok-cert-in-Found.cert in
     let numbered = c.requires.ground.atoms in
     let numbers = c.in-Found.steps.items in
     let plan = plan_of c.in_ok-steps-in-Found.steps in
@@ -139,7 +139,7 @@ returns-in_ok-cert-in-Exhausted c =
     let most = c.states.result in
     let states = pooled_states c.in-Exhausted.states.store in
     let nodes = c.in-Exhausted.states.nodes.items in
-    let cert = certificate_in c.in_ok-cert-in-Exhausted.cert in
+    let cert = certificate_of c.in_ok-cert-in-Exhausted.cert in
     let numbered = c.requires.ground.atoms in
     let found = outcome_by (ground_system task atoms) p (is_dead_by q) pooled_states most _ _ c.in-Exhausted.is c.in_ok-outcome.ensures in
     let many : length p.weights ≡ length atoms = subst (λ (h : Ground). length p.weights ≡ length (atoms_in h)) c.requires.fair.ground f.width in
@@ -194,7 +194,7 @@ returns-in_ok-cert-in-States c =
     let states = pooled_states c.in-States.states.store in
     let nodes = c.in-States.states.nodes.items in
     let least = c.in-States.bound in
-    let cert = certificate_in c.in_ok-cert-in-States.cert in
+    let cert = certificate_of c.in_ok-cert-in-States.cert in
     let numbered = c.requires.ground.atoms in
     let told = outcome_by (ground_system task atoms) p (is_dead_by q) pooled_states most _ _ c.in-States.is c.in_ok-outcome.ensures in
     let more = subst (λ (count : ℕ). AreMoreReachable (ground_system task atoms) (value p) (is_dead_by q) count) c.states.ensures told.0 in

@@ -6,7 +6,7 @@ use Rattle.search.specs.Outcome as search
 use Rattle.certificate_reader.specs.Lines.{claim_of}
 use Rattle.certificate_reader.specs.declared.line.Version.TheVariants.{Two}
 use Rattle.certificate.specs.ListedSets.{lines_with}
-use Rattle.certificate.specs.ListingParts.{certificate_with}
+use Rattle.certificate.specs.CertificateParts.{certificate_with}
 use Rattle.certificate_definitions.specs.Certificates.{two}
 use Rattle.potential_functions.specs.PotentialFunctions.{PotentialFunction, value, is_dead_by}
 use Rattle.potentials_improved.specs.FairPotentials.{potentials_in, ground_in}
@@ -38,7 +38,7 @@ marks-requires-clause-dead_end_width c =
     ap (λ g. length (atoms_in g)) c.requires.dead_ends ∙ sym (ap (λ (p : PotentialFunction). length p.weights) c.potentials-potentials.ensures ∙ c.args.fair.now.width)
 
 -- the certificate of the parts is that of what was found
-made : (c : In_ok-marks) → certificate_with (record { version = Two; claim = c.args.claim; atoms = c.in_ok-copied.field-0; potential = c.in_ok-potential_of.field-0; dead_ends = c.in_ok-potential_of-2.field-0 })
+made : (c : In_ok-marks) → certificate_with (record { version = Two; claim = c.args.claim; atoms = c.in_ok-copied.field-0; bounds = record { values = c.in_ok-potential_of.field-0; dead_ends = c.in_ok-potential_of-2.field-0 } })
     (record { marks = c.in_ok-marks.marks; sets = c.args.found.store })
     ≡ found_certificate (claim_of c.args.claim) (atoms_in (ground_in c.args.fair.now)) (potentials_in c.args.fair.now) (dead.potentials_in c.args.dead_ends.now) (pooled_states c.args.found.store) c.args.found.nodes.items
 made c =
@@ -54,21 +54,21 @@ made c =
     let lines = ap (λ ms. lines_with ms states) marks ∙ lines_of_marks (value p) (is_dead_by q) states nodes in
     λ i. record { version = two; claim = claim_of c.args.claim; atoms = atoms i; potentials = potential i; dead_ends = dead_ends i; lines = lines i }
 
-pub new-requires-clause-limits : goal.new-requires-clause-limits
-new-requires-clause-limits c =
+pub from_parts-requires-clause-limits : goal.from_parts-requires-clause-limits
+from_parts-requires-clause-limits c =
     let fair = c.args.fair.now in
     let dead_ends = c.args.dead_ends.now in
     let found = c.args.found in
     let g = ground_in fair in
     within_limits (task_in g) (claim_of c.args.claim) 16777216 (potentials_in fair) (dead.potentials_in dead_ends) (pooled_states found.store) found.nodes.items (atoms_in g) c.requires.atoms c.requires.found _
-    (made (goal.at.new-requires-clause-limits c).In_ok-marks)
+    (made (goal.at.from_parts-requires-clause-limits c).In_ok-marks)
     (record { constant = fair.potentials.constant_in_range; weights = fair.potentials.weights_in_range }) (record { constant = dead_ends.potentials.constant_in_range; weights = dead_ends.potentials.weights_in_range })
     fair.width (dead_ends.width ∙ ap (λ h. length (atoms_in h)) c.requires.dead_ends) c.requires.claim c.requires.few (omega arith)
 
-pub new-requires-clause-marked : goal.new-requires-clause-marked
-new-requires-clause-marked c =
+pub from_parts-requires-clause-marked : goal.from_parts-requires-clause-marked
+from_parts-requires-clause-marked c =
     let found = c.args.found in
     as_many_marks (value _) (is_dead_by _) c.in_ok-marks.marks.items (pooled_states found.store) found.nodes.items c.requires.found.one_for_each c.in_ok-marks.ensures
 
 pub returns : goal.returns
-returns c = c.new.ensures.certificate ∙ made (goal.at.returns c).In_ok-marks
+returns c = c.from_parts.ensures.certificate ∙ made (goal.at.returns c).In_ok-marks

@@ -3,7 +3,7 @@ use Rattle.std.proofs.lemmas.Option.{slice_get_read}
 use Rattle.std.proofs.lemmas.List.FromFn.{length-map-range_with_len}
 use Rattle.packed_state.specs.Packed.{bits_of}
 use Rattle.packed_state.specs.PooledView.{pooled_states}
-use Rattle.certificate.specs.ListingParts.{listed_of}
+use Rattle.certificate.specs.CertificateParts.{listed_of}
 use Rattle.potential_functions.specs.PotentialFunctions.{value, is_dead_by}
 use Rattle.potentials_improved.specs.Potentials.{potentials_of}
 use Rattle.potentials_improved.specs.DeadFairPotentials as dead

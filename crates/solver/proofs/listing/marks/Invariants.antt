@@ -1,7 +1,7 @@
 use Rattle.std.proofs.Common.{◌≡◌, take, map, length}
 use Rattle.packed_state.specs.Packed.{bits_of}
 use Rattle.packed_state.specs.PooledView.{pooled_width, pooled_states}
-use Rattle.certificate.specs.ListingParts.{listed_of}
+use Rattle.certificate.specs.CertificateParts.{listed_of}
 use Rattle.search.specs.Outcome as search
 use Rattle.potential_functions.specs.PotentialFunctions.{value, is_dead_by}
 use Rattle.potentials_improved.specs.Potentials.{potentials_of}

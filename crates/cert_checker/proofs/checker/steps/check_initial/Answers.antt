@@ -1,4 +1,4 @@
-use Rattle.certificate.specs.Listing.{store_in}
+use Rattle.certificate.specs.Certificate.{store_in}
 use Rattle.packed_state.specs.Packed.{bits_of}
 use Rattle.cert_checker.specs.PackedListing.{task_at, atoms_at, certificate_at, state_at}
 use Rattle.model.specs.Meaning.{initial_state}
@@ -14,7 +14,7 @@ returns-then-eq-clause-right c =
     let listing = c.args.listing.now in
     let task = task_at listing in
     listed_at_none (lines_of task (certificate_at listing)) (state_at listing c.in_ok-initial.initial) (initial_state task) c.cost_of.result c.cost_of.ensures c.if-eq.ensures
-    (initial_there task (atoms_at listing) (certificate_at listing) (store_in listing.listing.now) listing.listed (bits_of c.in_ok-initial.initial) c.in_ok-initial.ensures)
+    (initial_there task (atoms_at listing) (certificate_at listing) (store_in listing.cert.now) listing.listed (bits_of c.in_ok-initial.initial) c.in_ok-initial.ensures)
 
 pub returns-clause-wrong : goal.returns-clause-wrong
 returns-clause-wrong c =
@@ -22,8 +22,8 @@ returns-clause-wrong c =
     let listing = c.args.listing.now in
     let task = task_at listing in
     not_listed_at_none (lines_of task (certificate_at listing)) (state_at listing c.in_ok-initial.initial) (initial_state task) c.cost_of.result
-    (listed_apart task (atoms_at listing) (certificate_at listing) (store_in listing.listing.now) listing.listed) c.cost_of.ensures c.if-eq.ensures
-    (initial_there task (atoms_at listing) (certificate_at listing) (store_in listing.listing.now) listing.listed (bits_of c.in_ok-initial.initial) c.in_ok-initial.ensures)
+    (listed_apart task (atoms_at listing) (certificate_at listing) (store_in listing.cert.now) listing.listed) c.cost_of.ensures c.if-eq.ensures
+    (initial_there task (atoms_at listing) (certificate_at listing) (store_in listing.cert.now) listing.listed (bits_of c.in_ok-initial.initial) c.in_ok-initial.ensures)
 
 pub returns-clause-first : goal.returns-clause-first
 returns-clause-first c =

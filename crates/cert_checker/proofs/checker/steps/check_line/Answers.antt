@@ -5,7 +5,7 @@ use Rattle.model.specs.Claims.{opened, cut, dead}
 use Rattle.certificate_reader.specs.Lines.{mark_of}
 use Rattle.certificate_reader.specs.declared.line.Mark.{Mark}
 use Rattle.certificate_reader.specs.declared.line.Mark.TheVariants.{Open, Cut, Dead}
-use Rattle.certificate.specs.declared.listing_parts.Listed.{Listed}
+use Rattle.certificate.specs.declared.states.Listed.{Listed}
 use Rattle.cert_checker.specs.CheckedLines.{HasCost}
 use Rattle.cert_checker.specs.PackedListing.{task_at, certificate_at, state_at}
 use Rattle.cert_checker.proofs.CertCheckerLemmas.{small_cost, small_cut, line_open, line_cut, line_dead, line_if_ok}
@@ -21,8 +21,8 @@ listed_at c = get_or c.marks.result.now c.args.place (record { cost = 0; mark = 
 has_mark : (c : After-get) → HasCost (certificate_at c.args.listing.now) c.args.place (listed_at c).cost (mark_of (listed_at c).mark)
 has_mark c =
     let cert = certificate_at c.args.listing.now in
-    let within : c.args.place < length c.marks.result.now = omega (arith, c.requires.within, as_many_marks cert c.marks.result.now c.marks.ensures) in
-    has_cost cert c.marks.result.now c.args.place (listed_at c) c.marks.ensures (slice_get-get_or c.marks.result.now c.args.place (record { cost = 0; mark = Open }) within)
+    let within : c.args.place < length c.marks.result.now = omega (arith, c.requires.within, as_many_marks cert c.marks.result.now c.marks.ensures.marks) in
+    has_cost cert c.marks.result.now c.args.place (listed_at c) c.marks.ensures.marks (slice_get-get_or c.marks.result.now c.args.place (record { cost = 0; mark = Open }) within)
 
 -- so they are, of a line of this mark
 marked : (c : After-get) (mark : Mark) → (listed_at c).mark ≡ mark → HasCost (certificate_at c.args.listing.now) c.args.place (listed_at c).cost (mark_of mark)
@@ -31,7 +31,7 @@ marked c mark is = subst (λ m. HasCost (certificate_at c.args.listing.now) c.ar
 pub check_open-requires-clause-small : goal.check_open-requires-clause-small
 check_open-requires-clause-small c =
     let here = (goal.at.check_open-requires-clause-small c).After-get in
-    small_cost (certificate_at c.args.listing.now) c.args.place (listed_at here).cost opened c.args.listing.now.listing.now.within_limits (marked here Open c.in-Open.is)
+    small_cost (certificate_at c.args.listing.now) c.args.place (listed_at here).cost opened c.args.listing.now.cert.now.within_limits (marked here Open c.in-Open.is)
 
 pub check_open-requires-clause-listed : goal.check_open-requires-clause-listed
 check_open-requires-clause-listed c =
@@ -42,7 +42,7 @@ pub check_cut-requires-clause-small : goal.check_cut-requires-clause-small
 check_cut-requires-clause-small c =
     let here = (goal.at.check_cut-requires-clause-small c).After-get in
     let cert = certificate_at c.args.listing.now in
-    let keeps = c.args.listing.now.listing.now.within_limits in
+    let keeps = c.args.listing.now.cert.now.within_limits in
     let there = marked here (Cut c.in-Cut.rest) c.in-Cut.is in
     (small_cost cert c.args.place (listed_at here).cost (cut c.in-Cut.rest) keeps there, small_cut cert c.args.place (listed_at here).cost c.in-Cut.rest keeps there)
 

@@ -25,7 +25,7 @@ begun : (c : In_ok-check_initial) (most : ℕ) → AreApart (task_at c.args.list
     → IsRightUpTo (task_at c.args.listing.now) (certificate_at c.args.listing.now) most 0
 begun c most distinct allowed within =
     let listing = c.args.listing.now in
-    right_from (task_at listing) (certificate_at listing) most (one_for_each (certificate_at listing) listing.listing.now.within_limits) distinct listing.listed.fluent allowed within c.requires c.in_ok-check_initial.ensures.right
+    right_from (task_at listing) (certificate_at listing) most (one_for_each (certificate_at listing) listing.cert.now.within_limits) distinct listing.listed.fluent allowed within c.requires c.in_ok-check_initial.ensures.right
 
 pub returns-clause-right : goal.returns-clause-right
 returns-clause-right c =

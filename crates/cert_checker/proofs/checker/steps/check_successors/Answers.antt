@@ -1,4 +1,4 @@
-use Rattle.certificate.specs.Listing.{store_in}
+use Rattle.certificate.specs.Certificate.{store_in}
 use Rattle.std.proofs.Common.{◌≡◌, ◌+◌, ℕ, Some, map, get_or, refl, subst, sym, arith}
 use Rattle.std.proofs.lemmas.List.{get_or_default}
 use Rattle.packed_state.specs.Packed.{bits_of}
@@ -43,7 +43,7 @@ packed c = length-step (task_at c.args.listing.now) (atoms_at c.args.listing.now
 all_there : (c : After-successor) → map (view c) c.args.numbers.now ≡ successors_of (task_at c.args.listing.now) (state_at c.args.listing.now c.args.state.now)
 all_there c =
     let listing = c.args.listing.now in
-    successors_there (task_at listing) (atoms_at listing) (certificate_at listing) (store_in listing.listing.now) listing.listed (bits_of c.args.state.now) c.args.numbers.now c.requires.numbers
+    successors_there (task_at listing) (atoms_at listing) (certificate_at listing) (store_in listing.cert.now) listing.listed (bits_of c.args.state.now) c.args.numbers.now c.requires.numbers
 
 leads : (c : After-successor) → step (task_at c.args.listing.now) (state_at c.args.listing.now c.args.state.now) (there c).0 ≡ Some (there c).1
 leads c =
@@ -100,7 +100,7 @@ returns-clause-right c =
     let bits = bits_of c.args.state.now in
     let numbers = c.args.numbers.now in
     open_closed task (certificate_at listing) (state_at listing c.args.state.now) c.args.cost (leads_by task (atoms_at listing) bits) numbers c.loop-number.number-index c.loop-number-test.false
-    (successors_there task (atoms_at listing) (certificate_at listing) (store_in listing.listing.now) listing.listed bits numbers c.requires.numbers) c.loop-number.invariant.listed c.requires.goal
+    (successors_there task (atoms_at listing) (certificate_at listing) (store_in listing.cert.now) listing.listed bits numbers c.requires.numbers) c.loop-number.invariant.listed c.requires.goal
 
 pub returns-in_default-clause-next : goal.returns-in_default-clause-next
 returns-in_default-clause-next c =
@@ -126,7 +126,7 @@ returns-then-listed-cost-clause-wrong c =
     let listed = subst (λ s. IsListedAt (lines_of task cert) s c.in-Some.listed) (sym (is_there here)) c.in-Some.ensures in
     told task cert c.state_line-then-listed-cost.result SuccessorDearer (state_line cert c.args.place) c.state_line-then-listed-cost.ensures
     (wrong_dearer task cert c.args.place (state_at listing c.args.state.now) c.args.cost (there here).0 (there here).1 c.in-Some.listed
-    (listed_apart task (atoms_at listing) cert (store_in listing.listing.now) listing.listed) c.requires.listed (leads here) listed (omega (arith, step, c.from.ensures, c.cost.ensures, c.if-listed-cost.true)))
+    (listed_apart task (atoms_at listing) cert (store_in listing.cert.now) listing.listed) c.requires.listed (leads here) listed (omega (arith, step, c.from.ensures, c.cost.ensures, c.if-listed-cost.true)))
 
 pub returns-then-listed-cost-clause-next : goal.returns-then-listed-cost-clause-next
 returns-then-listed-cost-clause-next c =
@@ -161,6 +161,6 @@ returns-then-listed-cost-clause-first c =
       (there here).1,
       leaves here,
       listed_somewhere (lines_of task cert) (there here).1 c.in-Some.listed listed,
-      not_within task cert (there here).1 c.in-Some.listed (c.args.cost + (system_of task).cost (there here).0) (listed_apart task (atoms_at listing) cert (store_in listing.listing.now) listing.listed)
+      not_within task cert (there here).1 c.in-Some.listed (c.args.cost + (system_of task).cost (there here).0) (listed_apart task (atoms_at listing) cert (store_in listing.cert.now) listing.listed)
           listed (omega (arith, step, c.from.ensures, c.cost.ensures, c.if-listed-cost.true)),
     )

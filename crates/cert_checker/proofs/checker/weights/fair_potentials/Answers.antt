@@ -8,7 +8,7 @@ use Rattle.potential_functions.specs.PotentialFunctions.{PotentialFunction, AreI
 use Rattle.model.specs.Meaning.{cost_of}
 use Rattle.potentials.specs.Potentials.{potentials_of}
 use Rattle.potentials.specs.Fairness.{Tells}
-use Rattle.certificate.specs.Listing.{certificate_in}
+use Rattle.certificate.specs.Certificate.{certificate_of}
 use Rattle.model.specs.ClosedOff.{kept_instances}
 use Rattle.certificate_definitions.specs.CertificateRefusals.{unfair, unfair_goal}
 use Rattle.cert_checker.specs.Weights.{HasItsWeights}
@@ -27,13 +27,13 @@ at_width-requires-clause-range c =
 pub at_width-requires-clause-enough : goal.at_width-requires-clause-enough
 at_width-requires-clause-enough c =
     let task = task_in c.args.grounded.now in
-    let cert = certificate_in c.args.listing.now in
+    let cert = certificate_of c.args.cert.now in
     omega (arith, numbered_after task (atoms_in c.args.grounded.now) cert c.requires.fluent c.requires.numbered, c.width.ensures, c.weights.ensures.one_for_each)
 
 -- they have the certificate's weights
-has : (c : In_ok-potentials) → let cert = certificate_in c.args.listing.now in HasItsWeights cert.potentials (length (atoms_in c.args.grounded.now)) (potentials_of c.in_ok-potentials.potentials)
+has : (c : In_ok-potentials) → let cert = certificate_of c.args.cert.now in HasItsWeights cert.potentials (length (atoms_in c.args.grounded.now)) (potentials_of c.in_ok-potentials.potentials)
 has c =
-    let cert = certificate_in c.args.listing.now in
+    let cert = certificate_of c.args.cert.now in
     let p = potentials_of c.in_ok-potentials.potentials in
     let constant_is = to_z-of_z w64 c.constant.result (search rules) ∙ c.constant.ensures.constant in
     subst (λ width. HasItsWeights cert.potentials width p) c.width.ensures
@@ -50,7 +50,7 @@ pub returns-in-Fair-clause-fair : goal.returns-in-Fair-clause-fair
 returns-in-Fair-clause-fair c =
     let task = task_in c.args.grounded.now in
     let atoms = atoms_in c.args.grounded.now in
-    let cert = certificate_in c.args.listing.now in
+    let cert = certificate_of c.args.cert.now in
     let p = potentials_of c.in_ok-potentials.potentials in
     fair_told (cost_of task) task cert cert.potentials atoms p c.requires.numbered (has (goal.at.returns-in-Fair-clause-fair c).In_ok-potentials)
     (subst (Tells task atoms p) c.in-Fair.is c.in_ok-fair.ensures)
@@ -63,7 +63,7 @@ returns-in-Instance-clause-wrong c =
     λ plan most.
     let task = task_in c.args.grounded.now in
     let atoms = atoms_in c.args.grounded.now in
-    let cert = certificate_in c.args.listing.now in
+    let cert = certificate_of c.args.cert.now in
     let p = potentials_of c.in_ok-potentials.potentials in
     unfair_told (cost_of task) task cert cert.potentials atoms p c.requires.numbered (has (goal.at.returns-in-Instance-clause-wrong c).In_ok-potentials) c.in-Instance.number (instance_of c.kept_instance.result)
     (subst (Tells task atoms p) c.in-Instance.is c.in_ok-fair.ensures) c.kept_instance.ensures
@@ -73,7 +73,7 @@ returns-in-Instance-clause-first c =
     λ distinct allowed plan most within.
     let task = task_in c.args.grounded.now in
     let atoms = atoms_in c.args.grounded.now in
-    let cert = certificate_in c.args.listing.now in
+    let cert = certificate_of c.args.cert.now in
     let p = potentials_of c.in_ok-potentials.potentials in (
       first_asked task cert unfair plan most refl (atoms_right task cert c.requires.fluent) (states_right_all task cert distinct allowed) within (none_asked task cert),
       first_told (cost_of task) task cert cert.potentials atoms p c.requires.numbered (has (goal.at.returns-in-Instance-clause-first c).In_ok-potentials) c.in-Instance.number
@@ -85,7 +85,7 @@ returns-in-Goal-clause-wrong c =
     λ plan most.
     let task = task_in c.args.grounded.now in
     let atoms = atoms_in c.args.grounded.now in
-    let cert = certificate_in c.args.listing.now in
+    let cert = certificate_of c.args.cert.now in
     let p = potentials_of c.in_ok-potentials.potentials in
     goals_told (cost_of task) task cert cert.potentials atoms p c.requires.numbered (has (goal.at.returns-in-Goal-clause-wrong c).In_ok-potentials) (subst (Tells task atoms p) c.in-Goal.is c.in_ok-fair.ensures).1
 
@@ -94,7 +94,7 @@ returns-in-Goal-clause-first c =
     λ distinct allowed plan most within.
     let task = task_in c.args.grounded.now in
     let atoms = atoms_in c.args.grounded.now in
-    let cert = certificate_in c.args.listing.now in
+    let cert = certificate_of c.args.cert.now in
     let p = potentials_of c.in_ok-potentials.potentials in
     first_asked task cert unfair_goal plan most refl (atoms_right task cert c.requires.fluent) (states_right_all task cert distinct allowed) within
     (instances_asked task cert

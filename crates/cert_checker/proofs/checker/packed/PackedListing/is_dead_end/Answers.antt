@@ -2,7 +2,7 @@ use Rattle.std.proofs.Common.{◌∙◌, sym, ap}
 use Rattle.std.specs.Prelude.{nat_le}
 use Rattle.packed_state.specs.Packed.{bits_of}
 use Rattle.potentials.specs.Potentials.{potentials_of}
-use Rattle.certificate.specs.Listing.{store_in}
+use Rattle.certificate.specs.Certificate.{store_in}
 use Rattle.cert_checker.specs.PackedListing.{task_at, atoms_at, certificate_at}
 use Rattle.cert_checker.proofs.PackedListingLemmas.{value_there}
 use Rattle.cert_checker.proofs.WeightsLemmas.{one_for_each}
@@ -17,5 +17,5 @@ returns c =
     let cert = certificate_at listing in
     ap (nat_le 1)
     (c.value.ensures
-    ∙ value_there (task_at listing) (atoms_at listing) cert (store_in listing.listing.now) listing.listed cert.dead_ends (potentials_of listing.dead_ends.now) (bits_of c.args.state.now) listing.dead_ends_valued
-    (one_for_each cert listing.listing.now.within_limits).1 c.requires)
+    ∙ value_there (task_at listing) (atoms_at listing) cert (store_in listing.cert.now) listing.listed cert.dead_ends (potentials_of listing.dead_ends.now) (bits_of c.args.state.now) listing.dead_ends_valued
+    (one_for_each cert listing.cert.now.within_limits).1 c.requires)

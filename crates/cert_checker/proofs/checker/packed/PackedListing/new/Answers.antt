@@ -7,5 +7,5 @@ pub invariant_of-result : goal.invariant_of-result
 invariant_of-result c = record {
   valued = c.requires.weights;
   dead_ends_valued = c.requires.dead_ends;
-  listed = record { fluent = c.requires.fluent; numbered = c.requires.numbered; holds = holds_lines c.args.listing.now (length (atoms_in c.args.grounded.now)) c.requires.width };
+  listed = record { fluent = c.requires.fluent; numbered = c.requires.numbered; holds = holds_lines c.args.cert.now (length (atoms_in c.args.grounded.now)) c.requires.width };
 }

@@ -1,0 +1,40 @@
+//! A certificate of a task, read from its text.
+ghost use Rattle.std.specs.Prelude.{IfErr, IfOk};
+ghost use Rattle.task.specs.Task.{task_of};
+ghost use Rattle.certificate_reader.specs.Reader.{source_of};
+ghost use Rattle.cert_checker.specs.Reading.{CountsRefusal, IsFresh, IsLineRefusal, IsRead};
+ghost use Rattle.certificate.specs.Certificate.{certificate_of};
+
+use crate::header::read_header;
+use crate::listed_states::take_line;
+use crate::refusal::Refusal;
+use certificate::{Cert, CertReader, States};
+use devices::Source;
+use std::alloc::Global;
+use task::Task;
+
+/// Reads a certificate, and keeps of each line what it says of the task.
+///
+/// # Errors
+/// The first line at fault: 40 to 42, and 55, by the rules of the text; 43 where its atom is none of the task's, or its
+/// predicate no action changes; 44 where its atom, or its state, stood in a line before; 52 where it is a cut and it is
+/// claimed that no plan solves the task. [`Refusal::Device`] where the device failed; [`Refusal::NoMemory`] where memory
+/// is refused.
+pub fn read_cert<R: Source>(
+    alloc: Global,
+    task: &Task,
+    reader: &mut CertReader<R>,
+) -> Result<Cert, Refusal>
+    requires fresh { IsFresh reader.old }
+    ensures read { IfOk result (λ cert. IsRead R.remaining (task_of task.now) reader.old reader.new (certificate_of cert)) }
+    ensures refused { IfErr result (IsLineRefusal R.remaining (task_of task.now) reader.old reader.new) }
+    ensures failures { CountsRefusal (R.failures (source_of reader.old)) (R.failures (source_of reader.new)) result }
+{
+    let (header, mut next) = read_header(alloc, task, reader)?;
+    let mut states = States::new(alloc, header.atoms.len() as u32)?;
+    'states: while let Some(line) = next {
+        take_line(&mut states, alloc, header.claim, line, reader.lines())?;
+        next = reader.next_line()?;
+    }
+    Ok(Cert::from_parts(header, states))
+}

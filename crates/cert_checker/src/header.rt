@@ -1,0 +1,146 @@
+//! What a certificate says before its states, read line by line.
+ghost use Rattle.std.specs.Prelude.{◌≡◌, pos, ◌+◌, ◌++◌, ◌∷◌, [], IfErr, IfOk, List, OnOk, length};
+ghost use Rattle.task.specs.Task.{task_of};
+ghost use Rattle.model.specs.Task as model;
+ghost use Rattle.certificate_reader.specs.Lines.{named_atom_of, text_line_of, weights_of};
+ghost use Rattle.certificate_definitions.specs.CertificateNames.{of_dead_end_or_zero};
+ghost use Rattle.certificate_definitions.specs.CertificateText.{TextLine, BeginCertificate, atom};
+ghost use Rattle.cert_checker.specs.Taking.{HasTaken, IsTaken, IsWrongNow};
+ghost use Rattle.certificate_reader.specs.Reader.{source_of};
+ghost use Rattle.certificate.specs.CertificateParts.{potential_of};
+ghost use Rattle.cert_checker.specs.Reading.{CountsRefusal, IsBegun, IsFresh, IsLineRefusal};
+
+use crate::named_atoms::fluent_atom_named;
+use crate::refusal::{Refusal, RefusalCode};
+use certificate::{
+    Bounds, CertLine, CertReader, Claim, Header, NamedAtom, Potential, Version, Weights,
+};
+use devices::Source;
+use indexmap::IndexSet;
+use std::alloc::Global;
+use task::Task;
+
+/// What no lines have told: version 1, a bound of 0, which is always true, and the constants 0, until their lines come.
+fn nothing_told(alloc: Global) -> Header
+    ensures { (task : model.Task) → HasTaken task [] result }
+{
+    Header {
+        version: Version::One,
+        claim: Claim::Bound(0),
+        atoms: IndexSet::new(alloc),
+        bounds: Bounds {
+            values: zero_potential(alloc),
+            dead_ends: zero_potential(alloc),
+        },
+    }
+}
+
+/// The potential function of no atoms that is 0.
+fn zero_potential(alloc: Global) -> Potential
+    ensures { potential_of result ≡ record { constant = pos 0; weights = [] } }
+{
+    Potential {
+        constant: 0,
+        weights: Vec::new(alloc),
+    }
+}
+
+/// The weight by which dead ends are told, which is 0 where the text has none.
+fn dead_end_weight(weights: Weights) -> i64
+    ensures { result ≡ of_dead_end_or_zero (weights_of weights) }
+{
+    match weights.of_dead_end {
+        Some(weight) => weight,
+        None => 0,
+    }
+}
+
+/// Takes the line of this number, from 1; a line that lists a state, or is the last, is handed back.
+fn take(
+    header: &mut Header,
+    task: &Task,
+    line: CertLine,
+    number: u64,
+) -> Result<Option<CertLine>, Refusal>
+    ensures taken { IfOk result (λ back. (before : List TextLine) → BeginCertificate (before ++ text_line_of line ∷ [])
+        → HasTaken (task_of task.now) before header.old → IsTaken (task_of task.now) before (text_line_of line) header.new back) }
+    ensures wrong { IfErr result (λ refusal. (before : List TextLine) → number ≡ length before + 1
+        → HasTaken (task_of task.now) before header.old → IsWrongNow (task_of task.now) before (text_line_of line) refusal) }
+{
+    match line {
+        CertLine::Version(version) => {
+            header.version = version;
+            Ok(None)
+        }
+        CertLine::Claim(claim) => {
+            header.claim = claim;
+            Ok(None)
+        }
+        CertLine::Constants(constants) => {
+            header.bounds.values.constant = constants.of_value;
+            header.bounds.dead_ends.constant = dead_end_weight(constants);
+            Ok(None)
+        }
+        CertLine::Weight { weights, atom } => {
+            add_atom(header, task, &atom, weights, number)?;
+            Ok(None)
+        }
+        CertLine::Listed(_) | CertLine::Last { .. } => Ok(Some(line)),
+    }
+}
+
+/// Puts the atom of these names, which the line of this number gives, and its weights behind the others.
+fn add_atom(
+    header: &mut Header,
+    task: &Task,
+    name: &NamedAtom,
+    weights: Weights,
+    number: u64,
+) -> Result<(), Refusal>
+    ensures told { OnOk result ((before : List TextLine) → HasTaken (task_of task.now) before header.old
+        → HasTaken (task_of task.now) (before ++ atom (record { weights = weights_of weights; atom = named_atom_of name.now }) ∷ []) header.new) }
+    ensures wrong { IfErr result (λ refusal. (before : List TextLine) → number ≡ length before + 1 → HasTaken (task_of task.now) before header.old
+        → IsWrongNow (task_of task.now) before (atom (record { weights = weights_of weights; atom = named_atom_of name.now })) refusal) }
+{
+    let Some(atom) = fluent_atom_named(task, name) else {
+        return Err(Refusal::Line {
+            code: RefusalCode::NotFluent,
+            line: number,
+        });
+    };
+    if !header.atoms.insert(atom)? {
+        return Err(Refusal::Line {
+            code: RefusalCode::Repeated,
+            line: number,
+        });
+    }
+    header.bounds.values.weights.push(weights.of_value)?;
+    header
+        .bounds
+        .dead_ends
+        .weights
+        .push(dead_end_weight(weights))?;
+    Ok(())
+}
+
+/// Reads what stands before the states, and the line behind it; `None` where the text has ended before it.
+pub(crate) fn read_header<R: Source>(
+    alloc: Global,
+    task: &Task,
+    reader: &mut CertReader<R>,
+) -> Result<(Header, Option<CertLine>), Refusal>
+    requires { IsFresh reader.old }
+    ensures begun { IfOk result (λ read. IsBegun R.remaining (task_of task.now) reader.old reader.new read.0 read.1) }
+    ensures refused { IfErr result (IsLineRefusal R.remaining (task_of task.now) reader.old reader.new) }
+    ensures failures { CountsRefusal (R.failures (source_of reader.old)) (R.failures (source_of reader.new)) result }
+{
+    let mut header = nothing_told(alloc);
+    'lines: loop {
+        let Some(line) = reader.next_line()? else {
+            return Ok((header, None));
+        };
+        if let Some(line) = take(&mut header, task, line, reader.lines())? {
+            return Ok((header, Some(line)));
+        }
+    }
+}
