@@ -1,5 +1,5 @@
 //! What files are to hold after the run.
-use planner_main::Table;
+use test_devices::Table;
 use std::alloc::{AllocError, Global};
 use std::fmt;
 
