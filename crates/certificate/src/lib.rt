@@ -16,9 +16,7 @@ pub use certificate_reader::{
     Mark, NUMBER_LIMIT, NamedAtom, StateLine, TextFault, Version, Weights,
     texts_are_certificates_one_for_one,
 };
-pub use devices::{
-    Device, DeviceFault, Endless, FailsAt, InPieces, Memory, Sink, Source, WriteFault, write_all,
-};
+pub use devices::{Device, DeviceFault, Memory, Sink, Source, WriteFault, write_all};
 pub use listing::Listing;
 pub use listing_parts::{Beginning, Listed, Potential, States};
 pub use writer::{write_cert, write_listing};

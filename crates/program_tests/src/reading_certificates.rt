@@ -2,10 +2,11 @@
 use certificate::{
     CertFault, CertLine, CertReader, Claim, Mark, NamedAtom, StateLine, TextFault, Version, Weights,
 };
-use devices::{Endless, FailsAt, InPieces, Memory, Source};
+use devices::{Memory, Source};
 use std::alloc::{AllocError, Global};
 use std::process::Abort;
 use std::test::Fail;
+use test_devices::{Endless, FailsAt, InPieces};
 
 /// A certificate of ten lines, in version 1.
 const HOP: &[u8] =

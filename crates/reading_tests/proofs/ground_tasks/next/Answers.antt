@@ -8,7 +8,7 @@ use Rattle.grounding.specs.Ground.{task_in, atoms_in}
 use Rattle.model.specs.ClosedOff.{kept_instances}
 use Rattle.model.specs.Grounding.{ground_step}
 use Rattle.model.proofs.ListLemmas.{filter-Contains}
-use Rattle.ground_tests.proofs.ground_tasks.next.Goals as goal
+use Rattle.reading_tests.proofs.ground_tasks.next.Goals as goal
 
 pub successor-requires-clause-into_width : goal.successor-requires-clause-into_width
 successor-requires-clause-into_width c =

@@ -5,9 +5,7 @@ ghost use Rattle.std.specs.Prelude.{◌≡◌};
 ghost use Rattle.potentials_improved.specs.FairPotentials.{ground_in};
 ghost use Rattle.potentials_improved.specs.DeadFairPotentials as dead;
 
-use crate::answers::{Found, found};
 use crate::fairness::weighing;
-use crate::ground_searches::{got, have_same, states_of, with_no_estimate};
 use crate::plain_tasks::ROWS;
 use certificate::{Claim, Listed, Listing, Mark};
 use faults::NoMemory;
@@ -20,6 +18,67 @@ use std::alloc::Global;
 use std::test::Fail;
 use test_texts::on_task;
 use typing::Task;
+
+/// A limit that is exceeded.
+#[derive(Clone, Copy, Debug, PartialEq, Eq)]
+pub(crate) enum Limit {
+    /// That of the kept instances.
+    Instances,
+    /// That of the numbered atoms.
+    Atoms,
+    /// That of the listed states.
+    States,
+}
+
+/// What is found out of a task: what a plan costs, or that there is none, or the limit that is exceeded.
+pub(crate) type Found = Result<Option<u64>, Limit>;
+
+/// What is found out, but for the plan, the certificate and the bound.
+fn found(answer: &Answer) -> Found {
+    match answer {
+        Answer::Plan { cost, .. } => Ok(Some(*cost)),
+        Answer::Unsolvable { .. } => Ok(None),
+        Answer::Unknown(Exceeded::Instances) => Err(Limit::Instances),
+        Answer::Unknown(Exceeded::Atoms) => Err(Limit::Atoms),
+        Answer::Unknown(Exceeded::States { .. }) => Err(Limit::States),
+    }
+}
+
+/// The states that were found.
+fn states_of<S>(outcome: &Outcome<S>) -> Option<&FoundStates<S>> {
+    match outcome {
+        Outcome::Found { states, .. } => Some(states),
+        Outcome::Exhausted { states } => Some(states),
+        Outcome::States { states, .. } => Some(states),
+    }
+}
+
+/// Copies the state at this place, if there is one of this width.
+fn got<S: StateStore>(store: &S, place: u32, into: &mut Packed) -> bool {
+    if into.width() != store.width() || place as usize >= store.len() {
+        return false;
+    }
+    store.get(place, into);
+    true
+}
+
+/// Whether the stores have the same states of the width, in the same order.
+fn have_same<A: StateStore, B: StateStore>(
+    alloc: Global,
+    width: u32,
+    some: &A,
+    others: &B,
+) -> Result<bool, NoMemory> {
+    let mut state = Packed::empty(alloc, width)?;
+    let mut other = Packed::empty(alloc, width)?;
+    for (_, place) in (0..some.len()).zip(0..u32::MAX) {
+        let are_there = got(some, place, &mut state) && got(others, place, &mut other);
+        if !are_there || state != other {
+            return Ok(false);
+        }
+    }
+    Ok(some.len() == others.len())
+}
 
 /// What the certificate of a search claims that ends so.
 fn claim_of<S>(outcome: &Outcome<S>) -> Claim {
@@ -191,8 +250,7 @@ fn told_of(
     let is_same = is_same(alloc, task, limits, cert)?;
     let is_wide = cert.atoms().len() > 64;
     let has_dead_ends = cert.marks().iter().any(|listed| listed.mark == Mark::Dead);
-    let found = with_no_estimate(found(answer));
-    Ok(Some((found, [is_same, is_wide, has_dead_ends])))
+    Ok(Some((found(answer), [is_same, is_wide, has_dead_ends])))
 }
 
 fn told(alloc: Global, task: &Task, limits: Limits) -> Result<Option<Told>, NoMemory> {

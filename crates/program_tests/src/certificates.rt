@@ -1,16 +1,34 @@
-//! The checker on small tasks: certificates that are accepted, and certificates with one condition broken.
-use crate::helpers::{Answer, check_cert, check_text};
-use crate::listings::{
-    ACCEPTED, FEW_ATOMS, LIMITED, Line, Listings, PLANNED, Row, TEXTS, WRONG_ATOMS, WRONG_LINES,
-};
+//! The limits of certificates in memory, and the checker where no instance may be kept.
+use crate::helpers::Told::Plain;
+use crate::helpers::{Answer, check_text};
+use cert_checker::{Accepted, RefusalCode};
 use certificate::{Cert, Claim, Mark, Potential, StateLine, Version};
 use faults::NoMemory;
-use plan_file::read_plan;
 use std::alloc::Global;
-use std::process::Abort;
 use std::test::Fail;
-use test_texts::{Term, atom, atoms, on_task};
-use typing::Task;
+use test_texts::{GO, Term, Texts, UNTIED, atom, atoms, on_task};
+
+/// Tasks, certificates of them, and what the checker answers where no instance may be kept: `GO` keeps one, and `UNTIED` none.
+#[rattlefmt::skip]
+static NO_INSTANCE: [(Texts, &[u8], Answer); 2] = [
+    (GO, b"pddl-cert 1\nclaim bound 1\nconstant 0\natom 0 (p)\natom 0 (q)\nopen 0 0\ncut 1 0 0 1\nend 2\n", Err(Plain(RefusalCode::Limit))),
+    (UNTIED, b"pddl-cert 1\nclaim none\nconstant 0\natom 0 (tied)\nopen 0\nend 1\n", Ok(Accepted::Unsolvable)),
+];
+
+#[test]
+fn no_instance_may_be_kept(rt: HostRuntime) -> Result<(), Fail> {
+    for (texts, text, wanted) in &NO_INSTANCE {
+        on_task(&rt, rt.alloc(), texts, |rt, alloc, task| {
+            let answer = check_text(alloc, task, text.to_vec(alloc)?, 0);
+            assert_eq!(rt; answer, *wanted);
+            Ok(())
+        })?;
+    }
+    Ok(())
+}
+
+/// A state line: its cost, its bound if it is a cut, and its atoms.
+type Line = (u64, Option<u64>, &'static [u32]);
 
 /// An open state, or a cut.
 fn mark_of(cut: Option<u64>) -> Mark {
@@ -53,103 +71,6 @@ fn cert_of(
     };
     let lines = state_lines(alloc, lines)?;
     Ok(Cert::new(Version::One, claim, potential, dead_ends, atoms, lines))
-}
-
-/// The certificate of a row of the listings.
-fn cert_of_row(alloc: Global, listings: &Listings, row: &Row) -> Result<Cert, Fail> {
-    let weights = vec![in alloc; 0; listings.atoms.len()]?;
-    let made = cert_of(alloc, row.0, listings.atoms, (0, &weights), row.1)?;
-    Ok(made.ok_or("beyond the limits")?)
-}
-
-/// What the checker answers to the certificate, and to the plan of this text, if there is one.
-fn answer_to(
-    alloc: Global,
-    task: &Task,
-    cert: &Cert,
-    plan: Option<&str>,
-    max_instances: u32,
-) -> Result<Answer, Fail> {
-    match plan {
-        None => Ok(check_cert(alloc, task, cert, None, max_instances)?),
-        Some(text) => {
-            let plan = read_plan(alloc, task, text.as_bytes())?;
-            Ok(check_cert(alloc, task, cert, Some(&plan), max_instances)?)
-        }
-    }
-}
-
-/// What the checker answers to a row of the listings.
-fn answer(alloc: Global, task: &Task, listings: &Listings, row: &Row) -> Result<Answer, Fail> {
-    let cert = cert_of_row(alloc, listings, row)?;
-    answer_to(alloc, task, &cert, row.2, listings.max_instances)
-}
-
-/// The checker answers each row of the listings as it says.
-fn are_answered(
-    rt: &impl Abort,
-    alloc: Global,
-    task: &Task,
-    listings: &Listings,
-) -> Result<(), Fail> {
-    for (number, row) in listings.rows.iter().enumerate() {
-        let answer = answer(alloc, task, listings, row)?;
-        assert_eq!(rt; answer, row.3, "row {number} of {}", listings.texts[1]);
-    }
-    Ok(())
-}
-
-/// The checker answers the listings of the table as they say.
-fn is_answered<R: Abort>(rt: &R, alloc: Global, table: &[Listings]) -> Result<(), Fail> {
-    for listings in table {
-        on_task(rt, alloc, &listings.texts, |rt, alloc, task| {
-            are_answered(rt, alloc, task, listings)
-        })?;
-    }
-    Ok(())
-}
-
-#[test]
-fn closed_listings_are_accepted(rt: HostRuntime) -> Result<(), Fail> {
-    is_answered(&rt, rt.alloc(), &ACCEPTED)
-}
-
-#[test]
-fn atoms_that_are_not_listed_are_false(rt: HostRuntime) -> Result<(), Fail> {
-    is_answered(&rt, rt.alloc(), &FEW_ATOMS)
-}
-
-#[test]
-fn wrong_atoms_are_told(rt: HostRuntime) -> Result<(), Fail> {
-    is_answered(&rt, rt.alloc(), &WRONG_ATOMS)
-}
-
-#[test]
-fn wrong_lines_are_told(rt: HostRuntime) -> Result<(), Fail> {
-    is_answered(&rt, rt.alloc(), &WRONG_LINES)
-}
-
-#[test]
-fn plans_are_held_against_the_claim(rt: HostRuntime) -> Result<(), Fail> {
-    is_answered(&rt, rt.alloc(), &PLANNED)
-}
-
-#[test]
-fn instances_are_limited(rt: HostRuntime) -> Result<(), Fail> {
-    is_answered(&rt, rt.alloc(), &LIMITED)
-}
-
-#[test]
-fn what_no_certificate_says_is_told(rt: HostRuntime) -> Result<(), Fail> {
-    for (number, (texts, max_instances, text, wanted)) in TEXTS.iter().enumerate() {
-        on_task(&rt, rt.alloc(), texts, |rt, alloc, task| {
-            let text = text.as_bytes().to_vec(alloc)?;
-            let answer = check_text(alloc, task, text, *max_instances);
-            assert_eq!(rt; answer, *wanted, "row {number}");
-            Ok(())
-        })?;
-    }
-    Ok(())
 }
 
 /// The largest number that may stand in a certificate.

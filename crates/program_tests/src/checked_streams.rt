@@ -1,12 +1,13 @@
-//! The checker over sources that give bytes in pieces, that fail, and that never end.
+//! The checker over sources that fail, and that never end.
 use crate::helpers::Told::{Device, Line as At};
 use crate::helpers::{Answer, check_source};
 use cert_checker::RefusalCode::{CertForm, NotFluent, Repeated};
 use cert_checker::{Accepted, RefusalCode};
-use devices::{Endless, FailsAt, InPieces, Memory};
+use devices::Memory;
 use std::alloc::{AllocError, Global};
 use std::process::Abort;
 use std::test::Fail;
+use test_devices::{Endless, FailsAt, InPieces};
 use test_texts::{PAIRS, on_task};
 use typing::Task;
 
@@ -20,25 +21,6 @@ const AGAIN: &[u8] = b"pddl-cert 1\nclaim none\nconstant 0\natom 0 (on s1)\natom
 /// The bytes as a device.
 fn memory(alloc: Global, bytes: &[u8]) -> Result<Memory, AllocError> {
     Ok(Memory::new(bytes.to_vec(alloc)?))
-}
-
-/// What the checker answers to the text by bytes, and by sevens of them.
-fn in_pieces(alloc: Global, task: &Task) -> Result<(Answer, Answer), AllocError> {
-    let by_one = InPieces::new(memory(alloc, NO_PLAN)?, 1);
-    let by_seven = InPieces::new(memory(alloc, NO_PLAN)?, 7);
-    Ok((
-        check_source(alloc, task, by_one, None, 6),
-        check_source(alloc, task, by_seven, None, 6),
-    ))
-}
-
-#[test]
-fn bytes_come_in_pieces(rt: HostRuntime) -> Result<(), Fail> {
-    on_task(&rt, rt.alloc(), &PAIRS, |rt, alloc, task| {
-        let wanted = Ok(Accepted::Unsolvable);
-        assert_eq!(rt; in_pieces(alloc, task)?, (wanted, wanted));
-        Ok(())
-    })
 }
 
 /// What the checker answers where bytes come one by one, and the read after so many fails.

@@ -7,7 +7,7 @@ ghost use Rattle.formulas.specs.State.{plan_of};
 ghost use Rattle.model.specs.Meaning.{is_instance};
 
 use cert_checker::{Accepted, Refusal, RefusalCode, check};
-use certificate::{Cert, CertReader, Listing, write_cert, write_listing};
+use certificate::{CertReader, Listing, write_listing};
 use devices::{Memory, Source, WriteFault};
 use formulas::Plan;
 use std::alloc::Global;
@@ -75,22 +75,7 @@ pub(crate) fn check_text(alloc: Global, task: &Task, text: Vec<u8>, max_instance
     check_source(alloc, task, Memory::new(text), None, max_instances)
 }
 
-/// What the checker answers to the text of the certificate, and to the plan, if one is handed in.
-pub(crate) fn check_cert(
-    alloc: Global,
-    task: &Task,
-    cert: &Cert,
-    plan: Option<&Plan>,
-    max_instances: u32,
-) -> Result<Answer, WriteFault>
-    requires { ForSome plan (λ p. IsTrue (list_all (is_instance (task_of task.now)) (plan_of p.now))) }
-{
-    let mut text = Memory::empty(alloc);
-    write_cert(alloc, task, cert, &mut text)?;
-    Ok(check_source(alloc, task, text, plan, max_instances))
-}
-
-/// The same of a listing.
+/// What the checker answers to the text of the listing, and to the plan, if one is handed in.
 pub(crate) fn check_listing(
     alloc: Global,
     task: &Task,

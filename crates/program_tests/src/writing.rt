@@ -2,11 +2,12 @@
 ghost use Rattle.std.specs.Prelude.{◌<◌};
 
 use certificate::{Cert, Claim, Mark, Potential, StateLine, Version, write_cert};
-use devices::{FailsAt, InPieces, Memory, WriteFault};
+use devices::{Memory, WriteFault};
 use faults::NoMemory;
 use std::alloc::{AllocError, Global};
 use std::process::Abort;
 use std::test::Fail;
+use test_devices::{FailsAt, InPieces};
 use test_texts::{GO, atoms, on_task};
 use typing::Task;
 
