@@ -4,9 +4,7 @@ ghost use Rattle.model.specs.PlanWriting.{has_names};
 ghost use Rattle.typing.specs.Task.{task_of};
 
 use faults::NoMemory;
-use planner_main::{
-    Limits, Order, Report, Solved, WordsFault, json_line, read_words, solve_files,
-};
+use planner_main::{Limits, Order, Report, Solved, WordsFault, json_line, read_words, solve_files};
 use std::alloc::Global;
 use std::test::Fail;
 use test_texts::{HOP, Texts};

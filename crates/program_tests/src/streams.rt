@@ -1,7 +1,5 @@
 //! Devices in pieces, and devices that fail; and the files of a table and of the machine.
-use devices::{
-    DeviceFault, Files, Memory, Sink, Source, SystemFiles, WriteFault, write_all,
-};
+use devices::{DeviceFault, Files, Memory, Sink, Source, SystemFiles, WriteFault, write_all};
 use std::alloc::{AllocError, Global};
 use std::test::Fail;
 use std::{env, fs, process};

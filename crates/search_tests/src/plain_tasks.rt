@@ -1,8 +1,8 @@
 //! The tasks whose certificates are looked at over either store of states.
 use crate::plain_certificates::{Found, Limit};
 use test_texts::{
-    DONE, EACH_BOX, FORK, FOUR_BALLS, FOUR_BLOCKS, GO, HOP, LAMPS, PAIRS, PATH, SLIDE, SNAP, SOME_BOX, SPIN, STILL, SWAP, TIE,
-    TRIP, Texts, UNTIED,
+    DONE, EACH_BOX, FORK, FOUR_BALLS, FOUR_BLOCKS, GO, HOP, LAMPS, PAIRS, PATH, SLIDE, SNAP,
+    SOME_BOX, SPIN, STILL, SWAP, TIE, TRIP, Texts, UNTIED,
 };
 
 /// A task, how many states may be listed, what is found out but for the bound at that limit, and of its certificate whether a
