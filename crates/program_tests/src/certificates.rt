@@ -4,9 +4,10 @@ use crate::helpers::{Answer, check_text};
 use cert_checker::{Accepted, RefusalCode};
 use certificate::{Cert, Claim, Mark, Potential, StateLine, Version};
 use faults::NoMemory;
-use std::alloc::Global;
+use std::alloc::{AllocError, Global};
+use std::process::Abort;
 use std::test::Fail;
-use test_texts::{GO, Term, Texts, UNTIED, atom, atoms, on_task};
+use test_texts::{GO, Texts, UNTIED, atom, atoms, on_task};
 
 /// Tasks, certificates of them, and what the checker answers where no instance may be kept: `GO` keeps one, and `UNTIED` none.
 #[rattlefmt::skip]
@@ -27,207 +28,142 @@ fn no_instance_may_be_kept(rt: HostRuntime) -> Result<(), Fail> {
     Ok(())
 }
 
-/// A state line: its cost, its bound if it is a cut, and its atoms.
-type Line = (u64, Option<u64>, &'static [u32]);
+/// A constant, and the weights of the atoms.
+type Weights = (i64, &'static [i64]);
 
-/// An open state, or a cut.
-fn mark_of(cut: Option<u64>) -> Mark {
-    match cut {
-        None => Mark::Open,
-        Some(rest) => Mark::Cut { rest },
-    }
-}
+/// What it costs to reach a state, what is said of it, and its atoms.
+type Line = (u64, Mark, &'static [u32]);
 
-/// The state lines of these costs, cuts and atoms.
-fn state_lines(alloc: Global, rows: &[Line]) -> Result<Vec<StateLine>, NoMemory> {
-    let mut lines = Vec::new(alloc);
-    for row in rows {
-        let atoms = row.2.to_vec(alloc)?;
-        lines.push(StateLine {
-            cost: row.0,
-            mark: mark_of(row.1),
-            atoms,
-        })?;
-    }
-    Ok(lines)
-}
-
-/// The certificate of these parts in version 1, and `None` where they exceed its limits.
-fn cert_of(
-    alloc: Global,
-    claim: Claim,
-    rows: &[Term],
-    potentials: (i64, &[i64]),
-    lines: &[Line],
-) -> Result<Option<Cert>, NoMemory> {
-    let atoms = atoms(alloc, rows)?;
-    let potential = Potential {
-        constant: potentials.0,
-        weights: Vec::from_slice(alloc, potentials.1)?,
-    };
-    let dead_ends = Potential {
-        constant: 0,
-        weights: vec![in alloc; 0; rows.len()]?,
-    };
-    let lines = state_lines(alloc, lines)?;
-    Ok(Cert::new(Version::One, claim, potential, dead_ends, atoms, lines))
-}
+/// A version, a claim, what values and dead ends weigh, and a state: the parts of a certificate with two atoms, and whether they
+/// keep its limits.
+type Row = (Version, Claim, Weights, Weights, Line, bool);
 
 /// The largest number that may stand in a certificate.
 const MOST: u64 = 1_152_921_504_606_846_975;
 
-/// The largest constant, and weights of two atoms.
-const POTENTIALS: (i64, &[i64]) = (2_147_483_647, &[-2_147_483_647, 3]);
+/// Constants and weights of 0, and the largest ones.
+const ZERO: Weights = (0, &[0, 0]);
 
-/// A claim and a line of a certificate with two atoms, and whether they keep the limits.
+const LARGEST: Weights = (2_147_483_647, &[-2_147_483_647, 3]);
+
+/// The state without an atom.
+const START: Line = (0, Mark::Open, &[]);
+
+/// Claims and states.
 #[rattlefmt::skip]
-static WITHIN: [(Claim, Line, bool); 11] = [
-    (Claim::Bound(MOST), (MOST, Some(MOST), &[0, 1]), true),
-    (Claim::Bound(0), (0, Some(0), &[1]), true),
-    (Claim::Unsolvable, (0, None, &[]), true),
-    (Claim::Bound(MOST + 1), (0, None, &[]), false),
-    (Claim::Bound(0), (MOST + 1, None, &[]), false),
-    (Claim::Bound(0), (0, Some(MOST + 1), &[]), false),
+static CLAIMS: [Row; 11] = [
+    (Version::One, Claim::Bound(MOST), LARGEST, ZERO, (MOST, Mark::Cut { rest: MOST }, &[0, 1]), true),
+    (Version::One, Claim::Bound(0), LARGEST, ZERO, (0, Mark::Cut { rest: 0 }, &[1]), true),
+    (Version::One, Claim::Unsolvable, LARGEST, ZERO, START, true),
+    (Version::One, Claim::Bound(MOST + 1), LARGEST, ZERO, START, false),
+    (Version::One, Claim::Bound(0), LARGEST, ZERO, (MOST + 1, Mark::Open, &[]), false),
+    (Version::One, Claim::Bound(0), LARGEST, ZERO, (0, Mark::Cut { rest: MOST + 1 }, &[]), false),
     // numbers that fall, stand twice, or name no atom
-    (Claim::Bound(0), (0, None, &[1, 0]), false),
-    (Claim::Bound(0), (0, None, &[0, 0]), false),
-    (Claim::Bound(0), (0, None, &[1, 1]), false),
-    (Claim::Bound(0), (0, None, &[2]), false),
-    (Claim::Bound(0), (0, None, &[0, 1, 2]), false),
+    (Version::One, Claim::Bound(0), LARGEST, ZERO, (0, Mark::Open, &[1, 0]), false),
+    (Version::One, Claim::Bound(0), LARGEST, ZERO, (0, Mark::Open, &[0, 0]), false),
+    (Version::One, Claim::Bound(0), LARGEST, ZERO, (0, Mark::Open, &[1, 1]), false),
+    (Version::One, Claim::Bound(0), LARGEST, ZERO, (0, Mark::Open, &[2]), false),
+    (Version::One, Claim::Bound(0), LARGEST, ZERO, (0, Mark::Open, &[0, 1, 2]), false),
 ];
 
-/// Whether the certificate makes this claim, with two atoms and this line.
-fn has_its_parts(cert: &Cert, claim: Claim, line: &Line) -> bool {
+/// What values weigh.
+#[rattlefmt::skip]
+static VALUES: [Row; 7] = [
+    (Version::One, Claim::Bound(0), ZERO, ZERO, START, true),
+    (Version::One, Claim::Bound(0), (-2_147_483_647, &[2_147_483_647, -2_147_483_647]), ZERO, START, true),
+    (Version::One, Claim::Bound(0), (-2_147_483_648, &[0, 0]), ZERO, START, false),
+    (Version::One, Claim::Bound(0), (0, &[2_147_483_648, 0]), ZERO, START, false),
+    (Version::One, Claim::Bound(0), (0, &[0, -2_147_483_648]), ZERO, START, false),
+    // one weight too few, and one too many
+    (Version::One, Claim::Bound(0), (0, &[0]), ZERO, START, false),
+    (Version::One, Claim::Bound(0), (0, &[0, 0, 0]), ZERO, START, false),
+];
+
+/// Versions, and what dead ends weigh.
+#[rattlefmt::skip]
+static VERSIONS: [Row; 10] = [
+    (Version::One, Claim::Unsolvable, ZERO, ZERO, START, true),
+    (Version::One, Claim::Unsolvable, ZERO, ZERO, (0, Mark::Dead, &[]), false),
+    (Version::One, Claim::Unsolvable, ZERO, (1, &[0, 0]), START, false),
+    (Version::One, Claim::Unsolvable, ZERO, (0, &[0, -1]), START, false),
+    (Version::Two, Claim::Unsolvable, ZERO, ZERO, START, true),
+    (Version::Two, Claim::Unsolvable, ZERO, (1, &[-1, 2_147_483_647]), (0, Mark::Dead, &[]), true),
+    (Version::Two, Claim::Unsolvable, ZERO, (-2_147_483_647, &[0, 1]), (0, Mark::Cut { rest: MOST }, &[]), true),
+    (Version::Two, Claim::Unsolvable, ZERO, (2_147_483_648, &[0, 0]), (0, Mark::Dead, &[]), false),
+    (Version::Two, Claim::Unsolvable, ZERO, (0, &[0, -2_147_483_648]), (0, Mark::Dead, &[]), false),
+    (Version::Two, Claim::Unsolvable, ZERO, (0, &[0]), (0, Mark::Dead, &[]), false),
+];
+
+/// The potential function of this constant and these weights.
+fn potential(alloc: Global, weights: &Weights) -> Result<Potential, AllocError> {
+    Ok(Potential {
+        constant: weights.0,
+        weights: Vec::from_slice(alloc, weights.1)?,
+    })
+}
+
+/// The state lines of this one.
+fn lines(alloc: Global, line: &Line) -> Result<Vec<StateLine>, NoMemory> {
+    let (cost, mark, numbers) = *line;
+    let atoms = numbers.to_vec(alloc)?;
+    Ok(vec![in alloc; StateLine { cost, mark, atoms }]?)
+}
+
+/// The certificate of these parts, and `None` where they exceed its limits.
+fn cert(alloc: Global, row: &Row) -> Result<Option<Cert>, NoMemory> {
+    let values = potential(alloc, &row.2)?;
+    let dead_ends = potential(alloc, &row.3)?;
+    let atoms = atoms(alloc, &[(0, &[]), (1, &[])])?;
+    let lines = lines(alloc, &row.4)?;
+    Ok(Cert::new(row.0, row.1, values, dead_ends, atoms, lines))
+}
+
+/// Whether the certificate has these weights.
+fn weighs(cert: &Cert, row: &Row) -> bool {
+    (cert.constant(), cert.weights()) == row.2
+        && (cert.dead_end_constant(), cert.dead_end_weights()) == row.3
+}
+
+/// Whether the certificate has these parts.
+fn has_parts(cert: &Cert, row: &Row) -> bool {
     match (cert.atoms(), cert.lines()) {
         ([_, second], [only]) => {
-            (only.cost, only.mark, only.atoms.as_slice()) == (line.0, mark_of(line.1), line.2)
-                && cert.claim() == claim
-                && cert.constant() == POTENTIALS.0
-                && cert.weights() == POTENTIALS.1
+            (only.cost, only.mark, only.atoms.as_slice()) == row.4
+                && (cert.version(), cert.claim()) == (row.0, row.1)
                 && *second == atom(1, &[])
+                && weighs(cert, row)
         }
         _ => false,
     }
 }
 
-/// Whether the certificate of this claim and this line has these parts, and `None` where there is none.
-fn is_made(alloc: Global, claim: Claim, line: &Line) -> Result<Option<bool>, NoMemory> {
-    let cert = cert_of(alloc, claim, &[(0, &[]), (1, &[])], POTENTIALS, &[*line])?;
-    match &cert {
-        Some(cert) => Ok(Some(has_its_parts(cert, claim, line))),
+/// Whether the certificate of these parts has them, and `None` where there is none.
+fn is_made(alloc: Global, row: &Row) -> Result<Option<bool>, NoMemory> {
+    match &cert(alloc, row)? {
+        Some(cert) => Ok(Some(has_parts(cert, row))),
         None => Ok(None),
     }
 }
 
-#[test]
-fn certificates_keep_their_limits(rt: HostRuntime) -> Result<(), Fail> {
-    for (number, (claim, line, fits)) in WITHIN.iter().enumerate() {
-        let made = is_made(rt.alloc(), *claim, line)?;
-        assert_eq!(rt; made, fits.then_some(true), "row {number}");
+/// There are certificates of these parts where the rows say so.
+fn are_made(rt: &impl Abort, alloc: Global, rows: &[Row]) -> Result<(), Fail> {
+    for (number, row) in rows.iter().enumerate() {
+        assert_eq!(rt; is_made(alloc, row)?, row.5.then_some(true), "row {number}");
     }
     Ok(())
 }
 
-/// Constants and weights of two atoms, and whether a certificate may have them.
-#[rattlefmt::skip]
-static WEIGHTS: [(i64, &[i64], bool); 7] = [
-    (0, &[0, 0], true),
-    (-2_147_483_647, &[2_147_483_647, -2_147_483_647], true),
-    (-2_147_483_648, &[0, 0], false),
-    (0, &[2_147_483_648, 0], false),
-    (0, &[0, -2_147_483_648], false),
-    // one weight too few, and one too many
-    (0, &[0], false),
-    (0, &[0, 0, 0], false),
-];
-
-/// Whether there is a certificate of this constant and these weights.
-fn may_weigh(alloc: Global, constant: i64, weights: &[i64]) -> Result<bool, NoMemory> {
-    let atoms: [Term; 2] = [(0, &[]), (1, &[])];
-    let made = cert_of(alloc, Claim::Bound(0), &atoms, (constant, weights), &[])?;
-    Ok(made.is_some())
+#[test]
+fn claims_keep_their_limits(rt: HostRuntime) -> Result<(), Fail> {
+    are_made(&rt, rt.alloc(), &CLAIMS)
 }
 
 #[test]
-fn weights_keep_their_limits(rt: HostRuntime) -> Result<(), Fail> {
-    for (number, (constant, weights, fits)) in WEIGHTS.iter().enumerate() {
-        let is_made = may_weigh(rt.alloc(), *constant, *weights)?;
-        assert_eq!(rt; is_made, *fits, "row {number}");
-    }
-    Ok(())
-}
-
-/// A version, what is said of the one state, the constant and the weights of dead ends, and whether a certificate may have
-/// them.
-#[rattlefmt::skip]
-static VERSIONS: [(Version, Mark, i64, &[i64], bool); 10] = [
-    (Version::One, Mark::Open, 0, &[0, 0], true),
-    (Version::One, Mark::Dead, 0, &[0, 0], false),
-    (Version::One, Mark::Open, 1, &[0, 0], false),
-    (Version::One, Mark::Open, 0, &[0, -1], false),
-    (Version::Two, Mark::Open, 0, &[0, 0], true),
-    (Version::Two, Mark::Dead, 1, &[-1, 2_147_483_647], true),
-    (Version::Two, Mark::Cut { rest: MOST }, -2_147_483_647, &[0, 1], true),
-    (Version::Two, Mark::Dead, 2_147_483_648, &[0, 0], false),
-    (Version::Two, Mark::Dead, 0, &[0, -2_147_483_648], false),
-    (Version::Two, Mark::Dead, 0, &[0], false),
-];
-
-/// The certificate of no plan, of two atoms and the initial state of `GO`, in this version.
-fn cert_in(
-    alloc: Global,
-    version: Version,
-    mark: Mark,
-    dead_ends: (i64, &[i64]),
-) -> Result<Option<Cert>, NoMemory> {
-    let potential = Potential {
-        constant: 0,
-        weights: vec![in alloc; 0, 0]?,
-    };
-    let dead_ends = Potential {
-        constant: dead_ends.0,
-        weights: Vec::from_slice(alloc, dead_ends.1)?,
-    };
-    let atoms = atoms(alloc, &[(0, &[]), (1, &[])])?;
-    let state = StateLine {
-        cost: 0,
-        mark,
-        atoms: vec![in alloc; 0]?,
-    };
-    let lines = vec![in alloc; state]?;
-    Ok(Cert::new(
-        version,
-        Claim::Unsolvable,
-        potential,
-        dead_ends,
-        atoms,
-        lines,
-    ))
-}
-
-/// Whether there is a certificate of these parts, and it has them.
-fn is_made_in(
-    alloc: Global,
-    version: Version,
-    mark: Mark,
-    dead_ends: (i64, &[i64]),
-) -> Result<bool, NoMemory> {
-    match &cert_in(alloc, version, mark, dead_ends)? {
-        Some(cert) => Ok(
-            cert.version() == version
-                && cert.dead_end_constant() == dead_ends.0
-                && cert.dead_end_weights() == dead_ends.1
-                && cert.lines().iter().all(|line| line.mark == mark),
-        ),
-        None => Ok(false),
-    }
+fn values_keep_their_limits(rt: HostRuntime) -> Result<(), Fail> {
+    are_made(&rt, rt.alloc(), &VALUES)
 }
 
 #[test]
 fn versions_keep_their_limits(rt: HostRuntime) -> Result<(), Fail> {
-    for (number, (version, mark, constant, weights, fits)) in VERSIONS.iter().enumerate() {
-        let is_made = is_made_in(rt.alloc(), *version, *mark, (*constant, *weights))?;
-        assert_eq!(rt; is_made, *fits, "row {number}");
-    }
-    Ok(())
+    are_made(&rt, rt.alloc(), &VERSIONS)
 }

@@ -1,5 +1,5 @@
-//! Tests of certificates, written, read over devices and changed; of devices in pieces and devices that fail, and files of a
-//! table and of the machine; and of the whole program over files that fail, and of what it tells.
+//! Tests of certificates, written, read over devices and changed, of the machine's files, and of the whole program over files
+//! that fail, and of what it tells.
 #![tactic(auto)]
 
 #[cfg(test)]
@@ -21,11 +21,11 @@ mod helpers;
 #[cfg(test)]
 mod laws;
 #[cfg(test)]
+mod machine_files;
+#[cfg(test)]
 mod reading_certificates;
 #[cfg(test)]
 mod reports;
-#[cfg(test)]
-mod streams;
 #[cfg(test)]
 mod told;
 #[cfg(test)]

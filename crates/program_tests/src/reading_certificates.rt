@@ -1,10 +1,9 @@
-//! The lines of certificates' texts, over devices that give bytes in pieces, that fail, and that never end.
+//! The lines of certificates' texts, over devices that give bytes one by one, that fail, and that never end.
 use certificate::{
     CertFault, CertLine, CertReader, Claim, Mark, NamedAtom, StateLine, TextFault, Version, Weights,
 };
 use devices::{Memory, Source};
 use std::alloc::{AllocError, Global};
-use std::process::Abort;
 use std::test::Fail;
 use test_devices::{Endless, FailsAt, InPieces};
 
@@ -110,44 +109,26 @@ fn is_next<S: Source>(
     Ok(reader.next_line()? == Some(wanted))
 }
 
-/// The reader hands out these lines, and no more.
+/// Whether the reader hands out these lines, and no more.
 fn hands_out<S: Source>(
-    rt: &impl Abort,
     alloc: Global,
     reader: &mut CertReader<S>,
     version: Version,
-) -> Result<(), Fail> {
+) -> Result<bool, Fail> {
     for number in 0..10 {
-        assert!(rt; is_next(alloc, reader, version, number)?, "line {number}");
+        if !is_next(alloc, reader, version, number)? {
+            return Ok(false);
+        }
     }
-    assert!(rt; reader.next_line()?.is_none());
-    Ok(())
+    Ok(reader.next_line()?.is_none())
 }
 
 #[test]
 fn lines_are_what_they_say(rt: HostRuntime) -> Result<(), Fail> {
     for (text, version) in [(HOP, Version::One), (DEAD, Version::Two)] {
         let mut reader = CertReader::new(rt.alloc(), one_by_one(rt.alloc(), text)?);
-        hands_out(&rt, rt.alloc(), &mut reader, version)?;
+        assert!(rt; hands_out(rt.alloc(), &mut reader, version)?);
     }
-    Ok(())
-}
-
-/// A text that is cut is told at the line in which it ends.
-fn is_cut_anywhere(rt: &impl Abort, alloc: Global) -> Result<(), Fail> {
-    for length in 0..HOP.len() {
-        let beginning = &HOP[..length];
-        let ends = beginning.iter().filter(|byte| **byte == b'\n').count() as u64;
-        let wanted = (ends, Some(at_line(TextFault::Truncated, ends + 1)));
-        assert!(rt; reads(alloc, one_by_one(alloc, beginning)?) == Some(wanted));
-    }
-    Ok(())
-}
-
-#[test]
-fn a_text_that_is_cut_is_told_at_the_line_that_is(rt: HostRuntime) -> Result<(), Fail> {
-    is_cut_anywhere(&rt, rt.alloc())?;
-    assert!(rt; reads(rt.alloc(), one_by_one(rt.alloc(), HOP)?) == Some((10, None)));
     Ok(())
 }
 
@@ -175,20 +156,13 @@ fn the_fault_of_a_line_that_came_is_told_before_a_failure(rt: HostRuntime) -> Re
     Ok(())
 }
 
-/// What is told of a text, and then the same bytes for ever.
-fn endless(alloc: Global, text: &[u8], again: u8) -> Result<Option<Told>, Fail> {
-    let again = vec![in alloc; again; 65_536]?;
-    Ok(reads(alloc, Endless::new(text.to_vec(alloc)?, again)))
-}
-
 #[test]
-fn a_text_without_an_end_has_a_fault(rt: HostRuntime) -> Result<(), Fail> {
-    let (first, behind) = (at_line(TextFault::Form, 1), at_line(TextFault::Form, 11));
-    let told = [
-        endless(rt.alloc(), b"", b'0')?,
-        endless(rt.alloc(), HOP, b'\n')?,
-    ];
-    assert_eq!(rt; told, [Some((0, Some(first))), Some((10, Some(behind)))]);
+fn a_text_that_is_cut_is_told_at_the_line_that_is(rt: HostRuntime) -> Result<(), Fail> {
+    let told = reads(
+        rt.alloc(),
+        one_by_one(rt.alloc(), b"pddl-cert 1\nclaim none")?,
+    );
+    assert_eq!(rt; told, Some((1, Some(at_line(TextFault::Truncated, 2)))));
     Ok(())
 }
 

@@ -166,14 +166,16 @@ fn dead_of_two(alloc: Global, ground: &Ground<'_>) -> Result<[Option<(bool, bool
 fn who_is_nowhere_is_dead(rt: HostRuntime) -> Result<(), Fail> {
     on_task(&rt, rt.alloc(), &HOP, |rt, alloc, task| {
         let ground = Ground::new(alloc, task, &[], 10)?;
-        let wanted = [
+        let told = (
+            told_dead_of_three(alloc, &ground)?,
+            dead_of_two(alloc, &ground)?,
+        );
+        let fairness = [
             Some(Fairness::Fair),
             Some(Fairness::Instance(0)),
             Some(Fairness::Goal),
         ];
-        assert_eq!(rt; told_dead_of_three(alloc, &ground)?, wanted);
-        let wanted = [Some((false, true)), None];
-        assert_eq!(rt; dead_of_two(alloc, &ground)?, wanted);
+        assert_eq!(rt; told, (fairness, [Some((false, true)), None]));
         Ok(())
     })
 }

@@ -260,9 +260,12 @@ fn finds_the_same_costs_with_no_estimate(rt: HostRuntime) -> Result<(), Fail> {
 
 #[test]
 fn estimates_are_the_scores_above_0(rt: HostRuntime) {
-    assert_eq!(rt; value_of(i64::MIN), 0);
-    assert_eq!(rt; value_of(-1), 0);
-    assert_eq!(rt; value_of(0), 0);
-    assert_eq!(rt; value_of(7), 7);
-    assert_eq!(rt; value_of(i64::MAX), 9_223_372_036_854_775_807);
+    let values = [
+        value_of(i64::MIN),
+        value_of(-1),
+        value_of(0),
+        value_of(7),
+        value_of(i64::MAX),
+    ];
+    assert_eq!(rt; values, [0, 0, 0, 7, 9_223_372_036_854_775_807]);
 }
