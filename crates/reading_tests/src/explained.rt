@@ -93,11 +93,19 @@ const FASTER: [&[u8]; 2] = [
 
 /// What is said of the fault.
 fn fault_told(alloc: Global) -> Result<String, NoMemory> {
-    let named = |name, text| NamedText { name, text };
     let texts = FaultTexts {
-        domain: named("domain.pddl", FASTER[0]),
-        problem: named("problem.pddl", FASTER[1]),
-        plan: named("plan.txt", b""),
+        domain: NamedText {
+            name: "domain.pddl",
+            text: FASTER[0],
+        },
+        problem: NamedText {
+            name: "problem.pddl",
+            text: FASTER[1],
+        },
+        plan: NamedText {
+            name: "plan.txt",
+            text: b"",
+        },
     };
     let fault = TextFault {
         file: File::Problem,
