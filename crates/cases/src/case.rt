@@ -5,8 +5,8 @@ use crate::holdings::Holdings;
 use crate::section::{Section, Turn};
 use crate::stream::Stream;
 use faults::NoMemory;
-use planner_main::Table;
 use std::alloc::{AllocError, Global};
+use test_devices::Table;
 
 /// Why a case could not be tried.
 #[derive(Clone, Copy, Debug)]

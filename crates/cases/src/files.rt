@@ -1,7 +1,7 @@
 //! The files of a case.
-use devices::{FailsAt, InPieces, Memory, WriteFault};
-use planner_main::{Files, Table};
+use devices::{Files, Memory, WriteFault};
 use std::alloc::Global;
+use test_devices::{FailsAt, InPieces, Table};
 
 /// A table of files, and how their bytes are given.
 #[derive(Drop)]

@@ -1,7 +1,7 @@
 //! What files are to hold after the run.
-use planner_main::Table;
 use std::alloc::{AllocError, Global};
 use std::fmt;
+use test_devices::Table;
 
 /// A file that is to hold these bytes, or not to be there.
 #[derive(Drop)]

@@ -2,9 +2,9 @@
 //! to stand in each of them.
 use crate::Tally;
 use devices::Memory;
-use planner_main::Table;
 use std::alloc::{AllocError, Global};
 use std::{fs, io};
+use test_devices::Table;
 
 /// A file that tells of the commands, and how.
 #[derive(Clone, Copy)]

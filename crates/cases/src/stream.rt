@@ -1,8 +1,9 @@
 //! The standard output and the standard error of a case.
 use crate::case::{CaseFault, number_of, read_number};
 use crate::section::{Section, Turn};
-use devices::{FailsAt, InPieces, Memory};
+use devices::Memory;
 use std::alloc::{AllocError, Global};
+use test_devices::{FailsAt, InPieces};
 
 /// A stream that may take its bytes in pieces, and fail.
 pub type Device = FailsAt<InPieces<Memory>>;

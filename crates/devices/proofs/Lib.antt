@@ -1,4 +1,3 @@
 pub mod Filling
 pub mod Readings
-pub mod TableLemmas
 pub mod WrittenFiles

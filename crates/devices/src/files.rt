@@ -1,4 +1,4 @@
-//! Files by name: those of the machine, and a table of them in memory. How a text is read, and how one is written.
+//! Files by name, and those of the machine. How a text is read, and how one is written.
 ghost use Rattle.std.specs.Prelude.{◌≡◌, ◌≢◌, ℕ, ◌<◌, Bool, false, List, [], Option, None, Some, Err, IfOk, IfSome, IsTrue, OnErr, OnOk};
 ghost use Rattle.devices.specs.declared.device.WriteFault.TheVariants.{Device};
 ghost use Rattle.devices.specs.Devices.{CountsDevice, IsKept, one_more};
@@ -6,13 +6,11 @@ ghost use Rattle.devices.specs.Written.{HoldsBeginning};
 
 mod reading;
 mod system;
-mod table;
 mod writing;
 
 use crate::device::{Sink, Source, WriteFault};
 pub use reading::read_file;
 pub use system::SystemFiles;
-pub use table::Table;
 pub use writing::{Bytes, Document, write_file};
 
 /// Files by name. A name that cannot be opened, created or closed is a failure.

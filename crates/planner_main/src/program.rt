@@ -66,9 +66,8 @@ use writing::tell_report;
 /// a file that is written fails, a beginning of what is told stands there; that the standard error fails changes no status.
 ///
 /// ```
-/// let mut files = Table::new(alloc);
-/// files.put("domain.pddl", b"(define (domain path) ..)")?;
-/// files.put("problem.pddl", b"(define (problem p) (:domain path) ..)")?;
+/// // "domain.pddl" has `(define (domain path) ..)`, and "problem.pddl" has `(define (problem p) (:domain path) ..)`
+/// let mut files = SystemFiles::new(&rt);
 /// let (mut out, mut err) = (Memory::empty(alloc), Memory::empty(alloc));
 /// let words = ["solve", "domain.pddl", "problem.pddl"];
 /// let status = run(alloc, &words, &mut files, &mut out, &mut err);

@@ -1,13 +1,10 @@
-//! Files of the tests' own: a table's that come in pieces and fail, and some that never end.
+//! Files of the tests' own: a table's whose writing fails, and some that never end.
 ghost use Rattle.std.specs.Prelude.{◌≡◌};
 ghost use Rattle.devices.specs.Devices.{one_more};
 
-use devices::{Endless, FailsAt, InPieces, Memory, WriteFault};
-use planner_main::{Files, Table};
+use devices::{Files, Memory, WriteFault};
 use std::alloc::{AllocError, Global};
-
-/// How many bytes of a file come at a read.
-pub(crate) const READ_PIECE: usize = 64;
+use test_devices::{Endless, FailsAt, InPieces, Table};
 
 /// How many bytes of a file are taken at a write.
 pub(crate) const WRITE_PIECE: usize = 7;
@@ -35,7 +32,7 @@ impl Failing {
     }
 }
 
-/// The files of a table, in pieces, whose writing fails. A file that is closed holds what it took, failed or not.
+/// The files of a table, whose writing fails. A file that is closed holds what it took, failed or not.
 #[derive(Drop)]
 pub(crate) struct FailingFiles {
     pub(crate) table: Table,
@@ -66,7 +63,7 @@ impl FailingFiles {
 }
 
 impl Files for FailingFiles {
-    type Input = InPieces<FailsAt<Memory>>;
+    type Input = FailsAt<Memory>;
 
     type Output = FailsAt<InPieces<<Table as Files>::Output>>;
 
@@ -80,9 +77,9 @@ impl Files for FailingFiles {
 
     ghost is_known = { ⟦<Table as Files>⟧.is_known };
 
-    fn open(&mut self, name: &str) -> Result<InPieces<FailsAt<Memory>>, WriteFault> {
+    fn open(&mut self, name: &str) -> Result<FailsAt<Memory>, WriteFault> {
         match self.table.open(name) {
-            Ok(input) => Ok(InPieces::new(input, READ_PIECE)),
+            Ok(input) => Ok(input),
             Err(WriteFault::Device) => {
                 self.count_failure();
                 Err(WriteFault::Device)
@@ -91,8 +88,8 @@ impl Files for FailingFiles {
         }
     }
 
-    fn finish(&mut self, input: InPieces<FailsAt<Memory>>) {
-        let failed = input.inner.failed_reads().min(1);
+    fn finish(&mut self, input: FailsAt<Memory>) {
+        let failed = input.failed_reads().min(1);
         self.failures = self.failures.saturating_add(failed);
     }
 

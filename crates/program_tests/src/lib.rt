@@ -1,7 +1,15 @@
-//! Tests of the whole program over devices in pieces and devices that fail, over files in memory, and over the machine's own;
-//! and of what is told. No crate that others stand on has a test.
+//! Tests of certificates, written, read over devices and changed, of the machine's files, and of the whole program over files
+//! that fail, and of what it tells.
 #![tactic(auto)]
 
+#[cfg(test)]
+mod answers;
+#[cfg(test)]
+mod certificates;
+#[cfg(test)]
+mod changed_texts;
+#[cfg(test)]
+mod checked_streams;
 #[cfg(test)]
 mod failing_certificates;
 #[cfg(test)]
@@ -9,10 +17,16 @@ mod failing_files;
 #[cfg(test)]
 mod failing_runs;
 #[cfg(test)]
+mod helpers;
+#[cfg(test)]
 mod laws;
+#[cfg(test)]
+mod machine_files;
+#[cfg(test)]
+mod reading_certificates;
 #[cfg(test)]
 mod reports;
 #[cfg(test)]
-mod streams;
-#[cfg(test)]
 mod told;
+#[cfg(test)]
+mod writing;

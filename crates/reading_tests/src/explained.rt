@@ -1,8 +1,9 @@
-//! What is said of plans that solve, stop or miss the goal.
+//! What is said of a plan in memory, of where its steps stand, of a task, and of a fault.
+use explained_faults::{File, NamedText, TextFault, Texts as FaultTexts, explain_fault};
 use explained_plans::{
     Summary, explain_plan, false_parts_tell, step_place, tell_details, tell_verdict,
 };
-use faults::Span;
+use faults::{Code, NoMemory, Span};
 use plan_file::read_plan;
 use std::alloc::Global;
 use std::process::Abort;
@@ -25,19 +26,9 @@ const ROAD: Texts = [
 
 /// Plans, and what is said of them.
 #[rattlefmt::skip]
-static TOLD: [(&str, &str); 8] = [
+static TOLD: [(&str, &str); 2] = [
     ("(hop a b)(hop b a)(hop a b)",
         "valid, cost 10\n1  (hop a b)  cost 4, 4 so far\n2  (hop b a)  cost 2, 6 so far\n3  (hop a b)  cost 4, 10 so far\n"),
-    ("", "the plan runs, and the goal is missed\n(at b) is false: it was never true.\n\
-(or (seen b) (= b a) (closed b)) is false.\n"),
-    ("(hop a b)(hop b a)", "the plan runs, and the goal is missed\n(at b) is false: step 2, (hop b a), deleted it.\n"),
-    ("(hop a b)(hop b a)(hop a b)(hop a b)",
-        "step 4, (hop a b), is not applicable\n(at a) is false: step 3, (hop a b), deleted it.\n"),
-    ("(close b)(close b)(hop a b)",
-        "step 3, (hop a b), is not applicable\n(not (closed b)) is false: step 1, (close b), added (closed b).\n"),
-    ("(hop a c)", "step 1, (hop a c), is not applicable\n\
-(not (closed c)) is false: (closed c) was true from the start.\n(distance a c) has no value.\n"),
-    ("(hop a a)", "step 1, (hop a a), is not applicable\n(distance a a) has no value.\n"),
     ("(hop b c)", "step 1, (hop b c), is not applicable\n(at b) is false: it was never true.\n\
 (not (closed c)) is false: (closed c) was true from the start.\n(distance b c) has no value.\n"),
 ];
@@ -66,34 +57,6 @@ fn plans_are_explained(rt: HostRuntime) -> Result<(), Fail> {
     on_task(&rt, rt.alloc(), &ROAD, are_told)
 }
 
-/// A hundred hops to and fro, of which the one in the middle leaves where the plan is not.
-fn hundred_hops(alloc: Global) -> Result<String, Fail> {
-    let mut text = String::new(alloc);
-    for step in 1..=100u32 {
-        let hop = if step == 51 || step % 2 == 0 {
-            "(hop b a)\n"
-        } else {
-            "(hop a b)\n"
-        };
-        text.push_str(hop)?;
-    }
-    Ok(text)
-}
-
-#[test]
-fn one_wrong_step_of_a_hundred_is_told(rt: HostRuntime) -> Result<(), Fail> {
-    on_task(&rt, rt.alloc(), &ROAD, |rt, alloc, task| {
-        let hops = hundred_hops(alloc)?;
-        let text = told(alloc, task, hops.as_str())?;
-        assert_eq!(rt;
-            text.as_str(),
-            "step 51, (hop b a), is not applicable\n\
-(at b) is false: step 50, (hop b a), deleted it.\n"
-        );
-        Ok(())
-    })
-}
-
 /// What the task of the places holds.
 const HOLDS: &str = "types 1, objects 3, predicates 3, functions 2, actions 2\n\
 costs yes, conditional effects no, quantifiers yes, negations yes, disjunctions yes\n";
@@ -118,4 +81,49 @@ fn steps_are_placed(rt: HostRuntime) {
     let first = Span { start: 0, end: 9 };
     let second = Span { start: 14, end: 23 };
     assert_eq!(rt; places, [Some(first), Some(second), None]);
+}
+
+/// A predicate stands in the goal that the domain has not.
+#[rattlefmt::skip]
+const FASTER: [&[u8]; 2] = [
+    b"(define (domain d) (:predicates (fast ?c) (at ?c)))",
+    b"(define (problem x) (:domain d) (:objects herbie)
+ (:init) (:goal (fats herbie)))",
+];
+
+/// What is said of the fault.
+fn fault_told(alloc: Global) -> Result<String, NoMemory> {
+    let texts = FaultTexts {
+        domain: NamedText {
+            name: "domain.pddl",
+            text: FASTER[0],
+        },
+        problem: NamedText {
+            name: "problem.pddl",
+            text: FASTER[1],
+        },
+        plan: NamedText {
+            name: "plan.txt",
+            text: b"",
+        },
+    };
+    let fault = TextFault {
+        file: File::Problem,
+        code: Code::UnknownName,
+        span: Span { start: 67, end: 71 },
+    };
+    explain_fault(alloc, &texts, fault)?.text(alloc, &texts)
+}
+
+#[test]
+fn a_fault_is_explained(rt: HostRuntime) -> Result<(), Fail> {
+    assert_eq!(rt;
+        fault_told(rt.alloc())?.as_str(),
+        "problem.pddl:2:18: fault 17 UnknownName (columns count bytes)
+   2 |  (:init) (:goal (fats herbie)))
+     |                  ^^^^
+no predicate is called `fats`; near to it: `fast` and `at`.
+"
+    );
+    Ok(())
 }

@@ -1,8 +1,13 @@
-//! The laws of reading and of meaning that are stated of all values, and proved, each called once; and the numbers that the
-//! contracts name.
+//! The laws of reading, of meaning and of ground tasks that are stated of all values, and proved, each called once; and the
+//! numbers that the contracts name.
 use formulas::{MAX_STEPS, formula_examples_are_judged, one_state, sure_literals_hold};
-use task::{MAX_ARGUMENTS, MAX_OBJECTS, MAX_VARIABLES};
+use grounding::{
+    atoms_are_numbered, closed_off_is_not_applicable, ground_task_is_bisimilar,
+    ground_task_solves_alike, grounding_examples_are_judged, numbered_literals_hold,
+    only_counting_changes_are_made, packs_states,
+};
 use tokens::LONGEST_TEXT;
+use task::{MAX_ARGUMENTS, MAX_OBJECTS, MAX_VARIABLES};
 use typing::{examples_are_typed, supertypes_are_those_above};
 use validator::{exactly_one_verdict_is_true, worked_examples_are_true};
 
@@ -29,6 +34,18 @@ fn laws_of_meaning_are_called() {
     formula_examples_are_judged();
     exactly_one_verdict_is_true();
     worked_examples_are_true();
+}
+
+#[test]
+fn laws_of_ground_tasks_are_called() {
+    atoms_are_numbered();
+    closed_off_is_not_applicable();
+    only_counting_changes_are_made();
+    numbered_literals_hold();
+    packs_states();
+    ground_task_is_bisimilar();
+    ground_task_solves_alike();
+    grounding_examples_are_judged();
 }
 
 const _: () = prove!(

@@ -1,15 +1,15 @@
 //! Plans that are written to devices, and read back.
 ghost use Rattle.std.specs.Prelude.{◌<◌};
 
-use devices::{FailsAt, Files, InPieces, Memory, Source, SystemFiles, WriteFault};
+use devices::{Memory, WriteFault};
 use formulas::Plan;
 use plan_file::{read_plan, step_text, write_plan};
 use std::alloc::Global;
 use std::process::Abort;
 use std::test::Fail;
-use std::{env, fs, process};
-use task::Task;
+use test_devices::{FailsAt, InPieces};
 use test_texts::{HOP, Term, instance, is_of, on_task};
+use task::Task;
 
 /// Two hops, as they are written.
 const TWO_HOPS: &[u8] = b"(hop a b)\n(hop b c)\n; cost = 6\n";
@@ -171,109 +171,4 @@ fn plans_are_begun_where_a_write_fails(rt: HostRuntime) -> Result<(), Fail> {
         fails_at_each_piece(rt, alloc, task, &hops);
         Ok(())
     })
-}
-
-/// Writes the plan of these steps to a file.
-fn save<F: Files>(
-    alloc: Global,
-    task: &Task,
-    files: &mut F,
-    name: &str,
-    plan: &Plan,
-    cost: u64,
-) -> Result<(), WriteFault> {
-    let mut output = files.create(name)?;
-    let written = write_plan(alloc, task, plan, cost, &mut output);
-    files.close(output)?;
-    written
-}
-
-/// Whether a read of the file gives these bytes, and all of them.
-fn holds<F: Files>(files: &mut F, name: &str, wanted: &[u8]) -> Result<bool, WriteFault> {
-    let mut input = files.open(name)?;
-    let mut room = [0u8; 64];
-    let count = input.read(&mut room)?;
-    files.finish(input);
-    Ok(&room[..count] == wanted)
-}
-
-/// Two hops are written to a file, and then the empty plan in their place.
-fn replaces<F: Files>(alloc: Global, task: &Task, files: &mut F, name: &str) -> Result<bool, Fail> {
-    let (hops, nothing) = (plan(alloc, PLANS[0].0)?, plan(alloc, &[])?);
-    Ok(replaces_by(alloc, task, files, name, &hops, &nothing)?)
-}
-
-/// The same with these two plans.
-fn replaces_by<F: Files>(
-    alloc: Global,
-    task: &Task,
-    files: &mut F,
-    name: &str,
-    hops: &Plan,
-    nothing: &Plan,
-) -> Result<bool, WriteFault> {
-    save(alloc, task, files, name, hops, 6)?;
-    let is_first = holds(files, name, TWO_HOPS)?;
-    save(alloc, task, files, name, nothing, 0)?;
-    Ok(is_first && holds(files, name, NO_HOP)?)
-}
-
-/// A name in the temporary folder that is no other process's.
-fn temporary_name(rt: &HostRuntime, alloc: Global, name: &str) -> Result<String, Fail> {
-    let folder = env::temp_dir(rt)?;
-    let id = process::id(rt.process());
-    Ok(format!(in alloc; "{}/optplan-{name}-{id}", folder.as_str())?)
-}
-
-#[test]
-fn the_machine_replaces_plan_files(rt: HostRuntime) -> Result<(), Fail> {
-    let name = temporary_name(&rt, rt.alloc(), "plan")?;
-    on_task(&rt, rt.alloc(), &HOP, |rt, alloc, task| {
-        let mut files = SystemFiles::new(rt);
-        assert!(rt; replaces(alloc, task, &mut files, name.as_str())?);
-        Ok(())
-    })?;
-    fs::remove_file(&rt, name.as_str())?;
-    Ok(())
-}
-
-/// Whether the machine fails where two hops are written to a file of this name.
-fn fails_to_save(rt: &HostRuntime, alloc: Global, task: &Task, name: &str) -> Result<bool, Fail> {
-    let hops = plan(alloc, PLANS[0].0)?;
-    let saved = save(alloc, task, &mut SystemFiles::new(rt), name, &hops, 6);
-    Ok(saved == Err(WriteFault::Device))
-}
-
-#[test]
-fn the_machine_makes_no_folder(rt: HostRuntime) -> Result<(), Fail> {
-    let name = temporary_name(&rt, rt.alloc(), "none/plan")?;
-    on_task(&rt, rt.alloc(), &HOP, |rt, alloc, task| {
-        assert!(rt; fails_to_save(rt, alloc, task, name.as_str())?);
-        Ok(())
-    })?;
-    assert!(rt; !fs::exists(&rt, name.as_str())?);
-    Ok(())
-}
-
-/// A device that is always full, where the machine has it.
-const FULL: &str = "/dev/full";
-
-#[test]
-fn the_machine_tells_a_full_device(rt: HostRuntime) -> Result<(), Fail> {
-    if !fs::exists(&rt, FULL)? {
-        return Ok(());
-    }
-    on_task(&rt, rt.alloc(), &HOP, |rt, alloc, task| {
-        assert!(rt; fails_to_save(rt, alloc, task, FULL)?);
-        Ok(())
-    })
-}
-
-#[test]
-fn the_machine_reads_no_folder(rt: HostRuntime) -> Result<(), Fail> {
-    let folder = env::temp_dir(&rt)?;
-    let mut files = SystemFiles::new(&rt);
-    let found = holds(&mut files, folder.as_str(), b"");
-    assert_eq!(rt; found, Err(WriteFault::Device));
-    Ok(())
 }

@@ -213,12 +213,10 @@ fn is_listed(state: &State, atoms: &[Atom]) -> Result<bool, NoMemory> {
     Ok(state.atoms().iter().eq(atoms) & (copy == *state))
 }
 
-/// The state into which the first atoms were put has the second ones, in this order, and so has its copy.
-fn lists(rt: &impl Abort, alloc: Global, put: &[Term], wanted: &[Term]) -> Result<(), Fail> {
+/// Whether the state into which the first atoms were put has the second ones, in this order, and so has its copy.
+fn lists(alloc: Global, put: &[Term], wanted: &[Term]) -> Result<bool, NoMemory> {
     let state = state(alloc, put)?;
-    let wanted = atoms(alloc, wanted)?;
-    assert!(rt; is_listed(&state, &wanted)?);
-    Ok(())
+    is_listed(&state, &atoms(alloc, wanted)?)
 }
 
 /// Whether the states of these atoms are one.
@@ -229,11 +227,16 @@ fn is_one(alloc: Global, some: &[Term], other: &[Term]) -> Result<bool, NoMemory
 
 #[test]
 fn states_are_sets(rt: HostRuntime) -> Result<(), Fail> {
-    assert!(rt; is_one(rt.alloc(), &MIXED, &IN_ORDER)?);
-    assert!(rt; !is_one(rt.alloc(), &MIXED, &IN_ORDER[1..])?);
-    lists(&rt, rt.alloc(), &MIXED, &IN_ORDER)?;
-    lists(&rt, rt.alloc(), &IN_ORDER[1..], &IN_ORDER[1..])?;
-    lists(&rt, rt.alloc(), &[], &[])
+    let alloc = rt.alloc();
+    let found = [
+        is_one(alloc, &MIXED, &IN_ORDER)?,
+        !is_one(alloc, &MIXED, &IN_ORDER[1..])?,
+        lists(alloc, &MIXED, &IN_ORDER)?,
+        lists(alloc, &IN_ORDER[1..], &IN_ORDER[1..])?,
+        lists(alloc, &[], &[])?,
+    ];
+    assert_eq!(rt; found, [true; 5]);
+    Ok(())
 }
 
 /// Whether these are the two steps of the plan that is made below.

@@ -278,7 +278,8 @@ fn typed_lists_have_their_groups(rt: HostRuntime) -> Result<(), Fail> {
 
 #[test]
 fn files_have_their_trees(rt: HostRuntime) -> Result<(), Fail> {
-    assert!(rt; is_go(&read_domain(rt.alloc(), GO)?));
-    assert!(rt; is_trip(&read_problem(rt.alloc(), TRIP)?));
+    let is_go = is_go(&read_domain(rt.alloc(), GO)?);
+    let is_trip = is_trip(&read_problem(rt.alloc(), TRIP)?);
+    assert_eq!(rt; [is_go, is_trip], [true, true]);
     Ok(())
 }

@@ -1,4 +1,5 @@
-//! Tests of packed states, of both stores of them, and of the search over a system that stands here alone.
+//! Tests of packed states and both stores of them, of the search over a system that stands here alone, of potentials, and of
+//! the certificates of answers over either store.
 #![tactic(auto)]
 
 #[cfg(test)]
@@ -6,11 +7,21 @@ mod blind_rooms;
 #[cfg(test)]
 mod dear_doors;
 #[cfg(test)]
+mod fairness;
+#[cfg(test)]
+mod laws;
+#[cfg(test)]
 mod packed_states;
+#[cfg(test)]
+mod plain_certificates;
+#[cfg(test)]
+mod plain_tasks;
 #[cfg(test)]
 mod refused_inserts;
 #[cfg(test)]
 mod rooms;
+#[cfg(test)]
+mod scores;
 #[cfg(test)]
 mod searches;
 #[cfg(test)]

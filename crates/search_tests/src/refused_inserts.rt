@@ -77,7 +77,10 @@ fn a_refused_set_changes_no_store(rt: HostRuntime) -> Result<(), Fail> {
         Ok(made) => made,
         Err(NoMemory) => set_up(rt.alloc(), WIDTH)?,
     };
-    assert!(rt; takes_each(&mut plain, &sets, &mut lent));
-    assert!(rt; takes_each(&mut pooled, &sets, &mut lent));
+    let are_taken = [
+        takes_each(&mut plain, &sets, &mut lent),
+        takes_each(&mut pooled, &sets, &mut lent),
+    ];
+    assert!(rt; are_taken == [true, true]);
     Ok(())
 }

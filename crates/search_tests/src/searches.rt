@@ -210,9 +210,15 @@ fn cost_of<S>(outcome: &Outcome<S>) -> Option<u64> {
 }
 
 /// What a cheapest plan costs, as the search with no estimate finds out.
-fn cost_with_no_estimate(alloc: Global, row: &Row) -> Result<Option<u64>, NoMemory> {
+fn cost_with_no_estimate<S: StateStore>(
+    alloc: Global,
+    row: &Row,
+    store: S,
+) -> Result<Option<u64>, NoMemory>
+    requires empty { S.states store ≡ [] }
+    requires width { S.width_of store ≡ row.now.rooms.width }
+{
     let most = row.most.clamp(1, MAX_STATES);
-    let store = PlainStore::new(alloc, row.rooms.width);
     let none = NoDeadEnd(&row.rooms);
     let outcome = best_first(
         alloc,
@@ -223,6 +229,14 @@ fn cost_with_no_estimate(alloc: Global, row: &Row) -> Result<Option<u64>, NoMemo
         most,
     )?;
     Ok(cost_of(&outcome))
+}
+
+/// The same in the plain store, and in the pooled one.
+fn costs_with_no_estimate(alloc: Global, row: &Row) -> Result<[Option<u64>; 2], NoMemory> {
+    let width = row.rooms.width;
+    let plain = cost_with_no_estimate(alloc, row, PlainStore::new(alloc, width))?;
+    let pooled = cost_with_no_estimate(alloc, row, PooledStore::new(alloc, width)?)?;
+    Ok([plain, pooled])
 }
 
 #[test]
@@ -237,17 +251,21 @@ fn finds_cheapest_plans_in_their_order(rt: HostRuntime) -> Result<(), Fail> {
 #[test]
 fn finds_the_same_costs_with_no_estimate(rt: HostRuntime) -> Result<(), Fail> {
     for (number, row) in ROWS.iter().enumerate() {
-        let cost = cost_with_no_estimate(rt.alloc(), row)?;
-        assert_eq!(rt; cost, row.plan.map(|(_, cost)| cost), "row {number}");
+        let costs = costs_with_no_estimate(rt.alloc(), row)?;
+        let wanted = row.plan.map(|(_, cost)| cost);
+        assert_eq!(rt; costs, [wanted, wanted], "row {number}");
     }
     Ok(())
 }
 
 #[test]
 fn estimates_are_the_scores_above_0(rt: HostRuntime) {
-    assert_eq!(rt; value_of(i64::MIN), 0);
-    assert_eq!(rt; value_of(-1), 0);
-    assert_eq!(rt; value_of(0), 0);
-    assert_eq!(rt; value_of(7), 7);
-    assert_eq!(rt; value_of(i64::MAX), 9_223_372_036_854_775_807);
+    let values = [
+        value_of(i64::MIN),
+        value_of(-1),
+        value_of(0),
+        value_of(7),
+        value_of(i64::MAX),
+    ];
+    assert_eq!(rt; values, [0, 0, 0, 7, 9_223_372_036_854_775_807]);
 }

@@ -1,7 +1,0 @@
--- Devices that move at most so many bytes at a call.
-use Rattle.std.specs.Prelude.{ℕ}
-use Rattle.devices.specs.declared.memory.InPieces.{InPieces}
-
--- the most bytes that it moves at a call
-abbrev pub piece_length : {D : Type 0} → InPieces D → ℕ
-piece_length device = device.length

@@ -1,0 +1,51 @@
+//! The certificate of an answer, which the checker accepts from its text.
+ghost use Rattle.std.specs.Prelude.{IsTrue};
+ghost use Rattle.std.specs.List.{list_all};
+ghost use Rattle.task.specs.Task.{task_of};
+ghost use Rattle.formulas.specs.State.{plan_of};
+ghost use Rattle.model.specs.Meaning.{is_instance};
+
+use crate::helpers::check_cert;
+use cert_checker::Accepted;
+use certificate::Cert;
+use devices::WriteFault;
+use formulas::Plan;
+use solver::{Answer, Limits, solve};
+use std::alloc::Global;
+use std::test::Fail;
+use test_texts::{HOP, on_task};
+use task::Task;
+
+/// Whether the certificate of the plan is accepted, with the plan and without.
+fn is_plan_shown(
+    alloc: Global,
+    task: &Task,
+    steps: &Plan,
+    cost: u64,
+    cert: &Cert,
+) -> Result<bool, WriteFault>
+    requires { IsTrue (list_all (is_instance (task_of task.now)) (plan_of steps.now)) }
+{
+    let with_plan = check_cert(alloc, task, cert, Some(steps), 1_000_000)?;
+    let without = check_cert(alloc, task, cert, None, 1_000_000)?;
+    Ok(with_plan == Ok(Accepted::Optimal { cost }) && without == Ok(Accepted::AtLeast { cost }))
+}
+
+/// Whether there is a plan, and its certificate is accepted.
+fn is_shown(alloc: Global, task: &Task, limits: Limits) -> Result<bool, Fail> {
+    let answer = solve(alloc, task, limits)?;
+    let is_accepted = match &answer {
+        Answer::Plan { steps, cost, cert } => is_plan_shown(alloc, task, steps, *cost, cert),
+        Answer::Unsolvable { .. } | Answer::Unknown(_) => Ok(false),
+    };
+    Ok(is_accepted?)
+}
+
+#[test]
+fn a_plan_is_shown_by_its_certificate(rt: HostRuntime) -> Result<(), Fail> {
+    let limits = Limits::new(3, 3).ok_or("no limits")?;
+    on_task(&rt, rt.alloc(), &HOP, |rt, alloc, task| {
+        assert!(rt; is_shown(alloc, task, limits)?);
+        Ok(())
+    })
+}

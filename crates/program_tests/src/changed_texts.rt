@@ -1,0 +1,101 @@
+//! Texts of certificates that are changed in one byte. What is accepted of them is true.
+use crate::helpers::{Answer, check_text};
+use cert_checker::Accepted;
+use std::alloc::{AllocError, Global};
+use std::process::Abort;
+use std::test::Fail;
+use task::Task;
+use test_texts::{HOP, PATH, Texts, on_task};
+
+/// A task, what its cheapest plan costs, a text, and how many texts that differ from it in one byte are accepted.
+struct Row {
+    texts: Texts,
+    cheapest: u64,
+    text: &'static str,
+    accepted: u64,
+}
+
+/// Two texts that are accepted, and two that are not: that a plan costs more than the cheapest does, and that there is none. Of
+/// their changes are accepted those of the claim to at most 2, and the last cut of the first text at 2.
+#[rattlefmt::skip]
+static ROWS: [Row; 4] = [
+    Row { texts: HOP, cheapest: 6, accepted: 3,
+        text: "pddl-cert 1\nclaim bound 2\nconstant 0\natom 0 (at a)\natom 0 (at b)\natom 0 (at c)\nopen 0 0\ncut 2 0 1\ncut 9 0 2\nend 3\n" },
+    Row { texts: PATH, cheapest: 2, accepted: 1,
+        text: "pddl-cert 1\nclaim bound 1\nconstant 0\natom 0 (at a)\natom 0 (at b)\nopen 0 0\ncut 1 0 1\nend 2\n" },
+    Row { texts: HOP, cheapest: 6, accepted: 3,
+        text: "pddl-cert 1\nclaim bound 9\nconstant 0\natom 0 (at a)\natom 0 (at b)\natom 0 (at c)\nopen 0 0\nopen 3 1\ncut 6 0 2\nend 3\n" },
+    Row { texts: HOP, cheapest: 6, accepted: 0,
+        text: "pddl-cert 1\nclaim none\nconstant 0\natom 0 (at a)\natom 0 (at b)\natom 0 (at c)\nopen 0 0\nopen 3 1\nopen 6 2\nend 3\n" },
+];
+
+/// The bytes that stand in the place of another.
+const OTHERS: &[u8] = b"0129 \n()an";
+
+/// What the checker answers where this byte stands at this place of the text; `None` where it stands there already.
+fn answer(
+    alloc: Global,
+    task: &Task,
+    text: &str,
+    place: usize,
+    byte: u8,
+) -> Result<Option<Answer>, AllocError> {
+    let mut changed = text.as_bytes().to_vec(alloc)?;
+    match changed.get_mut(place) {
+        Some(old) if *old != byte => *old = byte,
+        _ => return Ok(None),
+    }
+    Ok(Some(check_text(alloc, task, changed, 100)))
+}
+
+/// Whether it is refused, or is true of a task whose cheapest plan costs so much.
+fn is_true(answer: Answer, cheapest: u64) -> bool {
+    match answer {
+        Ok(Accepted::AtLeast { cost }) => cost <= cheapest,
+        Ok(_) => false,
+        Err(_) => true,
+    }
+}
+
+/// How many of the texts are accepted that have another byte at this place.
+fn accepted_at(
+    rt: &impl Abort,
+    alloc: Global,
+    task: &Task,
+    row: &Row,
+    place: usize,
+) -> Result<u64, Fail> {
+    let mut accepted: u64 = 0;
+    for byte in OTHERS {
+        if let Some(answer) = answer(alloc, task, row.text, place, *byte)? {
+            assert!(rt;
+                is_true(answer, row.cheapest),
+                "{byte} at {place} of {}",
+                row.text
+            );
+            accepted = accepted.saturating_add(u64::from(answer.is_ok()));
+        }
+    }
+    Ok(accepted)
+}
+
+/// How many of the texts are accepted that have another byte anywhere.
+fn accepted(rt: &impl Abort, alloc: Global, task: &Task, row: &Row) -> Result<u64, Fail> {
+    let mut accepted: u64 = 0;
+    for place in 0..row.text.len() {
+        accepted = accepted.saturating_add(accepted_at(rt, alloc, task, row, place)?);
+    }
+    Ok(accepted)
+}
+
+#[test]
+fn what_is_accepted_of_changed_texts_is_true(rt: HostRuntime) -> Result<(), Fail> {
+    for row in &ROWS {
+        on_task(&rt, rt.alloc(), &row.texts, |rt, alloc, task| {
+            let accepted = accepted(rt, alloc, task, row)?;
+            assert_eq!(rt; accepted, row.accepted, "{}", row.text);
+            Ok(())
+        })?;
+    }
+    Ok(())
+}

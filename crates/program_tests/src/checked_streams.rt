@@ -1,0 +1,98 @@
+//! The checker over sources that fail, and that never end.
+use crate::helpers::Told::{Device, Line as At};
+use crate::helpers::{Answer, check_source};
+use cert_checker::RefusalCode::{CertForm, NotFluent, Repeated};
+use cert_checker::{Accepted, RefusalCode};
+use devices::Memory;
+use std::alloc::{AllocError, Global};
+use std::process::Abort;
+use std::test::Fail;
+use test_devices::{Endless, FailsAt, InPieces};
+use test_texts::{PAIRS, on_task};
+use task::Task;
+
+/// There is no plan.
+const NO_PLAN: &[u8] =
+    b"pddl-cert 1\nclaim none\nconstant 0\natom 0 (on s1)\natom 0 (on s2)\natom 0 (on s3)\nopen 0\nopen 1 0 1\nopen 1 0 2\nopen 1 1 2\nend 4\n";
+
+/// An atom is repeated.
+const AGAIN: &[u8] = b"pddl-cert 1\nclaim none\nconstant 0\natom 0 (on s1)\natom 0 (on s1)\n";
+
+/// The bytes as a device.
+fn memory(alloc: Global, bytes: &[u8]) -> Result<Memory, AllocError> {
+    Ok(Memory::new(bytes.to_vec(alloc)?))
+}
+
+/// What the checker answers where bytes come one by one, and the read after so many fails.
+fn failing(alloc: Global, task: &Task, bytes: &[u8], reads: u64) -> Result<Answer, AllocError> {
+    let source = FailsAt::source(InPieces::new(memory(alloc, bytes)?, 1), Some(reads));
+    Ok(check_source(alloc, task, source, None, 6))
+}
+
+/// A failure is told before the end of the text.
+fn failures_are_told(rt: &impl Abort, alloc: Global, task: &Task) -> Result<(), Fail> {
+    for reads in 0..=NO_PLAN.len() as u64 {
+        let answer = failing(alloc, task, NO_PLAN, reads)?;
+        assert_eq!(rt; answer, Err(Device), "{reads}");
+    }
+    Ok(())
+}
+
+/// The answer to a text with this fault.
+fn at_line(code: RefusalCode, line: u64) -> Answer {
+    Err(At { code, line })
+}
+
+/// A failure is told unless the end of the text was read, or a fault of a line that came comes before it.
+fn only_failures_are_told(rt: &impl Abort, alloc: Global, task: &Task) -> Result<(), Fail> {
+    failures_are_told(rt, alloc, task)?;
+    let answers = [
+        failing(alloc, task, NO_PLAN, NO_PLAN.len().saturating_add(1) as u64)?,
+        failing(alloc, task, AGAIN, AGAIN.len() as u64)?,
+    ];
+    assert_eq!(rt; answers, [Ok(Accepted::Unsolvable), at_line(Repeated, 5)]);
+    Ok(())
+}
+
+#[test]
+fn a_failure_is_told_where_it_comes(rt: HostRuntime) -> Result<(), Fail> {
+    on_task(&rt, rt.alloc(), &PAIRS, only_failures_are_told)
+}
+
+/// What stands before the first atom.
+const HEAD: &[u8] = b"pddl-cert 1\nclaim none\nconstant 0\n";
+
+/// What the checker answers to a text that these bytes follow for ever.
+fn endless(alloc: Global, task: &Task, text: &[u8], again: &[u8]) -> Result<Answer, AllocError> {
+    let again = again.repeat(alloc, 4_096)?;
+    if again.is_empty() {
+        return Ok(check_source(alloc, task, memory(alloc, text)?, None, 6));
+    }
+    let source = Endless::new(text.to_vec(alloc)?, again);
+    Ok(check_source(alloc, task, source, None, 6))
+}
+
+/// Texts, what follows them for ever, and the first line at fault.
+#[rattlefmt::skip]
+static ENDLESS: [(&[u8], &[u8], RefusalCode, u64); 6] = [
+    (AGAIN, b" ", Repeated, 5),
+    (NO_PLAN, b" ", CertForm, 12),
+    (b"", b"0", CertForm, 1),
+    (HEAD, b"0", CertForm, 4),
+    (HEAD, b"atom 0 (on s1)\n", Repeated, 5),
+    (HEAD, b"atom 0 (on s9)\n", NotFluent, 4),
+];
+
+/// The first line at fault is told, whatever follows.
+fn ends_are_told(rt: &impl Abort, alloc: Global, task: &Task) -> Result<(), Fail> {
+    for (number, (text, again, code, line)) in ENDLESS.iter().enumerate() {
+        let answer = endless(alloc, task, *text, *again)?;
+        assert_eq!(rt; answer, at_line(*code, *line), "row {number}");
+    }
+    Ok(())
+}
+
+#[test]
+fn texts_without_an_end_are_refused(rt: HostRuntime) -> Result<(), Fail> {
+    on_task(&rt, rt.alloc(), &PAIRS, ends_are_told)
+}

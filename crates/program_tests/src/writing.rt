@@ -1,0 +1,156 @@
+//! Certificates that are written to sinks that fail.
+ghost use Rattle.std.specs.Prelude.{◌<◌};
+
+use certificate::{Bounds, Cert, Claim, Header, Mark, Potential, StateLine, Version, write_cert};
+use devices::{Memory, WriteFault};
+use faults::NoMemory;
+use indexmap::IndexSet;
+use std::alloc::{AllocError, Global};
+use std::process::Abort;
+use std::test::Fail;
+use task::Task;
+use test_devices::{FailsAt, InPieces};
+use test_texts::{GO, atom, on_task};
+
+/// How many atoms the certificates have: the two of `GO`, and others, which the task has no names for.
+const ATOMS: u32 = 12;
+
+/// The numbers of the atoms of a state, which are the places of the ones in its number.
+fn atoms_of(alloc: Global, state: u32) -> Result<Vec<u32>, AllocError> {
+    let mut atoms = Vec::new(alloc);
+    for atom in 0..ATOMS {
+        if state >> atom & 1 == 1 {
+            atoms.push(atom)?;
+        }
+    }
+    Ok(atoms)
+}
+
+/// The certificate that lists the first so many states as dead ends.
+fn cert(alloc: Global, count: u32) -> Result<Option<Cert>, NoMemory> {
+    let mut lines = Vec::new(alloc);
+    for state in 0..count {
+        lines.push(StateLine {
+            cost: 0,
+            mark: Mark::Dead,
+            atoms: atoms_of(alloc, state)?,
+        })?;
+    }
+    let mut atoms = IndexSet::new(alloc);
+    for predicate in 0..ATOMS {
+        atoms.insert(atom(predicate as usize, &[]))?;
+    }
+    let values = Potential {
+        constant: 0,
+        weights: vec![in alloc; 0; ATOMS as usize]?,
+    };
+    let dead_ends = Potential {
+        constant: 1,
+        weights: vec![in alloc; -1; ATOMS as usize]?,
+    };
+    let header = Header {
+        version: Version::Two,
+        claim: Claim::Bound(0),
+        atoms,
+        bounds: Bounds { values, dead_ends },
+    };
+    Cert::new(alloc, header, &lines)
+}
+
+/// Its text.
+fn text(alloc: Global, count: u32) -> Result<Vec<u8>, AllocError> {
+    let mut text =
+        b"pddl-cert 2\nclaim bound 0\nconstant 0 1\natom 0 -1 (p)\natom 0 -1 (q)\n".to_vec(alloc)?;
+    text.extend_from_slice(b"atom 0 -1 ()\n".repeat(alloc, 10)?.as_slice())?;
+    for state in 0..count {
+        text.extend_from_slice(b"dead 0")?;
+        for atom in &atoms_of(alloc, state)? {
+            text.extend_from_slice(format!(in alloc; " {atom}")?.as_bytes())?;
+        }
+        text.extend_from_slice(b"\n")?;
+    }
+    text.extend_from_slice(format!(in alloc; "end {count}\n")?.as_bytes())?;
+    Ok(text)
+}
+
+/// What is told, and what is taken of the text, where the sink takes so many bytes at a write and the write after so many
+/// fails.
+fn taken(
+    alloc: Global,
+    task: &Task,
+    cert: &Cert,
+    length: usize,
+    writes: u64,
+) -> (Result<(), WriteFault>, Vec<u8>)
+    requires { 0 < length }
+{
+    let pieces = InPieces::new(Memory::empty(alloc), length);
+    let mut sink = FailsAt::sink(pieces, Some(writes));
+    let written = write_cert(alloc, task, cert, &mut sink);
+    (written, sink.inner.inner.into_vec())
+}
+
+/// What is told where this is taken of the text, and no more: that a write failed, unless it is all.
+fn told_of(taken: &[u8], text: &[u8]) -> Result<(), WriteFault> {
+    if taken == text {
+        Ok(())
+    } else {
+        Err(WriteFault::Device)
+    }
+}
+
+/// A sink that takes byte by byte fails at each of the text's bytes.
+fn fails_at_each_byte(rt: &impl Abort, alloc: Global, task: &Task, cert: &Cert, text: &[u8]) {
+    for count in 0..=text.len() {
+        let wanted = &text[..count];
+        let (written, taken) = taken(alloc, task, cert, 1, count as u64);
+        assert_eq!(rt;
+            (written, taken.as_slice()),
+            (told_of(wanted, text), wanted)
+        );
+    }
+}
+
+#[test]
+fn a_certificate_is_begun_where_a_write_fails(rt: HostRuntime) -> Result<(), Fail> {
+    let cert = cert(rt.alloc(), 2)?.ok_or("beyond the limits")?;
+    let text = text(rt.alloc(), 2)?;
+    on_task(&rt, rt.alloc(), &GO, |rt, alloc, task| {
+        fails_at_each_byte(rt, alloc, task, &cert, &text);
+        Ok(())
+    })
+}
+
+/// How many states are listed of which the text has more bytes than are held before they are written.
+const MANY: u32 = 4_000;
+
+/// Whether the sink that takes a thousand bytes at a write, of which the one after so many fails, takes a beginning of the
+/// text, and no less than it was given but for one piece that was shorter, and what is told is so.
+fn is_begun(alloc: Global, task: &Task, cert: &Cert, text: &[u8], writes: u64) -> bool {
+    let (written, taken) = taken(alloc, task, cert, 1_000, writes);
+    let most = writes.saturating_mul(1_000);
+    let count = taken.len() as u64;
+    text.starts_with(&taken)
+        && written == told_of(&taken, text)
+        && (written.is_ok() || count <= most && most < count.saturating_add(1_000))
+}
+
+/// It fails at each write, and at none where the one that fails would come behind the text.
+fn fails_at_each_piece(rt: &impl Abort, alloc: Global, task: &Task, cert: &Cert, text: &[u8]) {
+    for writes in 0..90 {
+        assert!(rt; is_begun(alloc, task, cert, text, writes), "{writes}");
+    }
+    let (written, whole) = taken(alloc, task, cert, 1_000, 90);
+    assert_eq!(rt; (written, whole.as_slice()), (Ok(()), text));
+}
+
+#[test]
+fn a_long_certificate_is_begun_where_a_write_fails(rt: HostRuntime) -> Result<(), Fail> {
+    let cert = cert(rt.alloc(), MANY)?.ok_or("beyond the limits")?;
+    let text = text(rt.alloc(), MANY)?;
+    assert!(rt; text.len() > 65_536);
+    on_task(&rt, rt.alloc(), &GO, |rt, alloc, task| {
+        fails_at_each_piece(rt, alloc, task, &cert, &text);
+        Ok(())
+    })
+}

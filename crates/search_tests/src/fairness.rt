@@ -1,0 +1,205 @@
+//! Hops and leaps: places `a`, `b` and `c`, from each of which to the next a hop leads at 3, and from `a` to `c` a leap at 10.
+//! The numbered atoms are those of being at `a`, `b` and `c`; the kept instances are the two hops, and then the leap.
+ghost use Rattle.std.specs.Prelude.{◌≡◌, length};
+ghost use Rattle.packed_state.specs.Packed.{bits_of};
+
+use faults::NoMemory;
+use grounding::Ground;
+use packed_state::Packed;
+use potentials_improved::{DeadFair, Fair, Fairness, Improve, Potentials};
+use search::DeadEnd;
+use std::alloc::Global;
+use std::process::Abort;
+use std::test::Fail;
+use test_texts::{HOP, on_task};
+
+/// Potentials of this constant and these weights, where there is one for each atom.
+pub(crate) fn weighing(
+    alloc: Global,
+    constant: i64,
+    weights: &[i64],
+) -> Result<Option<Potentials>, NoMemory> {
+    let mut list = Vec::new(alloc);
+    list.extend_from_slice(weights)?;
+    Ok(Potentials::new(constant, list))
+}
+
+/// What is told of the potentials.
+fn told(
+    alloc: Global,
+    ground: &Ground<'_>,
+    constant: i64,
+    weights: &[i64],
+) -> Result<Option<Fairness>, NoMemory> {
+    let Some(potentials) = weighing(alloc, constant, weights)? else {
+        return Ok(None);
+    };
+    if potentials.weights().len() != ground.width() as usize {
+        return Ok(None);
+    }
+    Ok(Some(potentials.fair(alloc, ground)?))
+}
+
+/// What is told of the potentials where nothing is allowed to an instance.
+fn told_dead(
+    alloc: Global,
+    ground: &Ground<'_>,
+    constant: i64,
+    weights: &[i64],
+) -> Result<Option<Fairness>, NoMemory> {
+    let Some(potentials) = weighing(alloc, constant, weights)? else {
+        return Ok(None);
+    };
+    if potentials.weights().len() != ground.width() as usize {
+        return Ok(None);
+    }
+    Ok(Some(potentials.dead_fair(alloc, ground)?))
+}
+
+/// Whether the first state is told dead, and the second, which is as wide.
+fn both_dead<D: DeadEnd>(test: &D, first: &Packed, second: &Packed) -> (bool, bool)
+    requires { length (bits_of first.now) ≡ D.width_of test.now }
+{
+    (
+        test.dead(first),
+        second.width() == first.width() && test.dead(second),
+    )
+}
+
+/// Whether these potentials, if they are dead-fair, tell the initial state dead, and the state in which nothing is true.
+fn are_dead(
+    alloc: Global,
+    ground: &Ground<'_>,
+    constant: i64,
+    weights: &[i64],
+) -> Result<Option<(bool, bool)>, NoMemory> {
+    let Some(potentials) = weighing(alloc, constant, weights)? else {
+        return Ok(None);
+    };
+    if potentials.weights().len() != ground.width() as usize {
+        return Ok(None);
+    }
+    let initial = ground.initial(alloc)?;
+    let empty = Packed::empty(alloc, initial.width())?;
+    match DeadFair::new(alloc, potentials, ground)? {
+        Some(test) => Ok(Some(both_dead(&test, &initial, &empty))),
+        None => Ok(None),
+    }
+}
+
+/// What fair potentials tell of the initial state.
+fn estimated(
+    alloc: Global,
+    ground: &Ground<'_>,
+    constant: i64,
+    weights: &[i64],
+) -> Result<Option<u64>, NoMemory> {
+    let Some(potentials) = weighing(alloc, constant, weights)? else {
+        return Ok(None);
+    };
+    if potentials.weights().len() != ground.width() as usize {
+        return Ok(None);
+    }
+    let initial = ground.initial(alloc)?;
+    match Fair::new(alloc, potentials, ground)? {
+        Some(fair) => Ok(Some(fair.estimate(&initial))),
+        None => Ok(None),
+    }
+}
+
+/// The value of the initial state by potentials that are 0 at first and are then made better.
+fn improved(alloc: Global, ground: &Ground<'_>, rounds: u32) -> Result<Option<u64>, NoMemory> {
+    let zero = Potentials::zero(alloc, ground)?;
+    if zero.weights().len() != ground.width() as usize {
+        return Ok(None);
+    }
+    let better = zero.improve(alloc, ground, rounds)?;
+    let initial = ground.initial(alloc)?;
+    if better.weights().len() != initial.width() as usize {
+        return Ok(None);
+    }
+    Ok(Some(better.value(&initial)))
+}
+
+/// What is told of three potentials for the ground task of `HOP`.
+fn told_of_three(alloc: Global, ground: &Ground<'_>) -> Result<[Option<Fairness>; 3], NoMemory> {
+    Ok([
+        told(alloc, ground, 6, &[0, -3, -6])?,
+        told(alloc, ground, 6, &[0, -2, -6])?,
+        told(alloc, ground, 7, &[0, -3, -6])?,
+    ])
+}
+
+/// Two are estimated, of which the second are not fair, and potentials of 0 are made better.
+fn estimated_and_improved(
+    alloc: Global,
+    ground: &Ground<'_>,
+) -> Result<[Option<u64>; 3], NoMemory> {
+    Ok([
+        estimated(alloc, ground, 6, &[0, -3, -6])?,
+        estimated(alloc, ground, 7, &[0, -3, -6])?,
+        improved(alloc, ground, 1)?,
+    ])
+}
+
+/// The same where nothing is allowed: a hop moves from one place to another, and at the goal one is at `c`.
+fn told_dead_of_three(
+    alloc: Global,
+    ground: &Ground<'_>,
+) -> Result<[Option<Fairness>; 3], NoMemory> {
+    Ok([
+        told_dead(alloc, ground, 1, &[-1, -1, -1])?,
+        told_dead(alloc, ground, 1, &[-1, -2, -1])?,
+        told_dead(alloc, ground, 2, &[-1, -1, -1])?,
+    ])
+}
+
+/// What the first of them tell, and what the last do, which are not dead-fair.
+fn dead_of_two(alloc: Global, ground: &Ground<'_>) -> Result<[Option<(bool, bool)>; 2], NoMemory> {
+    Ok([
+        are_dead(alloc, ground, 1, &[-1, -1, -1])?,
+        are_dead(alloc, ground, 2, &[-1, -1, -1])?,
+    ])
+}
+
+#[test]
+fn who_is_nowhere_is_dead(rt: HostRuntime) -> Result<(), Fail> {
+    on_task(&rt, rt.alloc(), &HOP, |rt, alloc, task| {
+        let ground = Ground::new(alloc, task, &[], 10)?;
+        let told = (
+            told_dead_of_three(alloc, &ground)?,
+            dead_of_two(alloc, &ground)?,
+        );
+        let fairness = [
+            Some(Fairness::Fair),
+            Some(Fairness::Instance(0)),
+            Some(Fairness::Goal),
+        ];
+        assert_eq!(rt; told, (fairness, [Some((false, true)), None]));
+        Ok(())
+    })
+}
+
+#[test]
+fn hops_are_fair(rt: HostRuntime) -> Result<(), Fail> {
+    on_task(&rt, rt.alloc(), &HOP, |rt, alloc, task| {
+        let ground = Ground::new(alloc, task, &[], 10)?;
+        let wanted = [
+            Some(Fairness::Fair),
+            Some(Fairness::Instance(1)),
+            Some(Fairness::Goal),
+        ];
+        assert_eq!(rt; told_of_three(alloc, &ground)?, wanted);
+        Ok(())
+    })
+}
+
+#[test]
+fn hops_are_estimated(rt: HostRuntime) -> Result<(), Fail> {
+    on_task(&rt, rt.alloc(), &HOP, |rt, alloc, task| {
+        let ground = Ground::new(alloc, task, &[], 10)?;
+        let wanted = [Some(6), None, Some(6)];
+        assert_eq!(rt; estimated_and_improved(alloc, &ground)?, wanted);
+        Ok(())
+    })
+}

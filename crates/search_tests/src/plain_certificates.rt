@@ -1,0 +1,273 @@
+//! The certificate of each answer, over the plain store of states: a search that goes by the certificate's potentials, and
+//! keeps its states in that store, finds what the certificate claims and lists. What is listed, with the claim, the atoms and
+//! the potentials, is all that a certificate's text is made of.
+ghost use Rattle.std.specs.Prelude.{◌≡◌};
+ghost use Rattle.potentials_improved.specs.FairPotentials.{ground_in};
+ghost use Rattle.potentials_improved.specs.DeadFairPotentials as dead;
+
+use crate::fairness::weighing;
+use crate::plain_tasks::ROWS;
+use certificate::{Cert, Claim, Listed, Mark};
+use faults::NoMemory;
+use grounding::{Ground, GroundFault};
+use packed_state::{Packed, PlainStore, StateStore};
+use potentials_improved::{DeadFair, Fair};
+use search::{DeadEnd, FoundStates, MAX_STATES, Node, Outcome, best_first};
+use solver::{Answer, Exceeded, GroundSystem, Limits, solve};
+use std::alloc::Global;
+use std::test::Fail;
+use task::Task;
+use test_texts::on_task;
+
+/// A limit that is exceeded.
+#[derive(Clone, Copy, Debug, PartialEq, Eq)]
+pub(crate) enum Limit {
+    /// That of the kept instances.
+    Instances,
+    /// That of the numbered atoms.
+    Atoms,
+    /// That of the listed states.
+    States,
+}
+
+/// What is found out of a task: what a plan costs, or that there is none, or the limit that is exceeded.
+pub(crate) type Found = Result<Option<u64>, Limit>;
+
+/// What is found out, but for the plan, the certificate and the bound.
+fn found(answer: &Answer) -> Found {
+    match answer {
+        Answer::Plan { cost, .. } => Ok(Some(*cost)),
+        Answer::Unsolvable { .. } => Ok(None),
+        Answer::Unknown(Exceeded::Instances) => Err(Limit::Instances),
+        Answer::Unknown(Exceeded::Atoms) => Err(Limit::Atoms),
+        Answer::Unknown(Exceeded::States { .. }) => Err(Limit::States),
+    }
+}
+
+/// The states that were found.
+fn states_of<S>(outcome: &Outcome<S>) -> Option<&FoundStates<S>> {
+    match outcome {
+        Outcome::Found { states, .. } => Some(states),
+        Outcome::Exhausted { states } => Some(states),
+        Outcome::States { states, .. } => Some(states),
+    }
+}
+
+/// Copies the state at this place, if there is one of this width.
+fn got<S: StateStore>(store: &S, place: u32, into: &mut Packed) -> bool {
+    if into.width() != store.width() || place as usize >= store.len() {
+        return false;
+    }
+    store.get(place, into);
+    true
+}
+
+/// Whether the stores have the same states of the width, in the same order.
+fn have_same<A: StateStore, B: StateStore>(
+    alloc: Global,
+    width: u32,
+    some: &A,
+    others: &B,
+) -> Result<bool, NoMemory> {
+    let mut state = Packed::empty(alloc, width)?;
+    let mut other = Packed::empty(alloc, width)?;
+    for (_, place) in (0..some.len()).zip(0..u32::MAX) {
+        let are_there = got(some, place, &mut state) && got(others, place, &mut other);
+        if !are_there || state != other {
+            return Ok(false);
+        }
+    }
+    Ok(some.len() == others.len())
+}
+
+/// What the certificate of a search claims that ends so.
+fn claim_of<S>(outcome: &Outcome<S>) -> Claim {
+    match outcome {
+        Outcome::Found { cost, .. } => Claim::Bound(*cost),
+        Outcome::Exhausted { .. } => Claim::Unsolvable,
+        Outcome::States { bound, .. } => Claim::Bound(*bound),
+    }
+}
+
+/// How the state is listed that was reached so, if it is one of the potentials' task.
+fn listed(
+    fair: &Fair<'_, '_>,
+    dead_ends: &DeadFair<'_, '_>,
+    state: &Packed,
+    node: Node,
+) -> Option<Listed> {
+    let width = state.width();
+    if fair.ground().width() != width || dead_ends.ground().width() != width {
+        return None;
+    }
+    let mark = if node.is_expanded {
+        Mark::Open
+    } else if dead_ends.dead(state) {
+        Mark::Dead
+    } else {
+        Mark::Cut {
+            rest: fair.estimate(state),
+        }
+    };
+    Some(Listed {
+        cost: node.cost,
+        mark,
+    })
+}
+
+/// Whether each state that was found has its mark, in their order.
+fn have_marks<S: StateStore>(
+    alloc: Global,
+    fair: &Fair<'_, '_>,
+    dead_ends: &DeadFair<'_, '_>,
+    found: &FoundStates<S>,
+    marks: &[Listed],
+) -> Result<bool, NoMemory> {
+    let mut state = Packed::empty(alloc, found.store.width())?;
+    for ((node, mark), place) in found.nodes.iter().zip(marks).zip(0..u32::MAX) {
+        let is_there = got(&found.store, place, &mut state);
+        if !is_there || listed(fair, dead_ends, &state, *node) != Some(*mark) {
+            return Ok(false);
+        }
+    }
+    Ok(found.nodes.len() == marks.len())
+}
+
+/// Whether the certificate claims what was found out, and lists the states that were found.
+fn is_of<S: StateStore>(
+    alloc: Global,
+    fair: &Fair<'_, '_>,
+    dead_ends: &DeadFair<'_, '_>,
+    outcome: &Outcome<S>,
+    cert: &Cert,
+) -> Result<bool, NoMemory> {
+    let Some(found) = states_of(outcome) else {
+        return Ok(false);
+    };
+    let width = found.store.width();
+    Ok(
+        claim_of(outcome) == cert.claim()
+            && have_same(alloc, width, &found.store, cert.sets())?
+            && have_marks(alloc, fair, dead_ends, found, cert.marks())?,
+    )
+}
+
+/// Whether the certificate is of what a search over the plain store finds by these potentials.
+fn is_found(
+    alloc: Global,
+    ground: &Ground<'_>,
+    fair: &Fair<'_, '_>,
+    dead_ends: &DeadFair<'_, '_>,
+    most: u32,
+    cert: &Cert,
+) -> Result<bool, NoMemory>
+    requires fair { ground_in fair.now ≡ ground.now }
+    requires dead_ends { dead.ground_in dead_ends.now ≡ ground.now }
+{
+    let system = GroundSystem(ground);
+    let store = PlainStore::new(alloc, ground.width());
+    let most = most.clamp(1, MAX_STATES);
+    let outcome = best_first(alloc, &system, fair, dead_ends, store, most)?;
+    is_of(alloc, fair, dead_ends, &outcome, cert)
+}
+
+/// The same by the certificate's potentials for dead ends.
+fn is_found_by(
+    alloc: Global,
+    ground: &Ground<'_>,
+    fair: &Fair<'_, '_>,
+    most: u32,
+    cert: &Cert,
+) -> Result<bool, NoMemory>
+    requires { ground_in fair.now ≡ ground.now }
+{
+    let (constant, weights) = (cert.dead_end_constant(), cert.dead_end_weights());
+    let Some(potentials) = weighing(alloc, constant, weights)? else {
+        return Ok(false);
+    };
+    if potentials.weights().len() != ground.width() as usize {
+        return Ok(false);
+    }
+    match DeadFair::new(alloc, potentials, ground)? {
+        Some(dead_ends) => is_found(alloc, ground, fair, &dead_ends, most, cert),
+        None => Ok(false),
+    }
+}
+
+/// The same by both of its potentials.
+fn is_found_by_both(
+    alloc: Global,
+    ground: &Ground<'_>,
+    most: u32,
+    cert: &Cert,
+) -> Result<bool, NoMemory> {
+    let Some(potentials) = weighing(alloc, cert.constant(), cert.weights())? else {
+        return Ok(false);
+    };
+    if potentials.weights().len() != ground.width() as usize {
+        return Ok(false);
+    }
+    match Fair::new(alloc, potentials, ground)? {
+        Some(fair) => is_found_by(alloc, ground, &fair, most, cert),
+        None => Ok(false),
+    }
+}
+
+/// Whether the certificate, which has the task's numbered atoms, is of what the search over the plain store finds.
+fn is_same(alloc: Global, task: &Task, limits: Limits, cert: &Cert) -> Result<bool, NoMemory> {
+    match &Ground::new(alloc, task, &[], limits.instances()) {
+        Ok(ground) if ground.atoms().as_slice() == cert.atoms() => {
+            is_found_by_both(alloc, ground, limits.states(), cert)
+        }
+        Ok(_) | Err(GroundFault::At(_)) => Ok(false),
+        Err(GroundFault::NoMemory) => Err(NoMemory),
+    }
+}
+
+/// The certificate of an answer, if it has one.
+fn cert_of(answer: &Answer) -> Option<&Cert> {
+    match answer {
+        Answer::Plan { cert, .. } => Some(cert),
+        Answer::Unsolvable { cert } => Some(cert),
+        Answer::Unknown(Exceeded::States { cert, .. }) => Some(cert),
+        Answer::Unknown(_) => None,
+    }
+}
+
+/// What is found out, whether the certificate is the same over the plain store, whether its states take more than one word,
+/// and whether it lists dead ends.
+type Told = (Found, [bool; 3]);
+
+fn told_of(
+    alloc: Global,
+    task: &Task,
+    limits: Limits,
+    answer: &Answer,
+) -> Result<Option<Told>, NoMemory> {
+    let Some(cert) = cert_of(answer) else {
+        return Ok(None);
+    };
+    let is_same = is_same(alloc, task, limits, cert)?;
+    let is_wide = cert.atoms().len() > 64;
+    let has_dead_ends = cert.marks().iter().any(|listed| listed.mark == Mark::Dead);
+    Ok(Some((found(answer), [is_same, is_wide, has_dead_ends])))
+}
+
+fn told(alloc: Global, task: &Task, limits: Limits) -> Result<Option<Told>, NoMemory> {
+    let answer = solve(alloc, task, limits)?;
+    told_of(alloc, task, limits, &answer)
+}
+
+#[test]
+fn stores_give_the_same_certificate(rt: HostRuntime) -> Result<(), Fail> {
+    for (texts, states, found, shape) in &ROWS {
+        let limits = Limits::new(*states, 1000).ok_or("no limits")?;
+        on_task(&rt, rt.alloc(), texts, |rt, alloc, task| {
+            let [is_wide, has_dead_ends] = *shape;
+            let wanted = (*found, [true, is_wide, has_dead_ends]);
+            assert_eq!(rt; told(alloc, task, limits)?, Some(wanted));
+            Ok(())
+        })?;
+    }
+    Ok(())
+}

@@ -1,0 +1,4 @@
+pub mod Endless
+pub mod Failing
+pub mod Pieces
+pub mod Table
