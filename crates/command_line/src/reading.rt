@@ -54,7 +54,7 @@ fn no_order(alloc: Global) -> WordsFault {
 
 /// That a command, or a file of it, is missing.
 fn missing(alloc: Global) -> Result<Error, AllocError> {
-    let text = "a command, or one of its files, is missing";
+    let text = "a command or one of its files is missing";
     program(alloc)?.error(ErrorKind::MissingRequiredArgument, text)
 }
 

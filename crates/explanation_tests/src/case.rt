@@ -1,5 +1,5 @@
 //! A fault of some texts, with what is told of it.
-use explained_faults::{File, NamedText, TextFault, Texts, explain_fault};
+use explained_faults::{File, FileRefusal, NamedText, NamedTexts, explain_fault};
 use faults::{Code, NoMemory, Span};
 use std::alloc::Global;
 
@@ -41,7 +41,7 @@ pub(crate) const TRIP: &[u8] = b"(define (problem x) (:domain d)
 
 /// What is told of the fault of a case.
 pub(crate) fn explained(alloc: Global, case: &Case) -> Result<String, NoMemory> {
-    let texts = Texts {
+    let texts = NamedTexts {
         domain: NamedText {
             name: "domain.pddl",
             text: case.domain,
@@ -55,7 +55,7 @@ pub(crate) fn explained(alloc: Global, case: &Case) -> Result<String, NoMemory> 
             text: case.plan,
         },
     };
-    let fault = TextFault {
+    let fault = FileRefusal {
         file: case.file,
         code: case.code,
         span: case.span,

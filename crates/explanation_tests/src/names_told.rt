@@ -18,7 +18,7 @@ static NAMES: [Case; 16] = [
         told: "domain.pddl:3:23: fault 14 UnknownType (columns count bytes)
    3 |  (:predicates (p ?x - plce)))
      |                       ^^^^
-no type is called `plce`; near to it: `place`.
+no type is called `plce`; did you mean `place`?
 ",
     },
     Case {
@@ -33,7 +33,7 @@ no type is called `plce`; near to it: `place`.
         told: "domain.pddl:3:23: fault 14 UnknownType (columns count bytes)
    3 |  (:predicates (p ?x - weekday)))
      |                       ^^^^^^^
-no type is called `weekday`; there are: `place` and `thing`.
+no type is called `weekday`; the types are `place` and `thing`.
 ",
     },
     Case {
@@ -48,7 +48,7 @@ no type is called `weekday`; there are: `place` and `thing`.
         told: "domain.pddl:2:10: fault 15 TypeCycle (columns count bytes)
    2 |  (:types a - b b - c c - a)
      |          ^
-its parents lead back to it: `a`, `b`, `c` and `a`.
+`a` is its own ancestor: `a` -> `b` -> `c` -> `a`.
 ",
     },
     Case {
@@ -64,7 +64,7 @@ its parents lead back to it: `a`, `b`, `c` and `a`.
         told: "domain.pddl:3:2: fault 16 Duplicate (columns count bytes)
    3 |  A)
      |  ^
-`A` stands already at domain.pddl:2:10.
+`A` is already declared at domain.pddl:2:10.
 ",
     },
     Case {
@@ -79,7 +79,7 @@ its parents lead back to it: `a`, `b`, `c` and `a`.
         told: "domain.pddl:2:10: fault 16 Duplicate (columns count bytes)
    2 |  (:types object)
      |          ^^^^^^
-`object` is declared by the language.
+the type `object` is built in.
 ",
     },
     Case {
@@ -95,7 +95,7 @@ its parents lead back to it: `a`, `b`, `c` and `a`.
         told: "problem.pddl:2:25: fault 16 Duplicate (columns count bytes)
    2 |  (:objects herbie - car Home - place)
      |                         ^^^^
-`Home` stands already at domain.pddl:3:14.
+`Home` is already declared at domain.pddl:3:14.
 ",
     },
     Case {
@@ -109,7 +109,7 @@ its parents lead back to it: `a`, `b`, `c` and `a`.
         told: "domain.pddl:2:27: fault 16 Duplicate (columns count bytes)
    2 |  (:predicates (p) (q ?x) (P ?y)))
      |                           ^
-`P` stands already at domain.pddl:2:16.
+`P` is already declared at domain.pddl:2:16.
 ",
     },
     Case {
@@ -124,7 +124,7 @@ its parents lead back to it: `a`, `b`, `c` and `a`.
         told: "domain.pddl:3:11: fault 16 Duplicate (columns count bytes)
    3 |  (:action A :parameters ()))
      |           ^
-`A` stands already at domain.pddl:2:11.
+`A` is already declared at domain.pddl:2:11.
 ",
     },
     Case {
@@ -138,7 +138,7 @@ its parents lead back to it: `a`, `b`, `c` and `a`.
         told: "domain.pddl:2:32: fault 16 Duplicate (columns count bytes)
    2 |  (:action a :parameters (?x ?y ?X)))
      |                                ^^
-`?X` stands already at domain.pddl:2:26.
+`?X` is already declared at domain.pddl:2:26.
 ",
     },
     Case {
@@ -155,7 +155,7 @@ its parents lead back to it: `a`, `b`, `c` and `a`.
         told: "problem.pddl:4:7: fault 16 Duplicate (columns count bytes)
    4 |   (= (far home INN) 3))
      |       ^^^
-`far` stands already at problem.pddl:3:13.
+`far` already has a value for these objects, given at problem.pddl:3:13.
 ",
     },
     Case {
@@ -171,7 +171,7 @@ its parents lead back to it: `a`, `b`, `c` and `a`.
         told: "problem.pddl:4:10: fault 17 UnknownName (columns count bytes)
    4 |  (:goal (fats herbie)))
      |          ^^^^
-no predicate is called `fats`; near to it: `fast` and `at`.
+no predicate is called `fats`; did you mean `fast` or `at`?
 ",
     },
     Case {
@@ -190,7 +190,7 @@ no predicate is called `fats`; near to it: `fast` and `at`.
         told: "domain.pddl:7:45: fault 17 UnknownName (columns count bytes)
    7 |   :precondition (at ?t home) :effect (at ?t ?q)))
      |                                             ^^
-no variable in scope is called `?q`; there are: `?t` and `?p`.
+no variable in scope is called `?q`; the variables in scope are `?t` and `?p`.
 ",
     },
     Case {
@@ -206,7 +206,7 @@ no variable in scope is called `?q`; there are: `?t` and `?p`.
         told: "problem.pddl:4:13: fault 17 UnknownName (columns count bytes)
    4 |  (:goal (at herbi inn)))
      |             ^^^^^
-no object is called `herbi`; near to it: `herbie`.
+no object is called `herbi`; did you mean `herbie`?
 ",
     },
     Case {
@@ -222,7 +222,7 @@ no object is called `herbi`; near to it: `herbie`.
         told: "problem.pddl:3:13: fault 17 UnknownName (columns count bytes)
    3 |  (:init (= (fra home inn) 1))
      |             ^^^
-no function is called `fra`; near to it: `far`.
+no function is called `fra`; did you mean `far`?
 ",
     },
     Case {
@@ -235,7 +235,7 @@ no function is called `fra`; near to it: `far`.
         told: "domain.pddl:1:168: fault 16 Duplicate (columns count bytes)
    1 | ...?y) (p9 ?x ?y) (p10 ?x ?y) (p11 ?x ?y) (p0 ?x) (q0 ?x) (q1 ?x) (q2 ?x) (q3 ?x) (q4 ?x) (q5 ?x) (q6 ?...
      |                                            ^^
-`p0` stands already at domain.pddl:1:34.
+`p0` is already declared at domain.pddl:1:34.
 ",
     },
     Case {
@@ -249,7 +249,7 @@ no function is called `fra`; near to it: `far`.
         told: "domain.pddl:2:21: fault 16 Duplicate (columns count bytes)
    2 | \t\t(:predicates\t(p)\t(p ?x)))
      | \t\t            \t   \t ^
-`p` stands already at domain.pddl:2:17.
+`p` is already declared at domain.pddl:2:17.
 ",
     },
 ];

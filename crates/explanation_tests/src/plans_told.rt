@@ -17,7 +17,7 @@ static PLANS: [Case; 7] = [
         told: "plan.txt:2:2: fault 30 PlanForm (columns count bytes)
    2 |  go herbie inn
      |  ^^
-`go` may not stand here: a plan is a list of steps, each `(action object ..)`.
+`go` is not allowed here: a plan is a list of steps `(action object ..)`.
 ",
     },
     Case {
@@ -31,7 +31,7 @@ static PLANS: [Case; 7] = [
         told: "plan.txt:2:11: fault 30 PlanForm (columns count bytes)
    2 | (go herbie
      |           ^
-the list that begins at plan.txt:2:1 is not closed.
+the `(` at plan.txt:2:1 is never closed.
 ",
     },
     Case {
@@ -44,7 +44,7 @@ the list that begins at plan.txt:2:1 is not closed.
         told: "plan.txt:1:1: fault 31 TimedStep (columns count bytes)
    1 | 0: (go herbie inn)
      | ^^
-`0:` is a time stamp, and a step is `(action object ..)` alone.
+`0:` is a time stamp; a step is only `(action object ..)`.
 ",
     },
     Case {
@@ -57,7 +57,7 @@ the list that begins at plan.txt:2:1 is not closed.
         told: "plan.txt:1:2: fault 32 UnknownAction (columns count bytes)
    1 | (goo herbie inn)
      |  ^^^
-no action is called `goo`; near to it: `go`.
+no action is called `goo`; did you mean `go`?
 ",
     },
     Case {
@@ -70,7 +70,7 @@ no action is called `goo`; near to it: `go`.
         told: "plan.txt:1:2: fault 33 StepArity (columns count bytes)
    1 | (go herbie)
      |  ^^
-`go` asks for 2 objects, and has 1.
+`go` takes 2 arguments, not 1.
 ",
     },
     Case {
@@ -83,7 +83,7 @@ no action is called `goo`; near to it: `go`.
         told: "plan.txt:1:12: fault 34 StepType (columns count bytes)
    1 | (go herbie in)
      |            ^^
-no object is called `in`; near to it: `inn`.
+no object is called `in`; did you mean `inn`?
 ",
     },
     Case {
@@ -96,7 +96,7 @@ no object is called `in`; near to it: `inn`.
         told: "plan.txt:1:12: fault 34 StepType (columns count bytes)
    1 | (go herbie herbie)
      |            ^^^^^^
-`herbie` has the type `car`, and `go` asks for `place`.
+`herbie` has type `car`, but `go` requires `place`.
 ",
     },
 ];

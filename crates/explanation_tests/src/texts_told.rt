@@ -17,7 +17,7 @@ static TEXTS: [Case; 8] = [
         told: "domain.pddl:2:16: fault 1 BadByte (columns count bytes)
    2 | \t(:predicates (\\xe9)))
      | \t              ^^^^
-`\\xe9` is neither blank nor printable ASCII, and may stand in comments alone.
+`\\xe9` is not printable ASCII and may appear only in comments.
 ",
     },
     Case {
@@ -31,7 +31,7 @@ static TEXTS: [Case; 8] = [
         told: "domain.pddl:2:16: fault 2 BadWord (columns count bytes)
    2 |  (:predicates (p?)))
      |                ^^
-`p?` is no name, variable, keyword or number.
+`p?` is not a name, a variable, a keyword or a number.
 ",
     },
     Case {
@@ -45,7 +45,7 @@ static TEXTS: [Case; 8] = [
         told: "domain.pddl:2:3: fault 3 Unbalanced (columns count bytes)
    2 |   )
      |   ^
-this `)` closes nothing.
+this `)` closes no list.
 ",
     },
     Case {
@@ -59,7 +59,7 @@ this `)` closes nothing.
         told: "domain.pddl:2:19: fault 3 Unbalanced (columns count bytes)
    2 |  (:predicates (p))
      |                   ^
-the list that begins at domain.pddl:1:1 is not closed.
+the `(` at domain.pddl:1:1 is never closed.
 ",
     },
     Case {
@@ -72,7 +72,7 @@ the list that begins at domain.pddl:1:1 is not closed.
         told: "domain.pddl:1:65: fault 4 TooDeep (columns count bytes)
    1 | (((((((((((((((((((((((((((((((((((((((((((((((((((((((((((((((((
      |                                                                 ^
-this `(` makes the depth 65, and at most 64 lists may be open at once.
+this `(` opens a list at depth 65; lists may be at most 64 deep.
 ",
     },
     Case {
@@ -85,7 +85,7 @@ this `(` makes the depth 65, and at most 64 lists may be open at once.
         told: "domain.pddl:1:17: fault 5 TooLong (columns count bytes)
    1 | (define (domain aaaaaaaaaaaaaaaaaaaaaaaaaaaaaaaaaaaaaaaaaaaaaaaaaaaaaaaaaaaaaaaaaaaaaaaaaaaaaaaaaaaa...
      |                 ^^^^^^^^^^^^^^^^^^^^^^^^^^^^^^^^^^^^^^^^^^^^^^^^^^^^^^^^^^^^^^^^^^^^^^^^^^^^^^^^^^^^
-this has 256 bytes, and a word has at most 255.
+this word has 256 bytes; a word may have at most 255.
 ",
     },
     Case {
@@ -100,7 +100,7 @@ this has 256 bytes, and a word has at most 255.
         told: "domain.pddl:3:1: fault 6 Trailing (columns count bytes)
    3 | (p)
      | ^
-nothing may stand behind the list that ends at domain.pddl:2:19.
+nothing may follow the list that ends at domain.pddl:2:19.
 ",
     },
     Case {
@@ -116,7 +116,7 @@ nothing may stand behind the list that ends at domain.pddl:2:19.
         told: "domain.pddl:3:3: fault 6 Trailing (columns count bytes)
    3 |  )(
      |   ^
-nothing may stand behind the list that ends at domain.pddl:3:2.
+nothing may follow the list that ends at domain.pddl:3:2.
 ",
     },
 ];

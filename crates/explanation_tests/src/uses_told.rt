@@ -19,7 +19,7 @@ static USES: [Case; 14] = [
         told: "problem.pddl:4:10: fault 18 WrongArity (columns count bytes)
    4 |  (:goal (at herbie)))
      |          ^^
-`at` asks for 2 arguments, and has 1.
+`at` takes 2 arguments, not 1.
 ",
     },
     Case {
@@ -38,7 +38,7 @@ static USES: [Case; 14] = [
         told: "domain.pddl:7:23: fault 19 WrongType (columns count bytes)
    7 |   :precondition (fast ?t) :effect (at ?t ?p)))
      |                       ^^
-`?t` has the type `thing`, and `fast` asks for `car`.
+`?t` has type `thing`, but `fast` requires `car`.
 ",
     },
     Case {
@@ -54,7 +54,7 @@ static USES: [Case; 14] = [
         told: "problem.pddl:4:13: fault 19 WrongType (columns count bytes)
    4 |  (:goal (at inn herbie)))
      |             ^^^
-`inn` has the type `place`, and `at` asks for `thing`.
+`inn` has type `place`, but `at` requires `thing`.
 ",
     },
     Case {
@@ -73,7 +73,7 @@ static USES: [Case; 14] = [
         told: "domain.pddl:7:21: fault 19 WrongType (columns count bytes)
    7 |   :precondition (at ?t home) :effect (at ?t ?p)))
      |                     ^^
-`?t` has the type `car` or `place`, and `at` asks for `thing`.
+`?t` has type `car` or `place`, but `at` requires `thing`.
 ",
     },
     Case {
@@ -92,7 +92,7 @@ static USES: [Case; 14] = [
         told: "domain.pddl:7:26: fault 20 Shadowed (columns count bytes)
    7 |   :precondition (forall (?p) (at ?t ?p)) :effect (at ?t ?p)))
      |                          ^^
-`?p` is in scope already, from domain.pddl:6:38.
+`?p` is already in scope, from domain.pddl:6:38.
 ",
     },
     Case {
@@ -151,7 +151,7 @@ the domain is called `d`.
         told: "domain.pddl:7:70: fault 23 BadCost (columns count bytes)
    7 |   :precondition (at ?t home) :effect (and (increase (total-cost) 1) (increase (total-cost) 2))))
      |                                                                      ^^^^^^^^
-the action increases the total cost already.
+the action already increases the total cost.
 ",
     },
     Case {
@@ -167,7 +167,7 @@ the action increases the total cost already.
         told: "problem.pddl:3:25: fault 23 BadCost (columns count bytes)
    3 |  (:init (= (total-cost) 5))
      |                         ^
-the total cost begins at 0.
+the total cost must start at 0.
 ",
     },
     Case {
@@ -183,7 +183,7 @@ the total cost begins at 0.
         told: "problem.pddl:3:29: fault 23 BadCost (columns count bytes)
    3 |  (:init (= (total-cost) 0) (= (total-cost) 0))
      |                             ^
-where the total cost begins stands already.
+the total cost already has an initial value.
 ",
     },
     Case {
@@ -199,7 +199,7 @@ where the total cost begins stands already.
         told: "problem.pddl:3:10: fault 24 NegativeInit (columns count bytes)
    3 |  (:init (not (at herbie home)))
      |          ^^^
-nothing is negated in `:init`: what is not said there is false.
+`:init` lists only what is true; everything else is false.
 ",
     },
     Case {
@@ -213,7 +213,7 @@ nothing is negated in `:init`: what is not said there is false.
         told: "domain.pddl:2:42: fault 25 TooMany (columns count bytes)
    2 |  (:predicates (p ?a ?b ?c ?d ?e ?f ?g ?h ?i)))
      |                                          ^^
-a predicate or a function has at most 8 arguments.
+a predicate or a function may have at most 8 arguments.
 ",
     },
     Case {

@@ -17,7 +17,7 @@ static WORDS: [Case; 14] = [
         told: "domain.pddl:2:16: fault 7 BadForm (columns count bytes)
    2 |  (:predicates ((p))))
      |                ^
-a name may stand here.
+expected a name.
 ",
     },
     Case {
@@ -31,7 +31,7 @@ a name may stand here.
         told: "domain.pddl:2:14: fault 7 BadForm (columns count bytes)
    2 |  (:types a - - b) (:predicates (p)))
      |              ^
-a name may stand here.
+expected a name.
 ",
     },
     Case {
@@ -44,7 +44,7 @@ a name may stand here.
         told: "domain.pddl:1:1: fault 7 BadForm (columns count bytes)
    1 | ; nothing
      | ^
-`(` may stand here.
+expected `(`.
 ",
     },
     Case {
@@ -58,7 +58,7 @@ a name may stand here.
         told: "problem.pddl:2:9: fault 7 BadForm (columns count bytes)
    2 |  (:goal p))
      |         ^
-`(` may stand here.
+expected `(`.
 ",
     },
     Case {
@@ -71,7 +71,7 @@ a name may stand here.
         told: "domain.pddl:1:21: fault 8 UnknownSection (columns count bytes)
    1 | (define (domain d) (:predicats (p)))
      |                     ^^^^^^^^^^
-`:predicates` may stand here.
+did you mean `:predicates`?
 ",
     },
     Case {
@@ -85,7 +85,7 @@ a name may stand here.
         told: "domain.pddl:2:3: fault 8 UnknownSection (columns count bytes)
    2 |  (:colours (p)))
      |   ^^^^^^^^
-`:requirements`, `:types`, `:constants`, `:predicates`, `:functions` or `:action` may stand here.
+expected `:requirements`, `:types`, `:constants`, `:predicates`, `:functions` or `:action`.
 ",
     },
     Case {
@@ -99,7 +99,7 @@ a name may stand here.
         told: "domain.pddl:2:3: fault 9 RepeatedSection (columns count bytes)
    2 |  (:predicates (q)))
      |   ^^^^^^^^^^^
-`:predicates` stands already at domain.pddl:1:21.
+`:predicates` already appears at domain.pddl:1:21.
 ",
     },
     Case {
@@ -114,7 +114,7 @@ a name may stand here.
         told: "domain.pddl:3:3: fault 9 RepeatedSection (columns count bytes)
    3 |   :effect (p)))
      |   ^^^^^^^
-`:effect` stands already at domain.pddl:2:28.
+`:effect` already appears at domain.pddl:2:28.
 ",
     },
     Case {
@@ -155,7 +155,7 @@ a name may stand here.
         told: "domain.pddl:1:35: fault 11 UnknownRequirement (columns count bytes)
    1 | (define (domain d) (:requirements :strps)
      |                                   ^^^^^^
-`:strips` may stand here.
+did you mean `:strips`?
 ",
     },
     Case {
@@ -169,7 +169,7 @@ a name may stand here.
         told: "domain.pddl:2:3: fault 12 LeftOut (columns count bytes)
    2 |  (:durative-action go) (:predicates (p)))
      |   ^^^^^^^^^^^^^^^^
-`:durative-action` belongs to a form of PDDL that is left out here.
+`:durative-action` belongs to a part of PDDL that is not supported.
 ",
     },
     Case {
@@ -183,7 +183,7 @@ a name may stand here.
         told: "problem.pddl:2:25: fault 13 NumberTooLarge (columns count bytes)
    2 |  (:init (= (total-cost) 2147483648)) (:goal (p)))
      |                         ^^^^^^^^^^
-`2147483648` is over 2147483647, the greatest number.
+`2147483648` is greater than 2147483647, the largest number allowed.
 ",
     },
     Case {
@@ -198,7 +198,7 @@ a name may stand here.
         told: "domain.pddl:3:18: fault 7 BadForm (columns count bytes)
    3 |   :precondition (when (p) (p))))
      |                  ^^^^
-a name, `=`, `and`, `or`, `not`, `imply`, `exists`, `forall` or `)` may stand here.
+expected a name, `=`, `and`, `or`, `not`, `imply`, `exists`, `forall` or `)`.
 ",
     },
 ];

@@ -2,12 +2,12 @@
 ghost use Rattle.std.specs.Prelude.{◌≡◌, ℕ, List, IfOk, IfErr, IfSome, None};
 ghost use Rattle.typing.specs.Task.{task_of};
 ghost use Rattle.validator.specs.Verdict.{verdict_of};
-ghost use Rattle.task_files.specs.Files.{told_in};
+ghost use Rattle.file_answers.specs.Files.{told_in};
 ghost use Rattle.model.specs.Task as model;
 ghost use Rattle.model.specs.Files.{AreRead, IsTaskOf, IsVerdictOf, IsFileFault};
 
+use crate::files::{FileFault, plan_of_file, task_of_files};
 use std::alloc::Global;
-use task_files::{FileFault, plan_of_file, task_of_files};
 use typing::Task;
 use validator::{Verdict, validate};
 

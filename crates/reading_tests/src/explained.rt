@@ -28,9 +28,9 @@ const ROAD: Texts = [
 static TOLD: [(&str, &str); 8] = [
     ("(hop a b)(hop b a)(hop a b)",
         "valid, cost 10\n1  (hop a b)  cost 4, 4 so far\n2  (hop b a)  cost 2, 6 so far\n3  (hop a b)  cost 4, 10 so far\n"),
-    ("", "the plan runs, and the goal is missed\n(at b) is false: it was never true.\n\
+    ("", "every step is applicable, but the goal is not reached\n(at b) is false: it was never true.\n\
 (or (seen b) (= b a) (closed b)) is false.\n"),
-    ("(hop a b)(hop b a)", "the plan runs, and the goal is missed\n(at b) is false: step 2, (hop b a), deleted it.\n"),
+    ("(hop a b)(hop b a)", "every step is applicable, but the goal is not reached\n(at b) is false: step 2, (hop b a), deleted it.\n"),
     ("(hop a b)(hop b a)(hop a b)(hop a b)",
         "step 4, (hop a b), is not applicable\n(at a) is false: step 3, (hop a b), deleted it.\n"),
     ("(close b)(close b)(hop a b)",
