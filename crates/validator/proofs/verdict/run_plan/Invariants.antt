@@ -3,7 +3,7 @@ use Rattle.typing.specs.Task.{task_of}
 use Rattle.formulas.specs.State.{state_of, plan_of}
 use Rattle.model.specs.Runs.{run, cost_of_all}
 use Rattle.model.specs.Meaning.{system_of}
-use Rattle.validator.proofs.verdict.validate.Given as goal
+use Rattle.validator.proofs.verdict.run_plan.Given as goal
 
 -- the instances so far run, to this state, and this is what they cost: each no more than a u32 can be
 abbrev pub invariant-loop-index : goal.invariant-loop-index

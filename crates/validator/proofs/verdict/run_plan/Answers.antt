@@ -5,8 +5,8 @@ use Rattle.typing.specs.Task.{task_of}
 use Rattle.formulas.specs.State.{state_of, instance_of, plan_of}
 use Rattle.model.specs.Meaning.{is_instance, system_of}
 use Rattle.model.proofs.Tests.{passes_got}
-use Rattle.validator.proofs.VerdictRuns.{stands, run_more, run_whole, cost_more, cost_whole, stops}
-use Rattle.validator.proofs.verdict.validate.Goals as goal
+use Rattle.validator.proofs.VerdictRuns.{stands, run_before, run_more, run_whole, cost_more, cost_whole, stops}
+use Rattle.validator.proofs.verdict.run_plan.Goals as goal
 
 pub loop-index-init : goal.loop-index-init
 loop-index-init c = record { runs = ap Some (sym c.in_ok-state.ensures); costs = refl; few = omega arith }
@@ -32,14 +32,18 @@ loop-index-preserved c =
       few = omega (arith, c.loop-index.invariant.few, c.from-total.ensures);
     }
 
-pub returns-in-None : goal.returns-in-None
-returns-in-None c =
+pub returns-in-None-clause-verdict : goal.returns-in-None-clause-verdict
+returns-in-None-clause-verdict c =
     stops (system_of (task_of c.args.task.now)) (plan_of c.args.plan.now) c.loop-index.index (instance_of c.instance-item.result)
     (stands c.steps-instance-items.result.now (plan_of c.args.plan.now) c.loop-index.index c.instance-item.result c.steps-instance-items.ensures.steps c.loop-index-test.true c.instance-item.is)
     (state_of c.loop-index.state) c.loop-index.invariant.runs (sym c.in_ok-next.ensures ∙ ap (option_map state_of) c.in-None.is)
 
-pub returns-then-meets_goal : goal.returns-then-meets_goal
-returns-then-meets_goal c =
+pub returns-in-None-clause-state : goal.returns-in-None-clause-state
+returns-in-None-clause-state c =
+    run_before (system_of (task_of c.args.task.now)) (plan_of c.args.plan.now) c.loop-index.index (state_of c.loop-index.state) c.loop-index.invariant.runs
+
+pub returns-then-meets_goal-clause-verdict : goal.returns-then-meets_goal-clause-verdict
+returns-then-meets_goal-clause-verdict c =
     let system = system_of (task_of c.args.task.now) in
     let plan = plan_of c.args.plan.now in
     let past = subst (λ n. n ≤ c.loop-index.index) (sym (length-map c.steps-instance-items.result.now instance_of) ∙ ap length c.steps-instance-items.ensures.steps) c.loop-index-test.false in (
@@ -51,8 +55,22 @@ returns-then-meets_goal c =
       cost_whole system plan c.loop-index.index c.loop-index.total past c.loop-index.invariant.costs,
     )
 
-pub returns : goal.returns
-returns c =
+pub returns-then-meets_goal-clause-state : goal.returns-then-meets_goal-clause-state
+returns-then-meets_goal-clause-state c =
+    let system = system_of (task_of c.args.task.now) in
+    let plan = plan_of c.args.plan.now in
+    let past = subst (λ n. n ≤ c.loop-index.index) (sym (length-map c.steps-instance-items.result.now instance_of) ∙ ap length c.steps-instance-items.ensures.steps) c.loop-index-test.false in
+    run_whole system plan c.loop-index.index system.initial (state_of c.loop-index.state) past c.loop-index.invariant.runs
+
+pub returns-clause-state : goal.returns-clause-state
+returns-clause-state c =
+    let system = system_of (task_of c.args.task.now) in
+    let plan = plan_of c.args.plan.now in
+    let past = subst (λ n. n ≤ c.loop-index.index) (sym (length-map c.steps-instance-items.result.now instance_of) ∙ ap length c.steps-instance-items.ensures.steps) c.loop-index-test.false in
+    run_whole system plan c.loop-index.index system.initial (state_of c.loop-index.state) past c.loop-index.invariant.runs
+
+pub returns-clause-verdict : goal.returns-clause-verdict
+returns-clause-verdict c =
     let system = system_of (task_of c.args.task.now) in
     let plan = plan_of c.args.plan.now in
     let past = subst (λ n. n ≤ c.loop-index.index) (sym (length-map c.steps-instance-items.result.now instance_of) ∙ ap length c.steps-instance-items.ensures.steps) c.loop-index-test.false in (
