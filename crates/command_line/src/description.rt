@@ -111,11 +111,7 @@ fn add_solve<'a>(alloc: Global, commands: &mut Vec<Command<'a>>) -> Result<(), A
             "FILE",
             "Write the certificate of the answer to this file",
         ),
-        limit(
-            alloc,
-            "states",
-            "List at most N states, 1 to 16777216",
-        ),
+        limit(alloc, "states", "List at most N states, 1 to 16777216",),
         limit(alloc, "instances", INSTANCES_HELP),
         json(alloc),
     ]?;
@@ -165,7 +161,11 @@ fn add_explain<'a>(alloc: Global, commands: &mut Vec<Command<'a>>) -> Result<(),
     let arguments = vec![in alloc;
         file(alloc, "DOMAIN", "The domain file"),
         file(alloc, "PROBLEM", "The problem file"),
-        optional_file(alloc, "PLAN", "The plan file; without it the task is summarized"),
+        optional_file(
+            alloc,
+            "PLAN",
+            "The plan file; without it the task is summarized"
+        ),
         limit(alloc, "instances", INSTANCES_HELP),
     ]?;
     let about = "Explain what is wrong with a task or a plan, or summarize a task";
