@@ -62,15 +62,15 @@ returns-then-meets_goal-clause-state c =
     let past = subst (λ n. n ≤ c.loop-index.index) (sym (length-map c.steps-instance-items.result.now instance_of) ∙ ap length c.steps-instance-items.ensures.steps) c.loop-index-test.false in
     run_whole system plan c.loop-index.index system.initial (state_of c.loop-index.state) past c.loop-index.invariant.runs
 
-pub returns-clause-state : goal.returns-clause-state
-returns-clause-state c =
+pub returns-else-meets_goal-clause-state : goal.returns-else-meets_goal-clause-state
+returns-else-meets_goal-clause-state c =
     let system = system_of (task_of c.args.task.now) in
     let plan = plan_of c.args.plan.now in
     let past = subst (λ n. n ≤ c.loop-index.index) (sym (length-map c.steps-instance-items.result.now instance_of) ∙ ap length c.steps-instance-items.ensures.steps) c.loop-index-test.false in
     run_whole system plan c.loop-index.index system.initial (state_of c.loop-index.state) past c.loop-index.invariant.runs
 
-pub returns-clause-verdict : goal.returns-clause-verdict
-returns-clause-verdict c =
+pub returns-else-meets_goal-clause-verdict : goal.returns-else-meets_goal-clause-verdict
+returns-else-meets_goal-clause-verdict c =
     let system = system_of (task_of c.args.task.now) in
     let plan = plan_of c.args.plan.now in
     let past = subst (λ n. n ≤ c.loop-index.index) (sym (length-map c.steps-instance-items.result.now instance_of) ∙ ap length c.steps-instance-items.ensures.steps) c.loop-index-test.false in (
