@@ -12,7 +12,7 @@ use clap::{Arg, ArgAction, Command};
 use std::alloc::{AllocError, Global};
 
 const ABOUT: &str =
-    "A cost-optimal planner, a validator of plans and a checker of certificates, for classical PDDL.";
+    "A cost-optimal planner, plan validator and certificate checker for classical PDDL.";
 
 const USAGE: &str =
     "optplan solve DOMAIN PROBLEM [--plan FILE] [--cert FILE] [--states N] [--instances N] [--json]
@@ -20,7 +20,7 @@ const USAGE: &str =
        optplan check DOMAIN PROBLEM CERT [--plan FILE] [--instances N] [--json]
        optplan explain DOMAIN PROBLEM [PLAN] [--instances N]";
 
-const PROGRAM_HELP: &str = "N is a number from 1 to 16777216, and 1000000 where it is not given.
+const PROGRAM_HELP: &str = "N is a number from 1 to 16777216; the default is 1000000.
 
 Example:
   optplan solve domain.pddl problem.pddl --plan plan.txt --cert cert.txt
@@ -28,40 +28,40 @@ Example:
   optplan explain domain.pddl problem.pddl plan.txt
 
 Status:
-   0  a cheapest plan is told, the plan solves the task, the certificate is accepted, or nothing is wrong with the files
-   2  other words, or such as ask for help
+   0  a cheapest plan was found, the plan solves the task, the certificate is accepted, or the files have no fault
+   2  the command line is wrong, or asks for help
   10  there is no plan
-  11  a limit is exceeded; where it is that of states, no plan costs less than the told bound
+  11  a limit was exceeded; if it was the limit of states, no plan costs less than the printed bound
   12  the plan does not solve the task, or the certificate is not accepted
-  20  a text is refused
-  21  a file, or the standard output, cannot be opened, read or written
-  22  memory is refused";
+  20  a file has a fault
+  21  a file or the standard output could not be opened, read or written
+  22  out of memory";
 
 const SOLVE_HELP: &str = "Example:
   optplan solve domain.pddl problem.pddl --states 5000000 --plan plan.txt
 
-Status: 0 a cheapest plan, 10 there is no plan, 11 a limit is exceeded; others: `optplan help`
-A file whose name begins with a hyphen stands behind `--`.";
+Status: 0 a cheapest plan was found, 10 there is no plan, 11 a limit was exceeded; for others see `optplan help`
+Put `--` before the name of a file that begins with a hyphen.";
 
 const VALIDATE_HELP: &str = "Example:
   optplan validate domain.pddl problem.pddl plan.txt
 
-Status: 0 the plan solves the task, 12 it does not; others: `optplan help`
-A file whose name begins with a hyphen stands behind `--`.";
+Status: 0 the plan solves the task, 12 it does not; for others see `optplan help`
+Put `--` before the name of a file that begins with a hyphen.";
 
 const CHECK_HELP: &str = "Example:
   optplan check domain.pddl problem.pddl cert.txt --plan plan.txt
 
-Status: 0 the certificate is accepted, 12 it is not; others: `optplan help`
-A file whose name begins with a hyphen stands behind `--`.";
+Status: 0 the certificate is accepted, 12 it is not; for others see `optplan help`
+Put `--` before the name of a file that begins with a hyphen.";
 
 const EXPLAIN_HELP: &str = "Example:
   optplan explain domain.pddl problem.pddl plan.txt
 
-Status: 0 nothing is wrong, 11 a limit is exceeded, 12 the plan does not solve the task, 20 a text is refused; others: `optplan help`
-A file whose name begins with a hyphen stands behind `--`.";
+Status: 0 no fault, 11 a limit was exceeded, 12 the plan does not solve the task, 20 a file has a fault; for others see `optplan help`
+Put `--` before the name of a file that begins with a hyphen.";
 
-const INSTANCES_HELP: &str = "How many instances of actions may be kept, 1 to 16777216";
+const INSTANCES_HELP: &str = "Keep at most N action instances, 1 to 16777216";
 
 /// The program.
 pub(crate) fn program<'a>(alloc: Global) -> Result<Command<'a>, AllocError>
@@ -104,22 +104,18 @@ fn add_solve<'a>(alloc: Global, commands: &mut Vec<Command<'a>>) -> Result<(), A
     let arguments = vec![in alloc;
         file(alloc, "DOMAIN", "The domain file"),
         file(alloc, "PROBLEM", "The problem file"),
-        option(alloc, "plan", "FILE", "Writes the plan to this file too"),
+        option(alloc, "plan", "FILE", "Also write the plan to this file"),
         option(
             alloc,
             "cert",
             "FILE",
-            "Writes the answer's certificate to this file",
+            "Write the certificate of the answer to this file",
         ),
-        limit(
-            alloc,
-            "states",
-            "How many states may be listed, 1 to 16777216",
-        ),
+        limit(alloc, "states", "List at most N states, 1 to 16777216",),
         limit(alloc, "instances", INSTANCES_HELP),
         json(alloc),
     ]?;
-    let about = "Tells a cheapest plan, or that there is none";
+    let about = "Find a cheapest plan, or show that there is none";
     add_command(alloc, commands, "solve", about, SOLVE_HELP, arguments)
 }
 
@@ -133,7 +129,7 @@ fn add_validate<'a>(alloc: Global, commands: &mut Vec<Command<'a>>) -> Result<()
         file(alloc, "PLAN", "The plan file"),
         json(alloc),
     ]?;
-    let about = "Says whether a plan solves a task";
+    let about = "Test whether a plan solves a task";
     add_command(alloc, commands, "validate", about, VALIDATE_HELP, arguments)
 }
 
@@ -149,12 +145,12 @@ fn add_check<'a>(alloc: Global, commands: &mut Vec<Command<'a>>) -> Result<(), A
             alloc,
             "plan",
             "FILE",
-            "A plan file, which is to be shown cheapest",
+            "Check that the plan in this file is a cheapest one",
         ),
         limit(alloc, "instances", INSTANCES_HELP),
         json(alloc),
     ]?;
-    let about = "Says what a certificate shows";
+    let about = "Check a certificate, and say what it shows";
     add_command(alloc, commands, "check", about, CHECK_HELP, arguments)
 }
 
@@ -165,10 +161,14 @@ fn add_explain<'a>(alloc: Global, commands: &mut Vec<Command<'a>>) -> Result<(),
     let arguments = vec![in alloc;
         file(alloc, "DOMAIN", "The domain file"),
         file(alloc, "PROBLEM", "The problem file"),
-        optional_file(alloc, "PLAN", "The plan file, if a plan is to be explained"),
+        optional_file(
+            alloc,
+            "PLAN",
+            "The plan file; without it the task is summarized"
+        ),
         limit(alloc, "instances", INSTANCES_HELP),
     ]?;
-    let about = "Says in words what is wrong with a task or a plan, or what a task holds";
+    let about = "Explain what is wrong with a task or a plan, or summarize a task";
     add_command(alloc, commands, "explain", about, EXPLAIN_HELP, arguments)
 }
 
@@ -231,5 +231,5 @@ fn json<'a>(alloc: Global) -> Arg<'a>
     Arg::new(alloc, "json")
         .long("json")
         .action(ArgAction::SetTrue)
-        .help("Tells the answer as a line of JSON")
+        .help("Print the answer as a line of JSON")
 }

@@ -15,7 +15,7 @@ use clap::error::ErrorKind;
 use clap::{ArgMatches, Error};
 use std::alloc::{AllocError, Global};
 
-/// What the words ask for, which are those behind the program's name.
+/// What the words ask for: those after the program's name.
 ///
 /// ```text
 /// optplan solve DOMAIN PROBLEM [--plan FILE] [--cert FILE] [--states N] [--instances N] [--json]
@@ -24,10 +24,10 @@ use std::alloc::{AllocError, Global};
 /// optplan explain DOMAIN PROBLEM [PLAN] [--instances N]
 /// ```
 ///
-/// Options stand in any order, each at most once, before, between and behind the files, as `--states 5` or `--states=5`; what
-/// stands behind `--` is a file's name, even where it begins with a hyphen. A number is from 1 to 16,777,216 in decimal digits, which
-/// a plus may precede, and 1,000,000 where it is not given. Words that ask for help or the version are no order: the
-/// fault's text is what they ask for.
+/// Options stand in any order, each at most once, before, between and after the files, as `--states 5` or `--states=5`. What
+/// follows `--` is the name of a file, even if it begins with a hyphen. A number is from 1 to 16,777,216 in decimal digits, which
+/// a plus may precede; the default is 1,000,000. Words that ask for help or the version are no order: the fault's text is what
+/// they ask for.
 pub fn read_words<'a>(alloc: Global, words: &'a [&str]) -> Result<Order<'a>, WordsFault>
     ensures asks { IfOk result (λ order. Asks (texts words.entry.now) (wanted_of order)) }
     ensures refused { IfErr result (λ fault. IsOfWords fault → IsCommand (texts words.entry.now) → ⊥) }
@@ -54,7 +54,7 @@ fn no_order(alloc: Global) -> WordsFault {
 
 /// That a command, or a file of it, is missing.
 fn missing(alloc: Global) -> Result<Error, AllocError> {
-    let text = "a command, or one of its files, is missing";
+    let text = "a command or one of its files is missing";
     program(alloc)?.error(ErrorKind::MissingRequiredArgument, text)
 }
 

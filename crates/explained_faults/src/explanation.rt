@@ -1,28 +1,40 @@
 //! A fault that is explained.
 ghost use Rattle.std.specs.Prelude.{IfOk};
-ghost use Rattle.explained_faults.specs.Explained.{IsExplained};
+ghost use Rattle.explained_faults.specs.Explained.{AreWanted, IsExplained};
 
-use crate::detail::Detail;
-use crate::names::Pieces;
-use crate::texts::{TextFault, Texts};
-use crate::{of_names, of_terms, of_texts, of_words};
-use faults::{Code, NoMemory};
+use crate::context::Context;
+use crate::help::Help;
+use crate::wanted::words_at;
+use crate::{of_names, of_terms, of_words};
+use faults::{Code, NoMemory, Span};
+use pddl_tree::TaskFile;
+use source_text::{File, LineColumn, NamedTexts, place_of};
 use std::alloc::Global;
-use text_places::{Place, place_of};
 use tokens::{LONGEST_TEXT, Word};
+
+/// A file is refused by this code, for what stands at this place of it.
+#[derive(Clone, Copy, Debug, PartialEq, Eq)]
+pub struct FileRefusal {
+    /// The file that the place is in.
+    pub file: File,
+    /// What is wrong.
+    pub code: Code,
+    /// Where it stands.
+    pub span: Span,
+}
 
 /// A fault, where it stands, and what helps with it.
 #[derive(Drop)]
 pub struct FaultExplanation<'a> {
     /// The fault, as it was handed in.
-    pub fault: TextFault,
+    pub fault: FileRefusal,
     /// Where its span begins, as an editor shows it.
-    pub place: Place,
+    pub place: LineColumn,
     /// The words that may stand in the place of a refused one, one for each kind: a name is told for all names, and so are a
     /// variable and a number. For a keyword those alone that are like it, if there are any.
     pub wanted: Vec<Word<'a>>,
     /// What else helps with it.
-    pub detail: Detail<'a>,
+    pub help: Help<'a>,
 }
 
 /// What helps with a fault of some texts. That it is the first is the caller's to say; where it is none that is told of
@@ -32,75 +44,92 @@ pub struct FaultExplanation<'a> {
 /// Memory was refused.
 pub fn explain_fault<'a>(
     alloc: Global,
-    texts: &Texts<'a>,
-    fault: TextFault,
+    texts: &NamedTexts<'a>,
+    fault: FileRefusal,
 ) -> Result<FaultExplanation<'a>, NoMemory>
     ensures { IfOk result (IsExplained texts.now fault) }
 {
     let place = place_of(texts.text(fault.file), fault.span.start);
-    let wanted = of_words::wanted(alloc, texts, fault)?;
-    let detail = detail_of(alloc, texts, fault)?;
+    let wanted = wanted_words(alloc, texts, fault)?;
+    let help = help_with(alloc, texts, fault)?;
     Ok(FaultExplanation {
         fault,
         place,
         wanted,
-        detail,
+        help,
     })
 }
 
-/// What helps with a fault.
-fn detail_of<'a>(
+/// The words that may stand in the place of a refused one; none where another help is told.
+fn wanted_words<'a>(
     alloc: Global,
-    texts: &Texts<'a>,
-    fault: TextFault,
-) -> Result<Detail<'a>, NoMemory> {
+    texts: &NamedTexts<'a>,
+    fault: FileRefusal,
+) -> Result<Vec<Word<'a>>, NoMemory>
+    ensures { IfOk result (λ wanted. AreWanted texts.now fault wanted.items) }
+{
+    let is_of_words = matches!(
+        fault.code,
+        Code::BadForm | Code::UnknownSection | Code::UnknownRequirement
+    );
+    let (domain, problem) = (texts.domain.text, texts.problem.text);
+    let (at, told) = (fault.span.start, told_bytes(texts, fault));
+    match fault.file {
+        File::Domain if is_of_words => words_at(alloc, TaskFile::Domain, domain, at, told),
+        File::Problem if is_of_words => words_at(alloc, TaskFile::Problem, problem, at, told),
+        _ => Ok(Vec::new(alloc)),
+    }
+}
+
+/// What helps with a fault beside the words that may stand there.
+fn help_with<'a>(
+    alloc: Global,
+    texts: &NamedTexts<'a>,
+    fault: FileRefusal,
+) -> Result<Help<'a>, NoMemory> {
     match fault.code {
-        Code::BadByte | Code::BadWord | Code::TooDeep => Ok(Detail::Plain),
-        Code::Unbalanced => of_texts::unbalanced(alloc, texts, fault),
-        Code::TooLong => Ok(of_texts::too_long(fault)),
-        Code::PlanForm if fault.span.start == LONGEST_TEXT => Ok(of_texts::too_long(fault)),
-        Code::Trailing => of_texts::trailing(alloc, texts, fault),
-        Code::BadForm | Code::UnknownSection | Code::UnknownRequirement => Ok(Detail::Plain),
-        Code::RepeatedSection => of_words::repeated(alloc, texts, fault),
-        Code::MissingSection => of_words::missing(alloc, texts, fault),
-        Code::LeftOut | Code::NumberTooLarge | Code::BadMetric | Code::NegativeInit => {
-            Ok(Detail::Plain)
-        }
-        Code::PlanForm => of_texts::unbalanced(alloc, texts, fault),
-        Code::TimedStep => Ok(Detail::Plain),
+        Code::BadByte | Code::BadWord | Code::TooDeep => Ok(Help::Plain),
+        Code::BadForm | Code::UnknownSection | Code::UnknownRequirement => Ok(Help::Plain),
+        Code::LeftOut | Code::NumberTooLarge | Code::BadMetric => Ok(Help::Plain),
+        Code::NegativeInit | Code::TimedStep => Ok(Help::Plain),
+        Code::TooLong => Ok(length_of(fault)),
+        Code::PlanForm if fault.span.start == LONGEST_TEXT => Ok(length_of(fault)),
         _ => {
-            let pieces = Pieces::of(alloc, texts)?;
-            of_pieces(alloc, texts, fault, &pieces)
+            let context = Context::of(alloc, texts, fault)?;
+            help_in(alloc, &context)
         }
     }
 }
 
-/// What helps with a fault of names, counts or types.
-fn of_pieces<'a>(
-    alloc: Global,
-    texts: &Texts<'a>,
-    fault: TextFault,
-    pieces: &Pieces<'a>,
-) -> Result<Detail<'a>, NoMemory> {
-    let word = told_bytes(texts, fault);
-    match fault.code {
-        Code::UnknownType => of_names::unknown_type(alloc, pieces, word),
-        Code::TypeCycle => of_names::type_cycle(alloc, pieces, word),
-        Code::Duplicate => of_names::duplicate(alloc, texts, pieces, fault, word),
-        Code::UnknownName => of_names::unknown_name(alloc, texts, pieces, fault, word),
-        Code::UnknownAction => of_names::unknown_action(alloc, pieces, word),
-        Code::Shadowed => of_names::shadowed(alloc, texts, pieces, fault, word),
-        Code::WrongArity | Code::StepArity => of_terms::counts_at(alloc, pieces, fault),
-        Code::WrongType | Code::StepType => of_terms::types_at(alloc, pieces, fault, word),
-        Code::DomainMismatch => of_terms::domain_name(alloc, pieces),
-        Code::BadCost => of_terms::cost_fault(alloc, pieces, word),
-        Code::TooMany => Ok(of_terms::passed_limit(pieces, fault)),
-        _ => Ok(Detail::Plain),
+/// How many bytes the told ones are.
+fn length_of<'a>(fault: FileRefusal) -> Help<'a> {
+    Help::Length(fault.span.end.saturating_sub(fault.span.start))
+}
+
+/// What helps with a fault, by the pieces of the texts.
+fn help_in<'a>(alloc: Global, context: &Context<'a>) -> Result<Help<'a>, NoMemory> {
+    match context.fault.code {
+        Code::Unbalanced | Code::PlanForm => Ok(of_words::unbalanced(context)),
+        Code::Trailing => Ok(of_words::trailing(context)),
+        Code::RepeatedSection => Ok(of_words::repeated(context)),
+        Code::MissingSection => of_words::missing(alloc, context),
+        Code::UnknownType => of_names::unknown_type(alloc, context),
+        Code::TypeCycle => of_names::type_cycle(alloc, context),
+        Code::Duplicate => of_names::duplicate(alloc, context),
+        Code::UnknownName => of_names::unknown_name(alloc, context),
+        Code::UnknownAction => of_names::unknown_action(alloc, context),
+        Code::Shadowed => of_names::shadowed(alloc, context),
+        Code::WrongArity | Code::StepArity => of_terms::counts(alloc, context),
+        Code::WrongType | Code::StepType => of_terms::types(alloc, context),
+        Code::DomainMismatch => of_terms::domain_name(alloc, context),
+        Code::BadCost => of_terms::cost_fault(alloc, context),
+        Code::TooMany => Ok(of_terms::passed_limit(context)),
+        _ => Ok(Help::Plain),
     }
 }
 
 /// The bytes that a fault is told of, as far as they are within the text.
-pub(crate) fn told_bytes<'a>(texts: &Texts<'a>, fault: TextFault) -> &'a [u8] {
+pub(crate) fn told_bytes<'a>(texts: &NamedTexts<'a>, fault: FileRefusal) -> &'a [u8] {
     let text = texts.text(fault.file);
     let end = fault.span.end.min(text.len());
     let start = fault.span.start.min(end);

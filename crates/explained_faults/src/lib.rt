@@ -1,19 +1,20 @@
-//! What is wrong with a text, told for people: the place as an editor shows it, the line with a mark, and a sentence.
+//! What is wrong with a text, told for people: the place as an editor shows it, the line with a mark, and a sentence, with what
+//! may have been meant.
 #![tactic(auto)]
 
-mod detail;
+mod context;
+mod expected;
 mod explanation;
-mod lists;
-mod names;
+mod help;
+mod near;
 mod of_names;
 mod of_terms;
-mod of_texts;
 mod of_words;
 mod sentences;
-mod texts;
+mod shown;
+mod wanted;
 
-pub use detail::{CostFault, Counts, Detail, FilePlace, Limit, Named, Types};
-pub use explanation::{FaultExplanation, explain_fault};
-pub use suggestions::Others;
-pub use text_places::Place;
-pub use texts::{File, NamedText, TextFault, Texts};
+pub use explanation::{FaultExplanation, FileRefusal, explain_fault};
+pub use help::{CostFault, Counts, FileOffset, Help, Limit, Named, Types};
+pub use near::Others;
+pub use source_text::{File, LineColumn, NamedText, NamedTexts};

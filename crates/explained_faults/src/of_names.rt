@@ -1,109 +1,105 @@
 //! Help with names that are not known, and with names that are declared twice (14 to 17, 20, 32).
-use crate::detail::{Detail, FilePlace, Named};
-use crate::names::{Pieces, is_function, names_in, names_of, objects, terms_at};
-use crate::texts::{File, TextFault, Texts};
-use faults::{NoMemory, Span};
-use std::alloc::Global;
-use suggestions::meant_by;
-use text_pieces::{
-    Declared, Piece, children, declared_after_head, declared_in, head_of, in_scope, index_at,
+use crate::context::{Context, names_of};
+use crate::help::{FileOffset, Help, Named};
+use crate::near::meant_by;
+use faults::NoMemory;
+use source_text::{
+    File, Piece, children, declared_after_head, declared_as, declared_in, head_of, heads, in_scope,
     list_from, opening_of, section,
 };
+use std::alloc::Global;
+
+/// A name that is not known, with those of its kind that may be meant.
+fn unknown<'a>(
+    alloc: Global,
+    context: &Context<'a>,
+    named: Named,
+    known: &[Piece<'a>],
+) -> Result<Help<'a>, NoMemory> {
+    let others = meant_by(alloc, context.word, known)?;
+    Ok(Help::Unknown(named, others))
+}
 
 /// The types that may be meant.
-pub(crate) fn unknown_type<'a>(
-    alloc: Global,
-    pieces: &Pieces<'a>,
-    word: &[u8],
-) -> Result<Detail<'a>, NoMemory> {
-    let types = section(alloc, pieces.domain.as_slice(), b":types")?;
-    let declared = declared_after_head(alloc, types)?;
-    let names = names_of(alloc, declared.as_slice())?;
-    Ok(Detail::Unknown(Named::Type, meant_by(alloc, word, names)?))
+pub(crate) fn unknown_type<'a>(alloc: Global, context: &Context<'a>) -> Result<Help<'a>, NoMemory> {
+    let types = context.declared(alloc, b":types")?;
+    let known = names_of(alloc, types.as_slice())?;
+    unknown(alloc, context, Named::Type, known.as_slice())
 }
 
 /// The predicates, functions, variables or objects that may be meant.
-pub(crate) fn unknown_name<'a>(
-    alloc: Global,
-    texts: &Texts<'a>,
-    pieces: &Pieces<'a>,
-    fault: TextFault,
-    word: &[u8],
-) -> Result<Detail<'a>, NoMemory> {
-    let here = pieces.file(fault.file);
-    let Some(at) = index_at(here, fault.span.start) else {
-        return Ok(Detail::Plain);
+pub(crate) fn unknown_name<'a>(alloc: Global, context: &Context<'a>) -> Result<Help<'a>, NoMemory> {
+    let Some(at) = context.at() else {
+        return Ok(Help::Plain);
     };
-    let Some(open) = opening_of(here, at) else {
-        return Ok(Detail::Plain);
+    let Some(open) = context.open() else {
+        return Ok(Help::Plain);
     };
-    if word.starts_with(b"?") {
-        unknown_term(alloc, pieces, fault.file, at, Named::Variable, word)
-    } else if open + 1 < at {
-        unknown_object(alloc, texts, pieces, fault.file, at, word)
-    } else if is_function(here, open) {
-        unknown_head(alloc, pieces, Named::Function, b":functions", word)
+    if context.is_variable() {
+        unknown_term(alloc, context, Named::Variable)
+    } else if open.saturating_add(1) < at {
+        unknown_object(alloc, context)
+    } else if context.is_function(open) {
+        unknown_head(alloc, context, Named::Function, b":functions")
     } else {
-        unknown_head(alloc, pieces, Named::Predicate, b":predicates", word)
+        unknown_head(alloc, context, Named::Predicate, b":predicates")
     }
 }
 
 /// Where the problem declares an object that the domain names, or the objects that may be meant.
-fn unknown_object<'a>(
-    alloc: Global,
-    texts: &Texts<'a>,
-    pieces: &Pieces<'a>,
-    file: File,
-    at: usize,
-    word: &[u8],
-) -> Result<Detail<'a>, NoMemory> {
-    if file == File::Domain {
-        let objects = objects(alloc, pieces, File::Problem)?;
-        if let Some(one) = objects.iter().find(|one| one.name.is(word)) {
-            return Ok(Detail::OfProblem(FilePlace::of(texts, File::Problem, one.name.span.start)));
+fn unknown_object<'a>(alloc: Global, context: &Context<'a>) -> Result<Help<'a>, NoMemory> {
+    if context.fault.file == File::Domain {
+        let objects = context.objects(alloc, File::Problem)?;
+        if let Some(one) = declared_as(objects.as_slice(), context.word) {
+            return Ok(Help::OfProblem(FileOffset {
+                file: File::Problem,
+                offset: one.name.span.start,
+            }));
         }
     }
-    unknown_term(alloc, pieces, file, at, Named::Object, word)
+    unknown_term(alloc, context, Named::Object)
 }
 
-fn unknown_term<'a>(
+pub(crate) fn unknown_term<'a>(
     alloc: Global,
-    pieces: &Pieces<'a>,
-    file: File,
-    at: usize,
+    context: &Context<'a>,
     named: Named,
-    word: &[u8],
-) -> Result<Detail<'a>, NoMemory> {
-    let known = terms_at(alloc, pieces, file, at)?;
-    let names = names_of(alloc, known.as_slice())?;
-    Ok(Detail::Unknown(named, meant_by(alloc, word, names)?))
+) -> Result<Help<'a>, NoMemory> {
+    let terms = context.terms(alloc)?;
+    let known = names_of(alloc, terms.as_slice())?;
+    unknown(alloc, context, named, known.as_slice())
 }
 
 fn unknown_head<'a>(
     alloc: Global,
-    pieces: &Pieces<'a>,
+    context: &Context<'a>,
     named: Named,
     keyword: &[u8],
-    word: &[u8],
-) -> Result<Detail<'a>, NoMemory> {
-    let names = names_in(alloc, pieces, keyword)?;
-    Ok(Detail::Unknown(named, meant_by(alloc, word, names)?))
+) -> Result<Help<'a>, NoMemory> {
+    let list = section(alloc, context.domain.as_slice(), keyword)?;
+    let known = heads(alloc, list)?;
+    unknown(alloc, context, named, known.as_slice())
 }
 
 /// The actions that may be meant.
 pub(crate) fn unknown_action<'a>(
     alloc: Global,
-    pieces: &Pieces<'a>,
-    word: &[u8],
-) -> Result<Detail<'a>, NoMemory> {
-    let mut names: Vec<&'a [u8]> = Vec::new(alloc);
-    let lists = children(alloc, pieces.domain.as_slice())?;
+    context: &Context<'a>,
+) -> Result<Help<'a>, NoMemory> {
+    let known = actions(alloc, context.domain.as_slice())?;
+    unknown(alloc, context, Named::Action, known.as_slice())
+}
+
+/// The names of the actions.
+fn actions<'a>(alloc: Global, domain: &[Piece<'a>]) -> Result<Vec<Piece<'a>>, NoMemory> {
+    let lists = children(alloc, domain)?;
+    let mut found = Vec::new(alloc);
     for list in lists.as_slice() {
         if let Some(name) = action_name(list) {
-            names.push(name.text)?;
+            found.push(name)?;
         }
     }
-    Ok(Detail::Unknown(Named::Action, meant_by(alloc, word, names)?))
+    Ok(found)
 }
 
 /// The name of an action's list, where it is one.
@@ -116,15 +112,10 @@ pub(crate) fn action_name<'a>(list: &[Piece<'a>]) -> Option<Piece<'a>> {
 }
 
 /// The chain of parents of a type, from itself on, up to the type that stands in it again.
-pub(crate) fn type_cycle<'a>(
-    alloc: Global,
-    pieces: &Pieces<'a>,
-    word: &'a [u8],
-) -> Result<Detail<'a>, NoMemory> {
-    let types = section(alloc, pieces.domain.as_slice(), b":types")?;
-    let declared = declared_after_head(alloc, types)?;
+pub(crate) fn type_cycle<'a>(alloc: Global, context: &Context<'a>) -> Result<Help<'a>, NoMemory> {
+    let declared = context.declared(alloc, b":types")?;
     let mut chain: Vec<&'a [u8]> = Vec::new(alloc);
-    let mut current = word;
+    let mut current = context.word;
     for _ in 0..declared.len() {
         chain.push(current)?;
         let parent = declared
@@ -133,149 +124,109 @@ pub(crate) fn type_cycle<'a>(
             .and_then(|one| one.types.first());
         match parent {
             Some(piece) => current = piece.text,
-            None => return Ok(Detail::Plain),
+            None => return Ok(Help::Plain),
         }
-        if current.eq_ignore_ascii_case(word) {
+        if current.eq_ignore_ascii_case(context.word) {
             break;
         }
     }
     chain.push(current)?;
-    Ok(Detail::Chain(chain))
+    Ok(Help::Chain(chain))
 }
 
 /// Where a variable of the same name comes into scope before.
-pub(crate) fn shadowed<'a>(
-    alloc: Global,
-    texts: &Texts<'a>,
-    pieces: &Pieces<'a>,
-    fault: TextFault,
-    word: &[u8],
-) -> Result<Detail<'a>, NoMemory> {
-    let here = pieces.file(fault.file);
-    let Some(at) = index_at(here, fault.span.start) else {
-        return Ok(Detail::Plain);
+pub(crate) fn shadowed<'a>(alloc: Global, context: &Context<'a>) -> Result<Help<'a>, NoMemory> {
+    let Some(at) = context.at() else {
+        return Ok(Help::Plain);
     };
-    let known = in_scope(alloc, here, at)?;
-    let earlier = known.iter().find(|one| one.name.is(word)
-        && one.name.span.start != fault.span.start);
-    Ok(match earlier {
-        Some(one) => { Detail::Earlier(FilePlace::of(texts, fault.file, one.name.span.start)) }
-        None => Detail::Plain,
-    })
+    let variables = in_scope(alloc, context.here(), at)?;
+    let names = names_of(alloc, variables.as_slice())?;
+    let start = context.fault.span.start;
+    Ok(context.earlier(
+        names
+            .iter()
+            .find(|name| name.is(context.word) && name.span.start != start),
+    ))
 }
 
 /// Where a name is declared before.
-pub(crate) fn duplicate<'a>(
-    alloc: Global,
-    texts: &Texts<'a>,
-    pieces: &Pieces<'a>,
-    fault: TextFault,
-    word: &[u8],
-) -> Result<Detail<'a>, NoMemory> {
-    if fault.file == File::Problem {
-        let constants = objects(alloc, pieces, File::Domain)?;
-        if let Some(one) = constants.iter().find(|one| one.name.is(word)) {
-            if is_of(pieces.file(fault.file), fault.span, b":objects") {
-                return Ok(Detail::Earlier(FilePlace::of(texts, File::Domain, one.name.span.start)));
-            }
-        }
+pub(crate) fn duplicate<'a>(alloc: Global, context: &Context<'a>) -> Result<Help<'a>, NoMemory> {
+    if let Some(constant) = repeated_constant(alloc, context)? {
+        return Ok(Help::Earlier(FileOffset {
+            file: File::Domain,
+            offset: constant.span.start,
+        }));
     }
-    let beside = names_beside(alloc, pieces.file(fault.file), fault.span)?;
-    let earlier = beside.iter().find(|piece| piece.is(word) && piece.span.start < fault.span.start);
+    let beside = names_beside(alloc, context)?;
+    let start = context.fault.span.start;
+    let earlier = beside
+        .iter()
+        .find(|piece| piece.is(context.word) && piece.span.start < start);
     Ok(match earlier {
-        Some(piece) => Detail::Earlier(FilePlace::of(texts, fault.file, piece.span.start)),
-        None if word.eq_ignore_ascii_case(b"object") => Detail::BuiltIn,
-        None => Detail::Plain,
+        Some(piece) if is_value(context) => Help::Valued(context.offset_of(piece)),
+        None if context.word.eq_ignore_ascii_case(b"object") => Help::BuiltIn,
+        _ => context.earlier(earlier),
     })
 }
 
-/// Whether a span begins right in a list of this head.
-fn is_of(pieces: &[Piece<'_>], span: Span, head: &[u8]) -> bool {
-    let open = index_at(pieces, span.start).and_then(|at| opening_of(pieces, at));
-    match open {
-        Some(open) => head_of(list_from(pieces, open)).eq_ignore_ascii_case(head),
+/// Whether the fault is told of a function that `:init` gives a value.
+fn is_value(context: &Context<'_>) -> bool {
+    match context.open() {
+        Some(open) => context.is_function(open),
         None => false,
     }
 }
 
-/// The names of the same kind that are declared beside the one at a span: the other names of a typed list, the other
-/// predicates or functions, or the other actions; for a value in `:init` the functions of those of the same objects.
-fn names_beside<'a>(
+/// The constant of the domain whose name an object of the problem has.
+fn repeated_constant<'a>(
     alloc: Global,
-    pieces: &[Piece<'a>],
-    span: Span,
-) -> Result<Vec<Piece<'a>>, NoMemory> {
-    let Some(at) = index_at(pieces, span.start) else {
-        return Ok(Vec::new(alloc));
-    };
-    let Some(open) = opening_of(pieces, at) else {
-        return Ok(Vec::new(alloc));
-    };
-    let list = list_from(pieces, open);
+    context: &Context<'a>,
+) -> Result<Option<Piece<'a>>, NoMemory> {
+    if context.fault.file != File::Problem
+        || !head_of(context.list()).eq_ignore_ascii_case(b":objects")
+    {
+        return Ok(None);
+    }
+    let constants = context.objects(alloc, File::Domain)?;
+    match declared_as(constants.as_slice(), context.word) {
+        Some(one) => Ok(Some(one.name)),
+        None => Ok(None),
+    }
+}
+
+/// The names of the same kind that are declared beside the one at fault: the other names of a typed list, the other
+/// predicates or functions, or the other actions; for a value in `:init` the functions of those of the same objects.
+fn names_beside<'a>(alloc: Global, context: &Context<'a>) -> Result<Vec<Piece<'a>>, NoMemory> {
+    let list = context.list();
     let head = head_of(list);
     if head.eq_ignore_ascii_case(b":action") {
-        actions(alloc, pieces)
+        actions(alloc, context.domain.as_slice())
     } else if head.starts_with(b":") {
         let declared = declared_after_head(alloc, list)?;
-        pieces_of(alloc, declared.as_slice())
-    } else if pieces[at].is_variable() {
+        names_of(alloc, declared.as_slice())
+    } else if context.is_variable() {
         let declared = declared_in(alloc, list)?;
-        pieces_of(alloc, declared.as_slice())
+        names_of(alloc, declared.as_slice())
     } else {
-        lists_beside(alloc, pieces, open)
+        heads_beside(alloc, context)
     }
 }
 
-fn pieces_of<'a>(alloc: Global, declared: &[Declared<'_, 'a>]) -> Result<Vec<Piece<'a>>, NoMemory> {
-    let mut found = Vec::new(alloc);
-    for one in declared {
-        found.push(one.name)?;
-    }
-    Ok(found)
-}
-
-/// The names of all actions.
-fn actions<'a>(alloc: Global, pieces: &[Piece<'a>]) -> Result<Vec<Piece<'a>>, NoMemory> {
-    let lists = children(alloc, pieces)?;
-    let mut found = Vec::new(alloc);
-    for list in lists.as_slice() {
-        if let Some(name) = action_name(list) {
-            found.push(name)?;
-        }
-    }
-    Ok(found)
-}
-
-/// The heads of the lists beside the one whose `(` has this index, in the list around it; of values in `:init` those of
-/// the same objects.
-fn lists_beside<'a>(
-    alloc: Global,
-    pieces: &[Piece<'a>],
-    open: usize,
-) -> Result<Vec<Piece<'a>>, NoMemory> {
-    let Some(outer) = opening_of(pieces, open) else {
+/// The heads of the lists beside the one that the fault stands in, in the list around it; of values in `:init` those of the
+/// same objects.
+fn heads_beside<'a>(alloc: Global, context: &Context<'a>) -> Result<Vec<Piece<'a>>, NoMemory> {
+    let here = context.here();
+    let Some(outer) = context.open().and_then(|open| opening_of(here, open)) else {
         return Ok(Vec::new(alloc));
     };
-    let around = list_from(pieces, outer);
+    let around = list_from(here, outer);
     if head_of(around) != b"=".as_slice() {
-        return heads_in(alloc, around);
+        return heads(alloc, around);
     }
-    match opening_of(pieces, outer) {
-        Some(init) => values_of(alloc, list_from(pieces, init), list_from(pieces, open)),
+    match opening_of(here, outer) {
+        Some(init) => values_of(alloc, list_from(here, init), context.list()),
         None => Ok(Vec::new(alloc)),
     }
-}
-
-/// The heads of the lists in a list.
-fn heads_in<'a>(alloc: Global, list: &[Piece<'a>]) -> Result<Vec<Piece<'a>>, NoMemory> {
-    let mut found = Vec::new(alloc);
-    let nodes = children(alloc, list)?;
-    for node in nodes.as_slice() {
-        if let Some(head) = node.get(1) {
-            found.push(*head)?;
-        }
-    }
-    Ok(found)
 }
 
 /// The heads of a function of the same objects where `:init` gives it a value.

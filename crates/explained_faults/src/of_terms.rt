@@ -1,40 +1,36 @@
-//! Help with counts and types of arguments (18, 19, 33, 34), limits and costs.
-use crate::detail::{CostFault, Counts, Detail, Limit, Named, Types};
-use crate::names::{
-    Pieces, declarations, is_function, names_in, names_of, objects, terms_at, type_names,
-};
-use crate::of_names::action_name;
-use crate::texts::{File, TextFault};
+//! Help with counts and types of arguments (18, 19, 33, 34), limits, costs, and the domain's name.
+use crate::context::{Context, bytes_of};
+use crate::help::{CostFault, Counts, Help, Limit, Named, Types};
+use crate::of_names::{action_name, unknown_term};
 use faults::NoMemory;
-use std::alloc::Global;
-use suggestions::meant_by;
-use text_pieces::{
-    Declared, Piece, children, declaration_of, declared_after_head, declared_as, head_of, index_at,
-    list_from, opening_of, parameters,
+use source_text::{
+    File, Piece, TypedName, children, declaration_of, declared_after_head, declared_as, head_of,
+    heads, list_from, opening_of, parameters, section,
 };
+use std::alloc::Global;
 
-/// What the arguments of the atom or the step are whose `(` has this index: the variables of its declaration. None where
-/// it is not declared.
+/// What the arguments are of the atom or the step at fault, whose `(` has this index: the variables of its declaration. None
+/// where it is not declared.
 fn arguments<'w, 'a>(
     alloc: Global,
-    pieces: &'w Pieces<'a>,
-    file: File,
+    context: &'w Context<'a>,
     open: usize,
-) -> Result<Option<Vec<Declared<'w, 'a>>>, NoMemory> {
-    let name = head_of(list_from(pieces.file(file), open));
-    if file == File::Plan {
-        return match action_named(alloc, pieces, name)? {
+) -> Result<Option<Vec<TypedName<'w, 'a>>>, NoMemory> {
+    let name = head_of(context.list());
+    if context.fault.file == File::Plan {
+        return match action_named(alloc, context, name)? {
             Some(action) => Ok(Some(parameters(alloc, action)?)),
             None => Ok(None),
         };
     }
-    let keyword = if is_function(pieces.file(file), open) {
+    let keyword = if context.is_function(open) {
         b":functions".as_slice()
     } else {
         b":predicates".as_slice()
     };
-    let lists = declarations(alloc, pieces, keyword)?;
-    match declaration_of(lists.as_slice(), name) {
+    let list = section(alloc, context.domain.as_slice(), keyword)?;
+    let declarations = children(alloc, list)?;
+    match declaration_of(declarations.as_slice(), name) {
         Some(declaration) => Ok(Some(declared_after_head(alloc, declaration)?)),
         None => Ok(None),
     }
@@ -43,10 +39,10 @@ fn arguments<'w, 'a>(
 /// The action of this name.
 fn action_named<'w, 'a>(
     alloc: Global,
-    pieces: &'w Pieces<'a>,
+    context: &'w Context<'a>,
     name: &[u8],
 ) -> Result<Option<&'w [Piece<'a>]>, NoMemory> {
-    let lists = children(alloc, pieces.domain.as_slice())?;
+    let lists = children(alloc, context.domain.as_slice())?;
     for list in lists.as_slice() {
         if action_name(list).is_some_and(|piece| piece.is(name)) {
             return Ok(Some(*list));
@@ -56,83 +52,77 @@ fn action_named<'w, 'a>(
 }
 
 /// How many arguments are wanted and given.
-pub(crate) fn counts_at<'a>(
-    alloc: Global,
-    pieces: &Pieces<'a>,
-    fault: TextFault,
-) -> Result<Detail<'a>, NoMemory> {
-    let here = pieces.file(fault.file);
-    let open = index_at(here, fault.span.start).and_then(|at| opening_of(here, at));
-    let Some(open) = open else {
-        return Ok(Detail::Plain);
+pub(crate) fn counts<'a>(alloc: Global, context: &Context<'a>) -> Result<Help<'a>, NoMemory> {
+    let Some(open) = context.open() else {
+        return Ok(Help::Plain);
     };
-    let given = list_from(here, open).len().saturating_sub(3);
-    Ok(match arguments(alloc, pieces, fault.file, open)? {
-        Some(declared) => Detail::Counts(Counts {
-            wanted: declared.len(),
-            given,
-        }),
-        None => Detail::Plain,
-    })
+    let given = context.list().len().saturating_sub(3);
+    match arguments(alloc, context, open)? {
+        Some(declared) => {
+            let wanted = declared.len();
+            Ok(Help::Counts(Counts { wanted, given }))
+        }
+        None => Ok(Help::Plain),
+    }
 }
 
 /// The types of a term and those that its argument asks for.
-pub(crate) fn types_at<'a>(
-    alloc: Global,
-    pieces: &Pieces<'a>,
-    fault: TextFault,
-    word: &[u8],
-) -> Result<Detail<'a>, NoMemory> {
-    let here = pieces.file(fault.file);
-    let Some(at) = index_at(here, fault.span.start) else {
-        return Ok(Detail::Plain);
+pub(crate) fn types<'a>(alloc: Global, context: &Context<'a>) -> Result<Help<'a>, NoMemory> {
+    let Some(at) = context.at() else {
+        return Ok(Help::Plain);
     };
-    let Some(open) = opening_of(here, at) else {
-        return Ok(Detail::Plain);
+    let Some(open) = context.open() else {
+        return Ok(Help::Plain);
     };
-    let known = terms_at(alloc, pieces, fault.file, at)?;
-    let Some(term) = declared_as(known.as_slice(), word) else {
-        let names = names_of(alloc, known.as_slice())?;
-        return Ok(Detail::Unknown(Named::Object, meant_by(alloc, word, names)?));
+    let terms = context.terms(alloc)?;
+    let Some(term) = declared_as(terms.as_slice(), context.word) else {
+        return unknown_term(alloc, context, Named::Object);
     };
-    let arguments = arguments(alloc, pieces, fault.file, open)?;
-    let wanted = arguments.and_then(|all| all
-        .get(at.saturating_sub(open).saturating_sub(2))
-        .copied());
-    match wanted {
-        Some(wanted) => types_of(alloc, head_of(list_from(here, open)), term, wanted),
-        None => Ok(Detail::Plain),
+    let arguments = arguments(alloc, context, open)?;
+    let index = at.saturating_sub(open).saturating_sub(2);
+    match arguments.and_then(|all| all.get(index).copied()) {
+        Some(wanted) => types_of(alloc, head_of(context.list()), term, wanted),
+        None => Ok(Help::Plain),
     }
 }
 
 fn types_of<'a>(
     alloc: Global,
     user: &'a [u8],
-    term: Declared<'_, 'a>,
-    wanted: Declared<'_, 'a>,
-) -> Result<Detail<'a>, NoMemory> {
+    term: TypedName<'_, 'a>,
+    wanted: TypedName<'_, 'a>,
+) -> Result<Help<'a>, NoMemory> {
     let given = type_names(alloc, term.types)?;
     let wanted = type_names(alloc, wanted.types)?;
-    Ok(Detail::Types(Types {
+    Ok(Help::Types(Types {
         user,
         given,
         wanted,
     }))
 }
 
+/// The names of the types; `object` where there is none.
+fn type_names<'a>(alloc: Global, types: &[Piece<'a>]) -> Result<Vec<&'a [u8]>, NoMemory> {
+    let mut found = bytes_of(alloc, types)?;
+    if found.is_empty() {
+        let root: &'a [u8] = b"object";
+        found.push(root)?;
+    }
+    Ok(found)
+}
+
 /// What there are too many of.
-pub(crate) fn passed_limit<'a>(pieces: &Pieces<'a>, fault: TextFault) -> Detail<'a> {
-    let here = pieces.file(fault.file);
-    let open = index_at(here, fault.span.start).and_then(|at| opening_of(here, at));
-    let Some(open) = open else {
-        return Detail::Plain;
+pub(crate) fn passed_limit<'a>(context: &Context<'a>) -> Help<'a> {
+    let here = context.here();
+    let Some(open) = context.open() else {
+        return Help::Plain;
     };
-    let head = head_of(list_from(here, open));
+    let head = head_of(context.list());
     let outer = match opening_of(here, open) {
         Some(outer) => head_of(list_from(here, outer)),
         None => b"",
     };
-    Detail::Limit(if head.eq_ignore_ascii_case(b":types") {
+    Help::Limit(if head.eq_ignore_ascii_case(b":types") {
         Limit::Types
     } else if head.starts_with(b":") {
         Limit::Objects
@@ -146,16 +136,12 @@ pub(crate) fn passed_limit<'a>(pieces: &Pieces<'a>, fault: TextFault) -> Detail<
 }
 
 /// What is wrong with a total cost, by the word that is told.
-pub(crate) fn cost_fault<'a>(
-    alloc: Global,
-    pieces: &Pieces<'a>,
-    word: &[u8],
-) -> Result<Detail<'a>, NoMemory> {
-    let functions = names_in(alloc, pieces, b":functions")?;
-    let is_declared = functions
-        .iter()
-        .any(|name| name.eq_ignore_ascii_case(b"total-cost"));
-    Ok(Detail::Cost(if !is_declared {
+pub(crate) fn cost_fault<'a>(alloc: Global, context: &Context<'a>) -> Result<Help<'a>, NoMemory> {
+    let list = section(alloc, context.domain.as_slice(), b":functions")?;
+    let functions = heads(alloc, list)?;
+    let is_declared = functions.iter().any(|head| head.is(b"total-cost"));
+    let word = context.word;
+    Ok(Help::Cost(if !is_declared {
         CostFault::Undeclared
     } else if word.eq_ignore_ascii_case(b"increase") {
         CostFault::IncreasedTwice
@@ -167,14 +153,14 @@ pub(crate) fn cost_fault<'a>(
 }
 
 /// The domain's name.
-pub(crate) fn domain_name<'a>(alloc: Global, pieces: &Pieces<'a>) -> Result<Detail<'a>, NoMemory> {
-    let nodes = children(alloc, pieces.domain.as_slice())?;
+pub(crate) fn domain_name<'a>(alloc: Global, context: &Context<'a>) -> Result<Help<'a>, NoMemory> {
+    let nodes = children(alloc, context.domain.as_slice())?;
     for node in nodes.as_slice() {
         if head_of(node).eq_ignore_ascii_case(b"domain") {
             if let Some(name) = node.get(2) {
-                return Ok(Detail::Domain(name.text));
+                return Ok(Help::Domain(name.text));
             }
         }
     }
-    Ok(Detail::Plain)
+    Ok(Help::Plain)
 }

@@ -11,11 +11,10 @@ use Rattle.formulas.specs.State.{instance_of}
 use Rattle.task.specs.TaskParts.{shape_of_schema}
 use Rattle.task.proofs.Shapes.{Shape, found}
 use Rattle.explained_plans.specs.declared.explanations.Reasons.{Reasons}
-use Rattle.explained_plans.specs.Histories.{DoRun}
 use Rattle.explained_plans.specs.Explanations.{AreReasons, IsWhyNotApplicable}
 use Rattle.model.specs.Task as task
-use Rattle.model.specs.Meaning.{amount_of, fits, is_instance, system_of}
-use Rattle.model.specs.Runs.{StopsAt}
+use Rattle.model.specs.Meaning.{State, amount_of, fits, initial_state, is_instance, system_of}
+use Rattle.model.specs.Runs.{StopsAt, run}
 use Rattle.model.proofs.Tests.{passes_got}
 use Rattle.validator.proofs.VerdictRuns.{stands}
 
@@ -53,8 +52,9 @@ module _ (t : task.Task) (steps : List Instance) (plan : List task.Instance) (sa
   firsts : map instance_of (take (n - 1) steps) ≡ take (n - 1) plan
   firsts = sym (take-map instance_of (n - 1) steps) ∙ ap (take (n - 1)) same
 
-  pub before_run : (before : List Instance) → before ≡ take (n - 1) steps → DoRun t (map instance_of before)
-  before_run before is = subst (DoRun t) (sym (ap (map instance_of) is ∙ firsts)) (h.before, h.runs)
+  pub before_leads : (before : List Instance) → before ≡ take (n - 1) steps → (s : State) → run (system_of t) (initial_state t) (take (n - 1) plan) ≡ Some s
+      → run (system_of t) (initial_state t) (map instance_of before) ≡ Some s
+  before_leads before is s leads = subst (λ l. run (system_of t) (initial_state t) l ≡ Some s) (sym (ap (map instance_of) is ∙ firsts)) leads
 
   module _ (all : IsTrue (list_all (is_instance t) plan)) where
     pub before_all : (before : List Instance) → before ≡ take (n - 1) steps → IsTrue (list_all (is_instance t) (map instance_of before))

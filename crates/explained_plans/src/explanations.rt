@@ -1,21 +1,20 @@
 //! What is said of a plan for people.
-ghost use Rattle.std.specs.Prelude.{◌≡◌, IsTrue, IfOk, map};
+ghost use Rattle.std.specs.Prelude.{◌≡◌, ◌-◌, IsTrue, IfOk, Some, map, take};
 ghost use Rattle.std.specs.List.{list_all};
 ghost use Rattle.task.specs.Task.{task_of};
 ghost use Rattle.task.specs.TaskParts.{object_of, formula_of};
-ghost use Rattle.formulas.specs.State.{instance_of, plan_of, FitsFormula};
-ghost use Rattle.explained_plans.specs.Histories.{DoRun};
+ghost use Rattle.formulas.specs.State.{instance_of, plan_of, state_of, FitsFormula};
 ghost use Rattle.explained_plans.specs.Explanations.{verdict_of, AreReasons, IsExplained};
-ghost use Rattle.model.specs.Runs.{IsVerdict, StopsAt, valid, goal_missed};
-ghost use Rattle.model.specs.Meaning.{is_instance, system_of, cost_of};
+ghost use Rattle.model.specs.Runs.{IsVerdict, StopsAt, run, valid, goal_missed};
+ghost use Rattle.model.specs.Meaning.{is_instance, initial_state, system_of, cost_of};
 
 use crate::false_parts::{Found, Part, first_false_parts};
-use crate::histories::{History, histories, state_after};
+use crate::histories::{History, histories};
 use faults::NoMemory;
-use formulas::{Binding, Instance, Plan, amount, cost};
+use formulas::{Binding, Instance, Plan, State, amount, cost};
 use std::alloc::Global;
 use task::{Formula, Task};
-use validator::{Verdict, validate};
+use validator::{Run, Verdict, run_plan};
 
 /// Why a formula does not hold after some steps of a plan: the first of its smallest false parts, at most 20, from the left.
 #[derive(Drop)]
@@ -67,10 +66,11 @@ pub fn explain_plan<'t>(
     ensures verdict { IfOk result (λ e. IsVerdict (system_of (task_of task.now)) (plan_of plan.now) (verdict_of e)) }
     ensures explained { IfOk result (IsExplained (task_of task.now) (plan_of plan.now)) }
 {
-    match validate(alloc, task, plan)? {
+    let Run { verdict, state } = run_plan(alloc, task, plan)?;
+    match verdict {
         Verdict::Valid { cost } => why_valid(alloc, task, plan, cost),
-        Verdict::NotApplicable { step } => why_not_applicable(alloc, task, plan, step),
-        Verdict::GoalMissed => why_missed(alloc, task, plan),
+        Verdict::NotApplicable { step } => why_not_applicable(alloc, task, plan, step, &state),
+        Verdict::GoalMissed => why_missed(alloc, task, plan, &state),
     }
 }
 
@@ -101,15 +101,17 @@ fn costs_of(alloc: Global, task: &Task, steps: &[Instance]) -> Result<Vec<u32>, 
     Ok(costs)
 }
 
-/// Why the step of this number is not applicable after those before it.
+/// Why the step of this number is not applicable in the state that those before it lead to.
 fn why_not_applicable<'t>(
     alloc: Global,
     task: &'t Task,
     plan: &Plan,
     step: usize,
+    state: &State,
 ) -> Result<PlanExplanation<'t>, NoMemory>
     requires instances { IsTrue (list_all (is_instance (task_of task.now)) (plan_of plan.now)) }
     requires stops { StopsAt (system_of (task_of task.now)) (plan_of plan.now) step }
+    requires state { run (system_of (task_of task.now)) (initial_state (task_of task.now)) (take (step - 1) (plan_of plan.now)) ≡ Some (state_of state.now) }
     ensures verdict { IfOk result (λ e. IsVerdict (system_of (task_of task.now)) (plan_of plan.now) (verdict_of e)) }
     ensures explained { IfOk result (IsExplained (task_of task.now) (plan_of plan.now)) }
 {
@@ -118,7 +120,14 @@ fn why_not_applicable<'t>(
     let instance = &steps[step - 1];
     let schema = task.schema(instance.schema).unwrap();
     let lacks_cost = amount(task, instance).is_none();
-    let reasons = why_false(alloc, task, before, &schema.precondition, &instance.objects)?;
+    let reasons = why_false(
+        alloc,
+        task,
+        before,
+        state,
+        &schema.precondition,
+        &instance.objects,
+    )?;
     Ok(PlanExplanation::NotApplicable {
         step,
         lacks_cost,
@@ -126,39 +135,41 @@ fn why_not_applicable<'t>(
     })
 }
 
-/// Why the goal does not hold after the plan.
+/// Why the goal does not hold in the state that the plan leads to.
 fn why_missed<'t>(
     alloc: Global,
     task: &'t Task,
     plan: &Plan,
+    state: &State,
 ) -> Result<PlanExplanation<'t>, NoMemory>
     requires instances { IsTrue (list_all (is_instance (task_of task.now)) (plan_of plan.now)) }
     requires missed { IsVerdict (system_of (task_of task.now)) (plan_of plan.now) goal_missed }
+    requires state { run (system_of (task_of task.now)) (initial_state (task_of task.now)) (plan_of plan.now) ≡ Some (state_of state.now) }
     ensures verdict { IfOk result (λ e. IsVerdict (system_of (task_of task.now)) (plan_of plan.now) (verdict_of e)) }
     ensures explained { IfOk result (IsExplained (task_of task.now) (plan_of plan.now)) }
 {
     let steps = plan.steps();
     let goal = task.goal();
     let nothing = Binding::new();
-    let reasons = why_false(alloc, task, steps, goal, &nothing)?;
+    let reasons = why_false(alloc, task, steps, state, goal, &nothing)?;
     Ok(PlanExplanation::GoalMissed { reasons })
 }
 
-/// Why the formula does not hold after the steps, which run, where its variables have these objects.
+/// Why the formula does not hold in the state that the steps lead to, where its variables have these objects.
 fn why_false<'t>(
     alloc: Global,
     task: &Task,
     steps: &[Instance],
+    state: &State,
     formula: &'t Formula,
     objects: &Binding,
 ) -> Result<Reasons<'t>, NoMemory>
     requires fits { FitsFormula (task_of task.now) (formula_of formula.now) (map object_of objects.now.items) }
     requires instances { IsTrue (list_all (is_instance (task_of task.now)) (map instance_of steps.now)) }
-    requires runs { DoRun (task_of task.now) (map instance_of steps.now) }
+    requires leads { run (system_of (task_of task.now)) (initial_state (task_of task.now)) (map instance_of steps.now) ≡ Some (state_of state.now) }
     ensures { IfOk result (AreReasons (task_of task.now) (map instance_of steps.now) (formula_of formula.now) (map object_of objects.now.items)) }
 {
-    let state = state_after(alloc, task, steps)?;
-    let Found { parts, more } = first_false_parts(alloc, task, formula, objects, &state)?;
+    let Found { parts, more } = first_false_parts(alloc, task, formula, objects, state)?;
     let histories = histories(alloc, task, steps, parts.as_slice())?;
     Ok(Reasons {
         parts,

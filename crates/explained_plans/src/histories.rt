@@ -6,8 +6,7 @@ ghost use Rattle.formulas.specs.State.{state_of, instance_of};
 ghost use Rattle.explained_plans.specs.declared.false_parts.Part as code;
 ghost use Rattle.explained_plans.specs.Histories.{by_step, IsAfter, DoRun};
 ghost use Rattle.explained_plans.specs.Parts.{AreHistories, FitsPart, Looked, history_of, part_of};
-ghost use Rattle.model.specs.Meaning.{is_instance, initial_state, system_of};
-ghost use Rattle.model.specs.Runs.{run};
+ghost use Rattle.model.specs.Meaning.{is_instance};
 
 use crate::false_parts::Part;
 use faults::NoMemory;
@@ -31,19 +30,6 @@ impl History {
     {
         if holds { History::ByStep(step) } else { self }
     }
-}
-
-/// The state after the steps, which run.
-pub(crate) fn state_after(alloc: Global, task: &Task, steps: &[Instance]) -> Result<State, NoMemory>
-    requires instances { IsTrue (list_all (is_instance (task_of task.now)) (map instance_of steps.now)) }
-    requires runs { DoRun (task_of task.now) (map instance_of steps.now) }
-    ensures { IfOk result (λ state. run (system_of (task_of task.now)) (initial_state (task_of task.now)) (map instance_of steps.now) ≡ Some (state_of state)) }
-{
-    let mut state = State::initial(alloc, task)?;
-    for step in steps {
-        state = apply(alloc, task, step, &state)?.unwrap();
-    }
-    Ok(state)
 }
 
 /// Since when each of the parts has been false, which are so after the steps.

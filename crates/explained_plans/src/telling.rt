@@ -18,7 +18,7 @@ use task::{Formula, Increase, ObjectId, Task};
 /// ```text
 /// valid, cost 10
 /// step 7, (hop a b), is not applicable
-/// the plan runs, and the goal is missed
+/// every step is applicable, but the goal is not reached
 /// ```
 pub fn tell_verdict(
     alloc: Global,
@@ -34,7 +34,7 @@ pub fn tell_verdict(
         }
         PlanExplanation::GoalMissed { .. } => Ok(String::from_str(
             alloc,
-            "the plan runs, and the goal is missed\n",
+            "every step is applicable, but the goal is not reached\n",
         )?),
     }
 }
@@ -121,7 +121,7 @@ fn add_reasons(
         add_reason(alloc, task, plan, part, *history, text)?;
     }
     if reasons.more {
-        text.extend_from_slice(b"More is false.\n")?;
+        text.extend_from_slice(b"More conditions are false.\n")?;
     }
     Ok(())
 }

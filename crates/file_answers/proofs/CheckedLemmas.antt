@@ -4,10 +4,10 @@ use Rattle.std.specs.Prelude.{Option, None, Some, IfSome, Result, Ok, Err, IfErr
 use Rattle.model.specs.Task.{Task, Instance}
 use Rattle.model.specs.PlanText.{IsPlanText}
 use Rattle.model.specs.Files.{FileFault, IsTaskOf, IsFileFault}
-use Rattle.task_files.specs.declared.files.FileFault as file
-use Rattle.task_files.specs.Inputs.{IsHandedIn, IsInputFault}
-use Rattle.task_files.specs.Files.{told_in}
-use Rattle.task_files.proofs.FilesRead.{none_told, none_told_of_task}
+use Rattle.file_answers.specs.declared.files.FileFault as file
+use Rattle.file_answers.specs.Inputs.{IsHandedIn, IsInputFault}
+use Rattle.file_answers.specs.Files.{told_in}
+use Rattle.file_answers.proofs.FilesRead.{none_told, none_told_of_task}
 
 -- the text of a plan, or none, is handed in
 pub none_handed_in : (task : Task) (text : Option (List ℕ)) → text ≡ None → IsHandedIn task text None

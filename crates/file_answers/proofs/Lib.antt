@@ -1,1 +1,3 @@
 pub mod CheckedLemmas
+mod ExplanationLemmas
+pub mod FilesRead

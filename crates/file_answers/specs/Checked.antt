@@ -16,7 +16,7 @@ use Rattle.model.specs.Task.{Task, Instance}
 use Rattle.model.specs.Limits.{max_numbered_atoms}
 use Rattle.model.specs.Grounding.{limit_told}
 use Rattle.certificate_definitions.specs.Certificates.{Certificate}
-use Rattle.task_files.specs.Inputs.{IsHandedIn}
+use Rattle.file_answers.specs.Inputs.{IsHandedIn}
 
 -- The answer is true of what came to the reader, for this task and the plan that this text is, if one is handed in.
 pub record IsChecked {R : Type 0} (remaining : R → Option (List ℕ)) (task : Task) (first now : CertReader R) (text : Option (List ℕ)) (most : ℕ) (answer : Result Accepted Refusal) : Type 0 where

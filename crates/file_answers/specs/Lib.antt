@@ -1,1 +1,4 @@
 pub mod Checked
+pub mod Explanations
+pub mod Files
+pub mod Inputs

@@ -4,18 +4,18 @@ ghost use Rattle.task.specs.Task.{task_of};
 ghost use Rattle.cert_checker.specs.Reading.{CountsRefusal, IsFresh};
 ghost use Rattle.certificate_reader.specs.Reader.{source_of};
 ghost use Rattle.file_answers.specs.Checked.{IsChecked};
-ghost use Rattle.task_files.specs.Inputs.{IsHandedIn, IsInputFault};
-ghost use Rattle.task_files.specs.Files.{text_in, told_in};
+ghost use Rattle.file_answers.specs.Inputs.{IsHandedIn, IsInputFault};
+ghost use Rattle.file_answers.specs.Files.{text_in, told_in};
 ghost use Rattle.model.specs.Task as model;
 ghost use Rattle.model.specs.Files.{IsTaskOf};
 ghost use Rattle.model.specs.PlanWriting.{has_names};
 
+use crate::files::{FileFault, plan_of_file, task_of_files};
 use cert_checker::{Accepted, Refusal, check};
 use certificate::CertReader;
 use devices::Source;
 use std::alloc::Global;
 use task::Task;
-use task_files::{FileFault, plan_of_file, task_of_files};
 
 /// A task with what is told of a certificate for it.
 #[derive(Drop)]

@@ -1,10 +1,12 @@
-//! A law of the certificates that the program writes and reads. It is proved; the call does nothing.
-ghost use Rattle.std.specs.Prelude.{◌≡◌, ℕ, [], List, None, Option};
+//! Laws of the tasks that are read from files, and of the certificates that the program writes and reads. They are proved; the
+//! calls do nothing.
+ghost use Rattle.std.specs.Prelude.{◌≡◌, ℕ, [], IsTrue, List, None, Option};
 ghost use Rattle.model.specs.Task.{Task, Instance};
 ghost use Rattle.model.specs.Files.{IsTaskOf};
 ghost use Rattle.model.specs.Claims.{Claim};
 ghost use Rattle.model.specs.Limits.{max_numbered_atoms};
 ghost use Rattle.model.specs.Grounding.{limit_told};
+ghost use Rattle.model.specs.WellTyped.{is_task};
 ghost use Rattle.certificate_definitions.specs.Certificates.{Certificate};
 ghost use Rattle.certificate_definitions.specs.CertificateRefusals.{IsPlanWithin};
 ghost use Rattle.certificate_definitions.specs.CertificateNames.{IsTextOf, certificate_text};
@@ -17,6 +19,11 @@ ghost use Rattle.solver.specs.declared.answer.Exceeded.TheVariants.{States};
 ghost use Rattle.solver.specs.Listing.{IsShownBy};
 ghost use Rattle.solver.specs.Solver.{IsTrueAnswer};
 ghost use Rattle.file_answers.specs.Checked.{IsAcceptedAs};
+
+/// The task that is read from files is well-typed, its formulas and effects among it.
+pub fn tasks_of_files_are_well_typed()
+    ensures { (domain problem : List ℕ) (task : Task) → IsTaskOf domain problem task → IsTrue (is_task task) }
+{}
 
 /// What is written of the certificate of an answer, of a task that is read from files, is a text that says this certificate,
 /// and `check` accepts it, with the answer's plan or without, where it keeps as many instances.

@@ -1,12 +1,20 @@
-//! From the bytes of files to answers: the planner, the validator and the checker.
+//! From the bytes of files to answers: the planner, the validator, the checker, and what is said of files for people. Below them is
+//! the reading of a task and of a plan for it, and the first fault of their texts.
 #![tactic(auto)]
 
 mod checking;
+mod explaining;
+mod explanation;
+mod files;
 mod laws;
 mod solving;
 mod validating;
 
 pub use checking::{Checked, check_files};
-pub use laws::solved_certificates_are_accepted;
+pub use explaining::explain_files;
+pub use explanation::{Explanation, Grounded, Subject};
+pub use files::{FileFault, one_task, plan_of_file, task_of_files};
+pub use laws::{solved_certificates_are_accepted, tasks_of_files_are_well_typed};
 pub use solving::{Solved, solve_files};
+pub use source_text::{File, NamedText};
 pub use validating::validate_files;

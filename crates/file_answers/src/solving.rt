@@ -2,16 +2,16 @@
 ghost use Rattle.std.specs.Prelude.{◌≡◌, ℕ, List, IfOk, IfErr, IfSome, IsTrue, None};
 ghost use Rattle.task.specs.Task.{task_of};
 ghost use Rattle.solver.specs.Solver.{IsTrueAnswer};
-ghost use Rattle.task_files.specs.Files.{told_in};
+ghost use Rattle.file_answers.specs.Files.{told_in};
 ghost use Rattle.model.specs.Task as model;
 ghost use Rattle.model.specs.Files.{IsTaskOf, IsTaskFault};
 ghost use Rattle.model.specs.PlanWriting.{has_names};
 
+use crate::files::{FileFault, task_of_files};
 use faults::NoMemory;
 use solver::{Answer, Limits, solve};
 use std::alloc::Global;
 use task::Task;
-use task_files::{FileFault, task_of_files};
 
 /// A task with what was found out of it.
 #[derive(Drop)]

@@ -2,13 +2,13 @@
 ghost use Rattle.std.specs.Prelude.{◌≡◌, ℕ, List, IfOk, IfErr, IfSome, None};
 ghost use Rattle.task.specs.Task.{task_of};
 ghost use Rattle.validator.specs.Verdict.{verdict_of};
-ghost use Rattle.task_files.specs.Files.{told_in};
+ghost use Rattle.file_answers.specs.Files.{told_in};
 ghost use Rattle.model.specs.Task as model;
 ghost use Rattle.model.specs.Files.{AreRead, IsTaskOf, IsVerdictOf, IsFileFault};
 
+use crate::files::{FileFault, plan_of_file, task_of_files};
 use std::alloc::Global;
 use task::Task;
-use task_files::{FileFault, plan_of_file, task_of_files};
 use validator::{Verdict, validate};
 
 /// What is true of the plan, from the bytes of the three files.

@@ -7,7 +7,7 @@ use Rattle.std.specs.Str.{bytes_eq}
 use Rattle.command_line.specs.Orders.{Asks, Wanted}
 use Rattle.devices.specs.Written.{NamedText, HoldsBeginning, with_file, with_files, AreWritten, AreWrittenPartly}
 use Rattle.planner_main.specs.Asked.{Outputs, outputs_of}
-use Rattle.task_files.specs.Files.{text_in}
+use Rattle.file_answers.specs.Files.{text_in}
 use Rattle.planner_main.specs.Objects.{line_of_members}
 use Rattle.planner_main.specs.Solution.{IsBegun, TellsReport, cert_text, files_for, in_file, plan_text}
 use Rattle.planner_main.specs.Reported.{of_report, status_of, text_of, told_of}

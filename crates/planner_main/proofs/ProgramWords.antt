@@ -6,14 +6,14 @@ use Rattle.solver.specs.declared.answer.Answer.{Answer}
 use Rattle.solver.specs.declared.answer.Answer.TheVariants.{Plan, Unsolvable, Unknown}
 use Rattle.planner_main.specs.declared.failures.Failure.{Failure}
 use Rattle.planner_main.specs.declared.failures.Failure.TheVariants as failure
-use Rattle.task_files.specs.declared.files.FileFault.TheVariants as refusal
+use Rattle.file_answers.specs.declared.files.FileFault.TheVariants as refusal
 use Rattle.devices.specs.declared.device.WriteFault.TheVariants as device
 use Rattle.command_line.specs.Orders.{Asks, IsCommand, Wanted, to_solve, to_validate, to_check, to_explain}
 use Rattle.command_line.specs.View.{IsOfWords}
 use Rattle.command_line.specs.declared.fault.WordsFault.{WordsFault}
 use Rattle.command_line.proofs.OrderLemmas.{one_wanted}
 use Rattle.devices.specs.Written.{NamedText}
-use Rattle.task_files.specs.Inputs.{IsInputFault}
+use Rattle.file_answers.specs.Inputs.{IsInputFault}
 use Rattle.planner_main.specs.CheckTold as check
 use Rattle.planner_main.specs.Reported as reported
 use Rattle.planner_main.specs.Reported.{HasText, status_of}
@@ -26,21 +26,21 @@ use Rattle.cert_checker.specs.declared.refusal.Refusal.{Refusal}
 use Rattle.cert_checker.specs.declared.checker.Accepted.{Accepted}
 use Rattle.planner_main.specs.Program.{IsTextIfNamed, OnTwo, OnThree, OnInputs, IsAnswerTo, IsReportOn, Refuses, fault_in, IsFaultFor, IsOneOf, IsToldOn, IsToldOfWords, SaysOfWords, HasFailed, HasNotFailed, CountsFailure, CountsEither, device_failure}
 use Rattle.devices.specs.Texts.{IsText, AreKept}
-use Rattle.task_files.specs.declared.files.File.{File}
-use Rattle.task_files.specs.declared.files.FileFault as file
+use Rattle.source_text.specs.declared.texts.File.{File}
+use Rattle.file_answers.specs.declared.files.FileFault as file
 use Rattle.faults.specs.declared.code.Code.{Code}
 use Rattle.faults.specs.declared.refused.Span.{Span}
 use Rattle.planner_main.specs.Failures.{device_line, line_of_fault, no_memory_line}
-use Rattle.task_files.specs.Files.{fault_at}
+use Rattle.file_answers.specs.Files.{fault_at}
 use Rattle.devices.specs.declared.device.WriteFault.{WriteFault}
 use Rattle.devices.specs.Devices.{AppendsBeginning, CountsDevice, IsWritten, one_more}
 use Rattle.planner_main.specs.Failures.{is_failure}
 use Rattle.planner_main.specs.VerdictTold as verdict
 use Rattle.planner_main.specs.AnswerTold as answer
 use Rattle.planner_main.specs.ExplanationTold as explanation
-use Rattle.explanations.specs.declared.explanation.Subject.{Subject}
-use Rattle.explanations.specs.declared.explanation.Subject.TheVariants as subject
-use Rattle.explanations.specs.declared.explanation.Grounded.TheVariants as grounded
+use Rattle.file_answers.specs.declared.explanation.Subject.{Subject}
+use Rattle.file_answers.specs.declared.explanation.Subject.TheVariants as subject
+use Rattle.file_answers.specs.declared.explanation.Grounded.TheVariants as grounded
 use Rattle.model.specs.Runs.{Verdict, valid, not_applicable, goal_missed}
 use Rattle.model.specs.Files.{FileFault, IsTaskFault, IsFileFault}
 

@@ -1,10 +1,10 @@
 -- What an explanation is told as, and the status beside it.
 use Rattle.std.specs.Prelude.{ℕ}
 use Rattle.validator.specs.Verdict.{verdict_of}
-use Rattle.explanations.specs.declared.explanation.Subject.{Subject}
-use Rattle.explanations.specs.declared.explanation.Subject.TheVariants.{Fault, Plan, Task}
-use Rattle.explanations.specs.declared.explanation.Grounded.{Grounded}
-use Rattle.explanations.specs.declared.explanation.Grounded.TheVariants.{Within, Beyond}
+use Rattle.file_answers.specs.declared.explanation.Subject.{Subject}
+use Rattle.file_answers.specs.declared.explanation.Subject.TheVariants.{Fault, Plan, Task}
+use Rattle.file_answers.specs.declared.explanation.Grounded.{Grounded}
+use Rattle.file_answers.specs.declared.explanation.Grounded.TheVariants.{Within, Beyond}
 use Rattle.planner_main.specs.VerdictTold as verdicts
 
 -- of a task: 0 where it is within the limits, and 11 where it is not

@@ -11,21 +11,21 @@ use Rattle.planner_main.specs.declared.telling.reports.Report.{Report}
 use Rattle.planner_main.specs.declared.telling.reports.Report.TheVariants as report
 use Rattle.planner_main.specs.declared.failures.Failure.{Failure}
 use Rattle.planner_main.specs.declared.failures.Failure.TheVariants as failure
-use Rattle.task_files.specs.declared.files.FileFault.TheVariants as refusal
+use Rattle.file_answers.specs.declared.files.FileFault.TheVariants as refusal
 use Rattle.devices.specs.declared.device.WriteFault as device_fault
 use Rattle.devices.specs.declared.device.WriteFault.TheVariants as device
 use Rattle.devices.specs.Devices.{AppendsBeginning, one_more}
 use Rattle.planner_main.specs.Failures.{line_of_fault, device_line, no_memory_line, nothing_done_line}
-use Rattle.task_files.specs.Files.{fault_at, told_in}
+use Rattle.file_answers.specs.Files.{fault_at, told_in}
 use Rattle.command_line.specs.Orders.{Asks, Wanted, to_solve, to_validate, to_check, to_explain}
 use Rattle.command_line.specs.View.{IsOfWords}
 use Rattle.command_line.specs.declared.fault.WordsFault.{WordsFault}
 use Rattle.file_answers.specs.Checked.{IsTrueCheck}
-use Rattle.task_files.specs.Inputs.{IsHandedIn, IsInputFault}
+use Rattle.file_answers.specs.Inputs.{IsHandedIn, IsInputFault}
 use Rattle.planner_main.specs.CheckTold.{IsToldRefusal}
 use Rattle.planner_main.specs.Asked.{outputs_of}
-use Rattle.explanations.specs.declared.explanation.Explanation.{Explanation}
-use Rattle.explanations.specs.Explanations.{IsTrueOf}
+use Rattle.file_answers.specs.declared.explanation.Explanation.{Explanation}
+use Rattle.file_answers.specs.Explanations.{IsTrueOf}
 use Rattle.devices.specs.Texts.{AreKept, IsText}
 use Rattle.devices.specs.Written.{NamedText, AreWritten, AreWrittenPartly}
 use Rattle.planner_main.specs.Solution.{TellsReport}

@@ -3,7 +3,7 @@ ghost use Rattle.std.specs.Prelude.{◌≡◌, ◌⊎◌, ◌++◌, ℕ, IfOk, I
 ghost use Rattle.std.specs.String.{string_bytes};
 ghost use Rattle.command_line.specs.View.{IsOfWords};
 ghost use Rattle.planner_main.specs.Failures.{is_failure, line_of_fault, no_memory_line, nothing_done_line};
-ghost use Rattle.task_files.specs.Files.{fault_at};
+ghost use Rattle.file_answers.specs.Files.{fault_at};
 ghost use Rattle.planner_main.specs.Program.{IsToldOfWords, IsToldOn};
 ghost use Rattle.devices.specs.Devices.{IsWritten};
 
@@ -11,8 +11,8 @@ use crate::telling::{DEVICE, NO_MEMORY, REFUSED, WRONG_WORDS};
 use command_line::WordsFault;
 use devices::{Sink, WriteFault, write_all};
 use faults::{Code, NoMemory, Span};
+use file_answers::{File, FileFault};
 use std::alloc::{AllocError, Global};
-use task_files::{File, FileFault};
 
 /// The last line where the words are no command.
 const NOTHING_DONE: &str = "optplan: nothing was done\n";

@@ -8,14 +8,14 @@ mod telling;
 
 pub use cert_checker::{Accepted, Refusal, RefusalCode};
 pub use command_line::{MaxCount, Order, WordsFault, read_words};
-pub use devices::{Files, SystemFiles};
-pub use explanations::{Explanation, Grounded, NamedText, Subject, explain_files};
+pub use devices::{Files, SystemFiles, Table};
 pub use failures::tell_no_memory;
 pub use file_answers::{
-    Checked, Solved, check_files, solve_files, solved_certificates_are_accepted, validate_files,
+    Checked, Explanation, File, FileFault, Grounded, NamedText, Solved, Subject, check_files,
+    explain_files, one_task, solve_files, solved_certificates_are_accepted,
+    tasks_of_files_are_well_typed, validate_files,
 };
 pub use program::run;
 pub use solver::{Answer, Exceeded, Limits};
-pub use task_files::{File, FileFault, one_task, tasks_of_files_are_well_typed};
 pub use telling::{Report, json_examples_are_written, json_line};
 pub use validator::Verdict;

@@ -52,7 +52,7 @@ use writing::tell_report;
 /// | it does not | `not applicable step N` or `goal missed` | | 12 |
 /// | the certificate is accepted | `optimal cost N`, `at least N` or `unsolvable` | | 0 |
 /// | it is not | `not accepted CODE Name line L`, `not accepted 46 Unfair (ACTION OBJECT ..)`, `not accepted 56 DeadUnfair (ACTION OBJECT ..)` or `not accepted CODE Name` | | 12 |
-/// | other words, or such as ask for help | | what is wrong, or the help, and `optplan: nothing was done` | 2 |
+/// | the words are no command, or ask for help | | what is wrong, or the help, and `optplan: nothing was done` | 2 |
 /// | a file's text is refused | | `fault CODE Name in FILE at S..E` | 20 |
 /// | `explain`: a text is refused | where and why, in some lines | | 20 |
 /// | `explain`: the plan does not solve the task | the step or the goal, and why | | 12 |

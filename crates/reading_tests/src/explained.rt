@@ -1,5 +1,5 @@
 //! What is said of a plan in memory, of where its steps stand, of a task, and of a fault.
-use explained_faults::{File, NamedText, TextFault, Texts as FaultTexts, explain_fault};
+use explained_faults::{File, FileRefusal, NamedText, NamedTexts, explain_fault};
 use explained_plans::{
     Summary, explain_plan, false_parts_tell, step_place, tell_details, tell_verdict,
 };
@@ -93,7 +93,7 @@ const FASTER: [&[u8]; 2] = [
 
 /// What is said of the fault.
 fn fault_told(alloc: Global) -> Result<String, NoMemory> {
-    let texts = FaultTexts {
+    let texts = NamedTexts {
         domain: NamedText {
             name: "domain.pddl",
             text: FASTER[0],
@@ -107,7 +107,7 @@ fn fault_told(alloc: Global) -> Result<String, NoMemory> {
             text: b"",
         },
     };
-    let fault = TextFault {
+    let fault = FileRefusal {
         file: File::Problem,
         code: Code::UnknownName,
         span: Span { start: 67, end: 71 },

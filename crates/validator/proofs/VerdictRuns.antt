@@ -29,6 +29,12 @@ module _ {S A : Type 0} (t : System S A) where
         | Some n ↦ λ e. run_push n next last xs a e leads
       ] runs
 
+  -- those before the next instance, by its number from 1
+  pub run_before : (plan : List A) (i : ℕ) (before : S) → run t t.initial (take i plan) ≡ Some before → run t t.initial (take ((i + 1) - 1) plan) ≡ Some before
+  run_before plan i before runs =
+      let same : i ≡ (i + 1) - 1 = omega arith in
+      subst (λ k. run t t.initial (take k plan) ≡ Some before) same runs
+
   module _ (plan : List A) (i : ℕ) (a : A) (here : slice_get plan i ≡ Some a) where
     one_more : take (i + 1) plan ≡ take i plan ++ a ∷ []
     one_more =
@@ -46,7 +52,7 @@ module _ {S A : Type 0} (t : System S A) where
           counted_from_one = omega arith;
           before = before;
           next = a;
-          runs = subst (λ k. run t t.initial (take k plan) ≡ Some before) same runs;
+          runs = run_before plan i before runs;
           stands_there = subst (λ k. slice_get plan k ≡ Some a) same here;
           is_not_applicable = blocked;
         }

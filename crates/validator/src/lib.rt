@@ -3,4 +3,6 @@
 
 mod verdict;
 
-pub use verdict::{Verdict, exactly_one_verdict_is_true, validate, worked_examples_are_true};
+pub use verdict::{
+    Run, Verdict, exactly_one_verdict_is_true, run_plan, validate, worked_examples_are_true,
+};

@@ -3,8 +3,8 @@ ghost use Rattle.std.specs.Prelude.{◌≡◌, ℕ, IfErr, IfOk, IfSome, IsTrue,
 ghost use Rattle.cert_checker.specs.Reading.{IsFresh};
 ghost use Rattle.task.specs.Task.{task_of};
 ghost use Rattle.certificate_reader.specs.Reader.{source_of};
-ghost use Rattle.task_files.specs.Inputs.{IsInputFault};
-ghost use Rattle.task_files.specs.Files.{text_in};
+ghost use Rattle.file_answers.specs.Inputs.{IsInputFault};
+ghost use Rattle.file_answers.specs.Files.{text_in};
 ghost use Rattle.file_answers.specs.declared.checking.Checked.{Checked};
 ghost use Rattle.planner_main.specs.declared.telling.reports.Report.TheVariants.{Check};
 ghost use Rattle.devices.specs.Texts.{AreKept, items_in};

@@ -1,15 +1,15 @@
 //! `explain`: what is said of files for people.
 ghost use Rattle.std.specs.Prelude.{◌≡◌, ℕ, IfErr, IfOk, IsTrue, List, None, ◌∷◌};
 ghost use Rattle.planner_main.specs.Program.{CountsFailure, IsExplanationOn, IsOneOf, IsUnread, fault_in, if_named};
-ghost use Rattle.task_files.specs.Files.{text_in};
+ghost use Rattle.file_answers.specs.Files.{text_in};
 ghost use Rattle.devices.specs.Texts.{AreKept, items_in};
-ghost use Rattle.explanations.specs.Explanations as explanations;
+ghost use Rattle.file_answers.specs.Explanations as explanations;
 
 use crate::failures::Failure;
 use crate::program::inputs::{read_named, read_pair};
 use crate::telling::Report;
 use devices::Files;
-use explanations::{NamedText, explain_files};
+use file_answers::{NamedText, explain_files};
 use std::alloc::Global;
 
 /// What is said of the files of a task, and of that of a plan, if it is named.

@@ -1,7 +1,7 @@
 //! The texts of the files that are read.
 ghost use Rattle.std.specs.Prelude.{◌≡◌, ℕ, Err, IfOk, IsErr, IsTrue, List};
 ghost use Rattle.devices.specs.Texts.{AreKept, IsText, items_in};
-ghost use Rattle.task_files.specs.Files.{text_in};
+ghost use Rattle.file_answers.specs.Files.{text_in};
 ghost use Rattle.planner_main.specs.Program.{IsOneOf, IsTextIfNamed, if_named};
 ghost use Rattle.devices.specs.declared.device.WriteFault.TheVariants.{Device};
 ghost use Rattle.devices.specs.Devices.{CountsDevice};

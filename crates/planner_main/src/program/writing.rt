@@ -4,7 +4,7 @@ ghost use Rattle.std.specs.Option.{option_map};
 ghost use Rattle.planner_main.specs.Asked.{outputs_in};
 ghost use Rattle.planner_main.specs.Reported as reported;
 ghost use Rattle.planner_main.specs.Program.{CountsEither, HasNotFailed, IsTold, IsToldPartly, fault_in};
-ghost use Rattle.task_files.specs.Files.{text_in};
+ghost use Rattle.file_answers.specs.Files.{text_in};
 ghost use Rattle.planner_main.specs.Solution.{IsBegun, TellsReport, cert_of, cert_text, in_file, plan_text};
 ghost use Rattle.devices.specs.Written.{AreWritten};
 ghost use Rattle.devices.specs.Devices.{CountsDevice};

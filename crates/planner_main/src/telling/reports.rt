@@ -11,9 +11,8 @@ use crate::telling::answer::answer_text;
 use crate::telling::check::checked_line;
 use crate::telling::objects::{answer_object, checked_object, explanation_object, verdict_object};
 use crate::telling::verdict::verdict_line;
-use explanations::Explanation;
 use faults::NoMemory;
-use file_answers::{Checked, Solved};
+use file_answers::{Checked, Explanation, Solved};
 use std::alloc::{AllocError, Global};
 use validator::Verdict;
 

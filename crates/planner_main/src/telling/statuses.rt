@@ -7,7 +7,7 @@ ghost use Rattle.planner_main.specs.VerdictTold as verdicts;
 ghost use Rattle.planner_main.specs.ExplanationTold as explanations;
 
 use crate::telling::reports::Report;
-use explanations::{Grounded, Subject};
+use file_answers::{Grounded, Subject};
 use solver::Answer;
 use validator::Verdict;
 

@@ -1,12 +1,12 @@
-use Rattle.std.proofs.Common.{ap, sym, subst, map, true, ◌≡◌}
+use Rattle.std.proofs.Common.{ap, sym, subst, map, true, Some, ◌≡◌}
 use Rattle.std.specs.List.{list_all}
 use Rattle.task.specs.Task.{task_of}
 use Rattle.task.specs.TaskParts.{formula_of, object_of}
-use Rattle.formulas.specs.State.{plan_of}
+use Rattle.formulas.specs.State.{plan_of, state_of}
 use Rattle.formulas.proofs.Instances.{goal_fits}
-use Rattle.explained_plans.specs.Histories.{DoRun}
 use Rattle.explained_plans.specs.Explanations.{AreReasons}
-use Rattle.model.specs.Meaning.{is_instance}
+use Rattle.model.specs.Meaning.{initial_state, is_instance, system_of}
+use Rattle.model.specs.Runs.{run}
 use Rattle.explained_plans.proofs.explanations.why_missed.Goals as goal
 
 pub why_false-requires-clause-fits : goal.why_false-requires-clause-fits
@@ -16,8 +16,10 @@ why_false-requires-clause-fits c =
 pub why_false-requires-clause-instances : goal.why_false-requires-clause-instances
 why_false-requires-clause-instances c = subst (λ l. list_all (is_instance (task_of c.args.task.now)) l ≡ true) (sym c.steps-steps.ensures.steps) c.requires.instances
 
-pub why_false-requires-clause-runs : goal.why_false-requires-clause-runs
-why_false-requires-clause-runs c = subst (DoRun (task_of c.args.task.now)) (sym c.steps-steps.ensures.steps) (c.requires.missed.0, c.requires.missed.1)
+pub why_false-requires-clause-leads : goal.why_false-requires-clause-leads
+why_false-requires-clause-leads c =
+    let task = task_of c.args.task.now in
+    subst (λ l. run (system_of task) (initial_state task) l ≡ Some (state_of c.args.state.now)) (sym c.steps-steps.ensures.steps) c.requires.state
 
 pub returns-clause-explained : goal.returns-clause-explained
 returns-clause-explained c =

@@ -2,9 +2,9 @@ use Rattle.std.proofs.Common.{sym, ap, ◌∙◌, ◌-◌, map, take, refl}
 use Rattle.std.specs.Option.{option_map}
 use Rattle.task.specs.Task.{task_of}
 use Rattle.task.specs.TaskParts.{object_of, shape_of}
-use Rattle.formulas.specs.State.{plan_of}
+use Rattle.formulas.specs.State.{plan_of, state_of}
 use Rattle.formulas.proofs.Instances.{precondition_fits}
-use Rattle.explained_plans.proofs.Stopping.{before_all, before_run, schema_is_some, step_is_one, told, turned}
+use Rattle.explained_plans.proofs.Stopping.{before_all, before_leads, schema_is_some, step_is_one, told, turned}
 use Rattle.explained_plans.proofs.explanations.why_not_applicable.Goals as goal
 
 pub unwrap-schema-requires : goal.unwrap-schema-requires
@@ -26,10 +26,10 @@ why_false-requires-clause-instances c =
     before_all (task_of c.args.task.now) c.steps-steps.result.now (plan_of c.args.plan.now) c.steps-steps.ensures.steps c.args.step c.requires.stops c.requires.instances
     (take (c.args.step - 1) c.steps-steps.result.now) refl
 
-pub why_false-requires-clause-runs : goal.why_false-requires-clause-runs
-why_false-requires-clause-runs c =
-    before_run (task_of c.args.task.now) c.steps-steps.result.now (plan_of c.args.plan.now) c.steps-steps.ensures.steps c.args.step c.requires.stops
-    (take (c.args.step - 1) c.steps-steps.result.now) refl
+pub why_false-requires-clause-leads : goal.why_false-requires-clause-leads
+why_false-requires-clause-leads c =
+    before_leads (task_of c.args.task.now) c.steps-steps.result.now (plan_of c.args.plan.now) c.steps-steps.ensures.steps c.args.step c.requires.stops
+    (take (c.args.step - 1) c.steps-steps.result.now) refl (state_of c.args.state.now) c.requires.state
 
 pub returns-clause-explained : goal.returns-clause-explained
 returns-clause-explained c =

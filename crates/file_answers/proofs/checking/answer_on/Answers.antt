@@ -1,6 +1,6 @@
 use Rattle.std.proofs.Common.{ap}
 use Rattle.std.proofs.lemmas.Result.{err_from_is_err_and}
-use Rattle.task_files.specs.Files.{text_in}
+use Rattle.file_answers.specs.Files.{text_in}
 use Rattle.file_answers.proofs.CheckedLemmas.{plan_input}
 use Rattle.file_answers.proofs.checking.answer_on.Goals as goal
 

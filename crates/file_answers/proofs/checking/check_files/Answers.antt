@@ -1,8 +1,8 @@
 use Rattle.std.proofs.lemmas.Result.{err_from_is_err_and, IfOk-weaker}
 use Rattle.task.specs.Task.{task_of}
 use Rattle.model.proofs.TaskNames.{task_has_names}
-use Rattle.task_files.specs.Files.{text_in}
-use Rattle.task_files.proofs.FilesRead.{task_input}
+use Rattle.file_answers.specs.Files.{text_in}
+use Rattle.file_answers.proofs.FilesRead.{task_input}
 use Rattle.file_answers.proofs.CheckedLemmas.{none_told_of_inputs, none_told_of_inputs_in}
 use Rattle.file_answers.proofs.checking.check_files.Goals as goal
 

@@ -2,7 +2,7 @@ use Rattle.std.proofs.lemmas.Result.{err_from_is_err_and, IfOk-weaker}
 use Rattle.task.specs.Task.{task_of}
 use Rattle.model.proofs.TaskNames.{task_has_names}
 use Rattle.model.specs.Files.{IsTaskFault}
-use Rattle.task_files.proofs.FilesRead.{none_told_of_task, none_refused}
+use Rattle.file_answers.proofs.FilesRead.{none_told_of_task, none_refused}
 use Rattle.file_answers.proofs.solving.solve_files.Goals as goal
 
 pub returns-in_err-task-clause-refused : goal.returns-in_err-task-clause-refused

@@ -1,5 +1,5 @@
 use Rattle.std.proofs.lemmas.Result.{err_from_is_err_and}
-use Rattle.task_files.proofs.FilesRead.{task_told, none_told, none_told_in}
+use Rattle.file_answers.proofs.FilesRead.{task_told, none_told, none_told_in}
 use Rattle.file_answers.proofs.validating.validate_files.Goals as goal
 
 pub returns-in_err-task-clause-refused : goal.returns-in_err-task-clause-refused

@@ -1,0 +1,139 @@
+//! What may stand at a refused word. The reader itself says so: of the words before the refused one with another word
+//! behind them, it refuses that word, or takes it and tells only that the words run out.
+ghost use Rattle.std.specs.Prelude.{◌≡◌, map, All, IfOk, true};
+ghost use Rattle.std.specs.List.{list_all};
+ghost use Rattle.tokens.specs.Word.{word_of};
+ghost use Rattle.model.specs.Trees.{domain_file, problem_file};
+ghost use Rattle.model.specs.GrammarWords.{tokens_of};
+ghost use Rattle.model.specs.Refusals.{Begins};
+ghost use Rattle.syntax_tree.specs.Tree.{file_of};
+ghost use Rattle.explained_faults.specs.Expected.{HaveBytes, MayFollow, TellsEnd, has_bytes};
+
+use crate::near::is_near;
+use faults::{Fault, NoMemory, Refused};
+use pddl_tree::{TaskFile, domain, problem};
+use std::alloc::Global;
+use tokens::{Word, scan};
+
+/// A word of each kind that the grammar tells apart, and all that stand for themselves.
+const CANDIDATES: &[u8] =
+    b"name ?variable 0 - = preference define domain problem number minimize and or not imply \
+    exists forall either when increase total-cost :requirements :types :constants :predicates :functions :action :domain \
+    :objects :init :goal :metric :parameters :precondition :effect :strips :typing :equality :negative-preconditions \
+    :disjunctive-preconditions :existential-preconditions :universal-preconditions :quantified-preconditions \
+    :conditional-effects :adl :action-costs :fluents :numeric-fluents ()";
+
+/// Whether a word has bytes.
+fn has_bytes(word: &Word<'_>) -> bool
+    ensures { result ≡ has_bytes (word_of word.now) }
+{
+    !word.text().is_empty()
+}
+
+/// Whether each word has bytes.
+fn have_bytes(words: &[Word<'_>]) -> bool
+    ensures { result ≡ list_all (λ word. has_bytes (word_of word)) words.now }
+{
+    words.iter().all(|word| has_bytes(word))
+}
+
+/// Whether it is told of the end of words that they run out.
+fn tells_end(fault: Fault) -> Result<bool, NoMemory>
+    ensures { IfOk result (λ answer. TellsEnd fault answer) }
+{
+    match fault {
+        Refused::At(refusal) => Ok(refusal.span.start == refusal.span.end),
+        Refused::NoMemory => Err(NoMemory),
+    }
+}
+
+/// Whether a file of this kind begins with these words; no is also answered of words without bytes, which no text has.
+fn begins(alloc: Global, file: TaskFile, words: &[Word<'_>]) -> Result<bool, NoMemory>
+    ensures { IfOk result (λ answer. answer ≡ true → Begins (file_of file) (tokens_of (map word_of words.now))) }
+{
+    match file {
+        TaskFile::Domain if have_bytes(words) => begins_domain(alloc, words),
+        TaskFile::Problem if have_bytes(words) => begins_problem(alloc, words),
+        _ => Ok(false),
+    }
+}
+
+/// Whether a domain begins with these words, which have bytes.
+fn begins_domain(alloc: Global, words: &[Word<'_>]) -> Result<bool, NoMemory>
+    requires { HaveBytes words.now }
+    ensures { IfOk result (λ answer. answer ≡ true → Begins domain_file (tokens_of (map word_of words.now))) }
+{
+    let fault = match domain(alloc, words) {
+        Ok(_) => return Ok(true),
+        Err(fault) => fault,
+    };
+    tells_end(fault)
+}
+
+/// Whether a problem begins with these words, which have bytes.
+fn begins_problem(alloc: Global, words: &[Word<'_>]) -> Result<bool, NoMemory>
+    requires { HaveBytes words.now }
+    ensures { IfOk result (λ answer. answer ≡ true → Begins problem_file (tokens_of (map word_of words.now))) }
+{
+    let fault = match problem(alloc, words) {
+        Ok(_) => return Ok(true),
+        Err(fault) => fault,
+    };
+    tells_end(fault)
+}
+
+/// Whether a file of this kind begins with some words and this one.
+fn may_follow<'a>(
+    alloc: Global,
+    file: TaskFile,
+    before: &[Word<'a>],
+    word: Word<'a>,
+) -> Result<bool, NoMemory>
+    ensures { IfOk result (λ answer. answer ≡ true → MayFollow (file_of file) before.now word.entry) }
+{
+    let mut words = Vec::new(alloc);
+    words.extend_from_slice(before)?;
+    words.push(word)?;
+    begins(alloc, file, &words)
+}
+
+/// Whether a word is like a keyword, where one is given, and a file of this kind begins with some words and this one.
+fn is_expected<'a>(
+    alloc: Global,
+    file: TaskFile,
+    before: &[Word<'a>],
+    word: Word<'a>,
+    keyword: Option<&[u8]>,
+) -> Result<bool, NoMemory>
+    ensures { IfOk result (λ answer. answer ≡ true → MayFollow (file_of file) before.now word.entry) }
+{
+    match keyword {
+        Some(keyword) if !is_near(keyword, word.text()) => Ok(false),
+        _ => may_follow(alloc, file, before, word),
+    }
+}
+
+/// The words with which a file of this kind may go on after these, of one for each kind that the grammar tells apart, or of
+/// those alone that are like a keyword, where one is given. A name stands for all others that stand for nothing else, and
+/// so do a variable and a number.
+pub(crate) fn expected<'a>(
+    alloc: Global,
+    file: TaskFile,
+    before: &[Word<'a>],
+    keyword: Option<&[u8]>,
+) -> Result<Vec<Word<'a>>, NoMemory>
+    ensures { IfOk result (λ found. All (MayFollow (file_of file) before.now) found.items) }
+{
+    let mut found = Vec::new(alloc);
+    let text: &'a [u8] = CANDIDATES;
+    let Ok(candidates) = scan(alloc, text) else {
+        return Err(NoMemory);
+    };
+    for word in &candidates {
+        let follows = is_expected(alloc, file, before, *word, keyword)?;
+        if follows {
+            found.push(*word)?;
+        }
+    }
+    Ok(found)
+}

@@ -1,0 +1,141 @@
+//! Names, places and words as they are told.
+use crate::help::FileOffset;
+use source_text::{LineColumn, NamedTexts, place_of};
+use std::alloc::{AllocError, Global};
+use std::fmt;
+use tokens::{Kind, Word};
+
+/// How many bytes of a name or run are shown.
+const LONGEST: usize = 80;
+
+/// How many names of a chain are shown at most.
+const MOST_LINKS: usize = 12;
+
+/// A name in backquotes: bytes that are not printable ASCII as `\xNN`, and what is long without its end.
+#[derive(Clone, Copy)]
+pub(crate) struct Name<'a>(pub(crate) &'a [u8]);
+
+impl fmt::Display for Name<'_> {
+    fn fmt<W: fmt::Write>(&self, f: &mut fmt::Formatter<W>) -> fmt::Result {
+        let shown = &self.0[..self.0.len().min(LONGEST)];
+        let ending = if self.0.len() <= LONGEST { "" } else { "..." };
+        write!(f, "`{}{ending}`", shown.escape_ascii())
+    }
+}
+
+/// Names with commas between them, and a word before the last.
+#[derive(Clone, Copy)]
+pub(crate) struct Names<'n, 'a> {
+    /// The names.
+    pub(crate) names: &'n [&'a [u8]],
+    /// What stands before the last, as ` and `.
+    pub(crate) last: &'static str,
+}
+
+impl fmt::Display for Names<'_, '_> {
+    fn fmt<W: fmt::Write>(&self, f: &mut fmt::Formatter<W>) -> fmt::Result {
+        for (index, name) in self.names.iter().enumerate() {
+            let separator = separator(index, self.names.len(), self.last);
+            write!(f, "{separator}{}", Name(name))?;
+        }
+        Ok(())
+    }
+}
+
+/// What stands between the items of a list, before the one of this index.
+fn separator(index: usize, count: usize, last: &'static str) -> &'static str {
+    if index == 0 {
+        ""
+    } else if index < count.saturating_sub(1) {
+        ", "
+    } else {
+        last
+    }
+}
+
+/// The names of a chain with arrows between them: all, or the first ones and the last where they are too many to be read.
+#[derive(Clone, Copy)]
+pub(crate) struct Chain<'n, 'a>(pub(crate) &'n [&'a [u8]]);
+
+impl fmt::Display for Chain<'_, '_> {
+    fn fmt<W: fmt::Write>(&self, f: &mut fmt::Formatter<W>) -> fmt::Result {
+        let count = self.0.len();
+        for (index, name) in self.0.iter().enumerate() {
+            if count <= MOST_LINKS || index < MOST_LINKS - 2 || index == count - 1 {
+                let arrow = if index == 0 { "" } else { " -> " };
+                write!(f, "{arrow}{}", Name(name))?;
+            } else if index == MOST_LINKS - 2 {
+                write!(f, " -> ({} more)", count - (MOST_LINKS - 1))?;
+            }
+        }
+        Ok(())
+    }
+}
+
+/// A place of a file with its name, as `domain.pddl:12:27`.
+#[derive(Clone, Copy)]
+pub(crate) struct Place<'t> {
+    name: &'t str,
+    place: LineColumn,
+}
+
+impl<'t> Place<'t> {
+    /// The place of the byte at an offset of a file.
+    pub(crate) fn of(texts: &NamedTexts<'t>, at: FileOffset) -> Place<'t> {
+        Place {
+            name: texts.name(at.file),
+            place: place_of(texts.text(at.file), at.offset),
+        }
+    }
+}
+
+impl fmt::Display for Place<'_> {
+    fn fmt<W: fmt::Write>(&self, f: &mut fmt::Formatter<W>) -> fmt::Result {
+        let (line, column) = (self.place.line, self.place.column);
+        write!(f, "{}:{line}:{column}", self.name)
+    }
+}
+
+/// Adds the words that may stand at a place, as far as none is told by another.
+pub(crate) fn add_words(
+    alloc: Global,
+    words: &[Word<'_>],
+    out: &mut String,
+) -> Result<(), AllocError> {
+    let any_name = has(words, b"preference");
+    let free_name = has(words, b"name");
+    let mut told = Vec::new(alloc);
+    for word in words {
+        if is_told(word, any_name, free_name) {
+            told.push(*word)?;
+        }
+    }
+    for (index, word) in told.as_slice().iter().enumerate() {
+        out.push_str(separator(index, told.len(), " or "))?;
+        add_word(word, out)?;
+    }
+    Ok(())
+}
+
+fn has(words: &[Word<'_>], text: &[u8]) -> bool {
+    words.iter().any(|word| word.text() == text)
+}
+
+/// Whether a word that may stand at a place is told: a name is not where any name may stand, or any that is not reserved.
+fn is_told(word: &Word<'_>, any_name: bool, free_name: bool) -> bool {
+    match word.text() {
+        b"name" => true,
+        b"preference" => false,
+        b"define" | b"domain" | b"problem" | b"number" | b"minimize" => !free_name,
+        _ => word.kind() != Kind::Name || !any_name,
+    }
+}
+
+fn add_word(word: &Word<'_>, out: &mut String) -> Result<(), AllocError> {
+    match word.kind() {
+        Kind::Variable => out.push_str("a variable"),
+        Kind::Number => out.push_str("a number"),
+        Kind::Name if word.text() == b"name".as_slice() => out.push_str("a name"),
+        _ => write!(out, "{}", Name(word.text())),
+    }
+}

@@ -1,0 +1,89 @@
+-- What is found out of files is what is explained of them.
+use Rattle.std.proofs.Common.{◌≡◌, ℕ, List, Option, Some, None, IfSome, sym, subst}
+use Rattle.std.specs.Prelude.{Result, Ok, Err, IfOk}
+use Rattle.faults.specs.declared.refused.NoMemory.{NoMemory}
+use Rattle.file_answers.specs.Files.{told_in}
+use Rattle.file_answers.specs.Inputs.{IsInputFault}
+use Rattle.file_answers.specs.declared.files.FileFault.{FileFault}
+use Rattle.file_answers.specs.declared.files.FileFault.TheVariants as refused
+use Rattle.file_answers.specs.declared.explanation.Explanation.{Explanation}
+use Rattle.file_answers.specs.declared.explanation.Subject.{Subject}
+use Rattle.file_answers.specs.declared.explanation.Subject.TheVariants.{Fault, Plan, Task}
+use Rattle.file_answers.specs.Explanations.{IsTrueOf, IsHeaded, IsHeadedIn, IsHeading, IsOfFault, IsOfVerdict, IsOfGrounded, headed_as, headed_in}
+use Rattle.std.specs.String.{string_bytes}
+use Rattle.faults.specs.declared.code.Code.{Code}
+use Rattle.faults.specs.declared.refused.Span.{Span}
+use Rattle.source_text.specs.declared.texts.NamedText.{NamedText}
+use Rattle.source_text.specs.declared.texts.NamedTexts.{NamedTexts}
+use Rattle.source_text.specs.declared.texts.File.TheVariants as kind
+use Rattle.model.specs.Task as model
+use Rattle.model.specs.Files.{IsTaskOf}
+use Rattle.model.specs.PlanText.{IsPlanText}
+
+module _ (domain problem : List ℕ) (most : ℕ) where
+  fault_explained : (plan : Option (List ℕ)) (fault : FileFault) (subject : Subject) → IfSome (told_in fault) (IsInputFault domain problem plan)
+      → IsOfFault fault subject → IsTrueOf domain problem plan most subject
+  fault_explained plan (refused.At file code span) subject told is = subst (IsTrueOf domain problem plan most) (sym is) told
+  fault_explained plan refused.NoMemory subject told is = absurd is
+
+  -- a fault
+  pub refused_explained : (plan : Option (List ℕ)) (fault : FileFault) (r : Result Explanation NoMemory) → IfSome (told_in fault) (IsInputFault domain problem plan)
+      → IfOk r (λ e. IsOfFault fault e.subject) → IfOk r (λ e. IsTrueOf domain problem plan most e.subject)
+  refused_explained plan fault (Ok e) told is = fault_explained plan fault e.subject told is
+  refused_explained plan fault (Err failed) told is = tt
+
+  module _ (task : model.Task) (is_task : IsTaskOf domain problem task) where
+    verdict_explained : (text : List ℕ) (steps : List model.Instance) → IsPlanText task text steps → (subject : Subject)
+        → IsOfVerdict task steps subject → IsTrueOf domain problem (Some text) most subject
+    verdict_explained text steps is_plan (Fault file code span) is = absurd is
+    verdict_explained text steps is_plan (Plan verdict) is =
+        record { task = task; steps = steps; are_read = record { is_task = is_task; is_plan = is_plan }; is_true = is }
+    verdict_explained text steps is_plan (Task grounded) is = absurd is
+
+    -- the verdict on a plan
+    pub steps_explained : (text : List ℕ) (steps : List model.Instance) → IsPlanText task text steps → (r : Result Explanation NoMemory)
+        → IfOk r (λ e. IsOfVerdict task steps e.subject) → IfOk r (λ e. IsTrueOf domain problem (Some text) most e.subject)
+    steps_explained text steps is_plan (Ok e) is = verdict_explained text steps is_plan e.subject is
+    steps_explained text steps is_plan (Err failed) is = tt
+
+    grounded_explained : (subject : Subject) → IsOfGrounded task most subject → IsTrueOf domain problem None most subject
+    grounded_explained (Fault file code span) is = absurd is
+    grounded_explained (Plan verdict) is = absurd is
+    grounded_explained (Task grounded) is = (task, is_task, is)
+
+    -- a task, where no plan is handed in
+    pub task_explained : (plan : Option (List ℕ)) → plan ≡ None → (r : Result Explanation NoMemory)
+        → IfOk r (λ e. IsOfGrounded task most e.subject) → IfOk r (λ e. IsTrueOf domain problem plan most e.subject)
+    task_explained plan none (Ok e) is = subst (λ (plan : Option (List ℕ)). IsTrueOf domain problem plan most e.subject) (sym none) (grounded_explained e.subject is)
+    task_explained plan none (Err failed) is = tt
+
+-- The heading of a fault of these texts is that of the files that are handed in.
+module _ (texts : NamedTexts) (domain problem : NamedText) (plan : Option NamedText)
+    (same_domain : texts.domain ≡ domain) (same_problem : texts.problem ≡ problem) (same_plan : IfSome plan (λ named. texts.plan ≡ named)) where
+  plan_headed : (code : Code) (span : Span) (lines : List ℕ) (handed : Option NamedText) → IfSome handed (λ named. texts.plan ≡ named)
+      → IsHeading texts.plan code span lines → IfSome handed (λ named. IsHeading named code span lines)
+  plan_headed code span lines None same is = tt
+  plan_headed code span lines (Some named) same is = subst (λ (named : NamedText). IsHeading named code span lines) same is
+
+  lines_headed : (lines : List ℕ) (subject : Subject) → headed_in texts lines subject → headed_as domain problem plan lines subject
+  lines_headed lines (Fault kind.Domain code span) is = subst (λ (named : NamedText). IsHeading named code span lines) same_domain is
+  lines_headed lines (Fault kind.Problem code span) is = subst (λ (named : NamedText). IsHeading named code span lines) same_problem is
+  lines_headed lines (Fault kind.Plan code span) is = plan_headed code span lines plan same_plan is
+  lines_headed lines (Plan verdict) is = tt
+  lines_headed lines (Task grounded) is = tt
+
+  pub files_headed : (r : Result Explanation NoMemory) → IfOk r (IsHeadedIn texts) → IfOk r (IsHeaded domain problem plan)
+  files_headed (Ok e) is = lines_headed (string_bytes e.text) e.subject is
+  files_headed (Err failed) is = tt
+
+-- Of a task there is no fault.
+no_heading : (domain problem : NamedText) (plan : Option NamedText) (task : model.Task) (most : ℕ) (lines : List ℕ) (subject : Subject)
+    → IsOfGrounded task most subject → headed_as domain problem plan lines subject
+no_heading domain problem plan task most lines (Fault file code span) is = absurd is
+no_heading domain problem plan task most lines (Plan verdict) is = absurd is
+no_heading domain problem plan task most lines (Task grounded) is = tt
+
+pub task_headed : (domain problem : NamedText) (plan : Option NamedText) (task : model.Task) (most : ℕ) (r : Result Explanation NoMemory)
+    → IfOk r (λ e. IsOfGrounded task most e.subject) → IfOk r (IsHeaded domain problem plan)
+task_headed domain problem plan task most (Ok e) is = no_heading domain problem plan task most (string_bytes e.text) e.subject is
+task_headed domain problem plan task most (Err failed) is = tt

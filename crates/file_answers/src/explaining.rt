@@ -1,0 +1,75 @@
+//! From the bytes of files to their explanation.
+ghost use Rattle.std.specs.Prelude.{◌≡◌, IfOk, IfSome};
+ghost use Rattle.file_answers.specs.Explanations.{IsHeaded, IsTrueOf, text_in};
+
+mod of_fault;
+mod of_plan;
+mod of_task;
+
+use crate::explanation::Explanation;
+use crate::files::task_of_files;
+use faults::NoMemory;
+use of_fault::explain_refused;
+use of_plan::explain_plan_file;
+use of_task::explain_task;
+use source_text::{NamedText, NamedTexts};
+use std::alloc::Global;
+
+/// What is said of a domain file and a problem file, and of a plan file, if one is handed in.
+///
+/// The domain is scanned and read, then the problem, then both are typed together, then the plan is read; the first fault is
+/// what is explained. Else it is the plan, or, where none is handed in, the task, of which at most `max_instances` instances
+/// may be kept.
+///
+/// # Errors
+/// Memory was refused, which says nothing of the files.
+///
+/// # Examples
+/// ```text
+/// domain.pddl:12:27: fault 19 WrongType (columns count bytes)
+///   12 |       :precondition (and (fast ?t))
+///      |                                ^^
+/// `?t` has type `thing`, but `fast` requires `car`.
+/// ```
+pub fn explain_files(
+    alloc: Global,
+    domain: NamedText<'_>,
+    problem: NamedText<'_>,
+    plan: Option<NamedText<'_>>,
+    max_instances: u32,
+) -> Result<Explanation, NoMemory>
+    ensures subject { IfOk result (λ e. IsTrueOf domain.entry.text.now problem.entry.text.now (text_in plan.entry) max_instances e.subject) }
+    // Of a fault the first line has the place of its first byte.
+    ensures headed { IfOk result (IsHeaded domain.entry problem.entry plan.entry) }
+{
+    let texts = texts_of(domain, problem, plan);
+    let task = match task_of_files(alloc, domain.text, problem.text) {
+        Ok(task) => task,
+        Err(fault) => return explain_refused(alloc, &texts, fault),
+    };
+    match plan {
+        Some(plan) => explain_plan_file(alloc, &task, &texts, plan),
+        None => explain_task(alloc, &task, max_instances),
+    }
+}
+
+/// The texts that a fault is looked up in. Where no plan is handed in, its text has no bytes.
+fn texts_of<'a>(
+    domain: NamedText<'a>,
+    problem: NamedText<'a>,
+    plan: Option<NamedText<'a>>,
+) -> NamedTexts<'a>
+    ensures domain { result.domain ≡ domain.entry }
+    ensures problem { result.problem ≡ problem.entry }
+    ensures plan { IfSome plan.entry (λ named. result.plan ≡ named) }
+{
+    let nothing = NamedText {
+        name: "",
+        text: b"",
+    };
+    NamedTexts {
+        domain,
+        problem,
+        plan: plan.unwrap_or(nothing),
+    }
+}

@@ -1,0 +1,44 @@
+//! What is said of a file that is refused.
+ghost use Rattle.std.specs.Prelude.{◌≡◌, IfOk};
+ghost use Rattle.file_answers.specs.Explanations.{IsHeadedIn, IsOfFault};
+ghost use Rattle.file_answers.specs.declared.explanation.Subject.TheVariants.{Fault};
+
+use crate::explanation::{Explanation, Subject};
+use crate::files::FileFault;
+use explained_faults::{FileRefusal, explain_fault};
+use faults::{Code, NoMemory, Span};
+use source_text::{File, NamedTexts};
+use std::alloc::Global;
+
+/// What is said of the fault of a file.
+pub(super) fn explain_refused(
+    alloc: Global,
+    texts: &NamedTexts<'_>,
+    fault: FileFault,
+) -> Result<Explanation, NoMemory>
+    ensures fault { IfOk result (λ e. IsOfFault fault e.subject) }
+    ensures headed { IfOk result (IsHeadedIn texts.now) }
+{
+    match fault {
+        FileFault::At { file, code, span } => explain_at(alloc, texts, file, code, span),
+        FileFault::NoMemory => Err(NoMemory),
+    }
+}
+
+/// The same of the fault at this place.
+fn explain_at(
+    alloc: Global,
+    texts: &NamedTexts<'_>,
+    file: File,
+    code: Code,
+    span: Span,
+) -> Result<Explanation, NoMemory>
+    ensures fault { IfOk result (λ e. e.subject ≡ Fault file code span) }
+    ensures headed { IfOk result (IsHeadedIn texts.now) }
+{
+    let fault = FileRefusal { file, code, span };
+    let explained = explain_fault(alloc, texts, fault)?;
+    let text = explained.text(alloc, texts)?;
+    let subject = Subject::Fault { file, code, span };
+    Ok(Explanation { subject, text })
+}

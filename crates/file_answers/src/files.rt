@@ -1,0 +1,151 @@
+//! From the bytes of files to their task and their plan, and the faults of files.
+ghost use Rattle.std.specs.Prelude.{◌≡◌, ℕ, List, IfOk, IfErr, IfSome, IsTrue};
+ghost use Rattle.std.specs.List.{list_all};
+ghost use Rattle.tokens.specs.Told.{told_by};
+ghost use Rattle.syntax_tree.specs.Tree.{domain_of, problem_of};
+ghost use Rattle.task.specs.Task.{task_of};
+ghost use Rattle.formulas.specs.State.{plan_of};
+ghost use Rattle.file_answers.specs.Files.{told_in};
+ghost use Rattle.model.specs.Task as model;
+ghost use Rattle.model.specs.Files as told;
+ghost use Rattle.model.specs.Trees.{domain_file, problem_file};
+ghost use Rattle.model.specs.Files.{IsDomainText, IsProblemText, IsTextFault, IsTaskOf, IsTaskFault, IsFileFault};
+ghost use Rattle.model.specs.Meaning.{is_instance};
+ghost use Rattle.model.specs.PlanText.{IsPlanText};
+
+use faults::{Code, Fault, NoMemory, Refused, Span, TextRefusal};
+use formulas::Plan;
+use plan_file::read_plan;
+use source_text::File;
+use std::alloc::Global;
+use thiserror::Error;
+use tokens::scan;
+use task::Task;
+use typing::{FromTrees, TaskFault, TaskFile, TaskRefusal};
+
+/// Why there is no verdict.
+#[derive(Clone, Copy, Debug, PartialEq, Eq, Error)]
+pub enum FileFault {
+    /// This file is refused by this code, for what stands at this place of it.
+    #[error("{code} in {file} at {}..{}", .span.start, .span.end)]
+    At {
+        /// The file that the place is in.
+        file: File,
+        /// What is wrong.
+        code: Code,
+        /// Where it stands.
+        span: Span,
+    },
+    /// Memory that was asked for was refused.
+    #[error("out of memory")]
+    NoMemory,
+}
+
+impl FileFault {
+    ghost use Rattle.std.specs.Prelude.{◌≡◌};
+    ghost use Rattle.tokens.specs.Told.{told_by};
+    ghost use Rattle.file_answers.specs.Files.{told_in, in_file};
+
+    /// The fault of a file's text.
+    fn of(file: File, fault: Fault) -> FileFault
+        ensures { told_in result ≡ in_file file (told_by fault) }
+    {
+        match fault {
+            Refused::At(TextRefusal { code, span }) => FileFault::At { file, code, span },
+            Refused::NoMemory => FileFault::NoMemory,
+        }
+    }
+}
+
+impl From<TaskFault> for FileFault {
+    ghost use Rattle.std.specs.Prelude.{◌≡◌};
+    ghost use Rattle.file_answers.specs.Files.{told_in, told_of_pair};
+
+    ghost from_gives = { λ fault e. told_in e ≡ told_of_pair fault };
+
+    fn from(fault: TaskFault) -> FileFault {
+        match fault {
+            Refused::At(TaskRefusal { file, code, span }) => {
+                let file = match file {
+                    TaskFile::Domain => File::Domain,
+                    TaskFile::Problem => File::Problem,
+                };
+                FileFault::At { file, code, span }
+            }
+            Refused::NoMemory => FileFault::NoMemory,
+        }
+    }
+}
+
+impl From<NoMemory> for FileFault {
+    ghost use Rattle.std.specs.Prelude.{◌≡◌};
+    ghost use Rattle.file_answers.specs.declared.files.FileFault.TheVariants.{NoMemory};
+
+    ghost from_gives = { λ _ e. e ≡ NoMemory };
+
+    fn from(_error: NoMemory) -> FileFault {
+        FileFault::NoMemory
+    }
+}
+
+/// The task of a domain file and a problem file.
+///
+/// The domain is scanned and read, then the problem, then both are typed together; the first fault ends the call.
+///
+/// # Errors
+/// The first fault of the two texts, or memory was refused.
+pub fn task_of_files(alloc: Global, domain: &[u8], problem: &[u8]) -> Result<Task, FileFault>
+    ensures task { IfOk result (λ task. IsTaskOf domain.now problem.now (task_of task)) }
+    ensures refused { IfErr result (λ fault. IfSome (told_in fault) (IsTaskFault domain.now problem.now)) }
+{
+    let domain = match read_domain(alloc, domain) {
+        Ok(domain) => domain,
+        Err(fault) => return Err(FileFault::of(File::Domain, fault)),
+    };
+    let problem = match read_problem(alloc, problem) {
+        Ok(problem) => problem,
+        Err(fault) => return Err(FileFault::of(File::Problem, fault)),
+    };
+    Ok(Task::new(alloc, domain, problem)?)
+}
+
+/// The plan of a plan file, for this task.
+///
+/// # Errors
+/// The first fault of the text, which is told of the plan file, or memory was refused.
+pub fn plan_of_file(alloc: Global, task: &Task, text: &[u8]) -> Result<Plan, FileFault>
+    ensures plan { IfOk result (λ plan. IsPlanText (task_of task.now) text.now (plan_of plan)) }
+    ensures instances { IfOk result (λ plan. IsTrue (list_all (is_instance (task_of task.now)) (plan_of plan))) }
+    ensures refused { (domain problem : List ℕ) → IsTaskOf domain problem (task_of task.now)
+        → IfErr result (λ fault. IfSome (told_in fault) (IsFileFault domain problem text.now)) }
+{
+    match read_plan(alloc, task, text) {
+        Ok(plan) => Ok(plan),
+        Err(fault) => Err(FileFault::of(File::Plan, fault)),
+    }
+}
+
+fn read_domain(alloc: Global, text: &[u8]) -> Result<pddl_tree::Domain<'_>, Fault>
+    ensures domain { IfOk result (λ domain. IsDomainText text.now (domain_of domain)) }
+    ensures refused { IfErr result (λ fault. IfSome (told_by fault) (IsTextFault domain_file text.now)) }
+{
+    let words = scan(alloc, text)?;
+    pddl_tree::domain(alloc, &words)
+}
+
+fn read_problem(alloc: Global, text: &[u8]) -> Result<pddl_tree::Problem<'_>, Fault>
+    ensures problem { IfOk result (λ problem. IsProblemText text.now (problem_of problem)) }
+    ensures refused { IfErr result (λ fault. IfSome (told_by fault) (IsTextFault problem_file text.now)) }
+{
+    let words = scan(alloc, text)?;
+    pddl_tree::problem(alloc, &words)
+}
+
+/// Says that two texts are at most one task, and that no fault is told of two that are one. It is stated of all texts,
+/// and proved; the call does nothing.
+pub fn one_task()
+    ensures one { (domain problem : List ℕ) (task other : model.Task)
+        → IsTaskOf domain problem task → IsTaskOf domain problem other → task ≡ other }
+    ensures none { (domain problem : List ℕ) (task : model.Task) (fault : told.FileFault)
+        → IsTaskOf domain problem task → IsTaskFault domain problem fault → ⊥ }
+{}

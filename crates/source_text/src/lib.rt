@@ -1,0 +1,22 @@
+//! The texts that are handed in, as their writers see them: by files, with lines and columns, and in pieces, as far as these can
+//! be told of a text that may be at fault.
+#![tactic(auto)]
+
+mod declarations;
+mod line;
+mod lists;
+mod marks;
+mod piece;
+mod place;
+mod texts;
+
+pub use declarations::{
+    TypedName, declaration_of, declared_after_head, declared_as, declared_in, in_scope, parameters,
+    section,
+};
+pub use line::line_at;
+pub use lists::{children, head_of, heads, index_at, list_from, opening_of};
+pub use marks::marked;
+pub use piece::{Piece, Shape, pieces};
+pub use place::{LineColumn, place_of};
+pub use texts::{File, NamedText, NamedTexts};
