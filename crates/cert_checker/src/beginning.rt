@@ -1,6 +1,7 @@
 //! What a certificate says before its states, read line by line.
 ghost use Rattle.std.specs.Prelude.{◌≡◌, pos, ◌+◌, ◌++◌, ◌∷◌, [], IfErr, IfOk, List, OnOk, length};
 ghost use Rattle.typing.specs.Task.{task_of};
+ghost use Rattle.formulas.specs.FluentTable.{AreFluentsOf};
 ghost use Rattle.model.specs.Task as model;
 ghost use Rattle.certificate_reader.specs.Lines.{named_atom_of, text_line_of, weights_of};
 ghost use Rattle.certificate_definitions.specs.CertificateNames.{of_dead_end_or_zero};
@@ -14,6 +15,7 @@ use crate::named_atoms::fluent_atom_named;
 use crate::refusal::{Refusal, RefusalCode};
 use certificate::{Beginning, CertLine, CertReader, Claim, NamedAtom, Potential, Version, Weights};
 use devices::Source;
+use formulas::FluentPredicates;
 use indexmap::IndexSet;
 use std::alloc::Global;
 use typing::Task;
@@ -55,9 +57,11 @@ fn dead_end_weight(weights: Weights) -> i64
 fn take(
     beginning: &mut Beginning,
     task: &Task,
+    fluents: &FluentPredicates,
     line: CertLine,
     number: u64,
 ) -> Result<Option<CertLine>, Refusal>
+    requires { AreFluentsOf (task_of task.now) fluents.now }
     ensures taken { IfOk result (λ back. (before : List TextLine) → BeginCertificate (before ++ text_line_of line ∷ [])
         → HasTaken (task_of task.now) before beginning.old → IsTaken (task_of task.now) before (text_line_of line) beginning.new back) }
     ensures wrong { IfErr result (λ refusal. (before : List TextLine) → number ≡ length before + 1
@@ -78,7 +82,7 @@ fn take(
             Ok(None)
         }
         CertLine::Weight { weights, atom } => {
-            add_atom(beginning, task, &atom, weights, number)?;
+            add_atom(beginning, task, fluents, &atom, weights, number)?;
             Ok(None)
         }
         CertLine::Listed(_) | CertLine::Last { .. } => Ok(Some(line)),
@@ -89,16 +93,18 @@ fn take(
 fn add_atom(
     beginning: &mut Beginning,
     task: &Task,
+    fluents: &FluentPredicates,
     name: &NamedAtom,
     weights: Weights,
     number: u64,
 ) -> Result<(), Refusal>
+    requires { AreFluentsOf (task_of task.now) fluents.now }
     ensures told { OnOk result ((before : List TextLine) → HasTaken (task_of task.now) before beginning.old
         → HasTaken (task_of task.now) (before ++ atom (record { weights = weights_of weights; atom = named_atom_of name.now }) ∷ []) beginning.new) }
     ensures wrong { IfErr result (λ refusal. (before : List TextLine) → number ≡ length before + 1 → HasTaken (task_of task.now) before beginning.old
         → IsWrongNow (task_of task.now) before (atom (record { weights = weights_of weights; atom = named_atom_of name.now })) refusal) }
 {
-    let Some(atom) = fluent_atom_named(task, name) else {
+    let Some(atom) = fluent_atom_named(task, fluents, name) else {
         return Err(Refusal::Line {
             code: RefusalCode::NotFluent,
             line: number,
@@ -126,12 +132,13 @@ pub(crate) fn read_beginning<R: Source>(
     ensures refused { IfErr result (IsLineRefusal R.remaining (task_of task.now) reader.old reader.new) }
     ensures failures { CountsRefusal (R.failures (source_of reader.old)) (R.failures (source_of reader.new)) result }
 {
+    let fluents = FluentPredicates::new(alloc, task)?;
     let mut beginning = nothing_told(alloc);
     'lines: loop {
         let Some(line) = reader.next_line()? else {
             return Ok((beginning, None));
         };
-        if let Some(line) = take(&mut beginning, task, line, reader.lines())? {
+        if let Some(line) = take(&mut beginning, task, &fluents, line, reader.lines())? {
             return Ok((beginning, Some(line)));
         }
     }
