@@ -11,7 +11,9 @@ ghost use Rattle.grounding_kept.specs.Initial.{facts_of};
 
 use crate::initial::InitialAtoms;
 use faults::NoMemory;
-use formulas::{Binding, Change, FluentPredicates, Instance, Valuation, amount, copied, holds, objects_of};
+use formulas::{
+    Binding, Change, FluentPredicates, Instance, Valuation, amount, copied, holds, objects_of,
+};
 use std::alloc::Global;
 use typing::{Atom, Formula, PredicateId, Task, TypeUnion};
 
