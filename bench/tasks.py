@@ -209,6 +209,14 @@ def walk(places, degree, states):
     return Task(f"walk, {places} places", WALK, text, states)
 
 
+def flags(count):
+    """As many predicates and actions, all without arguments: action k asks for flag k and makes flag k + 1 true. All are kept."""
+    predicates = " ".join(f"(f{k})" for k in range(count + 1))
+    actions = "\n  ".join(f"(:action a{k} :parameters () :precondition (f{k}) :effect (f{k + 1}))" for k in range(count))
+    domain = f"(define (domain flags)\n  (:predicates {predicates})\n  {actions})\n"
+    return Task(f"flags, {count:,}", domain, problem("flags", "", ["(f0)"], [f"(f{count})"]), 1)
+
+
 TASKS = [
     gripper(8, 11_000),
     gripper(12, 250_000),
@@ -222,4 +230,5 @@ TASKS = [
     roads(160, 14),
     regions(4_000, 4, 5),
     walk(10_000, 10, 10_000),
+    flags(20_000),
 ]

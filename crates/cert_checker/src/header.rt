@@ -1,6 +1,7 @@
 //! What a certificate says before its states, read line by line.
 ghost use Rattle.std.specs.Prelude.{◌≡◌, pos, ◌+◌, ◌++◌, ◌∷◌, [], IfErr, IfOk, List, OnOk, length};
 ghost use Rattle.task.specs.Task.{task_of};
+ghost use Rattle.formulas.specs.FluentTable.{AreFluentsOf};
 ghost use Rattle.model.specs.Task as model;
 ghost use Rattle.certificate_reader.specs.Lines.{named_atom_of, text_line_of, weights_of};
 ghost use Rattle.certificate_definitions.specs.CertificateNames.{of_dead_end_or_zero};
@@ -16,6 +17,7 @@ use certificate::{
     Bounds, CertLine, CertReader, Claim, Header, NamedAtom, Potential, Version, Weights,
 };
 use devices::Source;
+use formulas::FluentPredicates;
 use indexmap::IndexSet;
 use std::alloc::Global;
 use task::Task;
@@ -59,9 +61,11 @@ fn dead_end_weight(weights: Weights) -> i64
 fn take(
     header: &mut Header,
     task: &Task,
+    fluents: &FluentPredicates,
     line: CertLine,
     number: u64,
 ) -> Result<Option<CertLine>, Refusal>
+    requires { AreFluentsOf (task_of task.now) fluents.now }
     ensures taken { IfOk result (λ back. (before : List TextLine) → BeginCertificate (before ++ text_line_of line ∷ [])
         → HasTaken (task_of task.now) before header.old → IsTaken (task_of task.now) before (text_line_of line) header.new back) }
     ensures wrong { IfErr result (λ refusal. (before : List TextLine) → number ≡ length before + 1
@@ -82,7 +86,7 @@ fn take(
             Ok(None)
         }
         CertLine::Weight { weights, atom } => {
-            add_atom(header, task, &atom, weights, number)?;
+            add_atom(header, task, fluents, &atom, weights, number)?;
             Ok(None)
         }
         CertLine::Listed(_) | CertLine::Last { .. } => Ok(Some(line)),
@@ -93,16 +97,18 @@ fn take(
 fn add_atom(
     header: &mut Header,
     task: &Task,
+    fluents: &FluentPredicates,
     name: &NamedAtom,
     weights: Weights,
     number: u64,
 ) -> Result<(), Refusal>
+    requires { AreFluentsOf (task_of task.now) fluents.now }
     ensures told { OnOk result ((before : List TextLine) → HasTaken (task_of task.now) before header.old
         → HasTaken (task_of task.now) (before ++ atom (record { weights = weights_of weights; atom = named_atom_of name.now }) ∷ []) header.new) }
     ensures wrong { IfErr result (λ refusal. (before : List TextLine) → number ≡ length before + 1 → HasTaken (task_of task.now) before header.old
         → IsWrongNow (task_of task.now) before (atom (record { weights = weights_of weights; atom = named_atom_of name.now })) refusal) }
 {
-    let Some(atom) = fluent_atom_named(task, name) else {
+    let Some(atom) = fluent_atom_named(task, fluents, name) else {
         return Err(Refusal::Line {
             code: RefusalCode::NotFluent,
             line: number,
@@ -134,12 +140,13 @@ pub(crate) fn read_header<R: Source>(
     ensures refused { IfErr result (IsLineRefusal R.remaining (task_of task.now) reader.old reader.new) }
     ensures failures { CountsRefusal (R.failures (source_of reader.old)) (R.failures (source_of reader.new)) result }
 {
+    let fluents = FluentPredicates::new(alloc, task)?;
     let mut header = nothing_told(alloc);
     'lines: loop {
         let Some(line) = reader.next_line()? else {
             return Ok((header, None));
         };
-        if let Some(line) = take(&mut header, task, line, reader.lines())? {
+        if let Some(line) = take(&mut header, task, &fluents, line, reader.lines())? {
             return Ok((header, Some(line)));
         }
     }

@@ -5,6 +5,7 @@ ghost use Rattle.task.specs.TaskParts.{atom_of, object_of};
 ghost use Rattle.model.specs.Task as model;
 ghost use Rattle.model.specs.WellTyped.{is_atom};
 ghost use Rattle.model.specs.Fluents.{is_fluent};
+ghost use Rattle.formulas.specs.FluentTable.{AreFluentsOf};
 ghost use Rattle.model.specs.PlanText.{object_names};
 ghost use Rattle.certificate_reader.specs.Lines.{name_of, named_atom_of};
 ghost use Rattle.certificate_definitions.specs.CertificateNames.{AreNumbersOf, Names};
@@ -12,11 +13,16 @@ ghost use Rattle.certificate_definitions.specs.CertificateChecking.{NamesFluent}
 
 use arrayvec::ArrayVec;
 use certificate::NamedAtom;
-use formulas::is_fluent_atom;
+use formulas::FluentPredicates;
 use task::{Atom, MAX_ARGUMENTS, ObjectId, Task};
 
-/// The atom of the task that has these names, if it is well-typed and some action changes its predicate.
-pub(crate) fn fluent_atom_named(task: &Task, name: &NamedAtom) -> Option<Atom>
+/// The atom of the task that has these names, if it is well-typed and of one of the task's fluent predicates, which these are.
+pub(crate) fn fluent_atom_named(
+    task: &Task,
+    fluents: &FluentPredicates,
+    name: &NamedAtom,
+) -> Option<Atom>
+    requires { AreFluentsOf (task_of task.now) fluents.now }
     ensures names { IfSome result (λ a. Names (task_of task.now) (named_atom_of name.now) (atom_of a)) }
     ensures typed { IfSome result (λ a. IsTrue (is_atom (task_of task.now) (atom_of a))) }
     ensures fluent { IfSome result (λ a. IsTrue (is_fluent (task_of task.now) (atom_of a).predicate)) }
@@ -25,7 +31,7 @@ pub(crate) fn fluent_atom_named(task: &Task, name: &NamedAtom) -> Option<Atom>
     let Some(atom) = atom_named(task, name) else {
         return None;
     };
-    if is_fluent_atom(task, &atom) {
+    if fluents.is_fluent(task, &atom) {
         Some(atom)
     } else {
         None

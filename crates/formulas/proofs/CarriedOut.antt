@@ -1,19 +1,21 @@
 -- What the passes over changes leave of a state, change by change.
 use Rattle.std.specs.Prelude.{◌≡◌, ℕ, ◌+◌, ◌<◌, ◌≤◌, true, false, cond, List, [], ◌∷◌, ◌++◌, length, map, filter, take, IsTrue, refl}
-use Rattle.std.proofs.Common.{sym, ◌∙◌, ap, get_or, append-nil}
+use Rattle.std.proofs.Common.{sym, ◌∙◌, ap, get_or}
 use Rattle.std.specs.FinSet.{from_list, union, difference}
-use Rattle.std.proofs.lemmas.List.{take_all, take_more, map-append}
+use Rattle.std.proofs.lemmas.List.{take_more, map-append}
 use Rattle.task.specs.declared.atoms.ObjectId.{ObjectId}
 use Rattle.task.specs.declared.atoms.LiftedAtom.{LiftedAtom}
 use Rattle.task.specs.declared.schemas.EffectLiteral.{EffectLiteral}
 use Rattle.task.specs.declared.schemas.EffectLiteral.TheVariants.{Add, Delete}
 use Rattle.task.specs.TaskParts.{object_of, lifted_atom_of, effect_literal_of}
 use Rattle.formulas.specs.declared.effects.Change as code
+use Rattle.formulas.specs.declared.effects.GroundLiteral as code_effects
+use Rattle.std.specs.Borrow.{Bor}
 use Rattle.formulas.specs.declared.change.Pass.{Pass}
 use Rattle.formulas.specs.declared.change.Pass.TheVariants.{Deletes, Adds}
 use Rattle.formulas.specs.State.{FitsLiteral}
 use Rattle.formulas.specs.Changes.{after_pass}
-use Rattle.formulas.specs.Effects.{change_of}
+use Rattle.formulas.specs.Effects.{change_of, lent_literal}
 use Rattle.model.specs.Task as task
 use Rattle.model.specs.WellTyped.{is_task, is_lifted_atom, is_effect_literal, max_arguments}
 use Rattle.model.specs.Meaning.{State, Change, added_by, deleted_by, GroundLiteral, holds, literals_in}
@@ -44,40 +46,32 @@ module _ (t : task.Task) (before : State) where
       ]
 
   -- that of one alone, where its condition holds and where it does not
-  literal_in : (c : Change) → holds t c.condition c.binding before ≡ true → literals_in t before (c ∷ []) ≡ c.literal ∷ []
+  pub literal_in : (c : Change) → holds t c.condition c.binding before ≡ true → literals_in t before (c ∷ []) ≡ c.literal ∷ []
   literal_in c held = ap (λ h. map (λ (d : Change). d.literal) (cond h (c ∷ []) [])) held
 
-  no_literal_in : (c : Change) → holds t c.condition c.binding before ≡ false → literals_in t before (c ∷ []) ≡ []
+  pub no_literal_in : (c : Change) → holds t c.condition c.binding before ≡ false → literals_in t before (c ∷ []) ≡ []
   no_literal_in c not_held = ap (λ h. map (λ (d : Change). d.literal) (cond h (c ∷ []) [])) not_held
 
--- ---- one change after another
+-- ---- one after another
 
-module _ (t : task.Task) (before : State) (pass : Pass) (s : State) (xs : List code.Change) where
-  -- the literals of the changes so far
-  abbrev pub literals_before : ℕ → List GroundLiteral
-  literals_before i = literals_in t before (map change_of (take i xs))
+-- the literals of the changes so far
+abbrev pub literals_before : task.Task → State → List code.Change → ℕ → List GroundLiteral
+literals_before t before xs i = literals_in t before (map change_of (take i xs))
 
-  module _ (i : ℕ) (x : code.Change) (lt : i < length xs) (at : x ≡ get_or xs i x) (here : State) (so_far : here ≡ after_pass pass s (literals_before i)) where
-    abbrev change : Change
-    change = change_of x
+pub one_more : (t : task.Task) (before : State) (xs : List code.Change) (i : ℕ) (x : code.Change) → i < length xs → x ≡ get_or xs i x
+    → literals_before t before xs (i + 1) ≡ literals_before t before xs i ++ literals_in t before (change_of x ∷ [])
+one_more t before xs i x lt at =
+    ap (λ l. literals_in t before (map change_of l)) (take_more xs i x lt ∙ ap (λ y. take i xs ++ y ∷ []) (sym at))
+    ∙ ap (literals_in t before) (map-append change_of (take i xs) (x ∷ [])) ∙ literals_in-append t before (map change_of (take i xs)) (change_of x ∷ [])
 
-    one_more : literals_before (i + 1) ≡ literals_before i ++ literals_in t before (change ∷ [])
-    one_more =
-        ap (λ l. literals_in t before (map change_of l)) (take_more xs i x lt ∙ ap (λ y. take i xs ++ y ∷ []) (sym at))
-        ∙ ap (literals_in t before) (map-append change_of (take i xs) (x ∷ [])) ∙ literals_in-append t before (map change_of (take i xs)) (change ∷ [])
-
-    pub carried_with : (after : State) → holds t change.condition change.binding before ≡ true → after ≡ after_pass pass here (change.literal ∷ []) → after ≡ after_pass pass s (literals_before (i + 1))
-    carried_with after held is =
-        is ∙ ap (λ b. after_pass pass b (change.literal ∷ [])) so_far
-        ∙ sym (ap (after_pass pass s) (one_more ∙ ap (λ l. literals_before i ++ l) (literal_in t before change held)) ∙ after-append pass s (literals_before i) (change.literal ∷ []))
-
-    pub carried_without : holds t change.condition change.binding before ≡ false → here ≡ after_pass pass s (literals_before (i + 1))
-    carried_without not_held =
-        so_far ∙ sym (ap (after_pass pass s) (one_more ∙ ap (λ l. literals_before i ++ l) (no_literal_in t before change not_held) ∙ append-nil (literals_before i)))
-
-  -- and of all
-  pub carried_whole : (i : ℕ) (after : State) → length xs ≤ i → after ≡ after_pass pass s (literals_before i) → after ≡ after_pass pass s (literals_in t before (map change_of xs))
-  carried_whole i after past so = so ∙ ap (λ l. after_pass pass s (literals_in t before (map change_of l))) (take_all i xs past)
+-- one literal more is carried out
+pub carried_more : (pass : Pass) (s : State) (xs : List (Bor code_effects.GroundLiteral)) (i : ℕ) (x : Bor code_effects.GroundLiteral) → i < length xs → x ≡ get_or xs i x
+    → (here after : State) → here ≡ after_pass pass s (map lent_literal (take i xs)) → after ≡ after_pass pass here (lent_literal x ∷ [])
+    → after ≡ after_pass pass s (map lent_literal (take (i + 1) xs))
+carried_more pass s xs i x lt at here after so_far is =
+    is ∙ ap (λ b. after_pass pass b (lent_literal x ∷ [])) so_far
+    ∙ sym (ap (after_pass pass s) (ap (map lent_literal) (take_more xs i x lt ∙ ap (λ y. take i xs ++ y ∷ []) (sym at)) ∙ map-append lent_literal (take i xs) (x ∷ []))
+    ∙ after-append pass s (map lent_literal (take i xs)) (lent_literal x ∷ []))
 
 -- ---- well-typed literals
 

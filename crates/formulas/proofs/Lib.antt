@@ -8,5 +8,6 @@ pub mod CarriedOut
 pub mod ChangeLists
 pub mod ChangesFit
 pub mod Instances
-pub mod FluentPredicates
+pub mod FluentTests
+pub mod FluentMarks
 pub mod Pointwise

@@ -16,6 +16,7 @@ use Rattle.task.specs.declared.atoms.Atom.{Atom}
 use Rattle.task.specs.declared.atoms.ObjectId.{ObjectId}
 use Rattle.task.specs.contracts.atoms.AtomOrd.TheImpl as atom_ord
 use Rattle.task.specs.contracts.atoms.ObjectIdOrd.TheImpl as object_ord
+use Rattle.task.proofs.AtomEquality.{atom_at}
 use Rattle.task.specs.TaskParts.{atom_of, object_of, AreInOrder}
 use Rattle.model.specs.Task as task
 use Rattle.model.specs.Meaning.{State, atom_cmp}
@@ -47,9 +48,6 @@ pub in_order : (keys : List Atom) → IsStrictlySortedBy code_cmp keys → AreIn
 in_order keys ordered = subst (λ R. IsStrictlySortedBy R keys) orders_alike ordered
 
 -- ---- every atom of the model is one of the code's
-
-abbrev pub atom_at : task.Atom → Atom
-atom_at a = record { predicate = record { 0 = a.predicate }; objects = record { items = map (λ n. record { 0 = n }) a.objects } }
 
 numbers_at : (xs : List ℕ) → map object_of (map (λ n. record { 0 = n }) xs) ≡ xs
 numbers_at [] = refl

@@ -14,6 +14,10 @@ abbrev pub ground_literal_of : GroundLiteral → meaning.GroundLiteral
 ground_literal_of (Adds a) = meaning.adds (atom_of a)
 ground_literal_of (Deletes a) = meaning.deletes (atom_of a)
 
+-- the literal that is lent
+abbrev pub lent_literal : Bor GroundLiteral → meaning.GroundLiteral
+lent_literal l = ground_literal_of l.now
+
 -- without a condition it is `(and)`
 abbrev pub condition_of : Option (Bor Formula) → task.Formula
 condition_of o = option_map_or (λ f. formula_of f.now) o (task.and task.no_formula)

@@ -4,3 +4,4 @@ pub mod Literals
 pub mod Changes
 pub mod Effects
 pub mod Objects
+pub mod FluentTable

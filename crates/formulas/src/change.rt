@@ -1,9 +1,9 @@
 //! Change: the state that an instance leads to.
-ghost use Rattle.std.specs.Prelude.{◌≡◌, ◌∷◌, [], map, IsTrue, IfOk, OnOk};
+ghost use Rattle.std.specs.Prelude.{◌≡◌, ◌∷◌, ◌++◌, [], map, IsTrue, IfOk, OnOk};
 ghost use Rattle.std.specs.Option.{option_map};
 ghost use Rattle.task.specs.Task.{task_of};
 ghost use Rattle.formulas.specs.State.{state_of, instance_of, FitsFormula, FitsChanges};
-ghost use Rattle.formulas.specs.Effects.{change_of, ground_literal_of};
+ghost use Rattle.formulas.specs.Effects.{change_of, ground_literal_of, lent_literal};
 ghost use Rattle.formulas.specs.Changes.{after_pass};
 ghost use Rattle.model.specs.Meaning as meaning;
 ghost use Rattle.model.specs.Meaning.{is_instance, step, literals_in};
@@ -41,37 +41,80 @@ pub fn apply(
     requires { IsTrue (is_instance (task_of task.now) (instance_of instance.now)) }
     ensures { IfOk result (λ next. option_map state_of next ≡ step (task_of task.now) (state_of state.now) (instance_of instance.now)) }
 {
+    advance(alloc, task, instance, state.try_clone()?)
+}
+
+/// What [`apply`] gives, made of the state before: the time goes with the changes of the instance, and not with the atoms
+/// of the state.
+///
+/// # Errors
+/// Memory was refused, which says nothing of the instance.
+pub fn advance(
+    alloc: Global,
+    task: &Task,
+    instance: &Instance,
+    state: State,
+) -> Result<Option<State>, NoMemory>
+    requires { IsTrue (is_instance (task_of task.now) (instance_of instance.now)) }
+    ensures { IfOk result (λ next. option_map state_of next ≡ step (task_of task.now) (state_of state) (instance_of instance.now)) }
+{
     let Some(schema) = task.schema(instance.schema) else {
         return Ok(None);
     };
     if amount(task, instance).is_none() {
         return Ok(None);
     }
-    if !holds(task, &schema.precondition, &instance.objects, state) {
+    if !holds(task, &schema.precondition, &instance.objects, &state) {
         return Ok(None);
     }
     let found = changes(alloc, task, instance)?;
-    let mut next = state.try_clone()?;
-    carry_out(task, &found, state, Pass::Deletes, &mut next)?;
-    carry_out(task, &found, state, Pass::Adds, &mut next)?;
+    let made = literals_made(alloc, task, &found, &state)?;
+    let mut next = state;
+    carry_out(&made, Pass::Deletes, &mut next)?;
+    carry_out(&made, Pass::Adds, &mut next)?;
     Ok(Some(next))
 }
 
-/// Carries out the literals of the pass, of those changes whose condition holds in the state before.
-fn carry_out(
+/// The literals of those changes whose condition holds in the state.
+fn literals_made<'a>(
+    alloc: Global,
     task: &Task,
-    changes: &[Change],
+    changes: &'a [Change<'_>],
     before: &State,
-    pass: Pass,
-    next: &mut State,
-) -> Result<(), NoMemory>
+) -> Result<Vec<&'a GroundLiteral>, NoMemory>
     requires { FitsChanges (task_of task.now) (map change_of changes.now) }
-    ensures { OnOk result (state_of next.new ≡ after_pass pass (state_of next.old) (literals_in (task_of task.now) (state_of before.now) (map change_of changes.now))) }
+    ensures { IfOk result (λ made. map lent_literal made.items ≡ literals_in (task_of task.now) (state_of before.now) (map change_of changes.now)) }
 {
+    let mut made = Vec::new(alloc);
     for change in changes {
-        if is_made(task, change, before) {
-            carry_out_one(&change.literal, pass, next)?;
-        }
+        add_if_made(task, change, before, &mut made)?;
+    }
+    Ok(made)
+}
+
+/// Adds the literal of the change, if its condition holds in the state.
+fn add_if_made<'a>(
+    task: &Task,
+    change: &'a Change<'_>,
+    before: &State,
+    made: &mut Vec<&'a GroundLiteral>,
+) -> Result<(), NoMemory>
+    requires { FitsFormula (task_of task.now) (change_of change.now).condition (change_of change.now).binding }
+    ensures { OnOk result (map lent_literal made.new.items ≡ map lent_literal made.old.items ++ literals_in (task_of task.now) (state_of before.now) (change_of change.now ∷ [])) }
+{
+    if !is_made(task, change, before) {
+        return Ok(());
+    }
+    made.push(&change.literal)?;
+    Ok(())
+}
+
+/// Carries out those of the literals that are of the pass.
+fn carry_out(literals: &[&GroundLiteral], pass: Pass, next: &mut State) -> Result<(), NoMemory>
+    ensures { OnOk result (state_of next.new ≡ after_pass pass (state_of next.old) (map lent_literal literals.now)) }
+{
+    for literal in literals {
+        carry_out_one(literal, pass, next)?;
     }
     Ok(())
 }

@@ -4,6 +4,7 @@
 mod change;
 mod costs;
 mod effects;
+mod fluent_predicates;
 mod fluents;
 mod instance;
 mod laws;
@@ -14,9 +15,10 @@ mod state;
 mod truth;
 mod valuation;
 
-pub use change::apply;
+pub use change::{advance, apply};
 pub use costs::{amount, cost};
 pub use effects::{Change, GroundLiteral, changes};
+pub use fluent_predicates::FluentPredicates;
 pub use fluents::{is_atom, is_fluent, is_fluent_atom};
 pub use instance::{Binding, Instance, copied, is_instance, with_object};
 pub use laws::{formula_examples_are_judged, one_state, sure_literals_hold};

@@ -1,24 +1,19 @@
 -- What closes a formula off, by the formula's form, as it is asked at the start.
-use Rattle.std.proofs.Common.{◌≡◌, ◌∙◌, ℕ, ◌<◌, Bool, true, false, not, ◌&&◌, ◌||◌, List, [], ◌∷◌, ◌++◌, length, map, None, Some, refl, sym, ap, true≢false}
-use Rattle.std.specs.Prelude.{nat_eq, slice_get}
+use Rattle.std.proofs.Common.{◌≡◌, ◌∙◌, ℕ, Bool, true, false, not, ◌&&◌, ◌||◌, List, [], ◌∷◌, ◌++◌, map, refl, sym, ap}
+use Rattle.std.specs.Prelude.{nat_eq}
 use Rattle.std.specs.Global.{Vec}
-use Rattle.std.specs.Cmp.Lexicographic.{pointwise}
 use Rattle.std.specs.List.{list_any, flat_map}
-use Rattle.std.specs.Option.{option_map_or}
 use Rattle.std.specs.FinSet.{contains}
-use Rattle.std.proofs.lemmas.Option.{slice_get_within}
 use Rattle.std.proofs.lemmas.List.Folds.{list_any-append}
 use Rattle.task.specs.declared.atoms.LiftedAtom.{LiftedAtom}
 use Rattle.task.specs.declared.atoms.Term.{Term}
 use Rattle.task.specs.declared.schemas.Formula.{Formula}
 use Rattle.task.specs.declared.schemas.Formula as formula
 use Rattle.task.specs.TaskParts.{formula_of, lifted_atom_of, term_of}
-use Rattle.formulas.specs.State.{FitsFormula}
 use Rattle.formulas.proofs.Trees.{sure_by_parts, list_any_map}
 use Rattle.model.specs.Task as task
 use Rattle.model.specs.Task.{Atom, Task}
 use Rattle.model.specs.Meaning.{State, initial_state, holds, ground_atom, objects_of, object_of}
-use Rattle.model.specs.WellTyped.{is_formula, is_term}
 use Rattle.model.specs.Fluents.{is_fluent}
 use Rattle.model.specs.SureLiterals.{Literal, literal_holds, sure}
 use Rattle.model.specs.ClosedOff.{is_fixed, is_closed_off}
@@ -66,15 +61,6 @@ module _ (t : Task) (s : State) (start : (a : Atom) → contains s a ≡ contain
     not_equal-closed held here =
         here ∙ ap (λ g. holds t (formula_of g) binding s) is
         ∙ sym (ap (λ g. is_closed_off t (task.not (formula_of g)) binding) is ∙ or_false _ ∙ not_not (nat_eq (object_of binding (term_of x)) (object_of binding (term_of y))))
-
--- the predicate of a well-typed atom is one of the task's
-pub predicate_within : (t : Task) (f : Formula) (a : LiftedAtom) (objects : List ℕ) → f ≡ formula.Atom a → FitsFormula t (formula_of f) objects → a.predicate.0 < length t.predicates
-predicate_within t f a objects is given =
-    elim (slice_get t.predicates a.predicate.0) as (λ o. slice_get t.predicates a.predicate.0 ≡ o
-    → option_map_or (λ (p : task.Predicate). pointwise (is_term t given.scope) p.arguments (map term_of a.terms.items)) o false ≡ true → a.predicate.0 < length t.predicates) [
-      | None ↦ λ _ none. absurd (true≢false (sym none))
-      | Some p ↦ λ at _. slice_get_within t.predicates a.predicate.0 p at
-    ] refl (sym (ap (λ g. is_formula t given.scope (formula_of g)) is) ∙ given.typed)
 
 -- ---- conjunctions and `forall`
 

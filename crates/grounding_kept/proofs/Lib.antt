@@ -1,4 +1,3 @@
-pub mod FluentTable
 pub mod Closings
 pub mod DecidedLiterals
 pub mod ChosenObjects
@@ -7,6 +6,7 @@ pub mod RisingObjects
 pub mod JoinGroups
 pub mod ChangesFit
 pub mod NumberLists
+pub mod HashedAtoms
 pub mod LimitsTold
 pub mod NumberedParts
 pub mod NumberedFacts

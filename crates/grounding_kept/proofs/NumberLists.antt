@@ -1,14 +1,11 @@
 -- Numbering atoms one after another, up to a limit.
-use Rattle.std.proofs.Common.{◌≡◌, ◌∙◌, ℕ, ◌+◌, ◌<◌, ◌≤◌, Bool, true, false, ◌||◌, List, [], ◌∷◌, ◌++◌, length, map, drop, get_or, None, Some, refl, sym, ap, subst, arith, true≢false}
-use Rattle.std.specs.Prelude.{Contains, slice_get, filter, cond, if◌then◌else◌, IsTrue}
+use Rattle.std.proofs.Common.{◌≡◌, ◌∙◌, ℕ, ◌+◌, ◌<◌, ◌≤◌, Bool, true, false, ◌||◌, List, [], ◌∷◌, ◌++◌, length, map, drop, get_or, Some, refl, sym, ap, subst, arith}
+use Rattle.std.specs.Prelude.{Contains, slice_get, filter, cond, if◌then◌else◌}
 use Rattle.std.specs.List.{list_any, list_all, flat_map}
-use Rattle.std.specs.Option.{option_map, option_map_or}
-use Rattle.std.specs.Cmp.{second_so, first_so}
-use Rattle.std.specs.Cmp.Lexicographic.{pointwise}
-use Rattle.std.specs.FinSet.{contains, contains-from_list}
+use Rattle.std.specs.Option.{option_map}
 use Rattle.std.proofs.lemmas.Bool.{and_from}
 use Rattle.std.proofs.lemmas.List.{length-map, map_push, length-append, map-id}
-use Rattle.std.proofs.lemmas.Option.{slice_get_within, slice_get_read, slice_get-map}
+use Rattle.std.proofs.lemmas.Option.{slice_get_read, slice_get-map}
 use Rattle.indexmap.specs.IndexSet.{insert_key}
 use Rattle.faults.specs.declared.refused.Refused.TheVariants.{At, NoMemory}
 use Rattle.grounding_kept.specs.declared.fault.GroundLimit.TheVariants.{Instances, Atoms}
@@ -18,8 +15,7 @@ use Rattle.task.proofs.AtomEquality.{eq-alike}
 use Rattle.formulas.proofs.Equality.{atom_eq, one_atom}
 use Rattle.model.specs.Task as task
 use Rattle.model.specs.Task.{Task}
-use Rattle.model.specs.Meaning.{is_instance, is_of, initial_state}
-use Rattle.model.specs.WellTyped.{is_task, is_atom}
+use Rattle.model.specs.Meaning.{is_instance}
 use Rattle.model.specs.Limits.{max_numbered_atoms}
 use Rattle.model.specs.Fluents.{is_fluent}
 use Rattle.model.specs.ClosedOff.{kept_instances, counts}
@@ -27,11 +23,9 @@ use Rattle.formulas.specs.Effects.{change_of}
 use Rattle.formulas.specs.declared.effects.Change.{Change}
 use Rattle.model.specs.Meaning as meaning
 use Rattle.model.specs.NumberedAtoms.{stands_in, with_atom, with_atoms, initial_fluent_atoms, atom_of_literal}
-use Rattle.model.proofs.Atoms.{atoms_total}
-use Rattle.model.proofs.Tests.{passes_at, passes_got, passes_map}
-use Rattle.model.proofs.ListLemmas.{Contains-here, Contains-there, Contains-place}
+use Rattle.model.proofs.ListLemmas.{Contains-here, Contains-there}
 use Rattle.model.proofs.ClosedOffLemmas.{kept-Contains}
-use Rattle.model.proofs.NumberingLemmas.{stands_in-Contains, length-with_atoms, with_atoms-append, numbered-more, numbered-too_many}
+use Rattle.model.proofs.NumberingLemmas.{length-with_atoms, with_atoms-append, numbered-more, numbered-too_many}
 use Rattle.grounding_kept.specs.Kept.{GroundFault}
 use Rattle.grounding_kept.specs.Atoms.{TellsAtoms, atoms_changed}
 
@@ -119,25 +113,6 @@ counting-atoms t changes = passing (counts t) (λ (c : meaning.Change). atom_of_
 
 pub got-mapped : {X Y : Type 0} (f : X → Y) (xs : List X) (i : ℕ) (x : X) → i < length xs → x ≡ get_or xs i x → slice_get (map f xs) i ≡ Some (f x)
 got-mapped f xs i x below at = slice_get-map f xs i ∙ ap (option_map f) (got-item xs i x below at)
-
-pub atom-within : (t : Task) (a : task.Atom) → is_atom t a ≡ true → a.predicate < length t.predicates
-atom-within t a typed =
-    elim (slice_get t.predicates a.predicate) as (λ o. slice_get t.predicates a.predicate ≡ o → option_map_or (λ (p : task.Predicate). pointwise (is_of t) p.arguments a.objects) o false ≡ true → a.predicate < length t.predicates) [
-      | None ↦ λ _ none. absurd (true≢false (sym none))
-      | Some p ↦ λ at _. slice_get_within t.predicates a.predicate p at
-    ] refl typed
-
--- the predicate of an atom that is true at the start is one of the task's
-pub initial-within : (t : Task) → IsTrue (is_task t) → (items : List Atom) → map atom_of items ≡ t.init → (i : ℕ) (a : Atom) → i < length items → a ≡ get_or items i a → a.predicate.0 < length t.predicates
-initial-within t well items is i a below at =
-    atom-within t (atom_of a)
-    (passes_at (λ x. is_atom t (atom_of x)) items i a below at
-    (sym (passes_map (is_atom t) atom_of items) ∙ ap (list_all (is_atom t)) is ∙ second_so _ _ (first_so _ _ well)))
-
-pub true-within : (t : Task) → IsTrue (is_task t) → (a : task.Atom) → contains (initial_state t) a ≡ true → a.predicate < length t.predicates
-true-within t well a there =
-    let place = Contains-place t.init a (stands_in-Contains t.init a (sym (contains-from_list atoms_total t.init a) ∙ there)) in
-    atom-within t a (passes_got (is_atom t) t.init place.0 a place.1 (second_so _ _ (first_so _ _ well)))
 
 -- ---- the kept instances are the task's
 

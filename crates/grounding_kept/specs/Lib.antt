@@ -1,3 +1,4 @@
+pub mod Initial
 pub mod Literals
 pub mod Parameters
 pub mod Joins

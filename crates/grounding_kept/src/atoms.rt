@@ -1,5 +1,5 @@
 //! The numbers of atoms.
-ghost use Rattle.std.specs.Prelude.{◌≡◌, ◌≤◌, ◌<◌, [], ◌∷◌, if◌then◌else◌, map, filter, length, IfOk, IfErr, OnOk, IsTrue};
+ghost use Rattle.std.specs.Prelude.{◌≡◌, ◌≤◌, [], ◌∷◌, if◌then◌else◌, map, filter, length, IfOk, IfErr, OnOk, IsTrue};
 ghost use Rattle.std.specs.List.{flat_map, list_all};
 ghost use Rattle.task.specs.Task.{task_of};
 ghost use Rattle.task.specs.TaskParts.{atom_of};
@@ -76,8 +76,7 @@ fn number_if_fluent(
     atom: &Atom,
     atoms: &mut IndexSet<Atom>,
 ) -> Result<(), GroundFault>
-    requires few { length atoms.old.keys ≤ MAX_ATOMS }
-    requires within { atom.now.predicate.0 < length (task_of statics.now.task.now).predicates }
+    requires { length atoms.old.keys ≤ MAX_ATOMS }
     ensures numbered { OnOk result (map atom_of atoms.new.keys ≡ numbered.with_atoms (map atom_of atoms.old.keys)
         (if model_fluents.is_fluent (task_of statics.now.task.now) (atom_of atom.now).predicate then atom_of atom.now ∷ [] else [])) }
     ensures few { OnOk result (length atoms.new.keys ≤ MAX_ATOMS) }

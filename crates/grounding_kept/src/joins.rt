@@ -7,14 +7,12 @@
 //! Algorithms"). That tasks are grounded by joins is from Helmert 2009, "Concise finite-domain representations for PDDL
 //! planning tasks".
 ghost use Rattle.std.specs.Prelude.{◌≡◌, ◌⊎◌, false, length, map, filter, slice_get, Some, IfOk, IfSome, OnOk};
-ghost use Rattle.std.specs.Bool.{OnTrue};
 ghost use Rattle.std.specs.Option.{option_map, option_map_or};
 ghost use Rattle.std.specs.List.Sorted.{IsStrictlySortedBy};
 ghost use Rattle.task.specs.contracts.atoms.ObjectIdOrd.TheImpl as object_ord;
 ghost use Rattle.task.specs.Task.{task_of};
 ghost use Rattle.task.specs.TaskParts.{atom_of, object_of, formula_of, lifted_atom_of, term_of, union_of};
 ghost use Rattle.model.specs.Task as model_task;
-ghost use Rattle.model.specs.Fluents as model_fluents;
 ghost use Rattle.model.specs.Meaning as meaning;
 ghost use Rattle.model.proofs.EnumerationLemmas as enumeration;
 ghost use Rattle.grounding_kept.specs.Parameters.{lent_formula};
@@ -26,7 +24,7 @@ use faults::NoMemory;
 use formulas::Binding;
 use std::alloc::Global;
 use std::collections::BTreeSet;
-use task::{Atom, Formula, LiftedAtom, ObjectId, PredicateId, Task, Term, TypeUnion};
+use task::{Atom, Formula, LiftedAtom, ObjectId, Task, Term, TypeUnion};
 
 /// An atom of a static predicate, where a parameter stands in it, and where a term that is known before it.
 #[derive(Drop)]
@@ -260,7 +258,7 @@ fn joint_in<'t>(statics: &Statics<'_>, literal: &'t Formula, number: usize) -> O
     let Formula::Atom(atom) = literal else {
         return None;
     };
-    if !is_static(statics, atom.predicate) {
+    if statics.is_fluent(atom.predicate) {
         return None;
     }
     let place = place_of(atom.terms.as_slice(), number)?;
@@ -269,16 +267,6 @@ fn joint_in<'t>(statics: &Statics<'_>, literal: &'t Formula, number: usize) -> O
         place,
         key: None,
     })
-}
-
-/// Whether the predicate is the task's, and no action changes it.
-fn is_static(statics: &Statics<'_>, predicate: PredicateId) -> bool
-    ensures { OnTrue result (model_fluents.is_fluent (task_of statics.now.task.now) predicate.0 ≡ false) }
-{
-    if statics.task.predicate(predicate).is_none() {
-        return false;
-    }
-    !statics.is_fluent(predicate)
 }
 
 /// The first place of the variable of this number.

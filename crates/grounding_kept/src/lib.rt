@@ -3,7 +3,7 @@
 
 mod atoms;
 mod fault;
-mod fluents;
+mod initial;
 mod joins;
 mod kept;
 mod numbering;

@@ -1,18 +1,19 @@
 //! What no action changes: the static predicates and the equalities, which say in each reachable state what they say at
 //! the start.
-ghost use Rattle.std.specs.Prelude.{◌≡◌, length, map};
-ghost use Rattle.std.specs.List.{range_with_len};
+ghost use Rattle.std.specs.Prelude.{◌≡◌, map};
 ghost use Rattle.std.specs.FinSet.{contains};
 ghost use Rattle.std.proofs.Props.{props};
 ghost use Rattle.task.specs.Task.{task_of};
-ghost use Rattle.formulas.specs.State.{state_of};
+ghost use Rattle.formulas.specs.FluentTable.{AreFluentsOf};
 ghost use Rattle.model.specs.Task as model_task;
-ghost use Rattle.model.specs.Fluents as model_fluents;
 ghost use Rattle.model.specs.Meaning.{initial_state};
+ghost use Rattle.grounding_kept.specs.Initial.{facts_of};
 
-use crate::fluents::fluents;
+use crate::initial::InitialAtoms;
 use faults::NoMemory;
-use formulas::{Binding, Change, Instance, State, amount, copied, holds, objects_of};
+use formulas::{
+    Binding, Change, FluentPredicates, Instance, Valuation, amount, copied, holds, objects_of,
+};
 use std::alloc::Global;
 use task::{Atom, Formula, PredicateId, Task, TypeUnion};
 
@@ -20,29 +21,29 @@ use task::{Atom, Formula, PredicateId, Task, TypeUnion};
 #[derive(Drop)]
 pub(crate) struct Statics<'t> {
     pub(crate) task: &'t Task,
-    /// For each predicate, by its number, whether it is fluent.
-    fluents: Vec<bool>,
-    initial: State,
-    ghost are_fluents: { fluents.items ≡ map (model_fluents.is_fluent (task_of task.now)) (range_with_len 0 (length (task_of task.now).predicates)) },
-    ghost is_initial: { (a : model_task.Atom) → contains (state_of initial) a ≡ contains (initial_state (task_of task.now)) a } by { Prim.hlevel props },
+    fluents: FluentPredicates,
+    initial: InitialAtoms,
+    ghost are_fluents: { AreFluentsOf (task_of task.now) fluents } by { Prim.hlevel props },
+    ghost is_initial: { (a : model_task.Atom) → contains (facts_of initial) a ≡ contains (initial_state (task_of task.now)) a } by { Prim.hlevel props },
 }
 
 impl<'t> Statics<'t> {
-    ghost use Rattle.std.specs.Prelude.{◌<◌, ◌&&◌, not, IfOk, IsTrue};
+    ghost use Rattle.std.specs.Prelude.{◌&&◌, not, IfOk, IsTrue};
     ghost use Rattle.std.specs.List.{list_any};
     ghost use Rattle.task.specs.TaskParts.{atom_of, object_of, formula_of, union_of};
     ghost use Rattle.formulas.specs.State.{FitsFormula, FitsFormulas, instance_of};
     ghost use Rattle.formulas.specs.Effects.{change_of};
     ghost use Rattle.grounding_kept.specs.Parameters.{lent_formula};
     ghost use Rattle.model.specs.Meaning.{is_instance};
+    ghost use Rattle.model.specs.Fluents as model_fluents;
     ghost use Rattle.model.specs.ClosedOff as closed_off;
 
     /// Those of the task.
     pub(crate) fn new(alloc: Global, task: &'t Task) -> Result<Statics<'t>, NoMemory>
         ensures { IfOk result (λ s. s.task.now ≡ task.now) }
     {
-        let fluents = fluents(alloc, task)?;
-        let initial = State::initial(alloc, task)?;
+        let fluents = FluentPredicates::new(alloc, task)?;
+        let initial = InitialAtoms::new(alloc, task)?;
         Ok(Statics {
             task,
             fluents,
@@ -50,12 +51,11 @@ impl<'t> Statics<'t> {
         })
     }
 
-    /// Whether some action adds or deletes an atom of the task's predicate.
+    /// Whether some action adds or deletes an atom of the predicate.
     pub(crate) fn is_fluent(&self, predicate: PredicateId) -> bool
-        requires { predicate.0 < length (task_of self.now.task.now).predicates }
         ensures { result ≡ model_fluents.is_fluent (task_of self.now.task.now) predicate.0 }
     {
-        self.fluents[predicate.0]
+        self.fluents.contains(predicate)
     }
 
     /// Whether the atom is true at the start.

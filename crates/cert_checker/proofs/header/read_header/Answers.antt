@@ -37,7 +37,7 @@ pub returns-in_err-line-clause-refused : goal.returns-in_err-line-clause-refused
 returns-in_err-line-clause-refused g c =
     let task = task_of c.args.task.now in
     let so_far = c.lines.invariant in
-    passed_on (IsLineRefusal g.R.Source.remaining task c.args.reader.now c.next_line.new.self) c.from_residual.result (refusal_of c.in_err-line.field-0.0) c.from_residual.ensures.1
+    passed_on (IsLineRefusal g.R.Source.remaining task c.args.reader.now c.next_line.new.self) c.from_residual-in_err-line.result (refusal_of c.in_err-line.field-0.0) c.from_residual-in_err-line.ensures.1
     (fault_told g.R.Source.remaining c.args.reader.now c.lines.reader so_far.lines so_far.at task so_far.told.right c.next_line.new.self c.in_err-line.field-0.0
     (c.in_err-line.ensures.told so_far.lines so_far.at.read so_far.at.going))
 

@@ -1,7 +1,7 @@
 use Rattle.std.proofs.Common.{◌∙◌, sym}
 use Rattle.task.specs.TaskParts.{effect_of}
 use Rattle.model.specs.Fluents.{touches}
-use Rattle.formulas.proofs.FluentPredicates.{touches_by_parts, any_more, any_here, any_nowhere}
+use Rattle.formulas.proofs.FluentTests.{touches_by_parts, any_more, any_here, any_nowhere}
 use Rattle.formulas.proofs.fluents.+touches.Goals as goal
 
 pub returns-then-touches : goal.returns-then-touches

@@ -3,7 +3,7 @@ use Rattle.std.specs.Cmp.Lexicographic.{pointwise}
 use Rattle.task.specs.Task.{task_of}
 use Rattle.task.specs.TaskParts.{atom_of, object_of, union_of}
 use Rattle.model.specs.Meaning.{is_of}
-use Rattle.formulas.proofs.FluentPredicates.{atom_by_objects}
+use Rattle.formulas.proofs.FluentTests.{atom_by_objects}
 use Rattle.formulas.proofs.fluents.is_atom.Goals as goal
 
 pub returns : goal.returns

@@ -2,7 +2,7 @@ use Rattle.std.proofs.Common.{◌∙◌, sym}
 use Rattle.task.specs.TaskParts.{effect_literal_of}
 use Rattle.model.specs.Fluents.{is_literal_of}
 use Rattle.formulas.proofs.Trees.{list_any_map}
-use Rattle.formulas.proofs.FluentPredicates.{any_more, any_here, any_nowhere}
+use Rattle.formulas.proofs.FluentTests.{any_more, any_here, any_nowhere}
 use Rattle.formulas.proofs.fluents.some_is_literal_of.Goals as goal
 
 pub returns-then-is_literal_of : goal.returns-then-is_literal_of

@@ -9,7 +9,7 @@ use Rattle.model.specs.Meaning as meaning
 use Rattle.model.specs.WellTyped.{is_formula}
 use Rattle.formulas.proofs.Tasks.{atom_few}
 use Rattle.model.proofs.Tests.{passes_at, passes_not, passes_whole, passes_map}
-use Rattle.formulas.proofs.FluentPredicates.{any_here, any_nowhere}
+use Rattle.formulas.proofs.FluentTests.{any_here, any_nowhere}
 use Rattle.formulas.proofs.Trees.{list_any_map, holds_by_all, typed_by_all, holds_by_some, typed_by_some}
 use Rattle.formulas.specs.Objects.{objects_left}
 use Rattle.formulas.proofs.ObjectWalk.{rest_among, next_of, all_next, fails_here, any_next, passes_here}

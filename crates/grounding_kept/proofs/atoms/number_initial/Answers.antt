@@ -5,18 +5,13 @@ use Rattle.task.specs.TaskParts.{atom_of}
 use Rattle.model.specs.NumberedAtoms.{with_atoms, initial_fluent_atoms}
 use Rattle.model.proofs.NumberingLemmas.{numbered-end}
 use Rattle.grounding_kept.specs.Atoms.{TellsAtoms}
-use Rattle.grounding_kept.proofs.NumberLists.{item-told, next-numbered, got-item, if_fluent, initial-atoms, initial-within}
+use Rattle.grounding_kept.proofs.NumberLists.{item-told, next-numbered, got-item, if_fluent, initial-atoms}
 use Rattle.grounding_kept.proofs.atoms.number_initial.Goals as goal
 
 pub loop-atom-init : goal.loop-atom-init
 loop-atom-init c =
     let t = task_of c.args.statics.now.task.now in
     record { all = ap (with_atoms (map atom_of c.args.atoms.now.keys)) (initial-atoms t c.init-atom-items.result.now c.init-atom-items.ensures); few = c.requires }
-
-pub number_if_fluent-requires-clause-within : goal.number_if_fluent-requires-clause-within
-number_if_fluent-requires-clause-within c =
-    let t = task_of c.args.statics.now.task.now in
-    initial-within t c.args.statics.now.task.now.well_typed c.init-atom-items.result.now c.init-atom-items.ensures c.loop-atom.atom-index c.atom-item.result c.loop-atom-test.true c.atom-item.is
 
 pub returns-in_err-number_if_fluent-clause-told : goal.returns-in_err-number_if_fluent-clause-told
 returns-in_err-number_if_fluent-clause-told c =

@@ -1,26 +1,23 @@
 use Rattle.std.proofs.Common.{rules, arith, ℕ, Bool, refl, ◌∙◌, ap, sym, subst, map, ◌++◌, ◌∷◌, []}
 use Rattle.task.specs.declared.schemas.Formula.{the_lemmas}
 use Rattle.task.specs.Task.{task_of}
-use Rattle.formulas.specs.State.{state_of, FitsFormula}
+use Rattle.formulas.specs.State.{FitsFormula}
 use Rattle.formulas.specs.Objects.{objects_left}
 use Rattle.task.specs.TaskParts.{object_of, formula_of, union_of}
 use Rattle.model.specs.Task.{Formula}
 use Rattle.model.specs.ClosedOff.{is_closed_off}
 use Rattle.model.specs.WellTyped.{is_formula}
 use Rattle.model.proofs.Tests.{passes_at, passes_map}
-use Rattle.formulas.proofs.FluentPredicates.{any_here, any_nowhere}
+use Rattle.formulas.proofs.FluentTests.{any_here, any_nowhere}
 use Rattle.formulas.proofs.Trees.{list_any_map, typed_by_all}
 use Rattle.std.specs.List.{list_any}
 use Rattle.formulas.proofs.ObjectWalk.{rest_among, next_of, any_next, passes_here}
 use Rattle.formulas.proofs.Quantifiers.{one_more, one_less, extended_fits}
-use Rattle.grounding_kept.proofs.Closings.{atom-fluent, atom-static, equal-closed, predicate_within, closed_by_parts, closed_by_objects}
+use Rattle.grounding_kept.specs.Initial.{facts_of}
+use Rattle.grounding_kept.proofs.Closings.{atom-fluent, atom-static, equal-closed, closed_by_parts, closed_by_objects}
 use Rattle.grounding_kept.proofs.statics.Statics.+closed_off.Goals as goal
 
 -- ---- the form of the formula
-
-pub is_closed_off-is_fluent-requires : goal.is_closed_off-is_fluent-requires
-is_closed_off-is_fluent-requires t c =
-    predicate_within (task_of c.args.self.now.task.now) c.args.formula.now c.in-Atom.atom (map object_of c.args.binding.now.items) c.in-Atom.is c.requires
 
 pub is_closed_off-closes_off_some-requires : goal.is_closed_off-closes_off_some-requires
 is_closed_off-closes_off_some-requires t c = (
@@ -125,15 +122,15 @@ closes_off_for_some-returns t c =
 
 pub is_closed_off-returns-then-is_fluent : goal.is_closed_off-returns-then-is_fluent
 is_closed_off-returns-then-is_fluent t c =
-    atom-fluent (task_of c.args.self.now.task.now) (state_of c.args.self.now.initial) c.args.self.now.is_initial (map object_of c.args.binding.now.items) c.args.formula.now c.in-Atom.atom c.in-Atom.is
+    atom-fluent (task_of c.args.self.now.task.now) (facts_of c.args.self.now.initial) c.args.self.now.is_initial (map object_of c.args.binding.now.items) c.args.formula.now c.in-Atom.atom c.in-Atom.is
     (sym c.is_fluent.ensures ∙ c.if-is_fluent.true)
 
 pub is_closed_off-returns-else-is_fluent : goal.is_closed_off-returns-else-is_fluent
 is_closed_off-returns-else-is_fluent t c =
-    atom-static (task_of c.args.self.now.task.now) (state_of c.args.self.now.initial) c.args.self.now.is_initial (map object_of c.args.binding.now.items) c.args.formula.now c.in-Atom.atom c.in-Atom.is
+    atom-static (task_of c.args.self.now.task.now) (facts_of c.args.self.now.initial) c.args.self.now.is_initial (map object_of c.args.binding.now.items) c.args.formula.now c.in-Atom.atom c.in-Atom.is
     c.holds.result (sym c.is_fluent.ensures ∙ c.if-is_fluent.false) c.holds.ensures
 
 pub is_closed_off-returns-in-Equal : goal.is_closed_off-returns-in-Equal
 is_closed_off-returns-in-Equal t c =
-    equal-closed (task_of c.args.self.now.task.now) (state_of c.args.self.now.initial) c.args.self.now.is_initial (map object_of c.args.binding.now.items) c.args.formula.now _ _ c.in-Equal.is
+    equal-closed (task_of c.args.self.now.task.now) (facts_of c.args.self.now.initial) c.args.self.now.is_initial (map object_of c.args.binding.now.items) c.args.formula.now _ _ c.in-Equal.is
     c.holds-in-Equal.result c.holds-in-Equal.ensures

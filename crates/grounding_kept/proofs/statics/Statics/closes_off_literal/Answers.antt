@@ -5,7 +5,7 @@ use Rattle.model.specs.Task.{Formula}
 use Rattle.model.specs.ClosedOff.{is_closed_off}
 use Rattle.model.specs.WellTyped.{is_formula}
 use Rattle.model.proofs.Tests.{passes_at, passes_map}
-use Rattle.formulas.proofs.FluentPredicates.{any_here, any_nowhere}
+use Rattle.formulas.proofs.FluentTests.{any_here, any_nowhere}
 use Rattle.formulas.proofs.Trees.{list_any_map}
 use Rattle.grounding_kept.specs.Parameters.{lent_formula}
 use Rattle.grounding_kept.proofs.statics.Statics.closes_off_literal.Goals as goal
