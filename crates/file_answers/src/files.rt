@@ -18,9 +18,9 @@ use formulas::Plan;
 use plan_file::read_plan;
 use source_text::File;
 use std::alloc::Global;
+use task::Task;
 use thiserror::Error;
 use tokens::scan;
-use task::Task;
 use typing::{FromTrees, TaskFault, TaskFile, TaskRefusal};
 
 /// Why there is no verdict.

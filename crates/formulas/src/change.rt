@@ -49,7 +49,7 @@ pub fn apply(
 ///
 /// # Errors
 /// Memory was refused, which says nothing of the instance.
-pub fn advance(
+fn advance(
     alloc: Global,
     task: &Task,
     instance: &Instance,

@@ -15,7 +15,7 @@ mod state;
 mod truth;
 mod valuation;
 
-pub use change::{advance, apply};
+pub use change::apply;
 pub use costs::{amount, cost};
 pub use effects::{Change, GroundLiteral, changes};
 pub use fluent_predicates::FluentPredicates;

@@ -8,7 +8,7 @@ mod telling;
 
 pub use cert_checker::{Accepted, Refusal, RefusalCode};
 pub use command_line::{MaxCount, Order, WordsFault, read_words};
-pub use devices::{Files, SystemFiles, Table};
+pub use devices::{Files, SystemFiles};
 pub use failures::tell_no_memory;
 pub use file_answers::{
     Checked, Explanation, File, FileFault, Grounded, NamedText, Solved, Subject, check_files,

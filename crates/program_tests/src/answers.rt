@@ -13,8 +13,8 @@ use formulas::Plan;
 use solver::{Answer, Limits, solve};
 use std::alloc::Global;
 use std::test::Fail;
-use test_texts::{HOP, on_task};
 use task::Task;
+use test_texts::{HOP, on_task};
 
 /// Whether the certificate of the plan is accepted, with the plan and without.
 fn is_plan_shown(

@@ -7,9 +7,9 @@ use devices::Memory;
 use std::alloc::{AllocError, Global};
 use std::process::Abort;
 use std::test::Fail;
+use task::Task;
 use test_devices::{Endless, FailsAt, InPieces};
 use test_texts::{PAIRS, on_task};
-use task::Task;
 
 /// There is no plan.
 const NO_PLAN: &[u8] =

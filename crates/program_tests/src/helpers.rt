@@ -7,7 +7,7 @@ ghost use Rattle.formulas.specs.State.{plan_of};
 ghost use Rattle.model.specs.Meaning.{is_instance};
 
 use cert_checker::{Accepted, Refusal, RefusalCode, check};
-use certificate::{CertReader, Cert, write_cert};
+use certificate::{Cert, CertReader, write_cert};
 use devices::{Memory, Source, WriteFault};
 use formulas::Plan;
 use std::alloc::Global;

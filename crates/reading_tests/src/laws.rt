@@ -6,8 +6,8 @@ use grounding::{
     ground_task_solves_alike, grounding_examples_are_judged, numbered_literals_hold,
     only_counting_changes_are_made, packs_states,
 };
-use tokens::LONGEST_TEXT;
 use task::{MAX_ARGUMENTS, MAX_OBJECTS, MAX_VARIABLES};
+use tokens::LONGEST_TEXT;
 use typing::{examples_are_typed, supertypes_are_those_above};
 use validator::{exactly_one_verdict_is_true, worked_examples_are_true};
 

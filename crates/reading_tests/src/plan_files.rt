@@ -7,9 +7,9 @@ use plan_file::{read_plan, step_text, write_plan};
 use std::alloc::Global;
 use std::process::Abort;
 use std::test::Fail;
+use task::Task;
 use test_devices::{FailsAt, InPieces};
 use test_texts::{HOP, Term, instance, is_of, on_task};
-use task::Task;
 
 /// Two hops, as they are written.
 const TWO_HOPS: &[u8] = b"(hop a b)\n(hop b c)\n; cost = 6\n";

@@ -9,7 +9,7 @@ ghost use Rattle.model.specs.Meaning.{is_instance, system_of};
 ghost use Rattle.model.specs.Examples.{WorkedExamples};
 
 use faults::NoMemory;
-use formulas::{Plan, State, advance, cost, meets_goal};
+use formulas::{Plan, State, apply, cost, meets_goal};
 use std::alloc::Global;
 use task::Task;
 
@@ -60,7 +60,7 @@ pub fn run_plan(alloc: Global, task: &Task, plan: &Plan) -> Result<Run, NoMemory
     let mut state = State::initial(alloc, task)?;
     let mut total = 0;
     for (index, instance) in plan.steps().iter().enumerate() {
-        match advance(alloc, task, instance, state)? {
+        match apply(alloc, task, instance, &state)? {
             Some(next) => {
                 state = next;
                 total += u64::from(cost(task, instance));

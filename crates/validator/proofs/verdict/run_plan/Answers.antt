@@ -11,8 +11,8 @@ use Rattle.validator.proofs.verdict.run_plan.Goals as goal
 pub loop-index-init : goal.loop-index-init
 loop-index-init c = record { runs = ap Some (sym c.in_ok-state.ensures); costs = refl; few = omega arith }
 
-pub advance-requires : goal.advance-requires
-advance-requires c =
+pub apply-requires : goal.apply-requires
+apply-requires c =
     passes_got (is_instance (task_of c.args.task.now)) (plan_of c.args.plan.now) c.loop-index.index (instance_of c.instance-item.result)
     (stands c.steps-instance-items.result.now (plan_of c.args.plan.now) c.loop-index.index c.instance-item.result c.steps-instance-items.ensures.steps c.loop-index-test.true c.instance-item.is)
     c.requires
