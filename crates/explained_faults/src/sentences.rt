@@ -34,10 +34,31 @@ impl FaultExplanation<'_> {
         let marks = marked(alloc, texts.text(self.fault.file), self.fault.span)?;
         let mut sentence = String::new(alloc);
         self.add_sentence(alloc, texts, &mut sentence)?;
+        if self.is_rewritable(told_bytes(texts, self.fault)) {
+            sentence.push_str(" `tools/ipc-files` can rewrite this.")?;
+        }
         out.push_str(marks.as_str())?;
         out.push_str(sentence.as_str())?;
         out.push_str("\n")?;
         Ok(out)
+    }
+
+    /// Whether `tools/ipc-files` knows another form for what competitions' files have here, and the language has not.
+    fn is_rewritable(&self, word: &[u8]) -> bool {
+        match self.fault.code {
+            Code::NegativeInit | Code::Shadowed => true,
+            Code::BadWord => is_name_elsewhere(word),
+            Code::UnknownRequirement => !are_near(word, self.wanted.as_slice()),
+            Code::LeftOut => REWRITABLE
+                .iter()
+                .any(|form| word.eq_ignore_ascii_case(form)),
+            Code::MissingSection => match &self.help {
+                Help::Missing(names) => names.iter().all(|name| *name == b":parameters"),
+                _ => false,
+            },
+            Code::Duplicate => matches!(self.help, Help::BuiltIn),
+            _ => false,
+        }
     }
 
     /// Adds the sentence, with the mark at its end.
@@ -88,6 +109,23 @@ fn heading(alloc: Global, name: &str, place: LineColumn, code: Code) -> Result<S
     format!(in alloc; "{name}:{line}:{column}: fault {number} {code} (columns count bytes)\n")
 }
 
+/// What is left out here, and said in other words by `tools/ipc-files`.
+static REWRITABLE: [&[u8]; 5] = [b":derived", b":length", b"total-time", b"forall", b"when"];
+
+/// Whether a word that is none here is a name or a number in other planners' files: it has `#` or `.`, or begins with a digit or
+/// an underscore.
+fn is_name_elsewhere(word: &[u8]) -> bool {
+    let is_number_first = word
+        .first()
+        .is_some_and(|byte| byte.is_ascii_digit() || *byte == b'_');
+    is_number_first || word.contains(&b'#') || word.contains(&b'.')
+}
+
+/// Whether the word is a keyword, and all of these are like it.
+fn are_near(word: &[u8], wanted: &[Word<'_>]) -> bool {
+    word.starts_with(b":") && wanted.iter().all(|other| is_near(word, other.text()))
+}
+
 /// Adds the words that may stand in the place of this one. Keywords that are like it are told as a question.
 fn add_wanted(
     alloc: Global,
@@ -95,7 +133,7 @@ fn add_wanted(
     wanted: &[Word<'_>],
     out: &mut String,
 ) -> Result<(), AllocError> {
-    let are_near = word.starts_with(b":") && wanted.iter().all(|other| is_near(word, other.text()));
+    let are_near = are_near(word, wanted);
     out.push_str(if are_near {
         "did you mean "
     } else {
