@@ -63,7 +63,7 @@ named_in domain problem plan PlanFile = plan
 -- the lines begin with that of this fault: its file, the line and the column of the first byte of its span, its number and name
 abbrev pub IsHeading : NamedText → Code → Span → (lines : List ℕ) → Type 0
 IsHeading named code span lines =
-    (place : Place) × IsPlace named.text.now span.start place × BeginsWith lines (heading named.name.now place code)
+    (place : LineColumn) × IsPlace named.text.now span.start place × BeginsWith lines (heading named.name.now place code)
 
 -- of a fault the first line has its place
 abbrev pub headed_as : (domain problem : NamedText) → (plan : Option NamedText) → (lines : List ℕ) → Subject → Type 0
@@ -80,7 +80,7 @@ IsHeaded domain problem plan e = headed_as domain problem plan (string_bytes e.t
 -- the same of texts that stand together
 abbrev pub headed_in : NamedTexts → (lines : List ℕ) → Subject → Type 0
 headed_in texts lines (Fault file code span) =
-    (place : Place) × IsPlace (text_of texts file) span.start place
+    (place : LineColumn) × IsPlace (text_of texts file) span.start place
     × BeginsWith lines (heading (name_in texts file) place code)
 headed_in texts lines (Plan verdict) = Unit {0}
 headed_in texts lines (Task grounded) = Unit {0}
