@@ -90,4 +90,4 @@ pub returns-clause-well_typed : goal.returns-clause-well_typed
 returns-clause-well_typed c = (made (goal.at.returns-clause-well_typed c).After-is_some).well_typed
 
 pub returns-clause-task : goal.returns-clause-task
-returns-clause-task c = (made (goal.at.returns-clause-task c).After-is_some).same
+returns-clause-task c = c.from_parts.ensures ∙ (made (goal.at.returns-clause-task c).After-is_some).same
