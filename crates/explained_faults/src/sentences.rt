@@ -53,7 +53,7 @@ impl FaultExplanation<'_> {
                 .iter()
                 .any(|form| word.eq_ignore_ascii_case(form)),
             Code::MissingSection => match &self.help {
-                Help::Missing(names) => names.iter().all(|name| *name == b":parameters"),
+                Help::Missing(names) => names.iter().all(|name| *name == b":parameters".as_slice()),
                 _ => false,
             },
             Code::Duplicate => matches!(self.help, Help::BuiltIn),
