@@ -16,7 +16,7 @@ pub returns-in-Version-clause-taken : goal.returns-in-Version-clause-taken
 returns-in-Version-clause-taken c =
     let task = task_of c.args.task.now in
     let header = c.args.header.now in
-    let after : Header = record { version = c.in-Version.version; claim = header.claim; atoms = header.atoms; potential = header.bounds.values; dead_ends = header.bounds.dead_ends } in
+    let after : Header = record { version = c.in-Version.version; claim = header.claim; atoms = header.atoms; bounds = header.bounds } in
     subst (λ line. (before : List TextLine) → BeginCertificate (before ++ text_line_of line ∷ []) → HasTaken task before header → IsTaken task before (text_line_of line) after None)
     (sym c.in-Version.is) (λ before begun told. (told_version task before (heading_of header) told (version_of c.in-Version.version) begun, refl))
 
@@ -24,7 +24,7 @@ pub returns-in-Claim-clause-taken : goal.returns-in-Claim-clause-taken
 returns-in-Claim-clause-taken c =
     let task = task_of c.args.task.now in
     let header = c.args.header.now in
-    let after : Header = record { version = header.version; claim = c.in-Claim.claim; atoms = header.atoms; potential = header.bounds.values; dead_ends = header.bounds.dead_ends } in
+    let after : Header = record { version = header.version; claim = c.in-Claim.claim; atoms = header.atoms; bounds = header.bounds } in
     subst (λ line. (before : List TextLine) → BeginCertificate (before ++ text_line_of line ∷ []) → HasTaken task before header → IsTaken task before (text_line_of line) after None)
     (sym c.in-Claim.is) (λ before begun told. (told_claim task before (heading_of header) told (claim_of c.in-Claim.claim) begun, refl))
 
@@ -37,8 +37,10 @@ returns-in-Constants-clause-taken c =
       version = header.version;
       claim = header.claim;
       atoms = header.atoms;
-      potential = record { constant = value; weights = header.bounds.values.weights };
-      dead_ends = record { constant = dead_end; weights = header.bounds.dead_ends.weights };
+      bounds = record {
+        values = record { constant = value; weights = header.bounds.values.weights };
+        dead_ends = record { constant = dead_end; weights = header.bounds.dead_ends.weights };
+      };
     } in
     let value_is = to_z-of_z w64 constants.of_value (search rules) in
     let dead_end_is = to_z-of_z w64 c.dead_end_weight-header.result (search rules) ∙ c.dead_end_weight-header.ensures in

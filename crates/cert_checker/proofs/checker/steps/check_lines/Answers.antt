@@ -34,7 +34,7 @@ loop-place-preserved c = record {
 pub returns-clause-right : goal.returns-clause-right
 returns-clause-right c = λ k line at.
     let cert = certificate_at c.args.listing.now in
-    c.loop-place.invariant.closed k line (omega (arith, c.loop-place-test.false, lines_within (task_at c.args.listing.now) cert k line at, as_many_marks cert c.marks-place-end.result.now c.marks-place-end.ensures)) at
+    c.loop-place.invariant.closed k line (omega (arith, c.loop-place-test.false, lines_within (task_at c.args.listing.now) cert k line at, as_many_marks cert c.marks-place-end.result.now c.marks-place-end.ensures.marks)) at
 
 pub returns-in_err-check_line-clause-first : goal.returns-in_err-check_line-clause-first
 returns-in_err-check_line-clause-first c =
