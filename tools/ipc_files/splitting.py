@@ -1,0 +1,212 @@
+"""Actions with more parameters than the language has variables: each is written as steps between which no other action is applicable.
+
+The steps check the parts of the precondition one after another, and then delete, and then add, so that each condition is read in the
+state before, and adding comes after deleting, as in one action. What one step chooses for a parameter is kept by an atom, and the
+later ones that need it take it from there. So a run of the steps to their end is one instance of the action, and a choice that
+cannot be brought to an end leads nowhere, since the goal wants that no action is open."""
+
+from __future__ import annotations
+
+from dataclasses import dataclass, field
+
+from ipc_files.constants import is_atom
+from ipc_files.costs import increases
+from ipc_files.files import Task, conjuncts, parameters_of, value_of
+from ipc_files.names import Renaming
+from ipc_files.told import Refusal
+from ipc_files.trees import Entry, Group, Node, Word, entries_of, listed, parts_of, type_of, words_in
+
+# How many variables a step has where its parts allow it. The program keeps an instance for each choice of objects that nothing
+# static rules out, so that few are better than as many as the language has.
+FEW = 3
+
+
+@dataclass
+class Piece:
+    """A part of an action that one step does: it chooses a parameter, checks, pays, deletes or adds."""
+
+    kind: str
+    variables: list[str]
+    # How many variables its quantifiers have in scope at most.
+    inner: int = 0
+    node: Group | None = None
+
+
+@dataclass
+class Step:
+    """What stands in one of the actions that are written."""
+
+    name: str
+    variables: list[str] = field(default_factory=list)
+    pieces: list[Piece] = field(default_factory=list)
+    inner: int = 0
+
+    def takes(self, piece: Piece, most: int) -> bool:
+        """Whether a piece may stand in this step: it has so many variables then, or no more than before."""
+        count = len({*self.variables, *piece.variables}) + max(self.inner, piece.inner)
+        return count <= max(most, len(self.variables) + self.inner)
+
+    def add(self, piece: Piece) -> None:
+        self.variables += [it for it in piece.variables if it not in self.variables]
+        self.pieces.append(piece)
+        self.inner = max(self.inner, piece.inner)
+
+
+def split(task: Task, most: int) -> None:
+    """Writes each action with more variables in scope than this as steps."""
+    long = [it for it in task.domain.all(":action") if len(parameters_of(it)) + inner_of(it) > most]
+    if not long:
+        return
+    splitting = Splitting(task, most)
+    if not task.has_metric:
+        splitting.pay_each()
+    splitting.lock([it.parts[1] for it in long])
+    for it in [*task.domain.all(":action")]:
+        if it.parts[1] in {one.parts[1] for one in long}:
+            task.domain.replace(it, *splitting.steps(it))
+    task.domain.put(":predicates", [*task.domain.find(":predicates").parts[1:], *splitting.predicates])
+
+
+def inner_of(node: Node) -> int:
+    """How many variables the quantifiers of a tree have in scope at most."""
+    if isinstance(node, Word):
+        return 0
+    own = len(entries_of(node.parts[1].parts)) if node.head in ("exists", "forall") and len(node.parts) == 3 else 0
+    return own + max((inner_of(it) for it in node.parts), default=0)
+
+
+class Splitting:
+    """The steps of a task's long actions, and the predicates that hold them together."""
+
+    def __init__(self, task: Task, most: int):
+        self.task, self.most = task, most
+        self.renaming = Renaming(task)
+        self.renaming.taken |= {it.low for file in task.files for section, _ in file.sections for it in words_in(section)}
+        self.ready = self.renaming.new("no-action-is-open", "predicate")
+        self.predicates: list[Group] = []
+
+    def pay_each(self) -> None:
+        """Has each action cost 1 by its words, as without a metric it does."""
+        domain, problem = self.task.domain, self.task.problem
+        for it in domain.all(":action"):
+            paid = increases(value_of(it, ":effect") or Group([], it.at))
+            if any(isinstance(one.parts[2], Group) for one in paid):
+                raise Refusal(it.at, f"`{it.parts[1].shown}` costs 1, as there is no metric, and wants the value of a function; an action "
+                                     f"with more than {self.most} variables cannot be written as steps beside it")
+            one = listed(it.at, "increase", listed(it.at, "total-cost"), "1")
+            items = [item for item in self.items(it) if item.head != "increase"]
+            domain.replace(it, with_part(it, ":effect", listed(it.at, "and", *items, one)))
+        if not any(it.head == "total-cost" for it in (domain.find(":functions") or Group([], domain.end)).parts if isinstance(it, Group)):
+            before = domain.find(":functions")
+            domain.put(":functions", [*(before.parts[1:] if before else ()), listed(domain.end, "total-cost")])
+        self.task.tell("split", problem.end, "each action costs 1, and each further step of one nothing, which a metric says now")
+        problem.put(":metric", [Word("minimize", problem.end), listed(problem.end, "total-cost")])
+
+    def items(self, action: Group) -> list[Group]:
+        """The parts of an action's effect."""
+        return conjuncts(value_of(action, ":effect") or Group([], action.at))
+
+    def lock(self, long: list[Word]) -> None:
+        """Has the other actions and the goal want that no action is open."""
+        domain, problem = self.task.domain, self.task.problem
+        for it in domain.all(":action"):
+            if it.parts[1] not in long:
+                old = value_of(it, ":precondition")
+                both = [listed(it.at, self.ready), *([old] if old and old.parts else [])]
+                domain.replace(it, with_part(it, ":precondition", listed(it.at, "and", *both)))
+                self.task.tell("split", it.at, f"`{it.parts[1].shown}` is applicable only where no step of another action is to follow")
+        goal, init = problem.find(":goal"), problem.find(":init")
+        problem.put(":goal", [listed(goal.at, "and", listed(goal.at, self.ready), goal.parts[1])])
+        problem.put(":init", [*init.parts[1:], listed(init.at, self.ready)])
+        self.task.tell("split", init.at, f"`({self.ready})` is true at the start")
+        self.task.tell("split", goal.at, f"`({self.ready})` is wanted at the end")
+        self.predicates.append(listed(domain.end, self.ready))
+
+    def pieces(self, action: Group) -> list[Piece]:
+        """What an action does, in an order in which it may be done."""
+        scope = [it.name.low for it in parameters_of(action)]
+        waiting = [self.piece("check", it, scope) for it in conjuncts(value_of(action, ":precondition") or Group([], action.at))]
+        kinds = {"delete": [], "add": []}
+        for it in self.items(action):
+            if it.head == "increase":
+                waiting.append(self.piece("pay", it, scope))
+            elif it.head in ("when", "forall"):
+                raise Refusal(it.at, f"`{action.parts[1].shown}` has more than {self.most} variables in scope, and a `{it.head}` among its "
+                                     "effects: only actions with plain effects are written as steps")
+            else:
+                kinds["delete" if it.head == "not" else "add"].append(self.piece("delete" if it.head == "not" else "add", it, scope))
+        found, chosen = [], set()
+        for name in [None, *scope]:
+            if name:
+                found.append(Piece("choose", [name]))
+                chosen.add(name)
+            now = [it for it in waiting if chosen.issuperset(it.variables)]
+            waiting = [it for it in waiting if not chosen.issuperset(it.variables)]
+            found += now
+        return [*found, *kinds["delete"], *kinds["add"]]
+
+    def piece(self, kind: str, node: Group, scope: list[str]) -> Piece:
+        there = {it.low for it in words_in(node)}
+        made = Piece(kind, [it for it in scope if it in there], inner_of(node), node)
+        if len(made.variables) + made.inner > self.most:
+            raise Refusal(node.at, f"this part has {len(made.variables) + made.inner} variables in scope, and the language has {self.most} at most")
+        return made
+
+    def steps(self, action: Group) -> list[Group]:
+        """The actions that are written in the place of one."""
+        name, parameters = action.parts[1], {it.name.low: it for it in parameters_of(action)}
+        found: list[Step] = []
+        for it in self.pieces(action):
+            if not found or not found[-1].takes(it, min(FEW, self.most)):
+                found.append(Step(self.renaming.new(f"{name.low}-step-{len(found) + 1}", "action")))
+            found[-1].add(it)
+        self.task.steps[name.low] = ([*parameters], [(it.name, it.variables) for it in found])
+        told = f"{len(found)} steps, `{found[0].name}` to `{found[-1].name}`"
+        self.task.tell("split", action.at, f"`{name.shown}` has more than {self.most} variables in scope, and is written as {told}")
+        return self.written(action, found, parameters)
+
+    def written(self, action: Group, steps: list[Step], parameters: dict[str, Entry]) -> list[Group]:
+        at, name = action.at, action.parts[1].low
+        kept = {}
+        for variable, it in parameters.items():
+            if sum(variable in step.variables for step in steps) > 1:
+                kept[variable] = self.renaming.new(f"{name}-has-{variable[1:]}", "predicate")
+                self.predicates.append(listed(at, kept[variable], "?o", "-", type_of(it)))
+        marks = [self.ready]
+        for index in range(1, len(steps)):
+            marks.append(self.renaming.new(f"{name}-goes-on-{index}", "predicate"))
+            self.predicates.append(listed(at, marks[-1]))
+        marks.append(self.ready)
+        made = []
+        for index, step in enumerate(steps):
+            wanted, effects = [listed(at, marks[index])], []
+            if len(steps) > 1:
+                effects = [listed(at, "not", listed(at, marks[index])), listed(at, marks[index + 1])]
+            for variable in step.variables:
+                if variable in kept:
+                    self.keep(variable, listed(at, kept[variable], variable), index, steps, wanted, effects)
+            wanted += [it.node for it in step.pieces if it.kind == "check"]
+            effects += [it.node for it in step.pieces if it.kind in ("pay", "delete", "add")]
+            variables = listed(at, *parts_of([parameters[it] for it in step.variables]))
+            made.append(listed(at, ":action", step.name, ":parameters", variables, ":precondition", listed(at, "and", *wanted), ":effect",
+                               listed(at, "and", *effects)))
+        return made
+
+    def keep(self, variable: str, atom: Group, index: int, steps: list[Step], wanted: list, effects: list) -> None:
+        """Keeps what a parameter is chosen to be from the first step that has it to the last one."""
+        having = [number for number, it in enumerate(steps) if variable in it.variables]
+        if index > having[0]:
+            wanted.append(atom)
+        if index == having[0]:
+            effects.append(atom)
+        elif index == having[-1]:
+            effects.append(listed(atom.at, "not", atom))
+
+
+def with_part(action: Group, keyword: str, value: Group) -> Group:
+    """An action with this value behind a keyword, which it may lack."""
+    parts = [*action.parts]
+    for index in range(2, len(parts), 2):
+        if parts[index].low == keyword:
+            return action.with_parts([*parts[:index + 1], value, *parts[index + 2:]])
+    return action.with_parts([*parts, Word(keyword, action.at), value])
