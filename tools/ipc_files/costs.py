@@ -54,8 +54,7 @@ def numbers_of(task: Task) -> list[Word]:
 
 def write(task: Task, factor: int) -> None:
     """Writes all numbers multiplied by one."""
-    for it in task.domain.all(":action"):
-        task.domain.replace(it, with_value(it, ":effect", lambda effect: in_effect(effect, factor)))
+    task.domain.change(":action", lambda it: [with_value(it, ":effect", lambda effect: in_effect(effect, factor))])
     init = task.problem.find(":init")
     facts = [it.with_parts([*it.parts[:2], times(it.parts[2], factor)]) if it.head == "=" else it for it in init.parts[1:]]
     task.problem.put(":init", facts)

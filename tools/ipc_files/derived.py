@@ -28,7 +28,7 @@ def write_out(task: Task) -> None:
     task.each_condition(writing.condition)
     for it in rules:
         task.tell("derived", it.at, f"the rule of `{it.parts[1].head}` is dropped, as it is written out")
-        task.domain.replace(it)
+    task.domain.drop(":derived")
     task.domain.put(":predicates", [it for it in task.domain.find(":predicates").parts[1:] if it.head not in writing.rules])
 
 

@@ -5,7 +5,7 @@ All conditions of an effect are read in the state before, so that `(when c (when
 
 from __future__ import annotations
 
-from ipc_files.files import Task, conjuncts, value_of, with_value
+from ipc_files.files import Task, conjuncts, with_value
 from ipc_files.scopes import Fresh, apart
 from ipc_files.trees import Group, entries_of, listed, words_in
 
@@ -13,10 +13,7 @@ from ipc_files.trees import Group, entries_of, listed, words_in
 def move_out(task: Task) -> None:
     """Writes each effect with literals alone in what a `when` adds or deletes, and each cost in the outermost list."""
     moving = Moving(Fresh(task), task)
-    for it in task.domain.all(":action"):
-        effect = value_of(it, ":effect")
-        if effect and effect.parts:
-            task.domain.replace(it, with_value(it, ":effect", lambda old: moving.whole(old)))
+    task.domain.change(":action", lambda it: [with_value(it, ":effect", moving.whole)])
 
 
 def is_literals(effect: Group) -> bool:
@@ -34,7 +31,7 @@ class Moving:
     def whole(self, effect: Group) -> Group:
         """An action's whole effect."""
         if effect.head != "and":
-            return self.effect(effect)
+            return self.effect(effect) if effect.parts else effect
         parts = []
         for it in effect.parts[1:]:
             if it.head == "and" and any(word.low == "increase" for word in words_in(it)):

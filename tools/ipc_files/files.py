@@ -2,10 +2,13 @@
 
 from __future__ import annotations
 
-from typing import Iterator
+from typing import Callable, Dict, Tuple
 
 from ipc_files.told import Change
 from ipc_files.trees import Entry, Group, Node, Span, Text, Word, entries_of, listed, parts_of
+
+# The types of each variable in scope.
+Scope = Dict[str, Tuple[str, ...]]
 
 
 class File:
@@ -32,25 +35,25 @@ class File:
         """The section of this keyword, of which a file has one at most."""
         return next(iter(self.all(keyword)), None)
 
-    def replace(self, old: Group, *new: Group) -> None:
-        """Puts sections into the place of one; the first keeps its layout where it is the same."""
+    def change(self, keyword: str, change: Callable[[Group], list[Group]]) -> None:
+        """Puts into the place of each section of this keyword those that `change` makes of it, if any."""
         found: list[tuple[Group, Group | None]] = []
         for it, first in self.sections:
-            if it is not old:
-                found.append((it, first))
-            elif not new:
-                found.append((Group([], it.at), first))
-            else:
-                found += [(made, None if index else first) for index, made in enumerate(new)]
+            made = change(it) if it.head == keyword else [it]
+            # An empty list keeps the place of one that is dropped.
+            found += [(one, None if index else first) for index, one in enumerate(made or [Group([], it.at)])]
         self.sections = found
 
     def put(self, keyword: str, parts: list[Node]) -> None:
         """Writes the section of this keyword with these parts behind it, at the file's end where there is none."""
-        old = self.find(keyword)
-        if old:
-            self.replace(old, old.with_parts([old.parts[0], *parts]))
+        if self.find(keyword):
+            self.change(keyword, lambda old: [old.with_parts([old.parts[0], *parts])])
         else:
             self.sections.append((listed(self.end, keyword, *parts), None))
+
+    def drop(self, keyword: str) -> None:
+        """Drops all sections of this keyword."""
+        self.change(keyword, lambda old: [])
 
     def entries(self, keyword: str) -> list[Entry]:
         """The entries of a section that is a typed list."""
@@ -86,19 +89,15 @@ class Task:
         """Whether plans cost what their actions increase, and not 1 an action."""
         return self.problem.find(":metric") is not None
 
-    def each_condition(self, change) -> None:
+    def each_condition(self, change: Callable[[Group, Scope], Group]) -> None:
         """Changes each condition: `change` takes one with the variables in scope and gives another."""
-        for it in self.domain.all(":action"):
+        def of_action(it: Group) -> list[Group]:
             scope = scope_of(it)
             made = with_value(it, ":precondition", lambda old: change(old, scope) if old.parts else old)
-            made = with_value(made, ":effect", lambda old: in_conditions(old, scope, change))
-            self.domain.replace(it, made)
-        goal = self.problem.find(":goal")
-        self.problem.replace(goal, goal.with_parts([goal.parts[0], change(goal.parts[1], {})]))
+            return [with_value(made, ":effect", lambda old: in_conditions(old, scope, change))]
 
-
-# The types of each variable in scope.
-Scope = dict
+        self.domain.change(":action", of_action)
+        self.problem.put(":goal", [change(self.problem.find(":goal").parts[1], {})])
 
 
 def value_of(action: Group, keyword: str) -> Group | None:
@@ -109,7 +108,7 @@ def value_of(action: Group, keyword: str) -> Group | None:
     return None
 
 
-def with_value(action: Group, keyword: str, change) -> Group:
+def with_value(action: Group, keyword: str, change: Callable[[Group], Group]) -> Group:
     """An action with another value behind a keyword that it has: what `change` makes of the one that is there."""
     parts = [*action.parts]
     for index, it in enumerate(action.parts[:-1]):
@@ -133,7 +132,7 @@ def scope_with(scope: Scope, variables: list[Entry]) -> Scope:
     return {**scope, **{it.name.low: it.lows for it in variables}}
 
 
-def in_conditions(effect: Group, scope: Scope, change) -> Group:
+def in_conditions(effect: Group, scope: Scope, change: Callable[[Group, Scope], Group]) -> Group:
     """An effect with other conditions: what `change` makes of each, with the variables in scope there."""
     if effect.head == "and":
         return effect.with_parts([effect.parts[0], *(in_conditions(it, scope, change) for it in effect.parts[1:])])
@@ -151,12 +150,3 @@ def conjuncts(formula: Group) -> list[Group]:
     if formula.head == "and":
         return [it for part in formula.parts[1:] for it in conjuncts(part)]
     return [formula] if formula.parts else []
-
-
-def quantifiers_in(node: Node) -> Iterator[Group]:
-    """The lists in a formula or an effect that begin with `exists` or `forall`."""
-    if isinstance(node, Group):
-        if node.head in ("exists", "forall") and len(node.parts) == 3 and isinstance(node.parts[1], Group):
-            yield node
-        for it in node.parts:
-            yield from quantifiers_in(it)

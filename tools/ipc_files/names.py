@@ -61,8 +61,7 @@ def rename(task: Task) -> None:
     renaming = Renaming(task)
     for file, kind in ((task.domain, "domain"), (task.problem, "problem")):
         file.name = renaming.word(kind, file.name)
-        for it in [*file.sections]:
-            file.replace(it[0], SECTIONS[it[0].head](renaming, it[0]))
+        file.sections = [(SECTIONS[it.head](renaming, it), first) for it, first in file.sections]
 
 
 def typed(renaming: Renaming, kind: str, parts: list[Node]) -> list[Node]:

@@ -2,7 +2,7 @@
 
 from __future__ import annotations
 
-from ipc_files.files import Scope, Task, scope_of, scope_with, value_of, with_value
+from ipc_files.files import Scope, Task, scope_of, scope_with, with_value
 from ipc_files.trees import Entry, Group, Node, Word, entries_of, parts_of, words_in
 
 
@@ -27,19 +27,19 @@ def rename_shadowing(task: Task) -> None:
     def told(old: Entry, new: str) -> None:
         task.tell("shadow", old.name.at, f"`{old.name.shown}` is in scope, and the quantified one is called `{new}`")
 
-    for it in task.domain.all(":action"):
+    def of_action(it: Group) -> list[Group]:
         scope = scope_of(it)
         for keyword in (":precondition", ":effect"):
-            if value_of(it, keyword):
-                made = with_value(it, keyword, lambda old: apart(old, {}, scope, fresh, told))
-                task.domain.replace(it, made)
-                it = made
-    for it in task.domain.all(":derived"):
+            it = with_value(it, keyword, lambda old: apart(old, {}, scope, fresh, told))
+        return [it]
+
+    def of_rule(it: Group) -> list[Group]:
         head, body = it.parts[1:]
-        scope = scope_with({}, entries_of(head.parts[1:]))
-        task.domain.replace(it, it.with_parts([it.parts[0], head, apart(body, {}, scope, fresh, told)]))
-    goal = task.problem.find(":goal")
-    task.problem.replace(goal, goal.with_parts([goal.parts[0], apart(goal.parts[1], {}, {}, fresh, told)]))
+        return [it.with_parts([it.parts[0], head, apart(body, {}, scope_with({}, entries_of(head.parts[1:])), fresh, told)])]
+
+    task.domain.change(":action", of_action)
+    task.domain.change(":derived", of_rule)
+    task.problem.put(":goal", [apart(task.problem.find(":goal").parts[1], {}, {}, fresh, told)])
 
 
 def apart(node: Node, places: dict[str, Word], scope: Scope, fresh: Fresh, told=None) -> Node:

@@ -6,7 +6,7 @@ from __future__ import annotations
 from ipc_files.files import File, Task, value_of
 from ipc_files.grammar import is_total_time
 from ipc_files.told import Refusal
-from ipc_files.trees import listed
+from ipc_files.trees import Group, listed
 
 KEYS = {
     ":strips", ":typing", ":equality", ":negative-preconditions", ":disjunctive-preconditions", ":existential-preconditions",
@@ -36,7 +36,7 @@ def drop_length(task: Task) -> None:
     section = task.problem.find(":length")
     if section:
         task.tell("length", section.at, "`:length` is dropped: it is advice on the length of plans")
-        task.problem.replace(section)
+        task.problem.drop(":length")
 
 
 def drop_total_time(task: Task) -> None:
@@ -44,16 +44,19 @@ def drop_total_time(task: Task) -> None:
     section = task.problem.find(":metric")
     if section and is_total_time(section.parts[2]):
         task.tell("metric", section.at, "`total-time` is dropped: no action has a duration, so that each costs 1")
-        task.problem.replace(section)
+        task.problem.drop(":metric")
 
 
 def add_parameters(task: Task) -> None:
     """Writes `:parameters ()` where they are left out."""
-    for it in task.domain.all(":action"):
-        if value_of(it, ":parameters") is None:
-            added = listed(it.parts[1].at, ":parameters", listed(it.parts[1].at))
-            task.tell("parameters", it.at, f"`{it.parts[1].shown}` gets `:parameters ()`")
-            task.domain.replace(it, it.with_parts([*it.parts[:2], *added.parts, *it.parts[2:]]))
+    def added(it: Group) -> list[Group]:
+        if value_of(it, ":parameters") is not None:
+            return [it]
+        task.tell("parameters", it.at, f"`{it.parts[1].shown}` gets `:parameters ()`")
+        none = listed(it.parts[1].at, ":parameters", listed(it.parts[1].at))
+        return [it.with_parts([*it.parts[:2], *none.parts, *it.parts[2:]])]
+
+    task.domain.change(":action", added)
 
 
 def drop_negative_facts(task: Task) -> None:

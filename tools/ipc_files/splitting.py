@@ -9,8 +9,6 @@ from __future__ import annotations
 
 from dataclasses import dataclass, field
 
-from ipc_files.constants import is_atom
-from ipc_files.costs import increases
 from ipc_files.files import Task, conjuncts, parameters_of, value_of
 from ipc_files.names import Renaming
 from ipc_files.told import Refusal
@@ -60,10 +58,9 @@ def split(task: Task, most: int) -> None:
     splitting = Splitting(task, most)
     if not task.has_metric:
         splitting.pay_each()
-    splitting.lock([it.parts[1] for it in long])
-    for it in [*task.domain.all(":action")]:
-        if it.parts[1] in {one.parts[1] for one in long}:
-            task.domain.replace(it, *splitting.steps(it))
+    names = {it.parts[1] for it in long}
+    splitting.lock(names)
+    task.domain.change(":action", lambda it: splitting.steps(it) if it.parts[1] in names else [it])
     task.domain.put(":predicates", [*task.domain.find(":predicates").parts[1:], *splitting.predicates])
 
 
@@ -88,39 +85,45 @@ class Splitting:
     def pay_each(self) -> None:
         """Has each action cost 1 by its words, as without a metric it does."""
         domain, problem = self.task.domain, self.task.problem
-        for it in domain.all(":action"):
-            paid = increases(value_of(it, ":effect") or Group([], it.at))
-            if any(isinstance(one.parts[2], Group) for one in paid):
-                raise Refusal(it.at, f"`{it.parts[1].shown}` costs 1, as there is no metric, and wants the value of a function; an action "
-                                     f"with more than {self.most} variables cannot be written as steps beside it")
-            one = listed(it.at, "increase", listed(it.at, "total-cost"), "1")
-            items = [item for item in self.items(it) if item.head != "increase"]
-            domain.replace(it, with_part(it, ":effect", listed(it.at, "and", *items, one)))
-        if not any(it.head == "total-cost" for it in (domain.find(":functions") or Group([], domain.end)).parts if isinstance(it, Group)):
-            before = domain.find(":functions")
-            domain.put(":functions", [*(before.parts[1:] if before else ()), listed(domain.end, "total-cost")])
+        domain.change(":action", lambda it: [self.paid(it)])
+        functions = domain.find(":functions")
+        declared = functions.parts[1:] if functions else []
+        if not any(it.head == "total-cost" for it in declared if isinstance(it, Group)):
+            domain.put(":functions", [*declared, listed(domain.end, "total-cost")])
         self.task.tell("split", problem.end, "each action costs 1, and each further step of one nothing, which a metric says now")
         problem.put(":metric", [Word("minimize", problem.end), listed(problem.end, "total-cost")])
+
+    def paid(self, action: Group) -> Group:
+        """An action that costs 1 by its words."""
+        items = self.items(action)
+        if any(it.head == "increase" and isinstance(it.parts[2], Group) for it in items):
+            raise Refusal(action.at, f"`{action.parts[1].shown}` costs 1, as there is no metric, and wants the value of a function; an "
+                                     f"action with more than {self.most} variables cannot be written as steps beside it")
+        one = listed(action.at, "increase", listed(action.at, "total-cost"), "1")
+        kept = [it for it in items if it.head != "increase"]
+        return with_part(action, ":effect", listed(action.at, "and", *kept, one))
 
     def items(self, action: Group) -> list[Group]:
         """The parts of an action's effect."""
         return conjuncts(value_of(action, ":effect") or Group([], action.at))
 
-    def lock(self, long: list[Word]) -> None:
-        """Has the other actions and the goal want that no action is open."""
+    def lock(self, names: set[Word]) -> None:
+        """Has the actions but those of these names, and the goal, want that no action is open."""
         domain, problem = self.task.domain, self.task.problem
-        for it in domain.all(":action"):
-            if it.parts[1] not in long:
-                old = value_of(it, ":precondition")
-                both = [listed(it.at, self.ready), *([old] if old and old.parts else [])]
-                domain.replace(it, with_part(it, ":precondition", listed(it.at, "and", *both)))
-                self.task.tell("split", it.at, f"`{it.parts[1].shown}` is applicable only where no step of another action is to follow")
+        domain.change(":action", lambda it: [it if it.parts[1] in names else self.locked(it)])
         goal, init = problem.find(":goal"), problem.find(":init")
         problem.put(":goal", [listed(goal.at, "and", listed(goal.at, self.ready), goal.parts[1])])
         problem.put(":init", [*init.parts[1:], listed(init.at, self.ready)])
         self.task.tell("split", init.at, f"`({self.ready})` is true at the start")
         self.task.tell("split", goal.at, f"`({self.ready})` is wanted at the end")
         self.predicates.append(listed(domain.end, self.ready))
+
+    def locked(self, action: Group) -> Group:
+        """An action that wants that no other one is open."""
+        self.task.tell("split", action.at, f"`{action.parts[1].shown}` is applicable only where no step of another action is to follow")
+        old = value_of(action, ":precondition")
+        both = [listed(action.at, self.ready), *([old] if old and old.parts else [])]
+        return with_part(action, ":precondition", listed(action.at, "and", *both))
 
     def pieces(self, action: Group) -> list[Piece]:
         """What an action does, in an order in which it may be done."""

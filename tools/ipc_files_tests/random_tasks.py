@@ -25,8 +25,8 @@ class Maker:
         self.types = {f"o{index}": self.random.choice(("t0", "t1", "t2")) for index in range(self.random.choice((2, 3, 3, 4)))}
         self.constants = [it for it in self.types if self.random.random() < 0.3]
         self.implied = [it for it in self.types if "constant" in self.traits and it not in self.constants and self.random.random() < 0.4]
-        kinds = ("t0", "t1", "t2", "object", "(either t1 t2)")
-        self.predicates = {f"p{index}": [self.random.choice(kinds) for _ in range(self.random.choice((0, 1, 1, 2)))] for index in range(4)}
+        kinds = ("t0", "t1", "t2", "object", "object", "(either t1 t2)")
+        self.predicates = {f"p{index}": [self.random.choice(kinds) for _ in range(self.random.choice((0, 1, 1, 1, 2)))] for index in range(4)}
         self.derived: dict[str, list[str]] = {}
         self.counted = 0
 
@@ -51,12 +51,13 @@ class Maker:
         return variables * 3 + [it for it in objects if self.fits(self.types[it], wanted)]
 
     def atom(self, scope: dict[str, str], objects: list[str], known: dict[str, list[str]]) -> str:
-        """An atom of one of these predicates, or a truth where the terms do not suffice."""
-        name = self.random.choice([*known])
-        found = [self.terms(scope, objects, kind) for kind in known[name]]
-        if not all(found):
+        """An atom of one of these predicates; nothing, where the terms suffice for none."""
+        found = {name: [self.terms(scope, objects, kind) for kind in kinds] for name, kinds in known.items()}
+        names = [name for name, terms in found.items() if all(terms)]
+        if not names:
             return ""
-        return f"({' '.join([name, *map(self.random.choice, found)])})"
+        name = self.random.choice(names)
+        return f"({' '.join([name, *map(self.random.choice, found[name])])})"
 
     def variables(self, scope: dict[str, str], count: int) -> dict[str, str]:
         """Variables of a quantifier, which shadow others where that is a trait."""
@@ -108,17 +109,17 @@ class Maker:
 
     def action(self, name: str) -> str:
         objects = [*self.constants, *self.implied]
-        most = self.random.choice((3, 4)) if "split" in self.traits else self.random.choice((0, 0, 1, 1, 2))
-        scope = {it: self.random.choice(("t0", "t1", "t2", "object", "(either t1 t2)")) for it in ["?x", "?y", "?z", "?w"][:most]}
+        most = self.random.choice((3, 4)) if "split" in self.traits else self.random.choice((0, 1, 1, 2))
+        scope = {it: self.random.choice(("t0", "t1", "t2", "object", "object", "(either t1 t2)")) for it in ["?x", "?y", "?z", "?w"][:most]}
         parameters = "" if not scope and "parameters" in self.traits else f":parameters ({self.listed(scope)})"
-        conditions = [self.condition(scope, objects, self.random.choice((0, 1, 2, 2))) for _ in range(self.random.choice((1, 1, 2)))]
-        effects = [self.effect(scope, objects, self.random.choice((0, 1, 3))) for _ in range(self.random.choice((2, 2, 3)))]
+        conditions = [self.condition(scope, objects, self.random.choice((0, 1, 2, 2))) for _ in range(self.random.choice((1, 1, 1, 2)))]
+        effects = [self.effect(scope, objects, self.random.choice((0, 1, 3))) for _ in range(self.random.choice((2, 3, 3, 4)))]
         if self.has_cost and self.chance(0.8):
             terms = self.terms(scope, objects, "t0")
-            by_value = self.chance(0.3) and terms
+            by_value = self.chance(0.2) and terms
             increase = f"(increase (total-cost) {f'(f {self.random.choice(terms)})' if by_value else self.cost()})"
             effects.insert(0, f"(and {increase})" if "nested-effect" in self.traits and self.chance(0.3) else increase)
-        precondition = f":precondition (and {' '.join(conditions)})" if self.chance(0.8) else ""
+        precondition = f":precondition (and {' '.join(conditions)})" if self.chance(0.5) else ""
         return f"(:action {name} {parameters} {precondition} :effect (and {' '.join(effects)}))"
 
     def rules(self) -> list[str]:
@@ -150,7 +151,7 @@ class Maker:
 
     def start(self) -> list[str]:
         objects = [*self.types]
-        facts = [self.atom({}, objects, self.predicates) for _ in range(self.random.choice((2, 4, 6)))]
+        facts = [self.atom({}, objects, self.predicates) for _ in range(self.random.choice((1, 2, 3)))]
         if "negative-fact" in self.traits:
             more = (self.atom({}, objects, self.predicates) for _ in range(3))
             facts += [f"(not {it})" for it in more if it and it not in facts]
