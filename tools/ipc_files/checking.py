@@ -240,8 +240,8 @@ def check_limits(task: Task, most_variables: int) -> None:
     for it in task.domain.all(":action"):
         parameters = parameters_of(it)
         if len(parameters) > most_variables:
-            raise Refusal(parameters[most_variables].name.at, f"the action `{it.parts[1].shown}` has {len(parameters)} parameters, and more "
-                                                              f"than {most_variables} variables are in scope")
+            raise Refusal(parameters[most_variables].name.at,
+                          f"{len(parameters)} variables are in scope, and the language has {most_variables} at most")
         for keyword in (":precondition", ":effect"):
             if value_of(it, keyword):
                 check_depth(value_of(it, keyword), len(parameters), most_variables)

@@ -21,8 +21,9 @@ def arguments(usage: str) -> argparse.Namespace:
     words = argparse.ArgumentParser(prog="tools/ipc-files", description=usage, formatter_class=argparse.RawDescriptionHelpFormatter)
     words.add_argument("files", nargs="*", metavar="DOMAIN PROBLEM", help="the files of a competition")
     words.add_argument("--into", metavar="FOLDER", help="where domain.pddl, problem.pddl and changes.json are written")
-    words.add_argument("--back", nargs=2, metavar=("FOLDER", "PLAN"), help="print the plan in the names of the files that FOLDER was made of")
-    words.add_argument("--variables", type=int, default=MOST_VARIABLES, metavar="N", help="split actions with more than N (%(default)s)")
+    words.add_argument("--back", nargs=2, metavar=("FOLDER", "PLAN"), help="print the plan in the names of what FOLDER was made of")
+    words.add_argument("--variables", type=int, default=MOST_VARIABLES, choices=range(1, MOST_VARIABLES + 1), metavar="N",
+                       help="write actions with more than N variables in scope as steps (%(default)s)")
     given = words.parse_args()
     if bool(given.back) == bool(given.into) or len(given.files) != (0 if given.back else 2):
         words.error("DOMAIN PROBLEM --into FOLDER, or --back FOLDER PLAN")

@@ -39,8 +39,8 @@ def once(task: Task, entries: list[Entry], known: dict[str, Entry], above: dict)
         if is_below(it.lows[0], before.lows[0], above):
             known[it.name.low] = Entry(before.name, it.types)
         elif not is_below(before.lows[0], it.lows[0], above):
-            raise Refusal(it.name.at, f"`{it.name.shown}` is of the types `{before.lows[0]}` and `{it.lows[0]}`, which do not lie on "
-                                      "one line")
+            raise Refusal(it.name.at, f"`{it.name.shown}` is of the types `{before.lows[0]}` and `{it.lows[0]}`, which do not lie "
+                                      "on one line")
         task.tell("constant", it.name.at, f"`{it.name.shown}` is declared before, and is a `{known[it.name.low].lows[0]}`")
     return found
 

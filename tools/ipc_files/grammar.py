@@ -46,7 +46,7 @@ def check_file(tree: Group, kind: str) -> None:
     for it in tree.parts[2:]:
         want(isinstance(it, Group) and it.head.startswith(":"), it, "a section")
         if it.head not in sections:
-            raise Refusal(it.parts[0].at, f"`{it.head}` is no section of the language's {kind}s, and none that can be written otherwise")
+            raise Refusal(it.parts[0].at, f"`{it.head}` is no section of a {kind} of the language, and cannot be said otherwise")
         if it.head in seen and it.head not in REPEATABLE:
             raise Refusal(it.parts[0].at, f"a second section `{it.head}`")
         seen.add(it.head)
@@ -201,7 +201,7 @@ def check_effect(effect: Node, is_outermost: bool) -> None:
         check_effect(parts[1], False)
     elif head == "increase":
         if not is_outermost:
-            raise Refusal(effect.parts[0].at, "a cost under a condition, or for each object of a `forall`, cannot be said in the language")
+            raise Refusal(effect.parts[0].at, "the language has no costs under a `when` or a `forall`")
         check_increase(effect)
     else:
         check_atom(effect)

@@ -22,7 +22,7 @@ class Renaming:
     def __init__(self, task: Task):
         self.task = task
         self.taken = {word.low.lstrip("?") for file in task.files for word in words_in(file.tree)}
-        self.declared = {it.head for it in (task.domain.find(":predicates") or Group([], task.domain.end)).parts if isinstance(it, Group)}
+        self.declared = {it.head for it in task.domain.find(":predicates").parts if isinstance(it, Group)}
 
     def word(self, kind: str, word: Word) -> Word:
         """The word of this kind that stands in the place of one."""
@@ -142,9 +142,9 @@ def as_it_is(_: Renaming, section: Group) -> Group:
 
 
 SECTIONS = {
-    ":requirements": as_it_is, ":metric": as_it_is, ":length": as_it_is, ":types": names("type"), ":constants": names("object"),
-    ":objects": names("object"), ":predicates": declarations("predicate"), ":functions": declarations("function"), ":action": action,
-    ":derived": derived,
+    ":requirements": as_it_is, ":metric": as_it_is, ":length": as_it_is,
+    ":types": names("type"), ":constants": names("object"), ":objects": names("object"),
+    ":predicates": declarations("predicate"), ":functions": declarations("function"), ":action": action, ":derived": derived,
     ":domain": lambda renaming, section: section.with_parts([section.parts[0], renaming.word("domain", section.parts[1])]),
     ":init": lambda renaming, section: section.with_parts([section.parts[0], *(fact(renaming, it) for it in section.parts[1:])]),
     ":goal": lambda renaming, section: section.with_parts([section.parts[0], formula(renaming, section.parts[1])]),

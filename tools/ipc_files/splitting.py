@@ -1,8 +1,9 @@
-"""Actions with more parameters than the language has variables: each is written as steps between which no other action is applicable.
+"""Actions with more parameters than the language has variables: each is written as steps between which no other action is
+applicable.
 
-The steps check the parts of the precondition one after another, and then delete, and then add, so that each condition is read in the
-state before, and adding comes after deleting, as in one action. What one step chooses for a parameter is kept by an atom, and the
-later ones that need it take it from there. So a run of the steps to their end is one instance of the action, and a choice that
+The steps check the parts of the precondition one after another, and then delete, and then add, so that each condition is read in
+the state before, and adding comes after deleting, as in one action. What one step chooses for a parameter is kept by an atom, and
+the later ones that need it take it from there. So a run of the steps to their end is one instance of the action, and a choice that
 cannot be brought to an end leads nowhere, since the goal wants that no action is open."""
 
 from __future__ import annotations
@@ -49,18 +50,21 @@ class Step:
         self.pieces.append(piece)
         self.inner = max(self.inner, piece.inner)
 
+    def nodes(self, *kinds: str) -> list[Group]:
+        """What its pieces of these kinds are in the action."""
+        return [it.node for it in self.pieces if it.kind in kinds]
+
 
 def split(task: Task, most: int) -> None:
     """Writes each action with more variables in scope than this as steps."""
-    long = [it for it in task.domain.all(":action") if len(parameters_of(it)) + inner_of(it) > most]
+    long = {it.parts[1] for it in task.domain.all(":action") if len(parameters_of(it)) + inner_of(it) > most}
     if not long:
         return
     splitting = Splitting(task, most)
     if not task.has_metric:
         splitting.pay_each()
-    names = {it.parts[1] for it in long}
-    splitting.lock(names)
-    task.domain.change(":action", lambda it: splitting.steps(it) if it.parts[1] in names else [it])
+    splitting.lock(long)
+    task.domain.change(":action", lambda it: splitting.steps(it) if it.parts[1] in long else [it])
     task.domain.put(":predicates", [*task.domain.find(":predicates").parts[1:], *splitting.predicates])
 
 
@@ -70,6 +74,17 @@ def inner_of(node: Node) -> int:
         return 0
     own = len(entries_of(node.parts[1].parts)) if node.head in ("exists", "forall") and len(node.parts) == 3 else 0
     return own + max((inner_of(it) for it in node.parts), default=0)
+
+
+def pieces_before(pieces: list[Piece], scope: list[str]) -> list[Piece]:
+    """The choices of all parameters, and each of these pieces as soon as its variables are chosen."""
+    found, waiting = [it for it in pieces if not it.variables], [it for it in pieces if it.variables]
+    for index, name in enumerate(scope):
+        chosen = set(scope[:index + 1])
+        found.append(Piece("choose", [name]))
+        found += [it for it in waiting if chosen.issuperset(it.variables)]
+        waiting = [it for it in waiting if not chosen.issuperset(it.variables)]
+    return found
 
 
 class Splitting:
@@ -97,8 +112,8 @@ class Splitting:
         """An action that costs 1 by its words."""
         items = self.items(action)
         if any(it.head == "increase" and isinstance(it.parts[2], Group) for it in items):
-            raise Refusal(action.at, f"`{action.parts[1].shown}` costs 1, as there is no metric, and wants the value of a function; an "
-                                     f"action with more than {self.most} variables cannot be written as steps beside it")
+            raise Refusal(action.at, f"`{action.parts[1].shown}` wants the value of a function and costs 1, as there is no metric; no "
+                                     f"action with more than {self.most} variables can be written as steps beside it")
         one = listed(action.at, "increase", listed(action.at, "total-cost"), "1")
         kept = [it for it in items if it.head != "increase"]
         return with_part(action, ":effect", listed(action.at, "and", *kept, one))
@@ -120,7 +135,7 @@ class Splitting:
 
     def locked(self, action: Group) -> Group:
         """An action that wants that no other one is open."""
-        self.task.tell("split", action.at, f"`{action.parts[1].shown}` is applicable only where no step of another action is to follow")
+        self.task.tell("split", action.at, f"`{action.parts[1].shown}` is applicable only where no other action is open")
         old = value_of(action, ":precondition")
         both = [listed(action.at, self.ready), *([old] if old and old.parts else [])]
         return with_part(action, ":precondition", listed(action.at, "and", *both))
@@ -128,31 +143,23 @@ class Splitting:
     def pieces(self, action: Group) -> list[Piece]:
         """What an action does, in an order in which it may be done."""
         scope = [it.name.low for it in parameters_of(action)]
-        waiting = [self.piece("check", it, scope) for it in conjuncts(value_of(action, ":precondition") or Group([], action.at))]
-        kinds = {"delete": [], "add": []}
+        checks = conjuncts(value_of(action, ":precondition") or Group([], action.at))
+        found = {"check": [self.piece("check", it, scope) for it in checks], "pay": [], "delete": [], "add": []}
         for it in self.items(action):
-            if it.head == "increase":
-                waiting.append(self.piece("pay", it, scope))
-            elif it.head in ("when", "forall"):
-                raise Refusal(it.at, f"`{action.parts[1].shown}` has more than {self.most} variables in scope, and a `{it.head}` among its "
-                                     "effects: only actions with plain effects are written as steps")
-            else:
-                kinds["delete" if it.head == "not" else "add"].append(self.piece("delete" if it.head == "not" else "add", it, scope))
-        found, chosen = [], set()
-        for name in [None, *scope]:
-            if name:
-                found.append(Piece("choose", [name]))
-                chosen.add(name)
-            now = [it for it in waiting if chosen.issuperset(it.variables)]
-            waiting = [it for it in waiting if not chosen.issuperset(it.variables)]
-            found += now
-        return [*found, *kinds["delete"], *kinds["add"]]
+            if it.head in ("when", "forall"):
+                raise Refusal(it.at, f"`{action.parts[1].shown}` has more than {self.most} variables in scope, and a `{it.head}` "
+                                     "among its effects: only actions with plain effects are written as steps")
+            kind = {"increase": "pay", "not": "delete"}.get(it.head, "add")
+            found[kind].append(self.piece(kind, it, scope))
+        return [*pieces_before(found["check"] + found["pay"], scope), *found["delete"], *found["add"]]
 
     def piece(self, kind: str, node: Group, scope: list[str]) -> Piece:
+        """A part with its variables, if the language has as many."""
         there = {it.low for it in words_in(node)}
         made = Piece(kind, [it for it in scope if it in there], inner_of(node), node)
-        if len(made.variables) + made.inner > self.most:
-            raise Refusal(node.at, f"this part has {len(made.variables) + made.inner} variables in scope, and the language has {self.most} at most")
+        count = len(made.variables) + made.inner
+        if count > self.most:
+            raise Refusal(node.at, f"this part has {count} variables in scope, and the language has {self.most} at most")
         return made
 
     def steps(self, action: Group) -> list[Group]:
@@ -166,44 +173,45 @@ class Splitting:
         self.task.steps[name.low] = ([*parameters], [(it.name, it.variables) for it in found])
         told = f"{len(found)} steps, `{found[0].name}` to `{found[-1].name}`"
         self.task.tell("split", action.at, f"`{name.shown}` has more than {self.most} variables in scope, and is written as {told}")
-        return self.written(action, found, parameters)
+        kept, marks = self.kept(action, found, parameters), self.marks(action, len(found))
+        return [self.written(action, index, found, kept, marks, parameters) for index in range(len(found))]
 
-    def written(self, action: Group, steps: list[Step], parameters: dict[str, Entry]) -> list[Group]:
-        at, name = action.at, action.parts[1].low
-        kept = {}
+    def kept(self, action: Group, steps: list[Step], parameters: dict[str, Entry]) -> dict[str, str]:
+        """The predicates that keep what is chosen for the parameters that several steps have."""
+        found = {}
         for variable, it in parameters.items():
             if sum(variable in step.variables for step in steps) > 1:
-                kept[variable] = self.renaming.new(f"{name}-has-{variable[1:]}", "predicate")
-                self.predicates.append(listed(at, kept[variable], "?o", "-", type_of(it)))
-        marks = [self.ready]
-        for index in range(1, len(steps)):
-            marks.append(self.renaming.new(f"{name}-goes-on-{index}", "predicate"))
-            self.predicates.append(listed(at, marks[-1]))
-        marks.append(self.ready)
-        made = []
-        for index, step in enumerate(steps):
-            wanted, effects = [listed(at, marks[index])], []
-            if len(steps) > 1:
-                effects = [listed(at, "not", listed(at, marks[index])), listed(at, marks[index + 1])]
-            for variable in step.variables:
-                if variable in kept:
-                    self.keep(variable, listed(at, kept[variable], variable), index, steps, wanted, effects)
-            wanted += [it.node for it in step.pieces if it.kind == "check"]
-            effects += [it.node for it in step.pieces if it.kind in ("pay", "delete", "add")]
-            variables = listed(at, *parts_of([parameters[it] for it in step.variables]))
-            made.append(listed(at, ":action", step.name, ":parameters", variables, ":precondition", listed(at, "and", *wanted), ":effect",
-                               listed(at, "and", *effects)))
-        return made
+                found[variable] = self.renaming.new(f"{action.parts[1].low}-has-{variable[1:]}", "predicate")
+                self.predicates.append(listed(action.at, found[variable], "?o", "-", type_of(it)))
+        return found
 
-    def keep(self, variable: str, atom: Group, index: int, steps: list[Step], wanted: list, effects: list) -> None:
-        """Keeps what a parameter is chosen to be from the first step that has it to the last one."""
-        having = [number for number, it in enumerate(steps) if variable in it.variables]
-        if index > having[0]:
+    def marks(self, action: Group, count: int) -> list[str]:
+        """The predicates that are true before each of so many steps, and after the last one."""
+        between = [self.renaming.new(f"{action.parts[1].low}-goes-on-{index}", "predicate") for index in range(1, count)]
+        self.predicates += [listed(action.at, it) for it in between]
+        return [self.ready, *between, self.ready]
+
+    def written(self, action: Group, index: int, steps: list[Step], kept: dict[str, str], marks: list[str],
+                parameters: dict[str, Entry]) -> Group:
+        """One of the steps as an action."""
+        at, step = action.at, steps[index]
+        wanted, effects = [listed(at, marks[index])], []
+        if len(steps) > 1:
+            effects = [listed(at, "not", listed(at, marks[index])), listed(at, marks[index + 1])]
+        for variable in (it for it in step.variables if it in kept):
+            atom = listed(at, kept[variable], variable)
+            having = [number for number, it in enumerate(steps) if variable in it.variables]
+            if index == having[0]:
+                effects.append(atom)
+                continue
             wanted.append(atom)
-        if index == having[0]:
-            effects.append(atom)
-        elif index == having[-1]:
-            effects.append(listed(atom.at, "not", atom))
+            if index == having[-1]:
+                effects.append(listed(at, "not", atom))
+        wanted += step.nodes("check")
+        effects += step.nodes("pay", "delete", "add")
+        variables = listed(at, *parts_of([parameters[it] for it in step.variables]))
+        return listed(at, ":action", step.name, ":parameters", variables, ":precondition", listed(at, "and", *wanted),
+                      ":effect", listed(at, "and", *effects))
 
 
 def with_part(action: Group, keyword: str, value: Group) -> Group:

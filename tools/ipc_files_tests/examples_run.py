@@ -14,6 +14,8 @@ from reference import Task, read
 
 HERE = Path(__file__).parent
 TOOL = str(HERE.parent / "ipc-files")
+KINDS = ("byte-order-mark", "constant", "derived", "length", "metric", "name", "negative-fact", "nested-effect", "number",
+         "object-type", "parameters", "requirement", "scale", "shadow", "split", "type-again", "type-undeclared")
 # Tasks with more instances, or more states, are not gone through by the second reader, which validates their plans alone.
 MOST_INSTANCES, MOST_STATES = 5000, 2000
 
@@ -49,10 +51,6 @@ def try_examples(checks: Checks, program: str, room: Path, is_written: bool) -> 
             try_meaning(checks, folder, into, answer, back)
     missing = set(KINDS) - seen
     checks.check("each change has an example", not missing, missing)
-
-
-KINDS = ("byte-order-mark", "constant", "derived", "length", "metric", "name", "negative-fact", "nested-effect", "number", "object-type",
-         "parameters", "requirement", "scale", "shadow", "split", "type-again", "type-undeclared")
 
 
 def solved(program: str, into: Path) -> tuple[str, str]:
@@ -97,7 +95,8 @@ def try_files(checks: Checks, room: Path) -> None:
     status, _, errors = run([sys.executable, TOOL, "domain.pddl", "missing.pddl", "--into", "new"], folder)
     checks.check("a problem that is missing", status == 21 and not (folder / "new").exists(), errors)
     status, _, errors = run([sys.executable, TOOL, "problem.pddl", "domain.pddl", "--into", "new"], folder)
-    checks.check("a problem in the place of the domain", (status, errors) == (20, "problem.pddl:1:9: `(domain NAME)` is wanted here\n"), errors)
+    told = "problem.pddl:1:9: `(domain NAME)` is wanted here\n"
+    checks.check("a problem in the place of the domain", (status, errors) == (20, told), errors)
     status, _, errors = run([sys.executable, TOOL, "domain.pddl", "--into", "new"], folder)
     checks.check("words that it does not take", status == 2, errors)
 

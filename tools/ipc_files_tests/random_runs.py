@@ -23,7 +23,7 @@ from reference import Task, read
 # How many pairs of states, and states of a search, are looked at.
 MOST_PAIRS, MOST_STATES = 60, 200
 # What the tool refuses of random tasks: the rest of a part is too large to be split, or costs stand in the way.
-EXPECTED_REFUSALS = ("variables in scope", "variables are in scope", "cannot be written as steps beside it")
+EXPECTED_REFUSALS = ("variables in scope", "variables are in scope", "can be written as steps beside it")
 
 # So many of a hundred tasks have each change at least.
 LEAST = 5
@@ -74,7 +74,7 @@ class Runs:
             new_domain, new_problem, table = self.convert(domain, problem, 3 if "split" in maker.traits else MOST_VARIABLES)
         except Refusal as why:
             self.ends["refused"] += 1
-            if not str(why).endswith(EXPECTED_REFUSALS) and not any(it in str(why) for it in EXPECTED_REFUSALS):
+            if not any(it in str(why) for it in EXPECTED_REFUSALS):
                 self.faults.append(f"seed {seed}: refused: {why}")
             return
         self.kinds.update({it["kind"] for it in table["changes"]})

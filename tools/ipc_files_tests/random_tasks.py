@@ -4,12 +4,15 @@ from __future__ import annotations
 
 from random import Random
 
-TRAITS = ("byte-order-mark", "requirement", "length", "metric", "parameters", "object-type", "type-again", "type-undeclared", "constant",
-          "name", "number", "scale", "negative-fact", "shadow", "nested-effect", "derived", "split", "upper-case")
+TRAITS = ("byte-order-mark", "requirement", "length", "metric", "parameters", "object-type", "type-again", "type-undeclared",
+          "constant", "name", "number", "scale", "negative-fact", "shadow", "nested-effect", "derived", "split", "upper-case")
 
 # A name, and how it may be spelled.
-ODD = {"t0": "t#0", "t1": "1t", "t2": "_t.2", "u": "u.u", "o0": "0", "o1": "_o1", "o2": "o#2", "o3": "o.3", "p0": "2p", "p1": "p.1", "p2": "preference",
-       "p3": "p" + "x" * 300, "d0": "_d", "d1": "d@1", "a0": "a#0", "a1": "a_#0", "a2": "3", "f": "f/1", "?x": "?1", "?y": "?y.y", "?z": "?_z"}
+ODD = {"t0": "t#0", "t1": "1t", "t2": "_t.2", "u": "u.u", "o0": "0", "o1": "_o1", "o2": "o#2", "o3": "o.3", "p0": "2p",
+       "p1": "p.1", "p2": "preference", "p3": "p" + "x" * 300, "d0": "_d", "d1": "d@1", "a0": "a#0", "a1": "a_#0", "a2": "3",
+       "f": "f/1", "?x": "?1", "?y": "?y.y", "?z": "?_z"}
+# Types of variables, and of the arguments of predicates.
+KINDS = ("t0", "t1", "t2", "object", "object", "(either t1 t2)")
 KEYS = (":derived-predicates", ":domain-axioms", ":preferences", ":durative-actions", ":ucpop", ":expression-evaluation")
 
 
@@ -24,19 +27,24 @@ class Maker:
         self.above = {"t0": ("t0", "object"), "t1": ("t1", "t0", "object"), "t2": ("t2", "object"), "object": ("object",)}
         self.types = {f"o{index}": self.random.choice(("t0", "t1", "t2")) for index in range(self.random.choice((2, 3, 3, 4)))}
         self.constants = [it for it in self.types if self.random.random() < 0.3]
-        self.implied = [it for it in self.types if "constant" in self.traits and it not in self.constants and self.random.random() < 0.4]
-        kinds = ("t0", "t1", "t2", "object", "object", "(either t1 t2)")
-        self.predicates = {f"p{index}": [self.random.choice(kinds) for _ in range(self.random.choice((0, 1, 1, 1, 2)))] for index in range(4)}
+        others = [it for it in self.types if it not in self.constants]
+        self.implied = [it for it in others if "constant" in self.traits and self.random.random() < 0.4]
+        self.predicates = {f"p{index}": self.kinds(self.random.choice((0, 1, 1, 1, 2))) for index in range(4)}
         self.derived: dict[str, list[str]] = {}
         self.counted = 0
 
     def chance(self, part: float) -> bool:
         return self.random.random() < part
 
+    def kinds(self, count: int) -> list[str]:
+        """So many types."""
+        return [self.random.choice(KINDS) for _ in range(count)]
+
     def spelled(self, text: str) -> str:
         """The words of a text as the task spells them."""
         words = text.replace("(", " ( ").replace(")", " ) ").split()
-        made = (ODD[it] if it in self.odd else it.upper() if "upper-case" in self.traits and self.chance(0.3) else it for it in words)
+        is_upper = "upper-case" in self.traits
+        made = (ODD[it] if it in self.odd else it.upper() if is_upper and self.chance(0.3) else it for it in words)
         return " ".join(made).replace("( ", "(").replace(" )", ")")
 
     def fits(self, kind: str, wanted: str) -> bool:
@@ -66,13 +74,14 @@ class Maker:
             self.counted += 1
             names.append(f"?q{self.counted}")
         chosen = self.random.sample(names, count)
-        return {it: self.random.choice(("t0", "t1", "t2", "object", "(either t1 t2)")) for it in chosen}
+        return dict(zip(chosen, self.kinds(count)))
 
     def listed(self, variables: dict[str, str]) -> str:
         return " ".join(f"{it} - {kind}" for it, kind in variables.items())
 
     def condition(self, scope: dict[str, str], objects: list[str], depth: int) -> str:
-        kind = self.random.choice(("atom", "atom", "atom", "and", "or", "not", "imply", "exists", "forall", "=")) if depth else "atom"
+        kinds = ("atom", "atom", "atom", "and", "or", "not", "imply", "exists", "forall", "=") if depth else ("atom",)
+        kind = self.random.choice(kinds)
         part = lambda inner=scope: self.condition(inner, objects, depth - 1)
         if kind == "atom":
             known = {**self.predicates, **self.derived} if not self.derived or self.chance(0.4) else self.derived
@@ -90,7 +99,8 @@ class Maker:
         return f"({kind} ({self.listed(variables)}) {part({**scope, **variables})})"
 
     def effect(self, scope: dict[str, str], objects: list[str], depth: int) -> str:
-        kind = self.random.choice(("literal", "literal", "and", "when", "forall")) if depth and "split" not in self.traits else "literal"
+        is_plain = not depth or "split" in self.traits
+        kind = "literal" if is_plain else self.random.choice(("literal", "and", "when", "when", "forall"))
         if kind == "literal":
             atom = self.atom(scope, objects, self.predicates) or "(and)"
             return f"(not {atom})" if atom != "(and)" and self.chance(0.4) else atom
@@ -100,7 +110,7 @@ class Maker:
             variables = self.variables(scope, 1)
             return f"(forall ({self.listed(variables)}) {self.effect({**scope, **variables}, objects, depth - 1)})"
         inner = depth - 1 if "nested-effect" in self.traits else 0
-        return f"(when {self.condition(scope, objects, 1)} {self.effect(scope, objects, inner)})"
+        return f"(when {self.condition(scope, objects, self.random.choice((1, 2)))} {self.effect(scope, objects, inner)})"
 
     def cost(self) -> str:
         if "scale" in self.traits and self.chance(0.6):
@@ -110,9 +120,10 @@ class Maker:
     def action(self, name: str) -> str:
         objects = [*self.constants, *self.implied]
         most = self.random.choice((3, 4)) if "split" in self.traits else self.random.choice((0, 1, 1, 2))
-        scope = {it: self.random.choice(("t0", "t1", "t2", "object", "object", "(either t1 t2)")) for it in ["?x", "?y", "?z", "?w"][:most]}
+        scope = dict(zip(("?x", "?y", "?z", "?w")[:most], self.kinds(most)))
         parameters = "" if not scope and "parameters" in self.traits else f":parameters ({self.listed(scope)})"
-        conditions = [self.condition(scope, objects, self.random.choice((0, 1, 2, 2))) for _ in range(self.random.choice((1, 1, 1, 2)))]
+        count = self.random.choice((1, 1, 1, 2))
+        conditions = [self.condition(scope, objects, self.random.choice((0, 1, 2, 2))) for _ in range(count)]
         effects = [self.effect(scope, objects, self.random.choice((0, 1, 3))) for _ in range(self.random.choice((2, 3, 3, 4)))]
         if self.has_cost and self.chance(0.8):
             terms = self.terms(scope, objects, "t0")
@@ -124,14 +135,14 @@ class Maker:
 
     def rules(self) -> list[str]:
         """Rules of derived predicates, of which the second may depend on the first."""
-        found = []
+        found, objects = [], [*self.constants, *self.implied]
         for name in ("d0", "d1")[:self.random.choice((1, 2))]:
             kinds = [self.random.choice(("t0", "object", "(either t1 t2)")) for _ in range(self.random.choice((0, 1, 1, 2)))]
             for _ in range(self.random.choice((1, 1, 2))):
                 scope = {}
                 for variable, kind in zip(("?x", "?y"), kinds):
                     scope[variable] = kind if self.chance(0.6) else self.random.choice(("t0", "t1", "t2"))
-                found.append(f"(:derived ({name} {self.listed(scope)}) {self.condition(scope, [*self.constants, *self.implied], 2)})")
+                found.append(f"(:derived ({name} {self.listed(scope)}) {self.condition(scope, objects, 2)})")
             self.derived[name] = kinds
         return found
 
@@ -155,29 +166,42 @@ class Maker:
         if "negative-fact" in self.traits:
             more = (self.atom({}, objects, self.predicates) for _ in range(3))
             facts += [f"(not {it})" for it in more if it and it not in facts]
-        values = [f"(= (f {it}) {self.cost()})" for it in objects if self.fits(self.types[it], "t0") and self.chance(0.8)] if self.has_cost else []
-        zero = self.random.choice(("0.0", "0")) if "number" in self.traits else "0"
-        return [it for it in facts if it] + values + ([f"(= (total-cost) {zero})"] if self.has_cost else [])
+        if self.has_cost:
+            priced = [it for it in objects if self.fits(self.types[it], "t0") and self.chance(0.8)]
+            zero = self.random.choice(("0.0", "0")) if "number" in self.traits else "0"
+            facts += [*(f"(= (f {it}) {self.cost()})" for it in priced), f"(= (total-cost) {zero})"]
+        return [it for it in facts if it]
+
+    def domain(self) -> list[str]:
+        """The domain, a text for each section."""
+        typing = self.typing()
+        rules = self.rules() if "derived" in self.traits else []
+        actions = [self.action(f"a{index}") for index in range(self.random.choice((2, 2, 3)))]
+        declared = []
+        for name, kinds in [*self.predicates.items(), *self.derived.items()]:
+            declared.append(f"({name} {self.listed({f'?a{index}': kind for index, kind in enumerate(kinds)})})")
+        constants = " ".join(f"{it} - {self.types[it]}" for it in self.constants)
+        functions = "(:functions (total-cost) - number (f ?a - t0) - number)" if self.has_cost else ""
+        return ["(define (domain d)", self.keys(), f"(:types {typing})", f"(:constants {constants})" if constants else "",
+                f"(:predicates {' '.join(declared)})", functions, *rules, *actions, ")"]
+
+    def problem(self) -> list[str]:
+        """The problem, a text for each section."""
+        again = [it for it in self.constants if "constant" in self.traits and self.chance(0.6)]
+        listed = " ".join(f"{it} - {kind}" for it, kind in self.types.items() if it not in self.constants or it in again)
+        goals = (self.condition({}, [*self.types], 2) for _ in range(self.random.choice((1, 1, 2))))
+        metric = "(:metric minimize (total-cost))" if self.has_cost else ""
+        metric = "(:metric minimize (total-time))" if "metric" in self.traits else metric
+        length = "(:length (:serial 5) (:parallel 3))" if "length" in self.traits else ""
+        return ["(define (problem p)", "(:domain d)", self.keys(), f"(:objects {listed})", f"(:init {' '.join(self.start())})",
+                f"(:goal (and {' '.join(goals)}))", metric, length, ")"]
+
+    def keys(self) -> str:
+        return f"(:requirements :adl {self.random.choice(KEYS)})" if "requirement" in self.traits else ""
 
     def make(self) -> tuple[bytes, bytes]:
         """The texts of the domain and of the problem."""
         self.has_cost = self.chance(0.6) or bool({"scale", "number"} & self.traits)
-        typing = self.typing()
-        rules = self.rules() if "derived" in self.traits else []
-        actions = [self.action(f"a{index}") for index in range(self.random.choice((2, 2, 3)))]
-        declared = [f"({name} {' '.join(f'?a{index} - {kind}' for index, kind in enumerate(kinds))})" for name, kinds in
-                    [*self.predicates.items(), *self.derived.items()]]
-        constants = " ".join(f"{it} - {self.types[it]}" for it in self.constants)
-        keys = f"(:requirements :adl {self.random.choice(KEYS)})" if "requirement" in self.traits else ""
-        functions = "(:functions (total-cost) - number (f ?a - t0) - number)" if self.has_cost else ""
-        domain = ["(define (domain d)", keys, f"(:types {typing})", f"(:constants {constants})" if constants else "",
-                  f"(:predicates {' '.join(declared)})", functions, *rules, *actions, ")"]
-        again = [it for it in self.constants if "constant" in self.traits and self.chance(0.6)]
-        objects = [it for it in self.types if it not in self.constants or it in again]
-        listed = " ".join(f"{it} - {self.types[it]}" for it in objects)
-        metric = "(:metric minimize (total-time))" if "metric" in self.traits else "(:metric minimize (total-cost))" if self.has_cost else ""
-        length = "(:length (:serial 5) (:parallel 3))" if "length" in self.traits else ""
-        problem = ["(define (problem p)", "(:domain d)", keys, f"(:objects {listed})", f"(:init {' '.join(self.start())})",
-                   f"(:goal (and {' '.join(self.condition({}, [*self.types], 2) for _ in range(self.random.choice((1, 1, 2))))}))", metric, length, ")"]
         mark = b"\xef\xbb\xbf" if "byte-order-mark" in self.traits else b""
-        return tuple(mark + "\n".join(self.spelled(it) for it in file if it).encode() + b"\n" for file in (domain, problem))
+        files = (self.domain(), self.problem())
+        return tuple(mark + "\n".join(self.spelled(it) for it in file if it).encode() + b"\n" for file in files)

@@ -1,4 +1,4 @@
-"""A second reader of PDDL, for small tasks: straight from the rules of the language of the competitions, and with nothing of the tool.
+"""A second reader of PDDL, for small tasks: straight from the rules of the competitions' language, and with nothing of the tool.
 
 Types may have several parents and objects several types; derived predicates are least fixpoints, stratum by stratum; effects nest;
 numbers have fractions. Nothing is checked: it is for files that have a meaning."""
