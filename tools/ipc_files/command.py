@@ -46,7 +46,8 @@ def convert(domain: str, problem: str, folder: str, most_variables: int) -> None
         path = os.path.join(folder, name)
         for it in (domain, problem):
             if os.path.exists(path) and os.path.samefile(path, it):
-                sys.exit(f"ipc-files: {it} would be written over: name another folder")
+                print(f"ipc-files: {it} would be written over: name another folder", file=sys.stderr)
+                sys.exit(WORDS)
     for name, text in texts.items():
         with open(os.path.join(folder, name), "wb") as file:
             file.write(text)

@@ -13,6 +13,8 @@ PROBLEM_SECTIONS = (":domain", ":requirements", ":objects", ":init", ":goal", ":
 REPEATABLE = (":action", ":derived")
 PARTS = (":parameters", ":precondition", ":effect")
 CONNECTIVES = ("and", "or", "not", "imply", "exists", "forall", "when", "increase")
+# Of a word.
+MOST_BYTES = 255
 NUMBER = re.compile(r"[0-9]+\.?[0-9]*|\.[0-9]+")
 
 
@@ -27,7 +29,7 @@ def is_variable(node: Node) -> bool:
 
 def is_number(node: Node) -> bool:
     """Whether a word is a number, which may have a fraction in decimals."""
-    return isinstance(node, Word) and bool(NUMBER.fullmatch(node.text))
+    return isinstance(node, Word) and len(node.text) <= MOST_BYTES and bool(NUMBER.fullmatch(node.text))
 
 
 def want(holds: bool, node: Node, wanted: str) -> None:

@@ -6,10 +6,10 @@ from __future__ import annotations
 import re
 
 from ipc_files.files import Task
+from ipc_files.grammar import MOST_BYTES
 from ipc_files.trees import Group, Node, Word, words_in
 
 NAME = re.compile(r"[a-z][a-z0-9_-]*")
-MOST_BYTES = 255
 # To how many bytes a name is cut that would be too long with what is added to it, and how many these may be.
 SHORT, MOST_ADDED = 60, 35
 # No names of predicates and functions.

@@ -16,6 +16,8 @@ HERE = Path(__file__).parent
 TOOL = str(HERE.parent / "ipc-files")
 KINDS = ("byte-order-mark", "constant", "derived", "length", "metric", "name", "negative-fact", "nested-effect", "number",
          "object-type", "parameters", "requirement", "scale", "shadow", "split", "type-again", "type-undeclared")
+# What is told of one file, and may be written in the other one too.
+IN_BOTH = ("constant", "name", "scale")
 # Tasks with more instances, or more states, are not gone through by the second reader, which validates their plans alone.
 MOST_INSTANCES, MOST_STATES = 5000, 2000
 
@@ -69,8 +71,9 @@ def try_meaning(checks: Checks, folder: Path, into: Path, answer: str, back: str
     before, after = ([(at / f"{it}.pddl").read_bytes() for it in ("domain", "problem")] for at in (folder, into))
     original, written = Task(*before), Task(*after)
     table = json.loads((into / "changes.json").read_text())
-    if not table["changes"]:
-        checks.check(f"{folder.name}: byte for byte", before == after)
+    for name, one, other in zip(("domain", "problem"), before, after):
+        if not any(it["file"] == f"{name}.pddl" or it["kind"] in IN_BOTH for it in table["changes"]):
+            checks.check(f"{folder.name}: the {name} byte for byte", one == other)
     if answer.startswith("cost "):
         cost = original.cost_of([tuple(it) for it in read(f"({back})".encode())])
         checks.check(f"{folder.name}: the plan solves the original", cost == Fraction(answer[5:]), cost)
@@ -90,7 +93,7 @@ def try_files(checks: Checks, room: Path) -> None:
         (folder / f"{it}.pddl").write_bytes((HERE / "examples/length" / f"{it}.pddl").read_bytes())
     before = (folder / "problem.pddl").read_bytes()
     status, _, errors = convert(folder, folder)
-    checks.check("no file that is read is written over", status == 1 and "written over" in errors, errors)
+    checks.check("no file that is read is written over", status == 2 and "written over" in errors, errors)
     checks.check("it is as it was", (folder / "problem.pddl").read_bytes() == before and not (folder / "changes.json").exists())
     status, _, errors = run([sys.executable, TOOL, "domain.pddl", "missing.pddl", "--into", "new"], folder)
     checks.check("a problem that is missing", status == 21 and not (folder / "new").exists(), errors)

@@ -124,7 +124,8 @@ class Maker:
         parameters = "" if not scope and "parameters" in self.traits else f":parameters ({self.listed(scope)})"
         count = self.random.choice((1, 1, 1, 2))
         conditions = [self.condition(scope, objects, self.random.choice((0, 1, 2, 2))) for _ in range(count)]
-        effects = [self.effect(scope, objects, self.random.choice((0, 1, 3))) for _ in range(self.random.choice((2, 3, 3, 4)))]
+        count = self.random.choice((4, 5, 6) if "split" in self.traits else (2, 3, 3, 4))
+        effects = [self.effect(scope, objects, self.random.choice((0, 1, 3))) for _ in range(count)]
         if self.has_cost and self.chance(0.8):
             terms = self.terms(scope, objects, "t0")
             by_value = self.chance(0.2) and terms
