@@ -5,6 +5,7 @@ All conditions of an effect are read in the state before, so that `(when c (when
 
 from __future__ import annotations
 
+from ipc_files.costs import increases
 from ipc_files.files import Task, conjuncts, with_value
 from ipc_files.scopes import Fresh, apart
 from ipc_files.trees import Group, entries_of, listed, words_in
@@ -34,7 +35,7 @@ class Moving:
             return self.effect(effect) if effect.parts else effect
         parts = []
         for it in effect.parts[1:]:
-            if it.head == "and" and any(word.low == "increase" for word in words_in(it)):
+            if it.head == "and" and increases(it):
                 self.task.tell("nested-effect", it.at, "the list is written without its parentheses, as a cost stands in it")
                 parts += self.whole(it).parts[1:]
             else:

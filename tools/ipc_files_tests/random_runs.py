@@ -51,7 +51,7 @@ class Runs:
         self.kinds, self.ends = Counter(), Counter()
         self.compared, self.pairs, self.faults = 0, 0, []
 
-    def convert(self, domain: bytes, problem: bytes, most_variables: int) -> tuple[bytes, bytes, dict]:
+    def convert(self, domain: bytes, problem: bytes, most_variables: int = MOST_VARIABLES) -> tuple[bytes, bytes, dict]:
         """What the tool writes, and its table."""
         task = read_task(Text("domain.pddl", domain), Text("problem.pddl", problem))
         mend(task, most_variables)
@@ -85,8 +85,9 @@ class Runs:
         told = told or self.fault_of(original, table, status, said)
         if told:
             self.faults.append(f"seed {seed}: {told}")
-        if not table["changes"] and (new_domain, new_problem) != (domain, problem):
-            self.faults.append(f"seed {seed}: nothing is changed, and other bytes are written")
+        *again, table = self.convert(new_domain, new_problem)
+        if table["changes"] or again != [new_domain, new_problem]:
+            self.faults.append(f"seed {seed}: what is written is changed once more: {table['changes']}")
 
     def fault_of(self, original: Task, table: dict, status: int, said: str) -> str | None:
         """What is wrong with the program's answer for the written files."""
@@ -113,7 +114,7 @@ class Runs:
             at = random.randrange(2)
             files[at] = damaged(files[at], random)
         try:
-            new_domain, new_problem, _ = self.convert(*files, MOST_VARIABLES)
+            new_domain, new_problem, _ = self.convert(*files)
         except Refusal:
             self.ends["damaged, refused"] += 1
             return

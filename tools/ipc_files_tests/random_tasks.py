@@ -8,8 +8,8 @@ TRAITS = ("byte-order-mark", "requirement", "length", "metric", "parameters", "o
           "constant", "name", "number", "scale", "negative-fact", "shadow", "nested-effect", "derived", "split", "upper-case")
 
 # A name, and how it may be spelled.
-ODD = {"t0": "t#0", "t1": "1t", "t2": "_t.2", "u": "u.u", "o0": "0", "o1": "_o1", "o2": "o#2", "o3": "o.3", "p0": "2p",
-       "p1": "p.1", "p2": "preference", "p3": "p" + "x" * 300, "d0": "_d", "d1": "d@1", "a0": "a#0", "a1": "a_#0", "a2": "3",
+ODD = {"t0": "t#0", "t1": "1t", "t2": "_t.2", "u": "u.u", "o0": "0", "o1": "_o1", "o2": "o#2", "o3": "o-2", "p0": "2p",
+       "p1": "p.1", "p2": "preference", "p3": "p" + "x" * 300, "d0": "_d", "d1": "d@1", "a0": "a#0", "a1": "a-0", "a2": "3",
        "f": "f/1", "?x": "?1", "?y": "?y.y", "?z": "?_z"}
 # Types of variables, and of the arguments of predicates.
 KINDS = ("t0", "t1", "t2", "object", "object", "(either t1 t2)")
