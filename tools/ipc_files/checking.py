@@ -5,13 +5,13 @@ is wrong is dropped with them; and at the end, with the limits."""
 
 from __future__ import annotations
 
-from ipc_files.constants import is_atom
 from ipc_files.costs import value_in
-from ipc_files.files import Scope, Task, parameters_of, scope_of, scope_with, value_of
-from ipc_files.kinds import all_above, is_below, parents_in
+from ipc_files.files import Task, parameters_of, scope_of, value_of
+from ipc_files.formulas import Scope, is_atom, scope_with
 from ipc_files.names import RESERVED
 from ipc_files.told import Refusal
 from ipc_files.trees import Entry, Group, Node, Word, entries_of
+from ipc_files.type_tree import all_above, is_below, parents_in
 
 MOST_TYPES, MOST_OBJECTS, MOST_ARGUMENTS = 4095, 65535, 8
 
@@ -52,6 +52,7 @@ class Names:
             raise Refusal(metric.at, "`total-cost` is not declared")
 
     def check_types(self) -> None:
+        """The domain's name, the tree of types, and how many there are."""
         domain, named = self.task.domain, self.task.problem.find(":domain").parts[1]
         if named != domain.name:
             raise Refusal(named.at, f"the domain is called `{domain.name.shown}`")
@@ -62,17 +63,20 @@ class Names:
             raise Refusal(self.types[MOST_TYPES].name.at, f"more than {MOST_TYPES:,} types")
 
     def check_objects(self) -> None:
+        """The types of constants and objects, and how many there are."""
         for it in self.objects.values():
             self.check_type_of(it)
         if len(self.objects) > MOST_OBJECTS:
             raise Refusal([*self.objects.values()][MOST_OBJECTS].name.at, f"more than {MOST_OBJECTS:,} objects")
 
     def check_type_of(self, entry: Entry) -> None:
+        """The types that are written behind a name or a variable."""
         for it in entry.types:
             if it.low != "object" and it.low not in self.parents:
                 raise Refusal(it.at, f"the type `{it.shown}` is not declared")
 
     def check_declarations(self, keyword: str, kind: str) -> None:
+        """Predicates, or functions: each once, under a name of its own, with types that are declared."""
         section, seen = self.task.domain.find(keyword), set()
         for it in section.parts[1:] if section else ():
             if isinstance(it, Word):
@@ -105,6 +109,7 @@ class Names:
         return [it if it.types or index >= len(wanted) else Entry(it.name, wanted[index].types) for index, it in enumerate(given)]
 
     def check_actions(self) -> None:
+        """Actions: each once, with conditions, effects and a cost that fit."""
         seen = set()
         for it in self.task.domain.all(":action"):
             name = it.parts[1]
@@ -137,6 +142,7 @@ class Names:
             seen.add(it.name.low)
 
     def check_condition(self, formula: Group, scope: Scope, objects: dict[str, Entry]) -> None:
+        """A condition over the variables in scope and these objects."""
         if formula.head in ("exists", "forall"):
             variables = entries_of(formula.parts[1].parts)
             self.check_variables(variables, scope)
@@ -151,6 +157,7 @@ class Names:
             self.check_atom(formula, self.predicates, scope, objects)
 
     def check_effect(self, effect: Group, scope: Scope, objects: dict[str, Entry]) -> None:
+        """An effect over the variables in scope and these objects."""
         if effect.head == "forall":
             variables = entries_of(effect.parts[1].parts)
             self.check_variables(variables, scope)
@@ -169,6 +176,7 @@ class Names:
             self.check_atom(effect, self.predicates, scope, objects)
 
     def check_change(self, atom: Group) -> None:
+        """An atom that an effect or `:init` makes true or false."""
         if atom.head in self.derived:
             raise Refusal(atom.parts[0].at, f"`{atom.head}` is derived: nothing else makes it true or false")
 
@@ -195,6 +203,7 @@ class Names:
                 raise Refusal(it.at, f"another value of `{function.head}` of these objects stands before")
 
     def check_atom(self, atom: Group, known: dict[str, list[Entry]], scope: Scope, objects: dict[str, Entry]) -> None:
+        """An atom of one of these predicates, or a function of one of these with its objects."""
         name, terms = atom.parts[0], atom.parts[1:]
         if name.low not in known:
             raise Refusal(name.at, f"no {'function' if known is self.functions else 'predicate'} is called `{name.shown}`")
@@ -224,6 +233,7 @@ def declared(task: Task, keyword: str) -> dict[str, list[Entry]]:
 
 
 def told(count: int) -> str:
+    """A count of objects in words."""
     return "1 object" if count == 1 else f"{count} objects"
 
 

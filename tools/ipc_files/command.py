@@ -18,6 +18,7 @@ WORDS, REFUSED, DEVICE = 2, 20, 21
 
 
 def arguments(usage: str) -> argparse.Namespace:
+    """The words of the command line; the program ends where they are others."""
     words = argparse.ArgumentParser(prog="tools/ipc-files", description=usage, formatter_class=argparse.RawDescriptionHelpFormatter)
     words.add_argument("files", nargs="*", metavar="DOMAIN PROBLEM", help="the files of a competition")
     words.add_argument("--into", metavar="FOLDER", help="where domain.pddl, problem.pddl and changes.json are written")
@@ -58,6 +59,7 @@ def convert(domain: str, problem: str, folder: str, most_variables: int) -> None
 
 
 def main(usage: str) -> None:
+    """Does what the words ask for, and ends with its status."""
     given = arguments(usage)
     try:
         if given.back:

@@ -3,10 +3,10 @@ problem declares."""
 
 from __future__ import annotations
 
-from ipc_files.files import Task
-from ipc_files.kinds import all_above, is_below, parents_in
+from ipc_files.files import File, Task
 from ipc_files.told import Refusal
-from ipc_files.trees import Entry, Group, Node, Word
+from ipc_files.trees import Entry, Node, Word
+from ipc_files.type_tree import all_above, is_below, parents_in
 
 
 def mend_constants(task: Task) -> None:
@@ -23,7 +23,8 @@ def mend_constants(task: Task) -> None:
     put(task.problem, ":objects", objects, [known[it.name.low] for it in kept["objects"] if it.name.low not in named])
 
 
-def put(file, keyword: str, before: list[Entry], after: list[Entry]) -> None:
+def put(file: File, keyword: str, before: list[Entry], after: list[Entry]) -> None:
+    """Writes a section's entries, where they are others than before."""
     if after != before:
         file.put_entries(keyword, after)
 
@@ -70,13 +71,3 @@ def gather(node: Node, found: set[str]) -> None:
         gather(node.parts[2], found)
     else:
         found.update(it.low for it in node.parts[1:] if it.text[0] != "?")
-
-
-def objects_of(task: Task) -> dict[str, Entry]:
-    """All objects by name."""
-    return {it.name.low: it for it in [*task.domain.entries(":constants"), *task.problem.entries(":objects")]}
-
-
-def is_atom(node: Group) -> bool:
-    """Whether a part of a condition is an atom or an equality."""
-    return node.head not in ("and", "or", "not", "imply", "exists", "forall", "when")

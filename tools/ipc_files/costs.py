@@ -5,7 +5,8 @@ from __future__ import annotations
 from fractions import Fraction
 from math import gcd
 
-from ipc_files.files import Task, conjuncts, value_of, with_value
+from ipc_files.files import Task, value_of, with_value
+from ipc_files.formulas import conjuncts
 from ipc_files.told import Refusal
 from ipc_files.trees import Group, Node, Word
 
@@ -61,6 +62,7 @@ def write(task: Task, factor: int) -> None:
 
 
 def in_effect(effect: Group, factor: int) -> Group:
+    """An effect whose cost is multiplied by a number."""
     if effect.head == "and":
         return effect.with_parts([effect.parts[0], *(in_effect(it, factor) for it in effect.parts[1:])])
     if effect.head == "increase":

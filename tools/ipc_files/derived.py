@@ -6,8 +6,8 @@ rule's arguments. So the disjunction of these conditions stands for it, also und
 from __future__ import annotations
 
 from ipc_files.checking import Names
-from ipc_files.constants import is_atom
-from ipc_files.files import Scope, Task, scope_with
+from ipc_files.files import Task
+from ipc_files.formulas import Scope, atoms_in, is_atom, scope_with
 from ipc_files.scopes import Fresh, apart
 from ipc_files.told import Refusal
 from ipc_files.trees import Entry, Group, Word, entries_of, listed, parts_of, words_in
@@ -51,6 +51,7 @@ class Writing:
         return found
 
     def visit(self, predicate: str, path: list[str], found: list[str], at: Word | None) -> None:
+        """Adds a predicate behind those that it depends on. The path has those that depend on it, the last one at this word."""
         if predicate in path:
             told = " by way of ".join(f"`{it}`" for it in [*path[path.index(predicate) + 1:], predicate])
             raise Refusal(at.at, f"the derived predicate `{predicate}` depends on itself" + (f": on {told}" if told else ""))
@@ -106,10 +107,3 @@ class Writing:
         if self.words > MOST_WORDS:
             raise Refusal(atom.at, f"derived predicates take more than {MOST_WORDS:,} words where they are written out")
         check_depth(made, 1)
-
-
-def atoms_in(formula: Group) -> list[Group]:
-    """The atoms of a condition, equalities included."""
-    if formula.head in ("exists", "forall"):
-        return atoms_in(formula.parts[2])
-    return [formula] if is_atom(formula) else [atom for it in formula.parts[1:] for atom in atoms_in(it)]

@@ -6,7 +6,8 @@ All conditions of an effect are read in the state before, so that `(when c (when
 from __future__ import annotations
 
 from ipc_files.costs import increases
-from ipc_files.files import Task, conjuncts, with_value
+from ipc_files.files import Task, with_value
+from ipc_files.formulas import conjuncts
 from ipc_files.scopes import Fresh, apart
 from ipc_files.trees import Group, entries_of, listed, words_in
 

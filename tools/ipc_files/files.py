@@ -2,13 +2,11 @@
 
 from __future__ import annotations
 
-from typing import Callable, Dict, Tuple
+from typing import Callable
 
+from ipc_files.formulas import Scope, in_conditions, scope_with
 from ipc_files.told import Change
 from ipc_files.trees import Entry, Group, Node, Span, Text, Word, entries_of, listed, parts_of
-
-# The types of each variable in scope.
-Scope = Dict[str, Tuple[str, ...]]
 
 
 class File:
@@ -61,6 +59,7 @@ class File:
         return entries_of(section.parts[1:]) if section else []
 
     def put_entries(self, keyword: str, entries: list[Entry]) -> None:
+        """Writes the section of this keyword as the typed list of these entries."""
         self.put(keyword, parts_of(entries))
 
 
@@ -78,6 +77,7 @@ class Task:
         self.steps: dict[str, tuple[list[str], list[tuple[str, list[str]]]]] = {}
 
     def tell(self, kind: str, at: Span, text: str) -> None:
+        """Adds a change to those that are told."""
         self.changes.append(Change(kind, at, text))
 
     @property
@@ -126,27 +126,3 @@ def parameters_of(action: Group) -> list[Entry]:
 def scope_of(action: Group) -> Scope:
     """The types of each parameter of an action."""
     return scope_with({}, parameters_of(action))
-
-
-def scope_with(scope: Scope, variables: list[Entry]) -> Scope:
-    return {**scope, **{it.name.low: it.lows for it in variables}}
-
-
-def in_conditions(effect: Group, scope: Scope, change: Callable[[Group, Scope], Group]) -> Group:
-    """An effect with other conditions: what `change` makes of each, with the variables in scope there."""
-    if effect.head == "and":
-        return effect.with_parts([effect.parts[0], *(in_conditions(it, scope, change) for it in effect.parts[1:])])
-    if effect.head == "forall":
-        inner = scope_with(scope, entries_of(effect.parts[1].parts))
-        return effect.with_parts([*effect.parts[:2], in_conditions(effect.parts[2], inner, change)])
-    if effect.head == "when":
-        condition, inner = change(effect.parts[1], scope), in_conditions(effect.parts[2], scope, change)
-        return effect.with_parts([effect.parts[0], condition, inner])
-    return effect
-
-
-def conjuncts(formula: Group) -> list[Group]:
-    """The parts of a conjunction, those of nested ones included."""
-    if formula.head == "and":
-        return [it for part in formula.parts[1:] for it in conjuncts(part)]
-    return [formula] if formula.parts else []

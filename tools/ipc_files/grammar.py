@@ -86,6 +86,7 @@ def check_typed(around: Group, parts: list[Node], is_entry, wanted: str) -> None
 
 
 def check_type(kind: Node, takes_either: bool) -> None:
+    """What stands behind a dash."""
     if isinstance(kind, Word):
         want(is_name(kind), kind, "a type")
         return
@@ -131,6 +132,7 @@ def check_derived(section: Group) -> None:
 
 
 def check_action(section: Group) -> None:
+    """`(:action NAME part*)`, with each part once at most."""
     want(len(section.parts) > 1 and is_name(section.parts[1]), section, "`(:action NAME ..)`")
     seen, index = set(), 2
     while index < len(section.parts):
@@ -146,6 +148,7 @@ def check_action(section: Group) -> None:
 
 
 def check_part(keyword: str, value: Node) -> None:
+    """What stands behind the keyword of a part. `()` is an empty precondition or effect."""
     want(isinstance(value, Group), value, "a list")
     if keyword == ":parameters":
         check_variables(value)
@@ -169,6 +172,7 @@ def check_atom(atom: Node) -> None:
 
 
 def check_condition(formula: Node) -> None:
+    """`F` of docs/language.md."""
     want(isinstance(formula, Group), formula, "a condition")
     head, parts = formula.head, formula.parts[1:]
     counts = {"not": 1, "imply": 2, "=": 2, "exists": 2, "forall": 2}
@@ -225,6 +229,7 @@ def check_domain_name(section: Group) -> None:
 
 
 def check_init(section: Group) -> None:
+    """Atoms, those under a `not` included, and values of functions."""
     for it in section.parts[1:]:
         want(isinstance(it, Group), it, "a fact")
         atom = it
@@ -255,6 +260,7 @@ def check_metric(section: Group) -> None:
 
 
 def is_total_time(of: Node) -> bool:
+    """Whether what is minimised is the total time, with parentheses or without."""
     return of.low == "total-time" if isinstance(of, Word) else of.head == "total-time" and len(of.parts) == 1
 
 

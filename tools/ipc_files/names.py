@@ -84,6 +84,7 @@ def names(kind: str):
 
 
 def declaration(renaming: Renaming, kind: str, it: Group) -> Group:
+    """A predicate or a function with its variables."""
     return it.with_parts([renaming.word(kind, it.parts[0]), *typed(renaming, "variable", it.parts[1:])])
 
 
@@ -114,6 +115,7 @@ def formula(renaming: Renaming, it: Group) -> Group:
 
 
 def action(renaming: Renaming, section: Group) -> Group:
+    """An action, with the names of its parts."""
     parts = [section.parts[0], renaming.word("action", section.parts[1])]
     for keyword, value in zip(section.parts[2::2], section.parts[3::2]):
         if keyword.low == ":parameters":
@@ -130,6 +132,7 @@ def derived(renaming: Renaming, section: Group) -> Group:
 
 
 def fact(renaming: Renaming, it: Group) -> Group:
+    """An entry of `:init`."""
     if it.head == "=":
         return it.with_parts([it.parts[0], atom(renaming, "function", it.parts[1]), it.parts[2]])
     if it.head == "not":

@@ -2,7 +2,10 @@
 
 from __future__ import annotations
 
-from ipc_files.files import Scope, Task, scope_of, scope_with, with_value
+from typing import Callable
+
+from ipc_files.files import Task, scope_of, with_value
+from ipc_files.formulas import Scope, scope_with
 from ipc_files.trees import Entry, Group, Node, Word, entries_of, parts_of, words_in
 
 
@@ -13,6 +16,7 @@ class Fresh:
         self.taken = {it.low for file in task.files for section, _ in file.sections for it in words_in(section) if it.low[0] == "?"}
 
     def like(self, variable: str) -> str:
+        """A new variable that is called like one."""
         number = 2
         while f"{variable[:240]}-{number}" in self.taken:
             number += 1
@@ -42,9 +46,10 @@ def rename_shadowing(task: Task) -> None:
     task.problem.put(":goal", [apart(task.problem.find(":goal").parts[1], {}, {}, fresh, told)])
 
 
-def apart(node: Node, places: dict[str, Word], scope: Scope, fresh: Fresh, told=None) -> Node:
+def apart(node: Node, places: dict[str, Word], scope: Scope, fresh: Fresh,
+          told: Callable[[Entry, str], None] | None = None) -> Node:
     """A condition or an effect with other terms in the places of some variables, and with other names for the quantified variables
-    that are in scope."""
+    that are in scope, each of which is told."""
     if isinstance(node, Word):
         return places.get(node.low, node)
     if node.head not in ("exists", "forall"):

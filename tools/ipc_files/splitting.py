@@ -10,7 +10,8 @@ from __future__ import annotations
 
 from dataclasses import dataclass, field
 
-from ipc_files.files import Task, conjuncts, parameters_of, value_of
+from ipc_files.files import Task, parameters_of, value_of
+from ipc_files.formulas import conjuncts
 from ipc_files.names import Renaming
 from ipc_files.told import Refusal
 from ipc_files.trees import Entry, Group, Node, Word, entries_of, listed, parts_of, type_of, words_in
@@ -112,8 +113,8 @@ class Splitting:
         """An action that costs 1 by its words."""
         items = self.items(action)
         if any(it.head == "increase" and isinstance(it.parts[2], Group) for it in items):
-            raise Refusal(action.at, f"`{action.parts[1].shown}` wants the value of a function and costs 1, as there is no metric; no "
-                                     f"action with more than {self.most} variables can be written as steps beside it")
+            raise Refusal(action.at, f"`{action.parts[1].shown}` wants the value of a function and costs 1, as there is no metric: "
+                                     f"no action with more than {self.most} variables can be written as steps beside it")
         one = listed(action.at, "increase", listed(action.at, "total-cost"), "1")
         kept = [it for it in items if it.head != "increase"]
         return with_part(action, ":effect", listed(action.at, "and", *kept, one))

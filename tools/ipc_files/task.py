@@ -9,13 +9,13 @@ from ipc_files.derived import write_out
 from ipc_files.effects import move_out
 from ipc_files.files import File, Task
 from ipc_files.grammar import check_file
-from ipc_files.kinds import mend_types
 from ipc_files.names import rename
 from ipc_files.reading import MARK, begin_of, read
 from ipc_files.scopes import rename_shadowing
 from ipc_files.sections import add_parameters, drop_length, drop_negative_facts, drop_requirements, drop_total_time
 from ipc_files.splitting import split
 from ipc_files.trees import Span, Text
+from ipc_files.type_tree import mend_types
 
 # The most variables in scope at once.
 MOST_VARIABLES = 16

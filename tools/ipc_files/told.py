@@ -23,4 +23,5 @@ class Change:
     text: str
 
     def told(self) -> str:
+        """The line that tells it."""
         return f"{self.at.told()}: {self.kind}: {self.text}"

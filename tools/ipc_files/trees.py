@@ -32,6 +32,7 @@ class Span(NamedTuple):
     end: int
 
     def told(self) -> str:
+        """The place as editors count: file, line and column."""
         line, column = self.text.place(self.start)
         return f"{self.text.name}:{line}:{column}"
 
@@ -113,6 +114,7 @@ class Entry:
 
     @property
     def lows(self) -> tuple[str, ...]:
+        """The types in lower case."""
         return tuple(it.low for it in self.types) or ("object",)
 
 

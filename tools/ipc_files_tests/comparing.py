@@ -50,7 +50,7 @@ def whole_runs(task: Task, names: Names, state: State) -> Iterator[tuple[tuple[s
 
 
 def difference(original: Task, written: Task, table: dict, most: int) -> tuple[str | None, int]:
-    """What is different in a pair of states that the same instances lead to, and how many pairs were met, which are so many at most."""
+    """What is different in a pair of states that the same instances lead to, and how many pairs were met, so many at most."""
     names, start = Names(table), (original.initial, written.initial)
     seen, waiting = {start}, [start]
     while waiting:

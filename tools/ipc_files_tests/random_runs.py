@@ -12,6 +12,7 @@ from random import Random
 
 from checks import Checks
 from comparing import difference
+from ipc_files import splitting
 from ipc_files.back import plan_back, table_of
 from ipc_files.task import MOST_VARIABLES, mend, read_task
 from ipc_files.told import Refusal
@@ -70,6 +71,7 @@ class Runs:
         """Compares a random task with what the tool makes of it."""
         maker = Maker(seed)
         domain, problem = maker.make()
+        splitting.FEW = 1 + seed % 3
         try:
             new_domain, new_problem, table = self.convert(domain, problem, 3 if "split" in maker.traits else MOST_VARIABLES)
         except Refusal as why:

@@ -34,6 +34,7 @@ class Maker:
         self.counted = 0
 
     def chance(self, part: float) -> bool:
+        """Whether what happens so often happens now."""
         return self.random.random() < part
 
     def kinds(self, count: int) -> list[str]:
@@ -68,18 +69,21 @@ class Maker:
         return f"({' '.join([name, *map(self.random.choice, found[name])])})"
 
     def variables(self, scope: dict[str, str], count: int) -> dict[str, str]:
-        """Variables of a quantifier, which shadow others where that is a trait."""
-        names = ["?x", "?y", "?z"] if "shadow" in self.traits else []
-        while len(names) < count or "shadow" not in self.traits and len(names) < 3:
-            self.counted += 1
-            names.append(f"?q{self.counted}")
+        """Variables of a quantifier, which shadow others, or have the names of others, where that is a trait."""
+        if {"shadow", "nested-effect"} & self.traits:
+            names = ["?x", "?y", "?z", "?u"]
+        else:
+            names = [f"?q{self.counted + index}" for index in range(count)]
+            self.counted += count
         chosen = self.random.sample(names, count)
         return dict(zip(chosen, self.kinds(count)))
 
     def listed(self, variables: dict[str, str]) -> str:
+        """Variables as a typed list."""
         return " ".join(f"{it} - {kind}" for it, kind in variables.items())
 
     def condition(self, scope: dict[str, str], objects: list[str], depth: int) -> str:
+        """A condition over variables and objects, of so many levels at most."""
         kinds = ("atom", "atom", "atom", "and", "or", "not", "imply", "exists", "forall", "=") if depth else ("atom",)
         kind = self.random.choice(kinds)
         part = lambda inner=scope: self.condition(inner, objects, depth - 1)
@@ -99,8 +103,10 @@ class Maker:
         return f"({kind} ({self.listed(variables)}) {part({**scope, **variables})})"
 
     def effect(self, scope: dict[str, str], objects: list[str], depth: int) -> str:
+        """An effect over variables and objects, of so many levels at most."""
         is_plain = not depth or "split" in self.traits
-        kind = "literal" if is_plain else self.random.choice(("literal", "and", "when", "when", "forall"))
+        kinds = ("literal", "and", "when", "when", "forall", "forall")
+        kind = "literal" if is_plain else self.random.choice(kinds)
         if kind == "literal":
             atom = self.atom(scope, objects, self.predicates) or "(and)"
             return f"(not {atom})" if atom != "(and)" and self.chance(0.4) else atom
@@ -118,6 +124,7 @@ class Maker:
         return self.random.choice(("0", "1", "2", "3")) + (".0" if "number" in self.traits and self.chance(0.5) else "")
 
     def action(self, name: str) -> str:
+        """An action of this name. One that is to be split has three or four parameters, and plain effects."""
         objects = [*self.constants, *self.implied]
         most = self.random.choice((3, 4)) if "split" in self.traits else self.random.choice((0, 1, 1, 2))
         scope = dict(zip(("?x", "?y", "?z", "?w")[:most], self.kinds(most)))
@@ -148,6 +155,7 @@ class Maker:
         return found
 
     def typing(self) -> str:
+        """What stands in `:types`."""
         parts = ["t0 - u" if "type-undeclared" in self.traits else "t0", "t1 - t0", "t2"]
         parts = [it if "-" in it else f"{it} - object" for it in parts]
         if "type-undeclared" in self.traits:
@@ -162,6 +170,7 @@ class Maker:
         return " ".join([*typed, *untyped])
 
     def start(self) -> list[str]:
+        """What stands in `:init`."""
         objects = [*self.types]
         facts = [self.atom({}, objects, self.predicates) for _ in range(self.random.choice((1, 2, 3)))]
         if "negative-fact" in self.traits:

@@ -73,6 +73,7 @@ class Task:
         self.initial = State(self.start)
 
     def take(self, section: list) -> None:
+        """Takes in a section of either file."""
         keyword, rest = section[0], section[1:]
         if keyword == ":types":
             for name, types in typed(rest):
@@ -109,6 +110,7 @@ class Task:
         return not seen.isdisjoint(types)
 
     def count_instances(self) -> int:
+        """How many choices of objects there are for the parameters of all actions."""
         return sum(prod(len(self.all_of(types)) for _, types in it.parameters) for it in self.actions)
 
     @cached_property
@@ -117,6 +119,7 @@ class Task:
         return [(it, objects) for it in self.actions for objects in product(*(self.all_of(types) for _, types in it.parameters))]
 
     def all_of(self, types: tuple[str, ...]) -> list[str]:
+        """The objects of one of these types."""
         if types not in self.of_type:
             self.of_type[types] = [it for it in self.objects if self.is_of(it, types)]
         return self.of_type[types]
@@ -141,6 +144,7 @@ class Task:
         return true
 
     def holds(self, formula: list, chosen: dict[str, str], true: set) -> bool:
+        """Whether a condition holds for these objects where these atoms are true."""
         head = formula[0]
         if head == "and":
             return all(self.holds(it, chosen, true) for it in formula[1:])
