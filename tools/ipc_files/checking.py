@@ -13,7 +13,8 @@ from ipc_files.told import Refusal
 from ipc_files.trees import Entry, Group, Node, Word, entries_of
 from ipc_files.type_tree import all_above, is_below, parents_in
 
-MOST_TYPES, MOST_OBJECTS, MOST_ARGUMENTS = 4095, 65535, 8
+# Limits of the language. The last one is that of variables in scope at once.
+MOST_TYPES, MOST_OBJECTS, MOST_ARGUMENTS, MOST_VARIABLES = 4095, 65535, 8, 16
 
 
 class Names:
@@ -244,29 +245,29 @@ def lists_in(node: Node) -> list[Group]:
     return [node, *(inner for it in node.parts for inner in lists_in(it))]
 
 
-def check_limits(task: Task, most_variables: int) -> None:
-    """Refuses what only the end shows: too many variables in scope, numbers that are too large, and what is left of other forms."""
+def check_whole(task: Task) -> None:
+    """Refuses what only the end shows, and looks at all names once more."""
     names = Names(task)
     for it in task.domain.all(":action"):
         parameters = parameters_of(it)
-        if len(parameters) > most_variables:
-            raise Refusal(parameters[most_variables].name.at,
-                          f"{len(parameters)} variables are in scope, and the language has {most_variables} at most")
+        if len(parameters) > MOST_VARIABLES:
+            raise Refusal(parameters[MOST_VARIABLES].name.at,
+                          f"{len(parameters)} variables are in scope, and the language has {MOST_VARIABLES} at most")
         for keyword in (":precondition", ":effect"):
             if value_of(it, keyword):
-                check_depth(value_of(it, keyword), len(parameters), most_variables)
-    check_depth(task.problem.find(":goal").parts[1], 0, most_variables)
+                check_scope(value_of(it, keyword), len(parameters))
+    check_scope(task.problem.find(":goal").parts[1], 0)
     names.check()
 
 
-def check_depth(node: Node, count: int, most: int) -> None:
+def check_scope(node: Node, count: int) -> None:
     """Refuses quantifiers with more variables in scope than this."""
     if isinstance(node, Word):
         return
     if node.head in ("exists", "forall") and len(node.parts) == 3 and isinstance(node.parts[1], Group):
         variables = entries_of(node.parts[1].parts)
         count += len(variables)
-        if count > most:
-            raise Refusal(variables[-1].name.at, f"{count} variables are in scope, and the language has {most} at most")
+        if count > MOST_VARIABLES:
+            raise Refusal(variables[-1].name.at, f"{count} variables are in scope, and the language has {MOST_VARIABLES} at most")
     for it in node.parts:
-        check_depth(it, count, most)
+        check_scope(it, count)

@@ -8,7 +8,8 @@ import os
 import sys
 
 from ipc_files.back import in_order, plan_back, table_of
-from ipc_files.task import MOST_VARIABLES, mend, read_task
+from ipc_files.checking import MOST_VARIABLES
+from ipc_files.task import mend, read_task
 from ipc_files.told import Refusal
 from ipc_files.trees import Text
 from ipc_files.writing import written

@@ -10,6 +10,7 @@ from __future__ import annotations
 
 from dataclasses import dataclass, field
 
+from ipc_files.checking import MOST_VARIABLES
 from ipc_files.files import Task, parameters_of, value_of
 from ipc_files.formulas import conjuncts
 from ipc_files.names import Renaming
@@ -57,11 +58,12 @@ class Step:
 
 
 def split(task: Task, most: int) -> None:
-    """Writes each action with more variables in scope than this as steps."""
-    long = {it.parts[1] for it in task.domain.all(":action") if len(parameters_of(it)) + inner_of(it) > most}
+    """Writes each action with more variables in scope than this as steps. One that the language takes, and that cannot be written
+    so, stays as it is."""
+    splitting = Splitting(task)
+    long = {it.parts[1] for it in task.domain.all(":action") if splitting.is_long(it, most)}
     if not long:
         return
-    splitting = Splitting(task, most)
     if not task.has_metric:
         splitting.pay_each()
     splitting.lock(long)
@@ -91,12 +93,22 @@ def pieces_before(pieces: list[Piece], scope: list[str]) -> list[Piece]:
 class Splitting:
     """The steps of a task's long actions, and the predicates that hold them together."""
 
-    def __init__(self, task: Task, most: int):
-        self.task, self.most = task, most
-        self.renaming = Renaming(task)
+    def __init__(self, task: Task):
+        self.task, self.renaming = task, Renaming(task)
         self.renaming.taken |= {it.low for file in task.files for section, _ in file.sections for it in words_in(section)}
         self.ready = self.renaming.new("no-action-is-open", "predicate")
         self.predicates: list[Group] = []
+
+    def is_long(self, action: Group, most: int) -> bool:
+        """Whether an action has more variables in scope than this, and has to be written as steps, or can be."""
+        count = len(parameters_of(action)) + inner_of(action)
+        return count > most and (count > MOST_VARIABLES or self.can_be_split(action))
+
+    def can_be_split(self, action: Group) -> bool:
+        """Whether an action has plain effects, and each action a cost that can stand in one step."""
+        has_values = any(it.head == "increase" and isinstance(it.parts[2], Group)
+                         for one in self.task.domain.all(":action") for it in self.items(one))
+        return (self.task.has_metric or not has_values) and all(it.head not in ("when", "forall") for it in self.items(action))
 
     def pay_each(self) -> None:
         """Has each action cost 1 by its words, as without a metric it does."""
@@ -114,7 +126,7 @@ class Splitting:
         items = self.items(action)
         if any(it.head == "increase" and isinstance(it.parts[2], Group) for it in items):
             raise Refusal(action.at, f"`{action.parts[1].shown}` wants the value of a function and costs 1, as there is no metric: "
-                                     f"no action with more than {self.most} variables can be written as steps beside it")
+                                     f"no action with more than {MOST_VARIABLES} variables can be written as steps beside it")
         one = listed(action.at, "increase", listed(action.at, "total-cost"), "1")
         kept = [it for it in items if it.head != "increase"]
         return with_part(action, ":effect", listed(action.at, "and", *kept, one))
@@ -148,8 +160,8 @@ class Splitting:
         found = {"check": [self.piece("check", it, scope) for it in checks], "pay": [], "delete": [], "add": []}
         for it in self.items(action):
             if it.head in ("when", "forall"):
-                raise Refusal(it.at, f"`{action.parts[1].shown}` has more than {self.most} variables in scope, and a `{it.head}` "
-                                     "among its effects: only actions with plain effects are written as steps")
+                raise Refusal(it.at, f"`{action.parts[1].shown}` has more than {MOST_VARIABLES} variables in scope, and a "
+                                     f"`{it.head}` among its effects: only actions with plain effects are written as steps")
             kind = {"increase": "pay", "not": "delete"}.get(it.head, "add")
             found[kind].append(self.piece(kind, it, scope))
         return [*pieces_before(found["check"] + found["pay"], scope), *found["delete"], *found["add"]]
@@ -159,8 +171,8 @@ class Splitting:
         there = {it.low for it in words_in(node)}
         made = Piece(kind, [it for it in scope if it in there], inner_of(node), node)
         count = len(made.variables) + made.inner
-        if count > self.most:
-            raise Refusal(node.at, f"this part has {count} variables in scope, and the language has {self.most} at most")
+        if count > MOST_VARIABLES:
+            raise Refusal(node.at, f"this part has {count} variables in scope, and the language has {MOST_VARIABLES} at most")
         return made
 
     def steps(self, action: Group) -> list[Group]:
@@ -168,12 +180,13 @@ class Splitting:
         name, parameters = action.parts[1], {it.name.low: it for it in parameters_of(action)}
         found: list[Step] = []
         for it in self.pieces(action):
-            if not found or not found[-1].takes(it, min(FEW, self.most)):
+            if not found or not found[-1].takes(it, FEW):
                 found.append(Step(self.renaming.new(f"{name.low}-step-{len(found) + 1}", "action")))
             found[-1].add(it)
         self.task.steps[name.low] = ([*parameters], [(it.name, it.variables) for it in found])
+        count = len(parameters) + inner_of(action)
         told = f"{len(found)} steps, `{found[0].name}` to `{found[-1].name}`"
-        self.task.tell("split", action.at, f"`{name.shown}` has more than {self.most} variables in scope, and is written as {told}")
+        self.task.tell("split", action.at, f"`{name.shown}` has {count} variables in scope, and is written as {told}")
         kept, marks = self.kept(action, found, parameters), self.marks(action, len(found))
         return [self.written(action, index, found, kept, marks, parameters) for index in range(len(found))]
 

@@ -2,7 +2,7 @@
 
 from __future__ import annotations
 
-from ipc_files.checking import Names, check_limits
+from ipc_files.checking import MOST_VARIABLES, Names, check_whole
 from ipc_files.constants import mend_constants
 from ipc_files.costs import scale
 from ipc_files.derived import write_out
@@ -16,9 +16,6 @@ from ipc_files.sections import add_parameters, drop_length, drop_negative_facts,
 from ipc_files.splitting import split
 from ipc_files.trees import Span, Text
 from ipc_files.type_tree import mend_types
-
-# The most variables in scope at once.
-MOST_VARIABLES = 16
 
 
 def read_task(domain: Text, problem: Text) -> Task:
@@ -36,7 +33,8 @@ def read_task(domain: Text, problem: Text) -> Task:
 
 
 def mend(task: Task, most_variables: int = MOST_VARIABLES) -> None:
-    """Makes the task one of the language that means the same, or refuses it."""
+    """Makes the task one of the language that means the same, or refuses it. Actions with more variables in scope than this are
+    written as steps."""
     rename(task)
     drop_requirements(task)
     drop_length(task)
@@ -51,4 +49,4 @@ def mend(task: Task, most_variables: int = MOST_VARIABLES) -> None:
     write_out(task)
     move_out(task)
     split(task, most_variables)
-    check_limits(task, most_variables)
+    check_whole(task)
