@@ -12,7 +12,7 @@ from dataclasses import dataclass, field
 
 from ipc_files.checking import MOST_VARIABLES
 from ipc_files.files import Task, parameters_of, value_of
-from ipc_files.formulas import conjuncts
+from ipc_files.formulas import conjuncts, is_atom
 from ipc_files.names import Renaming
 from ipc_files.told import Refusal
 from ipc_files.trees import Entry, Group, Node, Word, entries_of, listed, parts_of, type_of, words_in
@@ -31,6 +31,11 @@ class Piece:
     # How many variables its quantifiers have in scope at most.
     inner: int = 0
     node: Group | None = None
+
+    @property
+    def is_atom(self) -> bool:
+        """Whether it checks an atom, and no formula, equality or negation."""
+        return self.kind == "check" and self.node.head != "=" and is_atom(self.node)
 
 
 @dataclass
@@ -80,14 +85,23 @@ def inner_of(node: Node) -> int:
 
 
 def pieces_before(pieces: list[Piece], scope: list[str]) -> list[Piece]:
-    """The choices of all parameters, and each of these pieces as soon as its variables are chosen."""
+    """The choices of all parameters, and each of these pieces as soon as its variables are chosen. The next parameter is one of
+    which the most atoms can be checked then, so that little is chosen in vain."""
     found, waiting = [it for it in pieces if not it.variables], [it for it in pieces if it.variables]
-    for index, name in enumerate(scope):
-        chosen = set(scope[:index + 1])
-        found.append(Piece("choose", [name]))
-        found += [it for it in waiting if chosen.issuperset(it.variables)]
-        waiting = [it for it in waiting if not chosen.issuperset(it.variables)]
+    chosen: set[str] = set()
+    while len(chosen) < len(scope):
+        left = [it for it in scope if it not in chosen]
+        name = max(left, key=lambda it: sum(piece.is_atom for piece in checked_by(waiting, {*chosen, it})))
+        chosen.add(name)
+        now = checked_by(waiting, chosen)
+        found += [Piece("choose", [name]), *now]
+        waiting = [it for it in waiting if it not in now]
     return found
+
+
+def checked_by(pieces: list[Piece], chosen: set[str]) -> list[Piece]:
+    """The pieces whose variables are all chosen."""
+    return [it for it in pieces if chosen.issuperset(it.variables)]
 
 
 class Splitting:

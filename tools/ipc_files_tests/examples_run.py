@@ -106,6 +106,9 @@ def try_files(checks: Checks, room: Path) -> None:
 
 def try_back(checks: Checks, room: Path) -> None:
     """Plans that are none, and one without a cost."""
+    if not (room / "split" / "plan").exists():
+        checks.check("back: there is a plan of the example split", False)
+        return
     split = (room / "split" / "plan").read_text().splitlines()
     cases = {
         "an unknown action": ("(nothing a)", "plan:1:1: no action begins with `nothing`"),
