@@ -126,7 +126,8 @@ class Maker:
     def action(self, name: str) -> str:
         """An action of this name. One that is to be split has three or four parameters, and plain effects."""
         objects = [*self.constants, *self.implied]
-        most = self.random.choice((3, 4)) if "split" in self.traits else self.random.choice((0, 1, 1, 2))
+        counts = (0, 0, 1, 2) if "parameters" in self.traits else (0, 1, 1, 2)
+        most = self.random.choice((3, 4) if "split" in self.traits else counts)
         scope = dict(zip(("?x", "?y", "?z", "?w")[:most], self.kinds(most)))
         parameters = "" if not scope and "parameters" in self.traits else f":parameters ({self.listed(scope)})"
         count = self.random.choice((1, 1, 1, 2))
