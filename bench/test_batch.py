@@ -69,6 +69,22 @@ for element in range(int(given["--array"].partition("%")[0].partition("-")[2]) +
     subprocess.run(given["--wrap"], shell=True, env={{**os.environ, "SLURM_ARRAY_TASK_ID": str(element)}})
 print("17")
 """
+# In the place of a program that solves one task: the one that is written for the files below.
+ANSWERING = """#!{python}
+import sys
+words = sys.argv[1:]
+named = lambda option: words[words.index(option) + 1]
+assert "go-a" in open(words[1]).read() and "o-1" in open(words[2]).read()
+if words[0] == "check":
+    print('{{"command":"check","cost":5,"result":"optimal"}}')
+    sys.exit(0)
+open(named("--cert"), "w").write("pddl-cert 2\\nend 3\\n")
+open(named("--plan"), "w").write("(go-a o-1)\\n; cost = 5\\n")
+print('{{"command":"solve","cost":5,"result":"plan","steps":["(go-a o-1)"]}}')
+"""
+DOMAIN = """(define (domain d) (:predicates (p ?x)) (:functions (total-cost))
+ (:action go#a :parameters (?x) :effect (and (p ?x) (increase (total-cost) 2.5))))"""
+PROBLEM = "(define (problem p) (:domain d) (:objects 1) (:init) (:goal (p 1)) (:metric minimize (total-cost)))"
 SACCT = """#!/bin/sh
 echo '17_0|OUT_OF_MEMORY'
 echo '17_1|COMPLETED'
@@ -421,6 +437,37 @@ class DefaultPrograms(Room):
         path, said = self.solved_by()
         self.assertEqual(path, "crates/optplan/out/optplan")
         self.assertNotIn("vouches", said)
+
+
+class Converted(Room):
+    """Competition files that are made into others first, over a program that answers one plan of cost 5."""
+
+    def setUp(self):
+        super().setUp()
+        self.put_program("program", ANSWERING)
+        self.put("tasks/a/domain.pddl", DOMAIN)
+        self.put("tasks/a/p1.pddl", PROBLEM)
+
+    def test_what_is_written_is_solved_and_the_plan_comes_back(self):
+        ran = self.batch("--ipc", "--check")
+        line, kept = self.lines()["a/p1"], self.run_folder / "answers/a/p1"
+        self.assertEqual((line.result, line.cost, line.changes, line.check.accepted), (Result.PLAN, 2.5, 3, True), ran)
+        self.assertEqual((kept / "plan.txt").read_text(), "(go-a o-1)\n; cost = 5\n")
+        self.assertEqual((kept / "original-plan.txt").read_text(), "(go#a 1)\n; cost = 2.5\n")
+        self.assertNotIn("go#a", (kept / "domain.pddl").read_text())
+        self.assertIn("(:objects o-1)", (kept / "problem.pddl").read_text())
+        self.assertEqual((self.room / "tasks/a/p1.pddl").read_text(), PROBLEM)
+
+    def test_what_is_refused_is_told_with_its_place(self):
+        self.put("tasks/a/domain.pddl", DOMAIN.replace("(p ?x)", "(p ?x - thing)", 1))
+        self.batch("--ipc")
+        line = self.lines()["a/p1"]
+        self.assertEqual((line.result, line.status), (Result.REFUSED, 20))
+        self.assertRegex(line.fault, "domain.pddl:1:41: the type `thing` is not declared")
+
+    def test_a_run_with_other_files_is_another_one(self):
+        self.batch("--ipc")
+        self.assertIn("converter: None now", self.batch().stderr)
 
 
 class Slurm(Room):

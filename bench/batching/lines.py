@@ -62,9 +62,10 @@ class Line:
     result: Result
     # As a shell tells it, and None where the process that ran the program was ended itself.
     status: int | None = None
-    cost: int | None = None
+    # Of the files that were found, also where others were solved in their place: then it may have a fraction.
+    cost: int | float | None = None
     # Where the limit of states was met: what each plan costs at least, if the program tells that.
-    bound: int | None = None
+    bound: int | float | None = None
     # Of the processor, with the writing of the certificate.
     seconds: float | None = None
     peak_bytes: int | None = None
@@ -77,6 +78,8 @@ class Line:
     fault: str | None = None
     # Where a text is refused.
     explained: Explained | None = None
+    # How many changes made competition files into those that were solved; None where that was not asked for.
+    changes: int | None = None
     host: str | None = None
     processor: str | None = None
     # Sums of the program and of the texts of domain and problem.
@@ -99,7 +102,7 @@ class Line:
 
     def text(self) -> str:
         """The line, with its LF."""
-        keys = {key: it for key, it in asdict(self).items() if it is not None or key not in ("bound", "fault", "explained")}
+        keys = {key: it for key, it in asdict(self).items() if it is not None or key not in ("bound", "fault", "explained", "changes")}
         return json.dumps(keys, separators=(",", ":")) + "\n"
 
 

@@ -11,9 +11,10 @@ import re
 import resource
 import signal
 
+from batching.converting import WRITTEN, Converted, words_back, words_into
 from batching.layouts import Task
 from batching.lines import ANSWERS, Check, Explained, Line, Result
-from batching.runs import Program, Settings, texts_sum
+from batching.runs import Program, Settings, put, texts_sum
 from timing import Ended, ended, processor
 
 LIBC = ctypes.CDLL(None)
@@ -131,6 +132,27 @@ def states_of(cert: str) -> int | None:
 def outcome(task: Task, settings: Settings, folder: str) -> Line:
     """Runs a task, with its answer in this folder, and tells how it ended."""
     plan, cert = empty(folder)
+    keys = {"host": platform.node(), "processor": processor(), "program": settings.program.sum, "texts": texts_sum(task)}
+    if not settings.converter:
+        return Line(task.name, **keys, **solved(task, settings, plan, cert))
+    end = within_limits(words_into(task, folder), settings)
+    if end.status:
+        result = result_of(end, settings.seconds)
+        result = Result.FAILED if result in ANSWERS else result
+        return Line(task.name, result, **keys, status=end.status, fault=fault_of(end))
+    made = Converted.read(task, folder)
+    found = solved(made.task, settings, plan, cert)
+    if found["result"] is Result.PLAN:
+        end = within_limits(words_back(folder, plan), settings)
+        put(f"{folder}/original-plan.txt", end.output)
+        if end.status:
+            found.update(result=Result.FAILED, fault=fault_of(end))
+    found.update({key: made.cost_back(found[key]) for key in ("cost", "bound") if key in found}, changes=made.changes)
+    return Line(task.name, **keys, **found)
+
+
+def solved(task: Task, settings: Settings, plan: str, cert: str) -> dict:
+    """Has the program solve a task, with its answer in these files: what a line tells of that."""
     limits = ["--states", str(settings.states), "--instances", str(settings.instances)]
     end = within_limits([settings.program.path, "solve", task.domain, task.problem, *limits,
                          "--plan", plan, "--cert", cert, "--json"], settings)
@@ -138,22 +160,21 @@ def outcome(task: Task, settings: Settings, folder: str) -> Line:
     claim, has_plan = claim_of(end, result, cost), result is Result.PLAN
     if not all(map(os.path.isfile, [cert] * (claim is not None) + [plan] * has_plan)):
         result, claim = Result.FAILED, None
-    keys = {"status": end.status, "cost": cost, "seconds": round(end.seconds, 3), "peak_bytes": end.peak,
-            "host": platform.node(), "processor": processor(), "program": settings.program.sum, "texts": texts_sum(task)}
+    keys = {"result": result, "status": end.status, "cost": cost, "seconds": round(end.seconds, 3), "peak_bytes": end.peak}
     if claim:
         keys.update(judged(task, settings, claim, plan if has_plan else None, cert))
     if result not in ANSWERS:
         keys.update(fault=fault_of(end), bound=told(end).get("bound"))
     if result is Result.REFUSED:
         keys.update(explained=explained(task, settings))
-    return Line(task.name, result, **keys)
+    return keys
 
 
 def empty(folder: str) -> tuple[str, str]:
-    """The files of a plan and of a certificate in this folder, neither of which is there."""
+    """The files of a plan and of a certificate in this folder, neither of which is there, nor is what was written for others."""
     os.makedirs(folder, exist_ok=True)
     files = f"{folder}/plan.txt", f"{folder}/cert.txt"
-    for path in files:
+    for path in (*files, *(f"{folder}/{it}" for it in WRITTEN)):
         with contextlib.suppress(FileNotFoundError):
             os.remove(path)
     return files

@@ -122,7 +122,7 @@ fn a_fault_is_explained(rt: HostRuntime) -> Result<(), Fail> {
         "problem.pddl:2:18: fault 17 UnknownName (columns count bytes)
    2 |  (:init) (:goal (fats herbie)))
      |                  ^^^^
-no predicate is called `fats`; near to it: `fast` and `at`.
+no predicate is called `fats`; did you mean `fast` or `at`?
 "
     );
     Ok(())

@@ -1,0 +1,61 @@
+"""Competition files made into files of the language before they are solved (docs/ipc-files.md), and plans taken back.
+
+    answers/TASK/domain.pddl, problem.pddl, changes.json    what `tools/ipc-files` wrote, which the program solves
+    answers/TASK/original-plan.txt                          the plan in the names of the files that were found
+"""
+
+from __future__ import annotations
+
+import hashlib
+import json
+import sys
+from dataclasses import dataclass
+from fractions import Fraction
+from pathlib import Path
+
+from batching import ROOT
+from batching.layouts import Task
+
+TOOL = f"{ROOT}/tools/ipc-files"
+WRITTEN = ("domain.pddl", "problem.pddl", "changes.json", "original-plan.txt")
+
+
+def sum_of_tool() -> str:
+    """A sum of all that the tool is made of."""
+    total = hashlib.sha256()
+    for path in [Path(TOOL), *sorted(Path(f"{ROOT}/tools/ipc_files").glob("*.py"))]:
+        total.update(path.read_bytes())
+    return total.hexdigest()[:16]
+
+
+def words_into(task: Task, folder: str) -> list[str]:
+    """The command that writes a task's files into a folder."""
+    return [sys.executable, TOOL, task.domain, task.problem, "--into", folder]
+
+
+def words_back(folder: str, plan: str) -> list[str]:
+    """The command that takes a plan for the files of a folder back."""
+    return [sys.executable, TOOL, "--back", folder, plan]
+
+
+@dataclass(frozen=True)
+class Converted:
+    """What was written for a task, which is solved in its place."""
+
+    task: Task
+    # How many changes there are, and by what costs are multiplied.
+    changes: int
+    factor: int
+
+    @classmethod
+    def read(cls, task: Task, folder: str) -> Converted:
+        with open(f"{folder}/changes.json", encoding="utf-8") as text:
+            table = json.load(text)
+        return cls(Task(task.name, f"{folder}/domain.pddl", f"{folder}/problem.pddl"), len(table["changes"]), table["factor"])
+
+    def cost_back(self, cost: int | None) -> int | float | None:
+        """A cost, or a bound, of the files that were found."""
+        if cost is None:
+            return None
+        back = Fraction(cost, self.factor)
+        return int(back) if back.denominator == 1 else float(back)

@@ -1,0 +1,42 @@
+; Assembly, with what follows from a finished part written as a `when` within a `when`.
+(define (domain assembly)
+   (:requirements :adl)
+   (:types assembly resource)
+   (:predicates (available ?a-or-r - (either assembly resource))
+		(complete ?a - assembly)
+		(requires ?a - assembly ?r - resource)
+		(committed ?r - resource ?a - assembly)
+		(incorporated ?part ?whole - assembly)
+		(part-of ?part ?whole - assembly)
+		(assemble-order ?part1 ?part2 ?whole - assembly)
+		(tidy ?r - resource))
+
+   (:action commit
+	    :parameters (?res - resource ?as - assembly)
+	    :precondition (available ?res)
+	    :effect (and (not (available ?res)) (committed ?res ?as)))
+
+   (:action release
+	    :parameters (?res - resource ?as - assembly)
+	    :precondition (committed ?res ?as)
+	    :effect (and (not (committed ?res ?as)) (available ?res)))
+
+   (:action assemble
+	    :parameters (?part - assembly ?whole - assembly)
+	    :precondition (and (forall (?res - resource)
+				       (imply (requires ?whole ?res) (committed ?res ?whole)))
+			       (part-of ?part ?whole)
+			       (available ?part)
+			       (forall (?prev - assembly)
+				       (imply (assemble-order ?prev ?part ?whole) (incorporated ?prev ?whole))))
+	    :effect (and (incorporated ?part ?whole)
+			 (not (available ?part))
+			 (when (not (exists (?p - assembly)
+					    (and (part-of ?p ?whole) (not (= ?p ?part)) (not (incorporated ?p ?whole)))))
+			       (and (complete ?whole)
+				    (available ?whole)
+				    (forall (?res - resource)
+					    (when (committed ?res ?whole)
+						  (and (not (committed ?res ?whole)) (available ?res))))
+				    (when (requires ?whole clamp)
+					  (when (committed clamp ?whole) (tidy clamp))))))))

@@ -1,0 +1,3 @@
+﻿(define (domain marked)
+  (:predicates (p))
+  (:action go :parameters () :effect (p)))

@@ -1,0 +1,1 @@
+﻿(define (problem marked-1) (:domain marked) (:init) (:goal (p)))

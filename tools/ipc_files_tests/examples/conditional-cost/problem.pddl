@@ -1,0 +1,1 @@
+(define (problem a-toll) (:domain tolls) (:init) (:goal (p)) (:metric minimize (total-cost)))

@@ -1,0 +1,1 @@
+(define (problem a-tower) (:domain towers) (:objects a b) (:init) (:goal (on a b)))

@@ -1,0 +1,2 @@
+(define (problem a-tower) (:domain towers) (:objects a b)
+  (:init) (:goal (above a b)))

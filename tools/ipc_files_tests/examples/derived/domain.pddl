@@ -1,0 +1,15 @@
+; Derived predicates in a chain, with two rules, with types that are nearer than the predicate's, and with variables of the names that
+; are in scope where they are asked for; under `not`, quantifiers, a `when`, and in the goal.
+(define (domain towers)
+  (:requirements :adl :derived-predicates)
+  (:types glass - block block table)
+  (:predicates (on ?x ?y - object) (clear ?x - block) (holding ?x - block) (idle) (stacked ?x - object) (fragile ?x - object) (seen ?b - block))
+  (:derived (clear ?x) (and (not (holding ?x)) (forall (?y - block) (not (on ?y ?x)))))
+  (:derived (idle) (not (exists (?x - block) (holding ?x))))
+  (:derived (stacked ?y - block) (exists (?x - block) (on ?y ?x)))
+  (:derived (fragile ?x - glass) (clear ?x))
+  (:derived (fragile ?x - block) (exists (?y - glass) (and (on ?x ?y) (stacked ?x))))
+  (:action pick :parameters (?x - block ?y - object) :precondition (and (idle) (clear ?x) (on ?x ?y))
+    :effect (and (holding ?x) (not (on ?x ?y)) (forall (?y - block) (when (fragile ?y) (seen ?y)))))
+  (:action put :parameters (?x ?y - block) :precondition (and (holding ?x) (clear ?y)) :effect (and (not (holding ?x)) (on ?x ?y)))
+  (:action drop :parameters (?x - block ?y - table) :precondition (holding ?x) :effect (and (not (holding ?x)) (on ?x ?y))))

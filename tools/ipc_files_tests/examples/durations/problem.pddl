@@ -1,0 +1,1 @@
+(define (problem timed-1) (:domain timed) (:init) (:goal (p)) (:metric minimize (total-time)))

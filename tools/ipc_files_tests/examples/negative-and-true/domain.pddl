@@ -1,0 +1,3 @@
+(define (domain switches)
+  (:predicates (on ?s))
+  (:action flip :parameters (?s) :precondition (not (on ?s)) :effect (on ?s)))

@@ -1,0 +1,2 @@
+(define (problem a-switch) (:domain switches) (:objects s)
+  (:init (not (on s)) (on s)) (:goal (on s)))

@@ -1,0 +1,15 @@
+; Effects within a `when`, whose variables would be caught by the condition where they were moved as they are; and a cost in a list
+; within the list.
+(define (domain wires)
+  (:types wire lamp)
+  (:predicates (hot ?w - wire) (ties ?w - wire ?l - lamp) (lit ?l - lamp) (burnt ?l - lamp) (main) (seen ?w - wire))
+  (:functions (total-cost) - number)
+  (:action switch :parameters (?x - wire)
+    :effect (and (and (hot ?x) (increase (total-cost) 2))
+                 (when (main)
+                       (and (seen ?x)
+                            (not (main))
+                            (forall (?l - lamp)
+                              (and (when (ties ?x ?l) (lit ?l))
+                                   (when (and (lit ?l) (exists (?w - wire) (ties ?w ?l))) (and (burnt ?l) (and (not (lit ?l)))))))))
+                 (when (exists (?w - wire) (hot ?w)) (forall (?w - wire) (when (hot ?w) (and (seen ?w) (not (hot ?w)))))))))

@@ -1,0 +1,1 @@
+(define (problem things-1) (:domain things) (:init) (:goal (p)))

@@ -1,0 +1,1 @@
+(define (problem a-door) (:domain doors) (:init) (:goal (open)))

@@ -1,0 +1,1 @@
+(define (problem cold) (:domain engine) (:init) (:goal (on)))

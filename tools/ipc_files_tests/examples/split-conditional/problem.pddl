@@ -1,0 +1,1 @@
+(define (problem few) (:domain many) (:objects x) (:init (p x)) (:goal (q)))

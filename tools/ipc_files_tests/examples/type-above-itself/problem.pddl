@@ -1,0 +1,1 @@
+(define (problem ring-1) (:domain ring) (:init) (:goal (p)))

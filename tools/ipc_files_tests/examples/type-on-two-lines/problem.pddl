@@ -1,0 +1,1 @@
+(define (problem one-boat) (:domain boats) (:objects h - houseboat) (:init) (:goal (at h)))

@@ -1,0 +1,3 @@
+(define (domain typo)
+  (:predicates (p ?x))
+  (:action go :parameters (?x) :effect (p ?x)))

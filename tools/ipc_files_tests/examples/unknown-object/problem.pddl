@@ -1,0 +1,1 @@
+(define (problem typo-1) (:domain typo) (:objects here) (:init) (:goal (p hre)))
