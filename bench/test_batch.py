@@ -512,4 +512,6 @@ def load_tests(loader, tests, _):
 
 
 if __name__ == "__main__":
+    # A shell that starts this in the background has it ignore SIGINT, and then whatever it starts does so too.
+    signal.signal(signal.SIGINT, signal.default_int_handler)
     unittest.main()
