@@ -89,7 +89,7 @@ impl<'a> Case<'a> {
         }
     }
 
-    /// Takes the sections of a text. What stands before the first is a title or a comment.
+    /// Takes the sections of a text. What comes before the first is a title or a comment.
     pub fn take(
         &mut self,
         alloc: Global,

@@ -13,7 +13,7 @@ pub struct FollowUp<'a> {
 }
 
 impl<'a> FollowUp<'a> {
-    /// What a section says of it: its words, and below them what it is to tell.
+    /// What a section says of it: its words, and below them what it is to report.
     pub fn of(alloc: Global, section: Section<'a>, turn: Turn) -> Result<FollowUp<'a>, CaseFault> {
         Ok(FollowUp {
             words: section.words.split_whitespace().collect(alloc)?,
@@ -21,7 +21,7 @@ impl<'a> FollowUp<'a> {
         })
     }
 
-    /// How what it tells differs from what is wanted, and `None` where it does not.
+    /// How what it reports differs from what is wanted, and `None` where it does not.
     pub fn difference(
         &self,
         alloc: Global,
@@ -29,11 +29,11 @@ impl<'a> FollowUp<'a> {
     ) -> Result<Option<String>, AllocError> {
         let (mut out, mut err) = (Memory::empty(alloc), Memory::empty(alloc));
         let status = planner_main::run(alloc, &self.words, files, &mut out, &mut err);
-        self.told(alloc, status, out.as_slice())
+        self.reported(alloc, status, out.as_slice())
     }
 
     /// How these bytes differ from what is wanted, and `None` where they do not.
-    fn told(&self, alloc: Global, status: u8, is: &[u8]) -> Result<Option<String>, AllocError> {
+    fn reported(&self, alloc: Global, status: u8, is: &[u8]) -> Result<Option<String>, AllocError> {
         if is == self.wanted.as_slice() {
             return Ok(None);
         }

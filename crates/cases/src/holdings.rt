@@ -28,7 +28,7 @@ impl Holding<'_> {
     }
 }
 
-/// The bytes of a file as they are told; `None` where there is none.
+/// The bytes of a file as they are reported; `None` where there is none.
 #[derive(Clone, Copy)]
 struct Shown<'a>(Option<&'a [u8]>);
 

@@ -130,14 +130,14 @@ fn run_case(
     let title = text.lines().next().unwrap_or("");
     match outcome::difference(rt.alloc(), shared, text, byte) {
         Ok(None) => return Ok(true),
-        Ok(Some(found)) => tell(rt, file, title, byte, found.as_str())?,
-        Err(fault) => tell(rt, file, title, byte, fault.text())?,
+        Ok(Some(found)) => print_result(rt, file, title, byte, found.as_str())?,
+        Err(fault) => print_result(rt, file, title, byte, fault.text())?,
     }
     Ok(false)
 }
 
-/// Tells what was found of a case.
-fn tell(
+/// Reports what was found of a case.
+fn print_result(
     rt: &HostRuntime,
     file: &str,
     title: &str,

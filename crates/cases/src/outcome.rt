@@ -35,11 +35,11 @@ fn run(alloc: Global, case: &mut Case<'_>) -> Result<Option<String>, CaseFault> 
     let mut out = case.out.device(alloc);
     let mut err = case.err.device(alloc);
     let status = planner_main::run(alloc, words, &mut case.files, &mut out, &mut err);
-    Ok(told_difference(alloc, case, status, &out, &err)?)
+    Ok(reported_difference(alloc, case, status, &out, &err)?)
 }
 
 /// How the status, what the streams took, or what is left differs, and `None` where nothing does.
-fn told_difference(
+fn reported_difference(
     alloc: Global,
     case: &mut Case<'_>,
     status: u8,
@@ -55,7 +55,7 @@ fn told_difference(
     }
 }
 
-/// How the files that are left, or what is told of them by a further run, differ, and `None` where they do not.
+/// How the files that are left, or what is reported for them by a further run, differ, and `None` where they do not.
 fn left_difference(alloc: Global, case: &mut Case<'_>) -> Result<Option<String>, AllocError> {
     match case.holdings.difference(alloc, &case.files.table)? {
         None => then_difference(alloc, case),
@@ -63,7 +63,7 @@ fn left_difference(alloc: Global, case: &mut Case<'_>) -> Result<Option<String>,
     }
 }
 
-/// How what is told by a further run differs, and `None` where it does not, or there is none.
+/// How what is reported by a further run differs, and `None` where it does not, or there is none.
 fn then_difference(alloc: Global, case: &mut Case<'_>) -> Result<Option<String>, AllocError> {
     match &case.then {
         Some(then) => then.difference(alloc, &mut case.files),

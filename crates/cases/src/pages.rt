@@ -1,27 +1,27 @@
 //! The completions and the manual page, held against the program's help: each command and each option that the help names is
-//! to stand in each of them.
+//! to occur in each of them.
 use crate::Tally;
 use devices::Memory;
 use std::alloc::{AllocError, Global};
 use std::{fs, io};
 use test_devices::Table;
 
-/// A file that tells of the commands, and how.
+/// A file that says of the commands, and how.
 #[derive(Clone, Copy)]
 struct Page {
     name: &'static str,
-    // what stands before and behind a command's name where its part begins, and what ends the part
+    // what comes before and after a command's name where its part begins, and what ends the part
     before: &'static str,
-    behind: &'static str,
+    following: &'static str,
     ends: &'static str,
-    // what stands before an option's name
+    // what comes before an option's name
     dashes: &'static str,
 }
 
 const BASH: Page = Page {
     name: "completions/optplan.bash",
     before: "\n        ",
-    behind: ") ",
+    following: ") ",
     ends: ";;",
     dashes: "--",
 };
@@ -29,7 +29,7 @@ const BASH: Page = Page {
 const ZSH: Page = Page {
     name: "completions/_optplan",
     before: "\n        ",
-    behind: ")\n",
+    following: ")\n",
     ends: ";;",
     dashes: "--",
 };
@@ -37,7 +37,7 @@ const ZSH: Page = Page {
 const FISH: Page = Page {
     name: "completions/optplan.fish",
     before: "'__fish_seen_subcommand_from ",
-    behind: "'",
+    following: "'",
     ends: "\n\n",
     dashes: "-l ",
 };
@@ -45,7 +45,7 @@ const FISH: Page = Page {
 const MANUAL: Page = Page {
     name: "optplan.1",
     before: "\n.B optplan ",
-    behind: "\n",
+    following: "\n",
     ends: "\n.B",
     dashes: "\\-\\-",
 };
@@ -128,7 +128,7 @@ fn is_among(name: &str, names: &[&str]) -> bool {
     names.iter().any(|&other| other == name)
 }
 
-/// Counts the part of a command, and tells where it is missing.
+/// Counts the part of a command, and says where it is missing.
 fn count_part(
     rt: &HostRuntime,
     page: Page,
@@ -143,7 +143,7 @@ fn count_part(
     Ok(())
 }
 
-/// Looks for an option in a text, and tells where it is missing.
+/// Looks for an option in a text, and says where it is missing.
 fn look(
     rt: &HostRuntime,
     page: Page,
@@ -170,14 +170,14 @@ fn part_of<'a>(
     text: &'a str,
     command: &str,
 ) -> Result<Option<&'a str>, AllocError> {
-    let begins = format!(in alloc; "{}{command}{}", page.before, page.behind)?;
+    let begins = format!(in alloc; "{}{command}{}", page.before, page.following)?;
     match text.split_once(begins.as_str()) {
         Some((_, below)) => Ok(below.split(page.ends).next()),
         None => Ok(None),
     }
 }
 
-/// Whether the word stands in the text, and is not only the beginning of a longer one.
+/// Whether the word is in the text, and is not only the beginning of a longer one.
 fn has_word(text: &str, word: &str) -> bool {
     text.split(word).skip(1).any(|rest| !rest.starts_with(|next: char| next == '-'
         || next.is_ascii_alphanumeric()))

@@ -2,10 +2,10 @@
 use crate::text::{add_lines, add_unescaped};
 use std::alloc::{AllocError, Global};
 
-/// What stands below the line that begins a section, or behind its colon.
+/// What is below the line that begins a section, or after its colon.
 #[derive(Clone, Copy)]
 enum Content<'a> {
-    /// The lines below, as they stand, without blank ones at the end.
+    /// The lines below, as they are, without blank ones at the end.
     Lines(&'a str),
     /// The rest of the line, with escapes.
     Line(&'a str),
@@ -23,7 +23,7 @@ pub struct Turn {
 /// A section: what it is of, what is done, and the bytes below it.
 #[derive(Clone, Copy)]
 pub struct Section<'a> {
-    /// What the section is of: the first word behind the dashes.
+    /// What the section is of: the first word after the dashes.
     pub name: &'a str,
     /// The further words up to a colon or the end of the line.
     pub words: &'a str,
@@ -54,7 +54,7 @@ impl<'a> Section<'a> {
         self.words.split_once(' ').unwrap_or((self.words, ""))
     }
 
-    /// Whether the turn's number stands in the section.
+    /// Whether the turn's number is in the section.
     pub fn is_numbered(&self) -> bool {
         match self.content {
             Content::Lines(_) => false,

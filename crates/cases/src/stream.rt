@@ -8,7 +8,7 @@ use test_devices::{FailsAt, InPieces};
 /// A stream that may take its bytes in pieces, and fail.
 pub type Device = FailsAt<InPieces<Memory>>;
 
-/// Which part of what a stream takes is told.
+/// Which part of what a stream takes is reported.
 #[derive(Clone, Copy)]
 enum Part {
     Whole,
@@ -16,7 +16,7 @@ enum Part {
     End,
 }
 
-/// The part that a section with this verb tells.
+/// The part that a section with this verb reports.
 fn part_of(verb: &str) -> Result<Part, CaseFault> {
     match verb {
         "" => Ok(Part::Whole),

@@ -34,7 +34,7 @@ pub fn add_unescaped(
 enum State {
     /// A byte that stands for itself, or a backslash.
     Plain,
-    /// The letter behind a backslash.
+    /// The letter after a backslash.
     Escape,
     /// The first digit of a byte.
     High,
@@ -68,7 +68,7 @@ fn step(state: State, byte: u8, each: Option<u8>) -> (State, Made) {
     }
 }
 
-/// What a letter behind a backslash makes.
+/// What a letter after a backslash makes.
 fn escaped(letter: u8, each: Option<u8>) -> Made {
     match letter {
         b'n' => Made::Byte(b'\n'),

@@ -1,4 +1,4 @@
--- What is told of a text, by what is told of the certificate that was read from it.
+-- What is reported for a text, by what is reported for the certificate that was read from it.
 use Rattle.std.proofs.Common.{◌≡◌, ℕ, List, ◌++◌, Option, None, Some, inr, sym, ap, ◌∙◌, subst, append-nil, arith}
 use Rattle.std.specs.Prelude.{IfErr, IfOk, OnOk, Ok, Err, Result}
 use Rattle.std.specs.Io.KnownBytes.{Consumes, IsAtEnd}
@@ -11,12 +11,12 @@ use Rattle.cert_checker.specs.declared.refusal.Refusal.TheVariants as refusal
 use Rattle.cert_checker.specs.declared.refusal.RefusalCode.{RefusalCode}
 use Rattle.cert_checker.specs.declared.refusal.RefusalCode.TheVariants as code
 use Rattle.cert_checker.specs.RefusalCode.{number_of}
-use Rattle.cert_checker.specs.Reading.{CountsRefusal, IsLineRefusal, IsRead, IsToldAt}
+use Rattle.cert_checker.specs.Reading.{CountsRefusal, IsLineRefusal, IsRead, IsReportedAt}
 use Rattle.cert_checker.proofs.AcceptedLemmas.{accepted_has_no_fault, one_certificate}
 use Rattle.model.specs.Task.{Task, Instance}
 use Rattle.model.specs.Claims.{Claim}
 use Rattle.model.specs.Limits.{max_numbered_atoms}
-use Rattle.model.specs.Grounding.{limit_told}
+use Rattle.model.specs.Grounding.{exceeded_limit}
 use Rattle.certificate_definitions.specs.Certificates.{Certificate, IsClosedFor}
 use Rattle.certificate_definitions.specs.CertificateRefusals.{IsPlanWithin}
 use Rattle.cert_checker.specs.declared.checker.Accepted.{Accepted}
@@ -25,7 +25,7 @@ use Rattle.cert_checker.specs.CertChecker.{Answers, IsFirstRefusal, IsNoFault, I
 use Rattle.cert_checker.specs.Checking.{Accepts, Refuses}
 use Rattle.cert_checker.proofs.AnswerLemmas.{no_fault}
 
--- the plan that was handed in costs what is claimed
+-- the plan that was given costs what is claimed
 plan_within : (task : Task) (claim : Claim) (plan : Option (List Instance)) (answer : Accepted) → IsShown task plan answer → Answers claim plan answer → IsPlanWithin task claim plan
 plan_within task claim None answer shown answers = tt
 plan_within task claim (Some p) (Optimal cost) (best, costs) (is, there) =
@@ -51,24 +51,24 @@ more_of (Some all) (Some rest) bytes text consumed known =
 
 module _ {R : Type 0} (remaining : R → Option (List ℕ)) (task : Task) (first now : CertReader R) where
   module _ (text : List ℕ) (known : remaining (source_of first) ≡ Some text) where
-    told_anyway : (line number : ℕ)
+    reported_anyway : (line number : ℕ)
         → (bytes : List ℕ) × Consumes (remaining (source_of first)) (remaining (source_of now)) bytes × ((more : List ℕ) → IsLineFault task (bytes ++ more) number line) → IsLineFault task text number line
-    told_anyway line number (bytes, consumed, fault) =
+    reported_anyway line number (bytes, consumed, fault) =
         let (rest, whole) = more_of (remaining (source_of first)) (remaining (source_of now)) bytes text consumed known in
         subst (λ text. IsLineFault task text number line) whole (fault rest)
 
-    -- what is told of a line is told of the text
-    told_of_text : (c : RefusalCode) (line : ℕ) → IsToldAt remaining task first now c line → IsLineFault task text (number_of c) line
-    told_of_text code.Truncated line (bytes, consumed, at_end, fault) =
+    -- what is reported for a line is reported for the text
+    reported_of_text : (c : RefusalCode) (line : ℕ) → IsReportedAt remaining task first now c line → IsLineFault task text (number_of c) line
+    reported_of_text code.Truncated line (bytes, consumed, at_end, fault) =
         subst (λ text. IsLineFault task text 42 line) (all_of (remaining (source_of first)) (remaining (source_of now)) bytes text consumed at_end known) fault
-    told_of_text c line told = told_anyway line (number_of c) told
+    reported_of_text c line reported = reported_anyway line (number_of c) reported
 
     -- no line of an accepted text is refused
     pub none_at_fault : (plan : Option (List Instance)) → IsAccepted task text plan → (e : Refusal) → IsLineRefusal remaining task first now e → IsNoFault e
-    none_at_fault plan accepted (refusal.Line c line) told = accepted_has_no_fault task text plan accepted (number_of c) line (told_of_text c line told)
-    none_at_fault plan accepted refusal.NoMemory told = tt
-    none_at_fault plan accepted refusal.Device told = tt
-    none_at_fault plan accepted _ told = absurd told
+    none_at_fault plan accepted (refusal.Line c line) reported = accepted_has_no_fault task text plan accepted (number_of c) line (reported_of_text c line reported)
+    none_at_fault plan accepted refusal.NoMemory reported = tt
+    none_at_fault plan accepted refusal.Device reported = tt
+    none_at_fault plan accepted _ reported = absurd reported
 
     -- and its certificate is not refused
     pub not_refused : (plan : Option (List Instance)) (most : ℕ) (c : Certificate) → IsRead remaining task first now c → IsAccepted task text plan → (r : Result Accepted Refusal)
@@ -81,7 +81,7 @@ module _ {R : Type 0} (remaining : R → Option (List ℕ)) (task : Task) (first
 
   module _ (plan : Option (List Instance)) (most : ℕ) (c : Certificate) (read : IsRead remaining task first now c) where
     pub accepts_read : (r : Result Accepted Refusal) → IfOk r (IsShown task plan) → OnOk r (IsClosedFor task c) → IfOk r (Answers c.claim plan)
-        → OnOk r (limit_told most max_numbered_atoms task c.atoms ≡ None) → IfOk r (Accepts remaining task first now plan most)
+        → OnOk r (exceeded_limit most max_numbered_atoms task c.atoms ≡ None) → IfOk r (Accepts remaining task first now plan most)
     accepts_read (Ok answer) shown closed answers within = record {
       text = read.text;
       consumed = read.consumed;

@@ -20,11 +20,11 @@ use Rattle.certificate_definitions.specs.CertificateText.{NamedAtom, Weights, We
 use Rattle.certificate_definitions.specs.CertificateNames.{AllName, IsTextOf, Names, dead_ends_said, of_dead_end_or_zero, potentials_said}
 use Rattle.certificate_definitions.specs.CertificateChecking.{HasAtom, IsAccepted, IsCut, IsLineFault, IsWrongAfter, IsWrongHere, not_fluent, repeated_atom, repeated_state, cut_not_allowed}
 use Rattle.certificate_definitions.specs.CertificateMachine.{Place, at_version, at_claim, at_constant, in_body, ended, next_place}
-use Rattle.certificate_definitions.proofs.Machine.{StandsBefore, end_of_whole, followed, never, only_where, place_of_beginning, stands}
+use Rattle.certificate_definitions.proofs.Machine.{ComesBefore, end_of_whole, followed, never, only_where, place_of_beginning, occurs}
 use Rattle.certificate_definitions.proofs.TooMany.{IsTooManyAt, too_many_at}
 use Rattle.certificate_reader.specs.Words.{are_lower}
 use Rattle.certificate_reader.proofs.OneText as one_text
-use Rattle.cert_checker.specs.Told.{atom_in, atoms_told, names_told, state_in, states_told}
+use Rattle.cert_checker.specs.Given.{atom_in, atoms_given, names_given, state_in, states_given}
 use Rattle.cert_checker.proofs.NamesLemmas.{one_named}
 use Rattle.cert_checker.proofs.PlacedLemmas.{atoms_of_text, named_length, states_of_text}
 use Rattle.cert_checker.proofs.SplitLemmas.{begun_kept, end_within, first_line, kept_lines, line_is_first, line_short, nothing_there, split_off, text_push}
@@ -70,8 +70,8 @@ keeps_by_parts said c keeps version_is claim_is count potentials_are dead_ends_a
     let state_lines : List TextLine = map (λ l. listed l) said.lines in
     let end : List TextLine = last (length said.lines) ∷ [] in
     let (claim, others) = and_parts (is_claim said.claim) (are_weights v said.constants && list_all (is_line v k) ((atom_lines ++ state_lines) ++ end)) each in
-    let (constants_are, behind) = and_parts (are_weights v said.constants) (list_all (is_line v k) ((atom_lines ++ state_lines) ++ end)) others in
-    let (body, _) = and_parts (list_all (is_line v k) (atom_lines ++ state_lines)) (list_all (is_line v k) end) (sym (list_all-append (is_line v k) (atom_lines ++ state_lines) end) ∙ behind) in
+    let (constants_are, following) = and_parts (are_weights v said.constants) (list_all (is_line v k) ((atom_lines ++ state_lines) ++ end)) others in
+    let (body, _) = and_parts (list_all (is_line v k) (atom_lines ++ state_lines)) (list_all (is_line v k) end) (sym (list_all-append (is_line v k) (atom_lines ++ state_lines) end) ∙ following) in
     let (atoms, states) = and_parts (list_all (is_line v k) atom_lines) (list_all (is_line v k) state_lines) (sym (list_all-append (is_line v k) atom_lines state_lines) ∙ body) in
     let states_are : list_all (λ l. is_line v k (listed l)) said.lines ≡ true = sym (list_all-map (is_line v k) (λ l. listed l) said.lines) ∙ states in
     let value_of : WeightedAtom → ℤ = λ a. a.weights.of_value in
@@ -130,7 +130,7 @@ module _ {X : Type 0} (R : X → X → Type 0) where
   first_apart : (x : X) (rest : List X) (y : X) → AllPairs R (x ∷ rest) → Contains rest y → R x y
   first_apart x rest y pairs (k, below, is) = subst (R x) is (pairs 0 (suc k) y (omega arith) (omega (arith, below)))
 
-  -- what holds of all pairs holds of one that stands before another
+  -- what holds of all pairs holds of one that comes before another
   apart : (xs ys : List X) (x y : X) → AllPairs R (xs ++ y ∷ ys) → Contains xs x → R x y
   apart [] ys x y pairs there = absurd (Contains-none x there)
   apart (z ∷ xs) ys x y pairs there =
@@ -141,24 +141,24 @@ all_there : {X : Type 0} (P : X → Type 0) (xs : List X) (x : X) → All P xs �
 all_there P xs x all (k, below, is) = subst P is (all k x below)
 
 -- the atom that one of the names names, and those of the names before it
-record IsNamedBehind (task : Task) (names : List NamedAtom) (name : NamedAtom) (atoms : List Atom) : Type 0 where
+record IsNamedAfter (task : Task) (names : List NamedAtom) (name : NamedAtom) (atoms : List Atom) : Type 0 where
   front : List Atom
   here : Atom
-  behind : List Atom
-  are : atoms ≡ front ++ here ∷ behind
+  following : List Atom
+  are : atoms ≡ front ++ here ∷ following
   named : AllName task names front
   is : Names task name here
 
-named_behind : (task : Task) (names more : List NamedAtom) (name : NamedAtom) (atoms : List Atom) → AllName task (names ++ name ∷ more) atoms → IsNamedBehind task names name atoms
-named_behind task [] more name [] are = absurd are
-named_behind task [] more name (a ∷ atoms) (is, are) = record { front = []; here = a; behind = atoms; are = refl; named = tt; is = is }
-named_behind task (n ∷ names) more name [] are = absurd are
-named_behind task (n ∷ names) more name (a ∷ atoms) (is, are) =
-    let rest = named_behind task names more name atoms are in
+named_after : (task : Task) (names more : List NamedAtom) (name : NamedAtom) (atoms : List Atom) → AllName task (names ++ name ∷ more) atoms → IsNamedAfter task names name atoms
+named_after task [] more name [] are = absurd are
+named_after task [] more name (a ∷ atoms) (is, are) = record { front = []; here = a; following = atoms; are = refl; named = tt; is = is }
+named_after task (n ∷ names) more name [] are = absurd are
+named_after task (n ∷ names) more name (a ∷ atoms) (is, are) =
+    let rest = named_after task names more name atoms are in
     record {
       front = a ∷ rest.front;
       here = rest.here;
-      behind = rest.behind;
+      following = rest.following;
       are = ap (λ atoms. a ∷ atoms) rest.are;
       named = (is, rest.named);
       is = rest.is;
@@ -169,9 +169,9 @@ named_among task [] atoms name are there = absurd (Contains-none name there)
 named_among task (n ∷ names) [] name are there = absurd are
 named_among task (n ∷ names) (a ∷ atoms) name (here, are) there =
     ⊎_elim (λ same. (a, Contains-here a atoms, subst (λ name. Names task name a) same here))
-    (λ later. let (b, stands, is) = named_among task names atoms name are later in (b, Contains-there a atoms b stands, is)) (Contains-cases n names name there)
+    (λ later. let (b, occurs, is) = named_among task names atoms name are later in (b, Contains-there a atoms b occurs, is)) (Contains-cases n names name there)
 
--- only one claim stands in the lines
+-- only one claim is in the lines
 claim_there : (said : NamedCertificate) (d : Claim) → Contains (text_lines said) (claims d) → said.claim ≡ d
 claim_there said d there =
     ⊎_elim (λ same. absurd (cc same))
@@ -205,44 +205,44 @@ line_at task c l = record { state = state_of_line task c l; cost = l.cost; mark 
 module _ (task : Task) (c : Certificate) (closed : IsClosedFor task c) (said : NamedCertificate) (claim_is : said.claim ≡ c.claim) (named : AllName task (map (λ (a : WeightedAtom). a.atom) said.atoms) c.atoms)
     (lines_are : said.lines ≡ c.lines) where
   module _ (before after : List TextLine) where
-    atom_behind : (a : WeightedAtom) → text_lines said ≡ before ++ atom a ∷ after → IsNamedBehind task (names_told before) a.atom c.atoms
-    atom_behind a splits =
-        named_behind task (names_told before) (names_told after) a.atom c.atoms
+    atom_after : (a : WeightedAtom) → text_lines said ≡ before ++ atom a ∷ after → IsNamedAfter task (names_given before) a.atom c.atoms
+    atom_after a splits =
+        named_after task (names_given before) (names_given after) a.atom c.atoms
         (subst (λ names. AllName task names c.atoms)
-        (ap (map (λ (a : WeightedAtom). a.atom)) (sym (atoms_of_text said) ∙ ap atoms_told splits ∙ filter_map-append atom_in before (atom a ∷ after))
-        ∙ map-append (λ (a : WeightedAtom). a.atom) (atoms_told before) (a ∷ atoms_told after)) named)
+        (ap (map (λ (a : WeightedAtom). a.atom)) (sym (atoms_of_text said) ∙ ap atoms_given splits ∙ filter_map-append atom_in before (atom a ∷ after))
+        ∙ map-append (λ (a : WeightedAtom). a.atom) (atoms_given before) (a ∷ atoms_given after)) named)
 
     no_repeat : (a : WeightedAtom) → text_lines said ≡ before ++ atom a ∷ after → HasAtom before a.atom → ⊥
     no_repeat a splits (earlier, there, same) =
-        let at = atom_behind a splits in
-        let told : Contains (names_told before) a.atom = subst (Contains (names_told before)) same
-        (Contains-map (λ (a : WeightedAtom). a.atom) (atoms_told before) earlier (Contains-filter_map atom_in before (atom earlier) earlier there refl)) in
-        let (b, among, is) = named_among task (names_told before) at.front a.atom at.named told in
-        apart (λ (a b : Atom). a ≢ b) at.front at.behind b at.here (subst (AllPairs (λ (a b : Atom). a ≢ b)) at.are closed.atoms_are_distinct) among (one_named task a.atom b at.here is at.is)
+        let at = atom_after a splits in
+        let reported : Contains (names_given before) a.atom = subst (Contains (names_given before)) same
+        (Contains-map (λ (a : WeightedAtom). a.atom) (atoms_given before) earlier (Contains-filter_map atom_in before (atom earlier) earlier there refl)) in
+        let (b, among, is) = named_among task (names_given before) at.front a.atom at.named reported in
+        apart (λ (a b : Atom). a ≢ b) at.front at.following b at.here (subst (AllPairs (λ (a b : Atom). a ≢ b)) at.are closed.atoms_are_distinct) among (one_named task a.atom b at.here is at.is)
 
-    lines_behind : (l : StateLine) → text_lines said ≡ before ++ listed l ∷ after → c.lines ≡ states_told before ++ l ∷ states_told after
-    lines_behind l splits = sym lines_are ∙ sym (states_of_text said) ∙ ap states_told splits ∙ filter_map-append state_in before (listed l ∷ after)
+    lines_after : (l : StateLine) → text_lines said ≡ before ++ listed l ∷ after → c.lines ≡ states_given before ++ l ∷ states_given after
+    lines_after l splits = sym lines_are ∙ sym (states_of_text said) ∙ ap states_given splits ∙ filter_map-append state_in before (listed l ∷ after)
 
     no_state_twice : (l k : StateLine) → text_lines said ≡ before ++ listed l ∷ after → Contains before (listed k) → k.atoms ≡ l.atoms → ⊥
     no_state_twice l k splits there same =
-        apart (λ (k l : Line State). k.state ≢ l.state) (map (line_at task c) (states_told before)) (map (line_at task c) (states_told after)) (line_at task c k) (line_at task c l)
+        apart (λ (k l : Line State). k.state ≢ l.state) (map (line_at task c) (states_given before)) (map (line_at task c) (states_given after)) (line_at task c k) (line_at task c l)
         (subst (AllPairs (λ (k l : Line State). k.state ≢ l.state))
-        (ap (map (line_at task c)) (lines_behind l splits) ∙ map-append (line_at task c) (states_told before) (l ∷ states_told after)) closed.states_are_distinct)
-        (Contains-map (line_at task c) (states_told before) k (Contains-filter_map state_in before (listed k) k there refl))
+        (ap (map (line_at task c)) (lines_after l splits) ∙ map-append (line_at task c) (states_given before) (l ∷ states_given after)) closed.states_are_distinct)
+        (Contains-map (line_at task c) (states_given before) k (Contains-filter_map state_in before (listed k) k there refl))
         (ap (λ (numbers : List ℕ). state_of_line task c (record { cost = 0; mark = opened; atoms = numbers })) same)
 
     no_cut : (l : StateLine) → text_lines said ≡ before ++ listed l ∷ after → IsCut l.mark → Contains before (claims none) → ⊥
     no_cut l splits (rest, is) there =
         let is_none : c.claim ≡ none = sym claim_is
         ∙ claim_there said none (subst (λ lines. Contains lines (claims none)) (sym splits) (Contains-append_left before (listed l ∷ after) (claims none) there)) in
-        let among : Contains c.lines l = subst (λ lines. Contains lines l) (sym (lines_behind l splits)) (Contains-append_right (states_told before) (l ∷ states_told after) l (Contains-here l (states_told after))) in
+        let among : Contains c.lines l = subst (λ lines. Contains lines l) (sym (lines_after l splits)) (Contains-append_right (states_given before) (l ∷ states_given after) l (Contains-here l (states_given after))) in
         let allowed = closed.listing_is_closed.cuts_allowed (line_at task c l) rest (Contains-map (line_at task c) c.lines l among) is in
         subst (λ claim. Allows claim (l.cost + rest)) is_none allowed.1
 
     not_wrong : (line : TextLine) (number : ℕ) → text_lines said ≡ before ++ line ∷ after → IsWrongAfter task before line number → ⊥
     not_wrong line number splits (not_fluent a none_is) =
-        let at = atom_behind a splits in
-        let among : Contains c.atoms at.here = subst (λ atoms. Contains atoms at.here) (sym at.are) (Contains-append_right at.front (at.here ∷ at.behind) at.here (Contains-here at.here at.behind)) in
+        let at = atom_after a splits in
+        let among : Contains c.atoms at.here = subst (λ atoms. Contains atoms at.here) (sym at.are) (Contains-append_right at.front (at.here ∷ at.following) at.here (Contains-here at.here at.following)) in
         let (typed, changes) = and_parts (is_atom task at.here) (is_fluent task at.here.predicate)
         (all_there (λ (a : Atom). IsTrue (is_atom task a && is_fluent task a.predicate)) c.atoms at.here closed.atoms_are_fluent among) in
         none_is (at.here, at.is, typed, changes)
@@ -253,18 +253,18 @@ module _ (task : Task) (c : Certificate) (closed : IsClosedFor task c) (said : N
 -- ---- no line is at fault
 
 no_line : (bytes line : List ℕ) → bytes ≡ [] → HasLine bytes line → ⊥
-no_line bytes line nothing (behind, splits, single, few) = nothing_there line behind (sym nothing ∙ splits ∙ append_assoc line (10 ∷ []) behind)
+no_line bytes line nothing (following, splits, single, few) = nothing_there line following (sym nothing ∙ splits ∙ append_assoc line (10 ∷ []) following)
 
-nothing_behind : (line : TextLine) (next : Place) → next_place ended line ≡ Some next → ⊥
-nothing_behind (version v) next leads = never next leads
-nothing_behind (claims claim) next leads = never next leads
-nothing_behind (constant k) next leads = never next leads
-nothing_behind (atom a) next leads = never next leads
-nothing_behind (listed l) next leads = never next leads
-nothing_behind (last count) next leads = never next leads
+nothing_after : (line : TextLine) (next : Place) → next_place ended line ≡ Some next → ⊥
+nothing_after (version v) next leads = never next leads
+nothing_after (claims claim) next leads = never next leads
+nothing_after (constant k) next leads = never next leads
+nothing_after (atom a) next leads = never next leads
+nothing_after (listed l) next leads = never next leads
+nothing_after (last count) next leads = never next leads
 
 -- a line that leads on is within the limits
-within_limits : (before : List TextLine) (place next : Place) (line : TextLine) (w : Version) → StandsBefore place before → ((v : Version) (n m : ℕ) → StandsBefore (in_body v n m) before → w ≡ v)
+within_limits : (before : List TextLine) (place next : Place) (line : TextLine) (w : Version) → ComesBefore place before → ((v : Version) (n m : ℕ) → ComesBefore (in_body v n m) before → w ≡ v)
     → IsTrue (is_line w most_atoms line) → next_place place line ≡ Some next → IsTooManyAt place (line_text line) → ⊥
 within_limits before (in_body v n m) next line w body versions is leads (inl (empty, full, (a, a_is, same))) =
     let line_is = subst (λ v. IsTrue (is_line v most_atoms line)) (versions v n m body) is in
@@ -289,7 +289,7 @@ version_same : (u v : Version) → version u ≡ version v → u ≡ v
 version_same u v same = cc same
 
 module _ (said : NamedCertificate) (keeps : IsTrue (keeps_text_limits said)) (before : List TextLine) where
-  -- behind the last line nothing is at fault
+  -- after the last line nothing is at fault
   no_fault_at_end : text_lines said ≡ before ++ [] → (bytes : List ℕ) → bytes ≡ [] → (number : ℕ) → IsFaultAfter before bytes number → ⊥
   no_fault_at_end splits bytes nothing number (other_version line has is) = no_line bytes line nothing has
   no_fault_at_end splits bytes nothing number (malformed line has nowhere this few) = no_line bytes line nothing has
@@ -313,34 +313,34 @@ module _ (said : NamedCertificate) (keeps : IsTrue (keeps_text_limits said)) (be
         let all = sym (list_all-append test before (l ∷ more)) ∙ ap (list_all test) (sym splits) ∙ kept_lines said keeps in
         (and_parts (test l) (list_all test more) (and_parts (list_all test before) (list_all test (l ∷ more)) all).1).0
 
-    -- the lines behind the first
-    abbrev behind_version : List TextLine
-    behind_version = claims said.claim ∷ constant said.constants ∷ (map (λ a. atom a) said.atoms ++ map (λ l. listed l) said.lines) ++ last (length said.lines) ∷ []
+    -- the lines after the first
+    abbrev after_version : List TextLine
+    after_version = claims said.claim ∷ constant said.constants ∷ (map (λ a. atom a) said.atoms ++ map (λ l. listed l) said.lines) ++ last (length said.lines) ∷ []
 
     this_version : IsOtherVersion before (line_text l) → ⊥
     this_version (empty, n, is, not_one, not_two, same) =
-        let here : version said.version ≡ l = first_same (version said.version) l behind_version more (splits ∙ ap (λ lines. lines ++ l ∷ more) empty) in
+        let here : version said.version ≡ l = first_same (version said.version) l after_version more (splits ∙ ap (λ lines. lines ++ l ∷ more) empty) in
         by_version said.version (append_cancel_left (codes "pddl-cert ") (decimal (version_number said.version)) (decimal n) (ap line_text here ∙ same))
       where
         by_version : (v : Version) → decimal (version_number v) ≡ decimal n → ⊥
         by_version one digits = not_one (same_number n 1 is refl (sym digits))
         by_version two digits = not_two (same_number n 2 is refl (sym digits))
 
-    version_before : (v : Version) (n m : ℕ) → StandsBefore (in_body v n m) before → said.version ≡ v
+    version_before : (v : Version) (n m : ℕ) → ComesBefore (in_body v n m) before → said.version ≡ v
     version_before v n m body =
-        version_same said.version v (first_same (version said.version) (version v) behind_version
+        version_same said.version v (first_same (version said.version) (version v) after_version
         ((claims body.claim ∷ constant body.constant ∷ map (λ a. atom a) body.atoms ++ map (λ l. listed l) body.states) ++ l ∷ more) (splits ∙ ap (λ lines. lines ++ l ∷ more) body.lines_are))
 
     not_too_many : IsOneTooMany before (line_text l) → ⊥
     not_too_many over =
         let (place, at) = place_of_beginning before begun_before in
         let (next, leads) = followed before place at l begun in
-        within_limits before place next l said.version (stands before place at) version_before keeps_here leads (too_many_at before place at (line_text l) over)
+        within_limits before place next l said.version (occurs before place at) version_before keeps_here leads (too_many_at before place at (line_text l) over)
 
     not_whole_yet : AreWhole before → ⊥
     not_whole_yet whole =
         let (next, leads) = followed before ended (end_of_whole before whole) l begun in
-        nothing_behind l next leads
+        nothing_after l next leads
 
     no_fault_at_line : (bytes : List ℕ) → bytes ≡ text_of (l ∷ more) → (number : ℕ) → IsFaultAfter before bytes number → ⊥
     no_fault_at_line bytes are number (other_version line has is) = this_version (subst (IsOtherVersion before) (sym (line_is_first said.version bytes line l more keeps_here are has)) is)

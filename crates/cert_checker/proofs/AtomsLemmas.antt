@@ -17,8 +17,8 @@ use Rattle.model.proofs.ListLemmas.{Contains-map, map-Contains}
 use Rattle.certificate_definitions.specs.CertificateText.{Weights, WeightedAtom, TextLine, atom}
 use Rattle.certificate_definitions.specs.CertificateNames.{Names, of_dead_end_or_zero}
 use Rattle.certificate_definitions.specs.CertificateChecking.{IsWrongAfter}
-use Rattle.cert_checker.specs.Told.{Heading, HaveTold}
-use Rattle.cert_checker.proofs.ToldLemmas.{told_new_atom, wrong_again}
+use Rattle.cert_checker.specs.Given.{Heading, HaveGiven}
+use Rattle.cert_checker.proofs.GivenLemmas.{reported_new_atom, wrong_again}
 
 any_there : (x : code.Atom) (keys : List code.Atom) → Contains (map atom_of keys) (atom_of x) → list_any (atom_eq x) keys ≡ true
 any_there x keys among =
@@ -44,18 +44,18 @@ with_atom heading weights atoms = record {
 }
 
 module _ (task : Task) (before : List TextLine) (heading : Heading) (keys : List code.Atom) (atoms_are : heading.atoms ≡ map atom_of keys)
-    (told : HaveTold task before heading) (said : WeightedAtom) (a : code.Atom) (names : Names task said.atom (atom_of a)) (typed : IsTrue (is_atom task (atom_of a)))
+    (reported : HaveGiven task before heading) (said : WeightedAtom) (a : code.Atom) (names : Names task said.atom (atom_of a)) (typed : IsTrue (is_atom task (atom_of a)))
     (changes : IsTrue (is_fluent task (atom_of a).predicate)) (is_new : Bool) (added : is_new ≡ not (list_any (atom_eq a) keys)) where
-  pub new_is_told : is_new ≡ true → (after : List code.Atom) → after ≡ insert_key atom_eq keys a → HaveTold task (before ++ atom said ∷ []) (with_atom heading said.weights (map atom_of after))
-  new_is_told holds after is =
+  pub new_is_reported : is_new ≡ true → (after : List code.Atom) → after ≡ insert_key atom_eq keys a → HaveGiven task (before ++ atom said ∷ []) (with_atom heading said.weights (map atom_of after))
+  new_is_reported holds after is =
       let absent = was_new is_new (list_any (atom_eq a) keys) added holds in
-      subst (λ atoms. HaveTold task (before ++ atom said ∷ []) (with_atom heading said.weights atoms))
+      subst (λ atoms. HaveGiven task (before ++ atom said ∷ []) (with_atom heading said.weights atoms))
       (ap (λ atoms. atoms ++ atom_of a ∷ []) atoms_are ∙ sym (ap (map atom_of) (is ∙ ap (λ b. if b then keys else keys ++ a ∷ []) absent) ∙ map-append atom_of keys (a ∷ [])))
-      (told_new_atom task before heading told said (atom_of a) names typed changes
+      (reported_new_atom task before heading reported said (atom_of a) names typed changes
       (λ among. false≢true (sym absent ∙ any_there a keys (subst (λ atoms. Contains atoms (atom_of a)) atoms_are among))))
 
   pub again_is_wrong : is_new ≡ false → IsWrongAfter task before (atom said) 44
   again_is_wrong fails =
-      wrong_again task before heading told said (atom_of a) names typed changes
+      wrong_again task before heading reported said (atom_of a) names typed changes
       (subst (λ atoms. Contains atoms (atom_of a)) (sym atoms_are)
       (Contains-map atom_of keys a (Contains-from_any (λ a b alike. one_atom a b (equal_atoms a b alike)) a keys (was_there is_new (list_any (atom_eq a) keys) added fails))))

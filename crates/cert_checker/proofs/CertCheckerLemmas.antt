@@ -96,10 +96,10 @@ line_cut task cert s cost rest closed = record {
 }
 
 pub line_dead : (task : Task) (cert : Certificate) (s : State) (cost : ℕ) → IsTrue (is_dead_end_of cert s) → IsLineClosed task cert (record { state = s; cost = cost; mark = dead })
-line_dead task cert s cost told = record {
+line_dead task cert s cost reported = record {
   is_open = λ is. absurd (cc);
   is_cut = λ rest is. absurd (cc);
-  is_dead = λ _. told;
+  is_dead = λ _. reported;
 }
 
 -- ---- the initial state

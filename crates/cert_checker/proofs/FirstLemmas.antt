@@ -18,7 +18,7 @@ use Rattle.model.specs.Task.{Task, Instance}
 use Rattle.model.specs.Meaning.{State, system_of}
 use Rattle.model.specs.Instances.{successors_of}
 use Rattle.model.specs.Limits.{max_numbered_atoms}
-use Rattle.model.specs.Grounding.{limit_told}
+use Rattle.model.specs.Grounding.{exceeded_limit}
 use Rattle.model.specs.Claims.{none, opened, Line, IsListedWithin}
 use Rattle.certificate_definitions.specs.Certificates.{Certificate, StateLine, lines_of, IsClosedFor}
 use Rattle.certificate_definitions.specs.CertificateRefusals.{Reason, state_line, IsFirst}
@@ -29,9 +29,9 @@ both_of : (P Q : Reason → Type 0) (o : Option Reason) → MatchOption o ⊥ P 
 both_of P Q (Some reason) p q = (p, q)
 both_of P Q None p q = p
 
-pub told_first : (task : Task) (c : Certificate) (plan : Option (List Instance)) (most : ℕ) (r : Refusal) (code : RefusalCode) (line : ℕ) → r ≡ refusal.Line code line
+pub reported_first : (task : Task) (c : Certificate) (plan : Option (List Instance)) (most : ℕ) (r : Refusal) (code : RefusalCode) (line : ℕ) → r ≡ refusal.Line code line
     → MatchOption (reason_of code) ⊥ (λ reason. IsFirst task c plan most reason line) → MatchOption (reason_of code) ⊥ (λ reason. IsFirstSuccessor task c reason line) → IsFirstRefusal task c plan most r
-told_first task c plan most r code line is first successor =
+reported_first task c plan most r code line is first successor =
     subst (IsFirstRefusal task c plan most) (sym is) (both_of (λ reason. IsFirst task c plan most reason line) (λ reason. IsFirstSuccessor task c reason line) (reason_of code) first successor)
 
 slice_get-take : {X : Type 0} (k : ℕ) (xs : List X) (i : ℕ) (x : X) → i < k → slice_get xs i ≡ Some x → slice_get (take k xs) i ≡ Some x
@@ -46,7 +46,7 @@ pub first_to_leave : {X : Type 0} (task : Task) (c : Certificate) (place : ℕ) 
     → AllListed task c cost (map view (take k xs))
     → IsFirstToLeave task c (state_line c place) (record { state = s; cost = cost; mark = opened }) (view x).0 (view x).1
 first_to_leave {X} task c place s cost view xs k x there lt at is before = record {
-  stands_there = (place, refl, there);
+  found_there = (place, refl, there);
   is_open = refl;
   place = k;
   leads = subst (λ those. slice_get those k ≡ Some (view x)) is (slice_get-map view xs k x (slice_get-get_or xs k x lt ∙ ap Some (sym at)));
@@ -69,7 +69,7 @@ cuts_allowed task c all place l rest below at at_cut claim =
 
 -- all is right up to the first state line
 pub right_from : (task : Task) (c : Certificate) (most : ℕ) → (length c.potentials.weights ≡ length c.atoms) × (length c.dead_ends.weights ≡ length c.atoms) → AreApart task c → AreFluent task c.atoms → CutsAreAllowed task c (length (lines_of task c))
-    → limit_told most max_numbered_atoms task c.atoms ≡ None → AreFairFor task c → IsListedWithin (lines_of task c) (system_of task).initial 0
+    → exceeded_limit most max_numbered_atoms task c.atoms ≡ None → AreFairFor task c → IsListedWithin (lines_of task c) (system_of task).initial 0
     → IsRightUpTo task c most 0
 right_from task c most weighed apart atoms allowed few fair initial = record {
   weighed = weighed.0;
@@ -99,7 +99,7 @@ right_to_line task c most place right lines = record {
 
 -- ---- clauses of results
 
-pub first_of : {T : Type 0} (task : Task) (c : Certificate) (plan : Option (List Instance)) (most : ℕ) (r : Result T Refusal) → IsClosedFor task c → limit_told most max_numbered_atoms task c.atoms ≡ None
-    → IfErr r (λ e. (m : ℕ) → IsClosedFor task c → limit_told m max_numbered_atoms task c.atoms ≡ None → IsFirstRefusal task c plan m e) → IfErr r (IsFirstRefusal task c plan most)
+pub first_of : {T : Type 0} (task : Task) (c : Certificate) (plan : Option (List Instance)) (most : ℕ) (r : Result T Refusal) → IsClosedFor task c → exceeded_limit most max_numbered_atoms task c.atoms ≡ None
+    → IfErr r (λ e. (m : ℕ) → IsClosedFor task c → exceeded_limit m max_numbered_atoms task c.atoms ≡ None → IsFirstRefusal task c plan m e) → IfErr r (IsFirstRefusal task c plan most)
 first_of task c plan most (Ok v) closed within first = tt
 first_of task c plan most (Err e) closed within first = first most closed within

@@ -1,5 +1,5 @@
 pub mod NamesLemmas
-pub mod ToldLemmas
+pub mod GivenLemmas
 pub mod ListedLemmas
 pub mod PlacedLemmas
 pub mod AtomsLemmas

@@ -19,7 +19,7 @@ use Rattle.certificate_reader.specs.declared.reader.CertReader.{CertReader}
 use Rattle.certificate_reader.specs.Reader.{IsAnswer, has_failed, lines_read}
 use Rattle.model.proofs.ListLemmas.{Contains-here, Contains-there}
 use Rattle.certificate.specs.ListedSets.{Marked, line_with, lines_with, marked}
-use Rattle.cert_checker.specs.Told.{atoms_told, is_body, names_told, states_told}
+use Rattle.cert_checker.specs.Given.{atoms_given, is_body, names_given, states_given}
 use Rattle.certificate.specs.declared.states.Listed.{Listed}
 use Rattle.cert_checker.specs.Listed.{HaveListed, IsFit}
 use Rattle.certificate.specs.CertificateParts.{listed_of, potential_of}
@@ -27,13 +27,13 @@ use Rattle.certificate.specs.declared.header.Header.{Header}
 use Rattle.cert_checker.specs.Taking.{HasTaken}
 use Rattle.cert_checker.specs.Reading.{IsAt, IsBegun, IsListedSoFar, IsRead}
 use Rattle.certificate.proofs.SetsLemmas.{numbers_back}
-use Rattle.cert_checker.proofs.ToldLemmas.{begin_front}
-use Rattle.cert_checker.proofs.PlacedLemmas.{atoms_of_text, body_follows, few_atoms_told, fit_there, named_length, states_of_text}
+use Rattle.cert_checker.proofs.GivenLemmas.{begin_front}
+use Rattle.cert_checker.proofs.PlacedLemmas.{atoms_of_text, body_follows, few_atoms_reported, fit_there, named_length, states_of_text}
 use Rattle.cert_checker.proofs.ReadingLemmas.{at_last, at_next, few_read, have_begun}
 
 -- there are as many atoms as lines that give one
-names_length : (task : Task) (lines : List TextLine) (atoms : List Atom) → AllName task (names_told lines) atoms → length (atoms_told lines) ≡ length atoms
-names_length task lines atoms named = sym (length-map (atoms_told lines) (λ (a : WeightedAtom). a.atom)) ∙ named_length task (names_told lines) atoms named
+names_length : (task : Task) (lines : List TextLine) (atoms : List Atom) → AllName task (names_given lines) atoms → length (atoms_given lines) ≡ length atoms
+names_length task lines atoms named = sym (length-map (atoms_given lines) (λ (a : WeightedAtom). a.atom)) ∙ named_length task (names_given lines) atoms named
 
 -- ---- lines, by marks and sets
 
@@ -46,19 +46,19 @@ lines_back width (l ∷ lines) rising =
     let rest = lines_back width lines more in
     λ i. line i ∷ rest i
 
--- the lines behind the first three
+-- the lines after the first three
 abbrev body_of : NamedCertificate → List TextLine
 body_of c = (map (λ a. atom a) c.atoms ++ map (λ l. listed l) c.lines) ++ last (length c.lines) ∷ []
 
-version_stands : (c : NamedCertificate) → Contains (text_lines c) (version c.version)
-version_stands c = Contains-here (version c.version) (claims c.claim ∷ constant c.constants ∷ body_of c)
+version_occurs : (c : NamedCertificate) → Contains (text_lines c) (version c.version)
+version_occurs c = Contains-here (version c.version) (claims c.claim ∷ constant c.constants ∷ body_of c)
 
-claim_stands : (c : NamedCertificate) → Contains (text_lines c) (claims c.claim)
-claim_stands c =
+claim_occurs : (c : NamedCertificate) → Contains (text_lines c) (claims c.claim)
+claim_occurs c =
     Contains-there (version c.version) (claims c.claim ∷ constant c.constants ∷ body_of c) (claims c.claim) (Contains-here (claims c.claim) (constant c.constants ∷ body_of c))
 
-constant_stands : (c : NamedCertificate) → Contains (text_lines c) (constant c.constants)
-constant_stands c =
+constant_occurs : (c : NamedCertificate) → Contains (text_lines c) (constant c.constants)
+constant_occurs c =
     Contains-there (version c.version) (claims c.claim ∷ constant c.constants ∷ body_of c) (constant c.constants)
     (Contains-there (claims c.claim) (constant c.constants ∷ body_of c) (constant c.constants) (Contains-here (constant c.constants) (body_of c)))
 
@@ -73,35 +73,35 @@ module _ {R : Type 0} (remaining : R → Option (List ℕ)) (task : Task) (first
   whole_begins lines whole = ([], subst AreWhole (sym (append-nil lines)) whole)
 
   pub few_begun : (next : Option CertLine) → IsBegun remaining task first now header next → length atoms ≤ most_atoms
-  few_begun (Some line) (before, at, told, no_state, body) =
-      let few = few_atoms_told before (begin_front before (text_line_of line) (have_begun remaining first now (before ++ text_line_of line ∷ []) at)) in
-      let same = names_length task before atoms told.named in
+  few_begun (Some line) (before, at, reported, no_state, body) =
+      let few = few_atoms_reported before (begin_front before (text_line_of line) (have_begun remaining first now (before ++ text_line_of line ∷ []) at)) in
+      let same = names_length task before atoms reported.named in
       omega (arith, few, same)
-  few_begun None (lines, over, told, no_state) =
-      let few = few_atoms_told lines (whole_begins lines over.whole) in
-      let same = names_length task lines atoms told.named in
+  few_begun None (lines, over, reported, no_state) =
+      let few = few_atoms_reported lines (whole_begins lines over.whole) in
+      let same = names_length task lines atoms reported.named in
       omega (arith, few, same)
 
   module _ (width : ℕ) (marks : List Marked) (sets : List (List Bool)) where
     -- nothing is listed yet
-    nothing : marks ≡ [] → sets ≡ [] → (lines : List TextLine) → states_told lines ≡ [] → HaveListed lines claim width marks sets
-    nothing no_marks no_sets lines none_told = record {
-      rising = ap (list_all (λ (l : StateLine). rise width 0 l.atoms)) none_told;
-      marks_are = no_marks ∙ ap (map marked) (sym none_told);
-      allowed = λ is_none. subst (All (λ (l : StateLine). ¬ IsCut l.mark)) (sym none_told) (λ k d within. absurd (omega (arith, within)));
-      sets_are = no_sets ∙ ap (map (λ (l : StateLine). set_of width l.atoms)) (sym none_told);
+    nothing : marks ≡ [] → sets ≡ [] → (lines : List TextLine) → states_given lines ≡ [] → HaveListed lines claim width marks sets
+    nothing no_marks no_sets lines none_reported = record {
+      rising = ap (list_all (λ (l : StateLine). rise width 0 l.atoms)) none_reported;
+      marks_are = no_marks ∙ ap (map marked) (sym none_reported);
+      allowed = λ is_none. subst (All (λ (l : StateLine). ¬ IsCut l.mark)) (sym none_reported) (λ k d within. absurd (omega (arith, within)));
+      sets_are = no_sets ∙ ap (map (λ (l : StateLine). set_of width l.atoms)) (sym none_reported);
     }
 
     pub none_listed : marks ≡ [] → sets ≡ [] → (next : Option CertLine) → IsBegun remaining task first now header next → IsListedSoFar remaining task first now header width marks sets next
-    none_listed no_marks no_sets (Some line) (before, at, told, no_state, body) = (before, at, told, nothing no_marks no_sets before no_state, body)
-    none_listed no_marks no_sets None (lines, over, told, no_state) = (lines, over, told, nothing no_marks no_sets lines no_state)
+    none_listed no_marks no_sets (Some line) (before, at, reported, no_state, body) = (before, at, reported, nothing no_marks no_sets before no_state, body)
+    none_listed no_marks no_sets None (lines, over, reported, no_state) = (lines, over, reported, nothing no_marks no_sets lines no_state)
 
     -- the next line is fit to be listed
     pub fit_next : (line : CertLine) → width ≡ length atoms → IsListedSoFar remaining task first now header width marks sets (Some line) → IsFit width sets (text_line_of line)
-    fit_next line wide (before, at, told, have, body) =
-        subst (λ n. IsFit n sets (text_line_of line)) (names_length task before atoms told.named ∙ sym wide)
+    fit_next line wide (before, at, reported, have, body) =
+        subst (λ n. IsFit n sets (text_line_of line)) (names_length task before atoms reported.named ∙ sym wide)
         (fit_there before (text_line_of line) (have_begun remaining first now (before ++ text_line_of line ∷ []) at) sets
-        (ap length have.sets_are ∙ length-map (states_told before) (λ (l : StateLine). set_of width l.atoms)))
+        (ap length have.sets_are ∙ length-map (states_given before) (λ (l : StateLine). set_of width l.atoms)))
 
     -- the text is read to its end
     abbrev certificate : Certificate
@@ -115,10 +115,10 @@ module _ {R : Type 0} (remaining : R → Option (List ℕ)) (task : Task) (first
     }
 
     pub read_whole : IsListedSoFar remaining task first now header width marks sets None → IsRead remaining task first now certificate
-    read_whole (lines, over, told, have) = by_certificate over.whole
+    read_whole (lines, over, reported, have) = by_certificate over.whole
       where
-        states_are : lines_with marks sets ≡ states_told lines
-        states_are = (λ i. lines_with (have.marks_are i) (have.sets_are i)) ∙ lines_back width (states_told lines) have.rising
+        states_are : lines_with marks sets ≡ states_given lines
+        states_are = (λ i. lines_with (have.marks_are i) (have.sets_are i)) ∙ lines_back width (states_given lines) have.rising
 
         by_certificate : AreWhole lines → IsRead remaining task first now certificate
         by_certificate (c, keeps, are) = record {
@@ -128,40 +128,40 @@ module _ {R : Type 0} (remaining : R → Option (List ℕ)) (task : Task) (first
           is_text = record {
             said = c;
             text = record { within = keeps; lines = ap text_of (sym are) };
-            version = sym (told.one_version c.version (subst (λ lines. Contains lines (version c.version)) are (version_stands c)));
-            claim = sym (told.one_claim c.claim (subst (λ lines. Contains lines (claims c.claim)) are (claim_stands c)));
-            atoms = subst (λ (said : List WeightedAtom). AllName task (map (λ a. a.atom) said) atoms) (ap atoms_told (sym are) ∙ atoms_of_text c) told.named;
+            version = sym (reported.one_version c.version (subst (λ lines. Contains lines (version c.version)) are (version_occurs c)));
+            claim = sym (reported.one_claim c.claim (subst (λ lines. Contains lines (claims c.claim)) are (claim_occurs c)));
+            atoms = subst (λ (said : List WeightedAtom). AllName task (map (λ a. a.atom) said) atoms) (ap atoms_given (sym are) ∙ atoms_of_text c) reported.named;
             potentials =
-                let constant_is = told.one_constant c.constants (subst (λ lines. Contains lines (constant c.constants)) are (constant_stands c)) in
-                let weights_are = told.weighed ∙ ap (map (λ (a : WeightedAtom). a.weights.of_value)) (ap atoms_told (sym are) ∙ atoms_of_text c) in
+                let constant_is = reported.one_constant c.constants (subst (λ lines. Contains lines (constant c.constants)) are (constant_occurs c)) in
+                let weights_are = reported.weighed ∙ ap (map (λ (a : WeightedAtom). a.weights.of_value)) (ap atoms_given (sym are) ∙ atoms_of_text c) in
                 λ i. record { constant = constant_is i; weights = weights_are i };
             dead_ends =
-                let constant_is = told.one_dead_end_constant c.constants (subst (λ lines. Contains lines (constant c.constants)) are (constant_stands c)) in
-                let weights_are = told.dead_ends_weighed ∙ ap (map (λ (a : WeightedAtom). of_dead_end_or_zero a.weights)) (ap atoms_told (sym are) ∙ atoms_of_text c) in
+                let constant_is = reported.one_dead_end_constant c.constants (subst (λ lines. Contains lines (constant c.constants)) are (constant_occurs c)) in
+                let weights_are = reported.dead_ends_weighed ∙ ap (map (λ (a : WeightedAtom). of_dead_end_or_zero a.weights)) (ap atoms_given (sym are) ∙ atoms_of_text c) in
                 λ i. record { constant = constant_is i; weights = weights_are i };
-            lines = sym (states_are ∙ ap states_told (sym are) ∙ states_of_text c);
+            lines = sym (states_are ∙ ap states_given (sym are) ∙ states_of_text c);
           };
           lines = lines;
           text_is = refl;
-          right = told.right;
-          fluent = told.fluent;
-          distinct = told.distinct;
+          right = reported.right;
+          fluent = reported.fluent;
+          distinct = reported.distinct;
           allowed = λ is_none. subst (All (λ (l : StateLine). ¬ IsCut l.mark)) (sym states_are) (have.allowed is_none);
         }
 
-    -- what comes behind a line that was taken
-    module _ (before : List TextLine) (line : TextLine) (at : IsAt remaining first now (before ++ line ∷ [])) (told : HasTaken task (before ++ line ∷ []) header)
+    -- what comes after a line that was taken
+    module _ (before : List TextLine) (line : TextLine) (at : IsAt remaining first now (before ++ line ∷ [])) (reported : HasTaken task (before ++ line ∷ []) header)
         (have : HaveListed (before ++ line ∷ []) claim width marks sets) (body : is_body line ≡ true) (next : CertReader R) (going : has_failed next ≡ false) where
       pub so_far_next : (answer : Option CertLine) → IsAnswer remaining now next (before ++ line ∷ []) (Ok answer) → IsListedSoFar remaining task first next header width marks sets answer
       so_far_next (Some other) handed =
           let there = at_next remaining first now (before ++ line ∷ []) at next (text_line_of other) handed going in (
             before ++ line ∷ [],
             there,
-            told,
+            reported,
             have,
             body_follows before line (text_line_of other) (have_begun remaining first next ((before ++ line ∷ []) ++ text_line_of other ∷ []) there) body,
           )
-      so_far_next None over = (before ++ line ∷ [], at_last remaining first now (before ++ line ∷ []) at next over, told, have)
+      so_far_next None over = (before ++ line ∷ [], at_last remaining first now (before ++ line ∷ []) at next over, reported, have)
 
       pub fewer_left : (answer : Option CertLine) → IsAnswer remaining now next (before ++ line ∷ []) (Ok answer)
           → (20000000 - lines_read next) + option_map_or (λ (line : CertLine). 1) answer 0 < (20000000 - lines_read now) + 1
@@ -172,6 +172,6 @@ module _ {R : Type 0} (remaining : R → Option (List ℕ)) (task : Task) (first
 -- there is a mark for each set
 pub as_many_listed : {R : Type 0} (remaining : R → Option (List ℕ)) (task : Task) (first now : CertReader R) (header : Header) (width : ℕ) (marks : List Listed)
     (sets : List (List Bool)) → IsListedSoFar remaining task first now header width (map listed_of marks) sets None → length marks ≡ length sets
-as_many_listed remaining task first now header width marks sets (lines, over, told, have) =
-    sym (length-map marks listed_of) ∙ ap length have.marks_are ∙ length-map (states_told lines) marked
-    ∙ sym (length-map (states_told lines) (λ (l : StateLine). set_of width l.atoms)) ∙ sym (ap length have.sets_are)
+as_many_listed remaining task first now header width marks sets (lines, over, reported, have) =
+    sym (length-map marks listed_of) ∙ ap length have.marks_are ∙ length-map (states_given lines) marked
+    ∙ sym (length-map (states_given lines) (λ (l : StateLine). set_of width l.atoms)) ∙ sym (ap length have.sets_are)

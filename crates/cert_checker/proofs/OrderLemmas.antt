@@ -1,4 +1,4 @@
--- What is told of a certificate is the first thing that is wrong: nothing before it is.
+-- What is reported for a certificate is the first thing that is wrong: nothing before it is.
 use Rattle.std.proofs.Common.{◌≡◌, ◌≢◌, ℕ, ◌+◌, ◌<◌, ◌≤◌, ◌⊎◌, ◌&&◌, true, List, length, Option, None, Some, inl, inr, refl, sym, ap, ◌∙◌, subst, arith}
 use Rattle.std.specs.Prelude.{IsSome, IsTrue, AllPairs, Contains, slice_get}
 use Rattle.std.proofs.lemmas.Bool.{cases_eq, false≢true}
@@ -11,7 +11,7 @@ use Rattle.model.specs.Meaning.{State, cost_of, system_of, initial_state}
 use Rattle.model.specs.ClosedOff.{kept_instances}
 use Rattle.model.specs.NumberedAtoms.{numbered_atoms}
 use Rattle.model.specs.Limits.{max_numbered_atoms}
-use Rattle.model.specs.Grounding.{limit_told}
+use Rattle.model.specs.Grounding.{exceeded_limit}
 use Rattle.model.specs.Claims.{none, Allows, opened, cut, Line, IsListedWithin}
 use Rattle.model.specs.Fluents.{is_fluent}
 use Rattle.certificate_definitions.specs.Certificates.{Certificate, lines_of, IsClosedFor}
@@ -56,7 +56,7 @@ pub record AreFairUpTo (task : Task) (c : Certificate) (count : ℕ) : Type 0 wh
   pub dead_instances : 2 < count → AreInstancesDeadFair task (numbered_atoms task c.atoms) c.dead_ends
   pub dead_goals : 3 < count → IsFairAtGoals task (numbered_atoms task c.atoms) c.dead_ends
 
--- nothing is asked before the first; each that is asked of the values, and of dead ends, comes behind those before it
+-- nothing is asked before the first; each that is asked of the values, and of dead ends, comes after those before it
 pub none_asked : (task : Task) (c : Certificate) → AreFairUpTo task c 0
 none_asked task c = record {
   instances = λ below. absurd (omega arith);
@@ -106,9 +106,9 @@ fair_wholly task c count both = record {
   dead_goals = λ below. both.dead_fair.goals;
 }
 
-none_told : {X : Type 0} (o : Option X) → o ≡ None → IsSome o → ⊥
-none_told None is told = absurd (cc)
-none_told (Some x) is told = absurd (cc)
+none_reported : {X : Type 0} (o : Option X) → o ≡ None → IsSome o → ⊥
+none_reported None is reported = absurd (cc)
+none_reported (Some x) is reported = absurd (cc)
 
 module _ (task : Task) (c : Certificate) where
   the_line : (place k : ℕ) (a b : Line State) → k ≡ place → slice_get (lines_of task c) k ≡ Some a → slice_get (lines_of task c) place ≡ Some b → a ≡ b
@@ -121,15 +121,15 @@ module _ (task : Task) (c : Certificate) where
   -- nothing is wrong with the lines of the first states
   states_right : (count line : ℕ) (r : Reason) → AtomsAreRight task c (length c.atoms) → StatesAreRight task c count
       → ((k : ℕ) → line ≡ state_line c k → k < length (lines_of task c) → k < count) → stage_of r ≡ 0 → IsWrongLine task c r line → ⊥
-  states_right count line not_fluent atoms right reach stage (a, (place, told, at), wrong) =
+  states_right count line not_fluent atoms right reach stage (a, (place, reported, at), wrong) =
       let fluent = atoms.fluent place a (slice_get_within c.atoms place a at) at in
       absurd (cc)
-  states_right count line repeated atoms right reach stage (inl (a, before, earlier, (j, told_j, at_j), (k, told_k, at_k))) =
+  states_right count line repeated atoms right reach stage (inl (a, before, earlier, (j, reported_j, at_j), (k, reported_k, at_k))) =
       atoms.distinct j k a (omega arith) (slice_get_within c.atoms k a at_k) at_j at_k
-  states_right count line repeated atoms right reach stage (inr (other, l, before, earlier, (j, told_j, at_j), (k, told_k, at_k), same)) =
-      right.distinct j k other l (omega arith) (reach k told_k (slice_get_within (lines_of task c) k l at_k)) at_j at_k same
-  states_right count line cut_not_allowed atoms right reach stage (l, rest, (k, told, at), is_cut, claim) =
-      right.allowed k l rest (reach k told (slice_get_within (lines_of task c) k l at)) at is_cut claim
+  states_right count line repeated atoms right reach stage (inr (other, l, before, earlier, (j, reported_j, at_j), (k, reported_k, at_k), same)) =
+      right.distinct j k other l (omega arith) (reach k reported_k (slice_get_within (lines_of task c) k l at_k)) at_j at_k same
+  states_right count line cut_not_allowed atoms right reach stage (l, rest, (k, reported, at), is_cut, claim) =
+      right.allowed k l rest (reach k reported (slice_get_within (lines_of task c) k l at)) at is_cut claim
   states_right count line no_initial atoms right reach stage wrong = wrong
   states_right count line goal_open atoms right reach stage wrong = absurd (omega arith)
   states_right count line successor_missing atoms right reach stage wrong = absurd (omega arith)
@@ -167,7 +167,7 @@ module _ (task : Task) (c : Certificate) where
 
   read_right : (plan : Option (List Instance)) (most : ℕ) (r : Reason) (l : ℕ) → AtomsAreRight task c (length c.atoms) → StatesAreRight task c (length (lines_of task c)) → stage_of r ≡ 0
       → IsWrongLine task c r l ⊎ IsWrong task c plan most r → ⊥
-  read_right plan most r l atoms states stage (inl wrong) = states_right (length (lines_of task c)) l r atoms states (λ j told within. within) stage wrong
+  read_right plan most r l atoms states stage (inl wrong) = states_right (length (lines_of task c)) l r atoms states (λ j reported within. within) stage wrong
   read_right plan most r l atoms states stage (inr wrong) = of_line plan most r stage wrong
 
   pub first_limit : (plan : Option (List Instance)) (most : ℕ) → AtomsAreRight task c (length c.atoms) → StatesAreRight task c (length (lines_of task c)) → IsFirst task c plan most limit 0
@@ -175,9 +175,9 @@ module _ (task : Task) (c : Certificate) where
   first_limit plan most atoms states r l (inr (same, inl before)) wrong = omega arith
   first_limit plan most atoms states r l (inr (same, inr (there, rank))) wrong = omega arith
 
-  in_limit : (plan : Option (List Instance)) (most : ℕ) (r : Reason) (l : ℕ) → limit_told most max_numbered_atoms task c.atoms ≡ None → stage_of r ≡ 1 → IsWrongLine task c r l ⊎ IsWrong task c plan most r → ⊥
+  in_limit : (plan : Option (List Instance)) (most : ℕ) (r : Reason) (l : ℕ) → exceeded_limit most max_numbered_atoms task c.atoms ≡ None → stage_of r ≡ 1 → IsWrongLine task c r l ⊎ IsWrong task c plan most r → ⊥
   in_limit plan most limit l within stage (inl wrong) = wrong
-  in_limit plan most limit l within stage (inr wrong) = none_told (limit_told most max_numbered_atoms task c.atoms) within wrong
+  in_limit plan most limit l within stage (inr wrong) = none_reported (exceeded_limit most max_numbered_atoms task c.atoms) within wrong
   in_limit plan most not_fluent l within stage wrong = absurd (omega arith)
   in_limit plan most repeated l within stage wrong = absurd (omega arith)
   in_limit plan most cut_not_allowed l within stage wrong = absurd (omega arith)
@@ -194,7 +194,7 @@ module _ (task : Task) (c : Certificate) where
   in_limit plan most dead_unfair_goal l within stage wrong = absurd (omega arith)
   in_limit plan most not_dead l within stage wrong = absurd (omega arith)
 
-  before_fair : (plan : Option (List Instance)) (most : ℕ) (r : Reason) (l : ℕ) → AtomsAreRight task c (length c.atoms) → StatesAreRight task c (length (lines_of task c)) → limit_told most max_numbered_atoms task c.atoms ≡ None
+  before_fair : (plan : Option (List Instance)) (most : ℕ) (r : Reason) (l : ℕ) → AtomsAreRight task c (length c.atoms) → StatesAreRight task c (length (lines_of task c)) → exceeded_limit most max_numbered_atoms task c.atoms ≡ None
       → stage_of r < 2 → IsWrongLine task c r l ⊎ IsWrong task c plan most r → ⊥
   before_fair plan most r l atoms states within stage wrong =
       elim (cases_eq (stage_of r) 0) [
@@ -230,23 +230,23 @@ module _ (task : Task) (c : Certificate) where
   in_fair plan most plan_invalid l fair stage wrong = absurd (omega arith)
   in_fair plan most plan_dearer l fair stage wrong = absurd (omega arith)
 
-  -- what is asked of them is told first where all that is asked before is so
+  -- what is asked of them is reported first where all that is asked before is so
   pub first_asked : (reason : Reason) (plan : Option (List Instance)) (most : ℕ) → stage_of reason ≡ 2 → AtomsAreRight task c (length c.atoms) → StatesAreRight task c (length (lines_of task c))
-      → limit_told most max_numbered_atoms task c.atoms ≡ None → AreFairUpTo task c (rank_of reason) → IsFirst task c plan most reason 0
+      → exceeded_limit most max_numbered_atoms task c.atoms ≡ None → AreFairUpTo task c (rank_of reason) → IsFirst task c plan most reason 0
   first_asked reason plan most stage atoms states within fair r l (inl before) wrong = before_fair plan most r l atoms states within (omega (arith, before, stage)) wrong
   first_asked reason plan most stage atoms states within fair r l (inr (same, inl before)) wrong = omega arith
   first_asked reason plan most stage atoms states within fair r l (inr (same, inr (there, rank))) wrong =
       in_fair plan most r l (fair_so_far task c (rank_of reason) (rank_of r + 1) fair (omega (arith, rank))) (same ∙ stage) wrong
 
-  before_initial : (plan : Option (List Instance)) (most : ℕ) (r : Reason) (l : ℕ) → AtomsAreRight task c (length c.atoms) → StatesAreRight task c (length (lines_of task c)) → limit_told most max_numbered_atoms task c.atoms ≡ None
+  before_initial : (plan : Option (List Instance)) (most : ℕ) (r : Reason) (l : ℕ) → AtomsAreRight task c (length c.atoms) → StatesAreRight task c (length (lines_of task c)) → exceeded_limit most max_numbered_atoms task c.atoms ≡ None
       → AreFairFor task c → stage_of r < 3 → IsWrongLine task c r l ⊎ IsWrong task c plan most r → ⊥
   before_initial plan most r l atoms states within fair stage wrong =
       elim (cases_eq (stage_of r) 2) [
-        | inl unfair_told ↦ in_fair plan most r l (fair_wholly task c (rank_of r + 1) fair) unfair_told wrong
+        | inl unfair_reported ↦ in_fair plan most r l (fair_wholly task c (rank_of r + 1) fair) unfair_reported wrong
         | inr earlier ↦ before_fair plan most r l atoms states within (omega arith) wrong
       ]
 
-  pub first_initial : (plan : Option (List Instance)) (most : ℕ) → AtomsAreRight task c (length c.atoms) → StatesAreRight task c (length (lines_of task c)) → limit_told most max_numbered_atoms task c.atoms ≡ None
+  pub first_initial : (plan : Option (List Instance)) (most : ℕ) → AtomsAreRight task c (length c.atoms) → StatesAreRight task c (length (lines_of task c)) → exceeded_limit most max_numbered_atoms task c.atoms ≡ None
       → AreFairFor task c → IsFirst task c plan most no_initial 0
   first_initial plan most atoms states within fair r l (inl before) wrong = before_initial plan most r l atoms states within fair before wrong
   first_initial plan most atoms states within fair r l (inr (same, inl before)) wrong = omega arith
@@ -282,16 +282,16 @@ module _ (task : Task) (c : Certificate) where
 
   line_right : (r : Reason) (line place : ℕ) → line < state_line c place → ((k : ℕ) (l : Line State) → k < place → slice_get (lines_of task c) k ≡ Some l → IsLineClosed task c l) → stage_of r ≡ 4
       → IsWrongLine task c r line → ⊥
-  line_right goal_open line place lt right stage (l, (k, told, at), is_open, goal, denied) = denied (((right k l (omega arith) at).is_open is_open).goal_allowed goal)
-  line_right successor_missing line place lt right stage (l, i, next, ((k, told, at), is_open, leads), missing) =
+  line_right goal_open line place lt right stage (l, (k, reported, at), is_open, goal, denied) = denied (((right k l (omega arith) at).is_open is_open).goal_allowed goal)
+  line_right successor_missing line place lt right stage (l, i, next, ((k, reported, at), is_open, leads), missing) =
       let listed = ((right k l (omega arith) at).is_open is_open).successors_listed i next leads in
       missing (listed.0, listed.1, listed.2)
-  line_right successor_dearer line place lt right stage (l, i, next, ((k, told, at), is_open, leads), is_listed, dearer) =
+  line_right successor_dearer line place lt right stage (l, i, next, ((k, reported, at), is_open, leads), is_listed, dearer) =
       dearer (((right k l (omega arith) at).is_open is_open).successors_listed i next leads)
-  line_right cut_weak line place lt right stage (l, rest, (k, told, at), is_cut, inl more) =
+  line_right cut_weak line place lt right stage (l, rest, (k, reported, at), is_cut, inl more) =
       let allowed = (right k l (omega arith) at).is_cut rest is_cut in
       omega (arith, allowed.0)
-  line_right cut_weak line place lt right stage (l, rest, (k, told, at), is_cut, inr denied) = denied ((right k l (omega arith) at).is_cut rest is_cut).1
+  line_right cut_weak line place lt right stage (l, rest, (k, reported, at), is_cut, inr denied) = denied ((right k l (omega arith) at).is_cut rest is_cut).1
   line_right not_fluent line place lt right stage wrong = absurd (omega arith)
   line_right repeated line place lt right stage wrong = absurd (omega arith)
   line_right cut_not_allowed line place lt right stage wrong = absurd (omega arith)
@@ -301,7 +301,7 @@ module _ (task : Task) (c : Certificate) where
   line_right unfair_goal line place lt right stage wrong = wrong
   line_right dead_unfair line place lt right stage wrong = wrong
   line_right dead_unfair_goal line place lt right stage wrong = wrong
-  line_right not_dead line place lt right stage (l, (k, told, at), is_dead, alive) = false≢true (sym alive ∙ (right k l (omega arith) at).is_dead is_dead)
+  line_right not_dead line place lt right stage (l, (k, reported, at), is_dead, alive) = false≢true (sym alive ∙ (right k l (omega arith) at).is_dead is_dead)
   line_right plan_invalid line place lt right stage wrong = wrong
   line_right plan_dearer line place lt right stage wrong = wrong
 
@@ -334,16 +334,16 @@ module _ (task : Task) (c : Certificate) where
   -- of an open state whose goal is as it is to be
   pub open_here : (place : ℕ) (l : Line State) → slice_get (lines_of task c) place ≡ Some l → l.mark ≡ opened → (IsTrue ((system_of task).meets_goal l.state) → Allows c.claim l.cost)
       → (r : Reason) → stage_of r ≡ 4 → rank_of r < 1 → IsWrongLine task c r (state_line c place) → ⊥
-  open_here place l here is_open allowed goal_open stage rank (other, (k, told, at), is_opened, goal, denied) =
+  open_here place l here is_open allowed goal_open stage rank (other, (k, reported, at), is_opened, goal, denied) =
       let there : k ≡ place = omega arith in
       let same = the_line place k other l there at here in
       denied (subst (λ (a : Line State). Allows c.claim a.cost) (sym same) (allowed (subst (λ (a : Line State). IsTrue ((system_of task).meets_goal a.state)) same goal)))
-  open_here place l here is_open allowed cut_weak stage rank (other, rest, (k, told, at), is_cut, wrong) =
+  open_here place l here is_open allowed cut_weak stage rank (other, rest, (k, reported, at), is_cut, wrong) =
       let there : k ≡ place = omega arith in
       let same = the_line place k other l there at here in
       let none_cut = ap (λ (a : Line State). a.mark) same in
       absurd (cc)
-  open_here place l here is_open allowed not_dead stage rank (other, (k, told, at), is_dead, alive) =
+  open_here place l here is_open allowed not_dead stage rank (other, (k, reported, at), is_dead, alive) =
       let there : k ≡ place = omega arith in
       let same = the_line place k other l there at here in
       let none_dead = ap (λ (a : Line State). a.mark) same in
@@ -364,9 +364,9 @@ module _ (task : Task) (c : Certificate) where
 
   -- ---- the plan
 
-  before_plan : (plan : Option (List Instance)) (most : ℕ) (r : Reason) (l : ℕ) → IsClosedFor task c → limit_told most max_numbered_atoms task c.atoms ≡ None → stage_of r < 5 → IsWrongLine task c r l ⊎ IsWrong task c plan most r → ⊥
+  before_plan : (plan : Option (List Instance)) (most : ℕ) (r : Reason) (l : ℕ) → IsClosedFor task c → exceeded_limit most max_numbered_atoms task c.atoms ≡ None → stage_of r < 5 → IsWrongLine task c r l ⊎ IsWrong task c plan most r → ⊥
   before_plan plan most r l closed within stage (inl wrong) = right_line task c closed r l wrong
-  before_plan plan most limit l closed within stage (inr wrong) = none_told (limit_told most max_numbered_atoms task c.atoms) within wrong
+  before_plan plan most limit l closed within stage (inr wrong) = none_reported (exceeded_limit most max_numbered_atoms task c.atoms) within wrong
   before_plan plan most no_initial l closed within stage (inr wrong) = wrong closed.listing_is_closed.initial_listed
   before_plan plan most unfair l closed within stage (inr wrong) = all_fair (cost_of task) c.potentials closed.potentials_are_fair.instances wrong
   before_plan plan most unfair_goal l closed within stage (inr wrong) = wrong closed.potentials_are_fair.goals
@@ -383,12 +383,12 @@ module _ (task : Task) (c : Certificate) where
   before_plan plan most cut_weak l closed within stage (inr wrong) = wrong
   before_plan plan most not_dead l closed within stage (inr wrong) = wrong
 
-  pub first_invalid : (plan : Option (List Instance)) (most : ℕ) → IsClosedFor task c → limit_told most max_numbered_atoms task c.atoms ≡ None → IsFirst task c plan most plan_invalid 0
+  pub first_invalid : (plan : Option (List Instance)) (most : ℕ) → IsClosedFor task c → exceeded_limit most max_numbered_atoms task c.atoms ≡ None → IsFirst task c plan most plan_invalid 0
   first_invalid plan most closed within r l (inl before) wrong = before_plan plan most r l closed within before wrong
   first_invalid plan most closed within r l (inr (same, inl before)) wrong = omega arith
   first_invalid plan most closed within r l (inr (same, inr (there, rank))) wrong = omega arith
 
-  pub first_dearer : (p : List Instance) (most : ℕ) → IsClosedFor task c → limit_told most max_numbered_atoms task c.atoms ≡ None → Solves (system_of task) p → IsFirst task c (Some p) most plan_dearer 0
+  pub first_dearer : (p : List Instance) (most : ℕ) → IsClosedFor task c → exceeded_limit most max_numbered_atoms task c.atoms ≡ None → Solves (system_of task) p → IsFirst task c (Some p) most plan_dearer 0
   first_dearer p most closed within solves r l (inl before) wrong = before_plan (Some p) most r l closed within before wrong
   first_dearer p most closed within solves r l (inr (same, inl before)) wrong = omega arith
   first_dearer p most closed within solves r l (inr (same, inr (there, rank))) wrong = solving r same rank wrong

@@ -19,11 +19,11 @@ use Rattle.model.specs.WellTyped.{is_atom}
 use Rattle.model.specs.Meaning.{atom_cmp}
 use Rattle.model.specs.Fluents.{is_fluent, static_atoms}
 use Rattle.certificate_definitions.specs.Certificates.{Version, Certificate, StateLine, state_of_line, is_mark, is_number, is_state_line, rise}
-use Rattle.model.specs.NumberedAtoms.{stands_in, are_distinct}
+use Rattle.model.specs.NumberedAtoms.{occurs_in, are_distinct}
 use Rattle.model.specs.Grounding.{chosen, state_of_bits, bits_of_state}
-use Rattle.model.proofs.Atoms.{atoms_total, same_state, stands_in-append}
+use Rattle.model.proofs.Atoms.{atoms_total, same_state, occurs_in-append}
 use Rattle.model.proofs.ListLemmas.{Contains-cases, Contains-none, Contains-filter_map, filter_map-Contains}
-use Rattle.model.proofs.NumberingLemmas.{stands_in-Contains, Contains-stands_in, same_itself, distinct-from_pairs}
+use Rattle.model.proofs.NumberingLemmas.{occurs_in-Contains, Contains-occurs_in, same_itself, distinct-from_pairs}
 use Rattle.model.proofs.PackedStates.{bits_of-packed_state}
 use Rattle.model.proofs.StaticLemmas.{same_atom}
 
@@ -47,26 +47,26 @@ same_among width xs ys same k below =
 
 -- ---- the chosen atoms
 
-chosen-at : (atoms : List Atom) (bits : List Bool) (k : ℕ) (q : Atom) → slice_get atoms k ≡ Some q → get_or bits k false ≡ true → stands_in (chosen atoms bits) q ≡ true
+chosen-at : (atoms : List Atom) (bits : List Bool) (k : ℕ) (q : Atom) → slice_get atoms k ≡ Some q → get_or bits k false ≡ true → occurs_in (chosen atoms bits) q ≡ true
 chosen-at [] bits k q at is_set = absurd (cc)
 chosen-at (a ∷ atoms) [] zero q at is_set = absurd (true≢false (sym is_set))
 chosen-at (a ∷ atoms) [] (suc k) q at is_set = absurd (true≢false (sym is_set))
 chosen-at (a ∷ atoms) (b ∷ bits) zero q at is_set =
     let same : a ≡ q = cc in
-    ap (λ bit. stands_in (if bit then a ∷ chosen atoms bits else chosen atoms bits) q) is_set
-    ∙ or_left (eq_by_cmp atom_cmp q a) (stands_in (chosen atoms bits) q) (ap (eq_by_cmp atom_cmp q) same ∙ same_itself q)
+    ap (λ bit. occurs_in (if bit then a ∷ chosen atoms bits else chosen atoms bits) q) is_set
+    ∙ or_left (eq_by_cmp atom_cmp q a) (occurs_in (chosen atoms bits) q) (ap (eq_by_cmp atom_cmp q) same ∙ same_itself q)
 chosen-at (a ∷ atoms) (b ∷ bits) (suc k) q at is_set =
     let later = chosen-at atoms bits k q at is_set in
-    elim b as (λ bit. stands_in (if bit then a ∷ chosen atoms bits else chosen atoms bits) q ≡ true) [
-      | true ↦ or_right (eq_by_cmp atom_cmp q a) (stands_in (chosen atoms bits) q) later
+    elim b as (λ bit. occurs_in (if bit then a ∷ chosen atoms bits else chosen atoms bits) q ≡ true) [
+      | true ↦ or_right (eq_by_cmp atom_cmp q a) (occurs_in (chosen atoms bits) q) later
       | false ↦ later
     ]
 
-chosen-from : (atoms : List Atom) (bits : List Bool) (q : Atom) → stands_in (chosen atoms bits) q ≡ true → (k : ℕ) × (slice_get atoms k ≡ Some q) × (get_or bits k false ≡ true)
+chosen-from : (atoms : List Atom) (bits : List Bool) (q : Atom) → occurs_in (chosen atoms bits) q ≡ true → (k : ℕ) × (slice_get atoms k ≡ Some q) × (get_or bits k false ≡ true)
 chosen-from [] bits q at = absurd (true≢false (sym at))
 chosen-from (a ∷ atoms) [] q at = absurd (true≢false (sym at))
 chosen-from (a ∷ atoms) (true ∷ bits) q at =
-    elim (or_cases (eq_by_cmp atom_cmp q a) (stands_in (chosen atoms bits) q) at) [
+    elim (or_cases (eq_by_cmp atom_cmp q a) (occurs_in (chosen atoms bits) q) at) [
       | inl here ↦ (0, ap Some (sym (same_atom q a here)), refl)
       | inr later ↦ let rest = chosen-from atoms bits q later in (suc rest.0, rest.1, rest.2)
     ]
@@ -79,20 +79,20 @@ got_first (x ∷ xs) ys (suc k) below = got_first xs ys k (omega (arith, below))
 
 -- the atoms of some numbers are those chosen by the set of the numbers
 named-chosen : (named others : List Atom) (numbers : List ℕ) (q : Atom) → ((k : ℕ) → Contains numbers k → k < length named)
-    → stands_in (filter_map (slice_get named) numbers) q ≡ stands_in (chosen (named ++ others) (set_of (length (named ++ others)) numbers)) q
+    → occurs_in (filter_map (slice_get named) numbers) q ≡ occurs_in (chosen (named ++ others) (set_of (length (named ++ others)) numbers)) q
 named-chosen named others numbers q within =
     let atoms = named ++ others in
     let width = length (named ++ others) in
-    both_ways (stands_in (filter_map (slice_get named) numbers) q) (stands_in (chosen atoms (set_of width numbers)) q)
+    both_ways (occurs_in (filter_map (slice_get named) numbers) q) (occurs_in (chosen atoms (set_of width numbers)) q)
     (λ at.
-    let (k, among, named_so) = filter_map-Contains (slice_get named) numbers q (stands_in-Contains (filter_map (slice_get named) numbers) q at) in
+    let (k, among, named_so) = filter_map-Contains (slice_get named) numbers q (occurs_in-Contains (filter_map (slice_get named) numbers) q at) in
     let below = within k among in
     let there : slice_get atoms k ≡ Some q = got_first named others k below ∙ named_so in
     chosen-at atoms (set_of width numbers) k q there (has-set_of width k numbers false (slice_get_within atoms k q there) ∙ Contains-among numbers k among))
     (λ at.
     let (k, there, is_set) = chosen-from atoms (set_of width numbers) q at in
     let among = among-Contains numbers k (sym (has-set_of width k numbers false (slice_get_within atoms k q there)) ∙ is_set) in
-    Contains-stands_in (filter_map (slice_get named) numbers) q (Contains-filter_map (slice_get named) numbers k q among (sym (got_first named others k (within k among)) ∙ there)))
+    Contains-occurs_in (filter_map (slice_get named) numbers) q (Contains-filter_map (slice_get named) numbers k q among (sym (got_first named others k (within k among)) ∙ there)))
 
 -- ---- the states of lines
 
@@ -114,9 +114,9 @@ module _ (task : Task) (c : Certificate) where
   state_packed others l names =
       same_state _ _ (λ q.
       contains-from_list atoms_total (chosen (c.atoms ++ others) (set_of (length (c.atoms ++ others)) l.atoms) ++ static_atoms task) q
-      ∙ stands_in-append (chosen (c.atoms ++ others) (set_of (length (c.atoms ++ others)) l.atoms)) (static_atoms task) q
-      ∙ ap (λ b. b || stands_in (static_atoms task) q) (sym (named-chosen c.atoms others l.atoms q names))
-      ∙ sym (stands_in-append (filter_map (slice_get c.atoms) l.atoms) (static_atoms task) q)
+      ∙ occurs_in-append (chosen (c.atoms ++ others) (set_of (length (c.atoms ++ others)) l.atoms)) (static_atoms task) q
+      ∙ ap (λ b. b || occurs_in (static_atoms task) q) (sym (named-chosen c.atoms others l.atoms q names))
+      ∙ sym (occurs_in-append (filter_map (slice_get c.atoms) l.atoms) (static_atoms task) q)
       ∙ sym (contains-from_list atoms_total (filter_map (slice_get c.atoms) l.atoms ++ static_atoms task) q))
 
   -- two lines with one set list one state
@@ -132,8 +132,8 @@ module _ (task : Task) (c : Certificate) where
     distinct : are_distinct c.atoms ≡ true
     distinct = distinct-from_pairs c.atoms right.distinct
 
-    fluent : (q : Atom) → stands_in c.atoms q ≡ true → is_fluent task q.predicate ≡ true
-    fluent q at = All-contains (λ (a : Atom). IsTrue (is_fluent task a.predicate)) c.atoms q (all_fluent task c.atoms right) (stands_in-Contains c.atoms q at)
+    fluent : (q : Atom) → occurs_in c.atoms q ≡ true → is_fluent task q.predicate ≡ true
+    fluent q at = All-contains (λ (a : Atom). IsTrue (is_fluent task a.predicate)) c.atoms q (all_fluent task c.atoms right) (occurs_in-Contains c.atoms q at)
 
     one_set-first : (l m : StateLine) → NamesAtoms c l → NamesAtoms c m → state_of_line task c l ≡ state_of_line task c m → set_of (length (c.atoms ++ [])) l.atoms ≡ set_of (length (c.atoms ++ [])) m.atoms
     one_set-first l m names_l names_m same =
@@ -144,7 +144,7 @@ module _ (task : Task) (c : Certificate) where
 
         unpacked : (n : StateLine) → bits_of_state (c.atoms ++ []) (state_of_bits task (c.atoms ++ []) (set_of (length (c.atoms ++ [])) n.atoms)) ≡ set_of (length (c.atoms ++ [])) n.atoms
         unpacked n =
-            bits_of-packed_state (is_fluent task) task.init (c.atoms ++ []) (λ q at. fluent q (ap (λ l. stands_in l q) (sym whole) ∙ at)) (ap are_distinct whole ∙ distinct)
+            bits_of-packed_state (is_fluent task) task.init (c.atoms ++ []) (λ q at. fluent q (ap (λ l. occurs_in l q) (sym whole) ∙ at)) (ap are_distinct whole ∙ distinct)
             (set_of (length (c.atoms ++ [])) n.atoms) (length-set_of (length (c.atoms ++ [])) n.atoms)
 
     pub one_set : (width : ℕ) (l m : StateLine) → NamesAtoms c l → NamesAtoms c m → state_of_line task c l ≡ state_of_line task c m → set_of width l.atoms ≡ set_of width m.atoms

@@ -10,7 +10,7 @@ use Rattle.certificate.specs.declared.cert.Cert.{Cert}
 use Rattle.certificate.specs.Certificate.{certificate_of, store_in}
 use Rattle.certificate.proofs.NumbersLemmas.{sets_are}
 use Rattle.cert_checker.specs.FluentAtoms.{AreFluent}
-use Rattle.cert_checker.specs.CheckedLines.{HasCost, Stands, IsListedAt}
+use Rattle.cert_checker.specs.CheckedLines.{HasCost, IsListedAs, IsListedAt}
 use Rattle.cert_checker.specs.PackedLines.{packed_line, HoldsLines, IsPackedListing, NamesAtoms}
 use Rattle.cert_checker.proofs.CertCheckerLemmas.{entry, got_mapped, lines_within_limits, slice_get-map}
 use Rattle.cert_checker.proofs.WeightsLemmas.{alike, value-numbered}
@@ -94,9 +94,9 @@ module _ (task : Task) (atoms : List Atom) (c : Certificate) (store : PooledStor
       let first = first_numbered task atoms c listed.fluent listed.numbered in
       subst (λ those. state_of_bits task those (packed_line (length those) l) ≡ state_of_line task c l) (sym first.1) (state_packed task c first.0 l (listed.holds.named l at))
 
-  pub stands_there : (place : ℕ) (bits : List Bool) → slice_get (pooled_states store) place ≡ Some bits → (cost : ℕ) (mark : Mark) → HasCost c place cost mark
-      → Stands task c place (state_of_bits task atoms bits) cost mark
-  stands_there place bits at cost mark (l, at_l, cost_is, mark_is) =
+  pub found_there : (place : ℕ) (bits : List Bool) → slice_get (pooled_states store) place ≡ Some bits → (cost : ℕ) (mark : Mark) → HasCost c place cost mark
+      → IsListedAs task c place (state_of_bits task atoms bits) cost mark
+  found_there place bits at cost mark (l, at_l, cost_is, mark_is) =
       let there = set_there c (length atoms) store listed.holds place l at_l in
       let set : packed_line (length atoms) l ≡ bits = cc in
       let same : state_of_line task c l ≡ state_of_bits task atoms bits = sym (line_state l (Contains-got c.lines place l at_l)) ∙ ap (state_of_bits task atoms) set in
@@ -106,8 +106,8 @@ module _ (task : Task) (atoms : List Atom) (c : Certificate) (store : PooledStor
   pub found_at : (place : ℕ) (bits : List Bool) (cost : ℕ) (mark : Mark) → slice_get (pooled_states store) place ≡ Some bits → HasCost c place cost mark
       → IsListedAt (lines_of task c) (state_of_bits task atoms bits) cost
   found_at place bits cost mark at has =
-      let stands = stands_there place bits at cost mark has in
-      (record { state = state_of_bits task atoms bits; cost = cost; mark = mark }, Contains-got (lines_of task c) place _ stands, refl, refl)
+      let occurs = found_there place bits at cost mark has in
+      (record { state = state_of_bits task atoms bits; cost = cost; mark = mark }, Contains-got (lines_of task c) place _ occurs, refl, refl)
 
   -- and one that is not found is not listed
   pub not_listed : (bits : List Bool) → length bits ≡ length atoms → ¬ Contains (pooled_states store) bits → ¬ IsListed (lines_of task c) (state_of_bits task atoms bits)

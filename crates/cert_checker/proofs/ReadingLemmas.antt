@@ -7,12 +7,12 @@ use Rattle.std.specs.Io.KnownBytes.{Consumes}
 use Rattle.model.specs.Task.{Task}
 use Rattle.certificate_definitions.specs.CertificateText.{TextLine, BeginCertificate, IsFaultAfter, text_of, whole_line}
 use Rattle.certificate_definitions.specs.CertificateChecking.{AreRight, IsLineFault, IsWrongAfter, not_fluent, repeated_atom, repeated_state, cut_not_allowed}
-use Rattle.certificate_definitions.proofs.Machine.{begins, stands}
+use Rattle.certificate_definitions.proofs.Machine.{begins, occurs}
 use Rattle.certificate_reader.specs.declared.reader.CertReader.{CertReader}
 use Rattle.certificate_reader.specs.declared.reader.CertFault.{CertFault}
 use Rattle.certificate_reader.specs.declared.reader.CertFault.TheVariants as cert
 use Rattle.certificate_reader.specs.declared.fault.TextFault.TheVariants.{Truncated}
-use Rattle.certificate_reader.specs.Reader.{HasRead, IsAnswer, IsHandedOut, IsOver, has_failed, lines_read, source_of, waits_in}
+use Rattle.certificate_reader.specs.Reader.{HasRead, IsAnswer, IsYielded, IsOver, has_failed, lines_read, source_of, waits_in}
 use Rattle.certificate_reader.specs.Stages.{place_of}
 use Rattle.certificate_reader.proofs.ReaderLemmas.{few_lines}
 use Rattle.cert_checker.specs.declared.refusal.Refusal.{Refusal}
@@ -20,9 +20,9 @@ use Rattle.cert_checker.specs.declared.refusal.Refusal.TheVariants as refusal
 use Rattle.cert_checker.specs.declared.refusal.RefusalCode.{RefusalCode}
 use Rattle.cert_checker.specs.declared.refusal.RefusalCode.TheVariants.{Truncated as CutShort}
 use Rattle.cert_checker.specs.RefusalCode.{code_of, number_of}
-use Rattle.cert_checker.proofs.ToldLemmas.{begin_front}
+use Rattle.cert_checker.proofs.GivenLemmas.{begin_front}
 use Rattle.cert_checker.specs.CertFaults.{refusal_of}
-use Rattle.cert_checker.specs.Reading.{CountsRefusal, IsFresh, IsAt, IsAtLast, IsLineRefusal, IsToldAt}
+use Rattle.cert_checker.specs.Reading.{CountsRefusal, IsFresh, IsAt, IsAtLast, IsLineRefusal, IsReportedAt}
 use Rattle.cert_checker.specs.Taking.{IsWrongNow}
 
 -- ---- what came, and what came then
@@ -52,7 +52,7 @@ module _ {R : Type 0} (remaining : R → Option (List ℕ)) (first : CertReader 
   }
 
   module _ (now : CertReader R) (lines : List TextLine) (at : IsAt remaining first now lines) where
-    pub at_next : (next : CertReader R) (line : TextLine) → IsHandedOut remaining now next lines line → has_failed next ≡ false → IsAt remaining first next (lines ++ line ∷ [])
+    pub at_next : (next : CertReader R) (line : TextLine) → IsYielded remaining now next lines line → has_failed next ≡ false → IsAt remaining first next (lines ++ line ∷ [])
     at_next next line handed going = record {
       read = handed.read;
       going = going;
@@ -76,7 +76,7 @@ module _ {R : Type 0} (remaining : R → Option (List ℕ)) (first : CertReader 
     have_begun = begins lines (place_of now.position.stage) at.read.place
 
     pub few_read : lines_read now < 20000000
-    few_read = let few = few_lines lines (place_of now.position.stage) (stands lines (place_of now.position.stage) at.read.place) in omega (arith, at.read.count, few)
+    few_read = let few = few_lines lines (place_of now.position.stage) (occurs lines (place_of now.position.stage) at.read.place) in omega (arith, at.read.count, few)
 
     -- ---- faults of the text
 
@@ -95,9 +95,9 @@ module _ {R : Type 0} (remaining : R → Option (List ℕ)) (first : CertReader 
       came : (bytes : List ℕ) → Consumes (remaining (source_of now)) (remaining (source_of next)) bytes → Consumes (remaining (source_of first)) (remaining (source_of next)) (at.bytes ++ bytes)
       came bytes consumed = consumes_more (remaining (source_of first)) (remaining (source_of now)) (remaining (source_of next)) at.bytes bytes at.consumed consumed
 
-      pub fault_told : (fault : CertFault) → IsAnswer remaining now next lines (Err fault) → IsLineRefusal remaining task first next (refusal_of fault)
-      fault_told (cert.Line Truncated line) (line_is, (bytes, consumed, at_end, told)) =
-          subst (IsToldAt remaining task first next CutShort) (sym line_is) (
+      pub fault_reported : (fault : CertFault) → IsAnswer remaining now next lines (Err fault) → IsLineRefusal remaining task first next (refusal_of fault)
+      fault_reported (cert.Line Truncated line) (line_is, (bytes, consumed, at_end, reported)) =
+          subst (IsReportedAt remaining task first next CutShort) (sym line_is) (
             at.bytes ++ bytes,
             came bytes consumed,
             at_end,
@@ -108,15 +108,15 @@ module _ {R : Type 0} (remaining : R → Option (List ℕ)) (first : CertReader 
               begins = have_begun;
               right = right;
               line_is = refl;
-              at_fault = inl told;
+              at_fault = inl reported;
             },
           )
-      fault_told (cert.Line fault line) (line_is, (bytes, consumed, told, prompt)) =
-          subst (IsToldAt remaining task first next (code_of fault)) (sym line_is)
-          (at.bytes ++ bytes, came bytes consumed, λ more. line_fault bytes more (number_of (code_of fault)) (told more))
-      fault_told cert.Device told = tt
-      fault_told cert.NoMemory told = tt
-      fault_told cert.Failed told = absurd told
+      fault_reported (cert.Line fault line) (line_is, (bytes, consumed, reported, prompt)) =
+          subst (IsReportedAt remaining task first next (code_of fault)) (sym line_is)
+          (at.bytes ++ bytes, came bytes consumed, λ more. line_fault bytes more (number_of (code_of fault)) (reported more))
+      fault_reported cert.Device reported = tt
+      fault_reported cert.NoMemory reported = tt
+      fault_reported cert.Failed reported = absurd reported
 
 -- ---- lines that are wrong
 
@@ -140,14 +140,14 @@ module _ {R : Type 0} (remaining : R → Option (List ℕ)) (first now : CertRea
     at_fault = inr (line, waits_in now ++ more, refl, have_begun remaining first now (before ++ line ∷ []) at, wrong);
   }
 
-  wrong_here : (code : RefusalCode) → IsWrongAfter task before line (number_of code) → IsToldAt remaining task first now code (length before + 1)
+  wrong_here : (code : RefusalCode) → IsWrongAfter task before line (number_of code) → IsReportedAt remaining task first now code (length before + 1)
   wrong_here CutShort wrong = absurd (no_truncated task before line 42 wrong refl)
   wrong_here code wrong = (at.bytes, at.consumed, line_fault_here (number_of code) wrong)
 
-  pub wrong_told : (r : Refusal) → IsWrongNow task before line r → IsLineRefusal remaining task first now r
-  wrong_told (refusal.Line code number) (number_is, wrong) = subst (IsToldAt remaining task first now code) (sym number_is) (wrong_here code wrong)
-  wrong_told refusal.NoMemory wrong = tt
-  wrong_told _ wrong = absurd wrong
+  pub wrong_reported : (r : Refusal) → IsWrongNow task before line r → IsLineRefusal remaining task first now r
+  wrong_reported (refusal.Line code number) (number_is, wrong) = subst (IsReportedAt remaining task first now code) (sym number_is) (wrong_here code wrong)
+  wrong_reported refusal.NoMemory wrong = tt
+  wrong_reported _ wrong = absurd wrong
 
 -- a wrong line counts no failure of the device
 counts_none : (T : Type 0) (task : Task) (before : List TextLine) (line : TextLine) (failed now : ℕ) (x : Refusal) → IsWrongNow task before line x → now ≡ failed → CountsRefusal {T = T} failed now (Err x)

@@ -12,7 +12,7 @@ use Rattle.certificate.specs.CertificateParts.{listed_of}
 use Rattle.certificate.specs.ListedSets.{Marked, marked}
 use Rattle.std.proofs.lemmas.List.{length-map}
 use Rattle.cert_checker.specs.Reasons.{reason_of}
-use Rattle.cert_checker.specs.CheckedLines.{HasCost, Stands, IsListedAt, IsTrueAnyway}
+use Rattle.cert_checker.specs.CheckedLines.{HasCost, IsListedAs, IsListedAt, IsTrueAnyway}
 use Rattle.cert_checker.proofs.CertCheckerLemmas.{got_mapped, slice_get-map}
 use Rattle.model.specs.Task.{Task, Instance}
 use Rattle.model.specs.Meaning.{State, step, meets_goal, system_of}
@@ -26,9 +26,9 @@ use Rattle.certificate_definitions.proofs.CertificateRefusalsLemmas.{apart}
 
 -- ---- a refusal with its line
 
-pub told : (task : Task) (c : Certificate) (r : Refusal) (code : RefusalCode) (line : ℕ) → r ≡ refusal.Line code line
+pub reported : (task : Task) (c : Certificate) (r : Refusal) (code : RefusalCode) (line : ℕ) → r ≡ refusal.Line code line
     → MatchOption (reason_of code) ⊥ (λ reason. IsWrongLine task c reason line) → IsTrueAnyway task c r
-told task c r code line is wrong = subst (IsTrueAnyway task c) (sym is) (λ plan most. wrong)
+reported task c r code line is wrong = subst (IsTrueAnyway task c) (sym is) (λ plan most. wrong)
 
 -- ---- a line of the certificate, and its state
 
@@ -78,7 +78,7 @@ not_listed_at_none lines s t (Some cost) pairs listed is same within =
 
 -- ---- open states
 
-pub wrong_goal : (task : Task) (c : Certificate) (place : ℕ) (s : State) (cost : ℕ) → Stands task c place s cost opened → IsTrue (meets_goal task s) → ¬ Allows c.claim cost
+pub wrong_goal : (task : Task) (c : Certificate) (place : ℕ) (s : State) (cost : ℕ) → IsListedAs task c place s cost opened → IsTrue (meets_goal task s) → ¬ Allows c.claim cost
     → IsWrongLine task c goal_open (state_line c place)
 wrong_goal task c place s cost there goal denied = (record { state = s; cost = cost; mark = opened }, (place, refl, there), refl, goal, denied)
 
@@ -88,7 +88,7 @@ pub leads_there : {X : Type 0} (task : Task) (s : State) (view : X → Instance 
 leads_there task s view xs k x lt at is =
     successors-Contains task s (view x).0 (view x).1 (subst (λ l. Contains {X = Instance × State} l (view x)) is (Contains-map view xs x (k, lt, sym at)))
 
-pub wrong_missing : (task : Task) (c : Certificate) (place : ℕ) (s : State) (cost : ℕ) (i : Instance) (next : State) → Stands task c place s cost opened → step task s i ≡ Some next
+pub wrong_missing : (task : Task) (c : Certificate) (place : ℕ) (s : State) (cost : ℕ) (i : Instance) (next : State) → IsListedAs task c place s cost opened → step task s i ≡ Some next
     → ¬ IsListed (lines_of task c) next → IsWrongLine task c successor_missing (state_line c place)
 wrong_missing task c place s cost i next there leads missing =
     (record { state = s; cost = cost; mark = opened }, i, next, ((place, refl, there), refl, leads), missing)
@@ -101,7 +101,7 @@ pub not_within : (task : Task) (c : Certificate) (s : State) (listed most : ℕ)
 not_within task c s listed most apart at dearer within = omega (arith, one_cost (lines_of task c) s listed most apart at within)
 
 pub wrong_dearer : (task : Task) (c : Certificate) (place : ℕ) (s : State) (cost : ℕ) (i : Instance) (next : State) (listed : ℕ) → AreApart task c
-    → Stands task c place s cost opened → step task s i ≡ Some next → IsListedAt (lines_of task c) next listed → cost + (system_of task).cost i < listed
+    → IsListedAs task c place s cost opened → step task s i ≡ Some next → IsListedAt (lines_of task c) next listed → cost + (system_of task).cost i < listed
     → IsWrongLine task c successor_dearer (state_line c place)
 wrong_dearer task c place s cost i next listed apart there leads at dearer = (
   record { state = s; cost = cost; mark = opened },
@@ -114,13 +114,13 @@ wrong_dearer task c place s cost i next listed apart there leads at dearer = (
 
 -- ---- cuts
 
-pub wrong_cut : (task : Task) (c : Certificate) (place : ℕ) (s : State) (cost rest : ℕ) → Stands task c place s cost (cut rest) → (value_of c s < rest) ⊎ ¬ Allows c.claim (cost + rest)
+pub wrong_cut : (task : Task) (c : Certificate) (place : ℕ) (s : State) (cost rest : ℕ) → IsListedAs task c place s cost (cut rest) → (value_of c s < rest) ⊎ ¬ Allows c.claim (cost + rest)
     → IsWrongLine task c cut_weak (state_line c place)
 wrong_cut task c place s cost rest there wrong = (record { state = s; cost = cost; mark = cut rest }, rest, (place, refl, there), refl, wrong)
 
 -- ---- dead ends
 
-pub wrong_dead : (task : Task) (c : Certificate) (place : ℕ) (s : State) (cost : ℕ) → Stands task c place s cost dead → is_dead_end_of c s ≡ false → IsWrongLine task c not_dead (state_line c place)
+pub wrong_dead : (task : Task) (c : Certificate) (place : ℕ) (s : State) (cost : ℕ) → IsListedAs task c place s cost dead → is_dead_end_of c s ≡ false → IsWrongLine task c not_dead (state_line c place)
 wrong_dead task c place s cost there alive = (record { state = s; cost = cost; mark = dead }, (place, refl, there), refl, alive)
 
 pub not_allowed : (claim whole : Claim) (cost : ℕ) (b : Bool) → claim ≡ whole → IsTrue b ↔ Allows claim cost → b ≡ false → ¬ Allows whole cost

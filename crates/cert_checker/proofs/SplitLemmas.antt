@@ -1,4 +1,4 @@
--- A certificate's text behind some of its lines: what is left are the lines behind them, each no longer than a line may be.
+-- A certificate's text after some of its lines: what is left are the lines after them, each no longer than a line may be.
 use Rattle.std.proofs.Common.{◌≡◌, ℕ, suc, ◌+◌, ◌*◌, ◌<◌, ◌≤◌, true, false, not, List, [], ◌∷◌, ◌++◌, codes, map, length, length-append, Option, None, Some, refl, sym, ap, ◌∙◌, subst, append_assoc, append-nil, arith}
 use Rattle.std.specs.Prelude.{◌&&◌, Contains, IsTrue, nat_le, ℤ, pos, negsuc}
 use Rattle.std.specs.Fmt.{decimal, signed_decimal}
@@ -137,27 +137,27 @@ first_line line lines = append_assoc (line_text line) (10 ∷ []) (text_of lines
 -- the first line of some bytes is that of the text that they are
 pub line_is_first : (v : Version) (bytes line : List ℕ) (l : TextLine) (more : List TextLine) → IsTrue (is_line v most_atoms l) → bytes ≡ text_of (l ∷ more) → HasLine bytes line
     → line_text l ≡ line
-line_is_first v bytes line l more is are (behind, splits, single, few) =
-    (one_whole (line_text l) line (text_of more) behind (line_in_one v most_atoms (omega arith) l is) (in_one line single) (sym (first_line l more) ∙ sym are ∙ splits ∙ append_assoc line (10 ∷ []) behind)).0
+line_is_first v bytes line l more is are (following, splits, single, few) =
+    (one_whole (line_text l) line (text_of more) following (line_in_one v most_atoms (omega arith) l is) (in_one line single) (sym (first_line l more) ∙ sym are ∙ splits ∙ append_assoc line (10 ∷ []) following)).0
 
 -- bytes that reach past an LF have it in them
-pub end_within : (front rest line behind : List ℕ) → front ++ rest ≡ line ++ 10 ∷ behind → length line < length front → Contains front 10
-end_within [] rest line behind same long = absurd (omega (arith, long))
-end_within (byte ∷ front) rest [] behind same long = subst (Contains (byte ∷ front)) (same_head byte 10 (front ++ rest) behind same) (Contains-here byte front)
-end_within (byte ∷ front) rest (b ∷ line) behind same long =
-    Contains-there byte front 10 (end_within front rest line behind (same_tail byte b (front ++ rest) (line ++ 10 ∷ behind) same) (omega (arith, long)))
+pub end_within : (front rest line following : List ℕ) → front ++ rest ≡ line ++ 10 ∷ following → length line < length front → Contains front 10
+end_within [] rest line following same long = absurd (omega (arith, long))
+end_within (byte ∷ front) rest [] following same long = subst (Contains (byte ∷ front)) (same_head byte 10 (front ++ rest) following same) (Contains-here byte front)
+end_within (byte ∷ front) rest (b ∷ line) following same long =
+    Contains-there byte front 10 (end_within front rest line following (same_tail byte b (front ++ rest) (line ++ 10 ∷ following) same) (omega (arith, long)))
 
--- ---- what is left behind some lines
+-- ---- what is left after some lines
 
 pub text_push : (lines : List TextLine) (line : TextLine) → text_of (lines ++ line ∷ []) ≡ text_of lines ++ whole_line line
 text_push [] line = append-nil (whole_line line)
 text_push (first ∷ lines) line = ap (λ text. whole_line first ++ text) (text_push lines line) ∙ sym (append_assoc (whole_line first) (text_of lines) (whole_line line))
 
--- the version that a text's first line tells
-first_version : (u v : Version) (rest behind : List ℕ) → line_text (version u) ++ 10 ∷ rest ≡ line_text (version v) ++ 10 ∷ behind → u ≡ v
-first_version u v rest behind same =
+-- the version that a text's first line reports
+first_version : (u v : Version) (rest following : List ℕ) → line_text (version u) ++ 10 ∷ rest ≡ line_text (version v) ++ 10 ∷ following → u ≡ v
+first_version u v rest following same =
     version_same u v (one_line one most_atoms (omega arith) (version u) (version v) refl refl
-    (one_whole (line_text (version u)) (line_text (version v)) rest behind (line_in_one one most_atoms (omega arith) (version u) refl) (line_in_one one most_atoms (omega arith) (version v) refl) same).0)
+    (one_whole (line_text (version u)) (line_text (version v)) rest following (line_in_one one most_atoms (omega arith) (version u) refl) (line_in_one one most_atoms (omega arith) (version v) refl) same).0)
   where
     version_same : (u v : Version) → version u ≡ version v → u ≡ v
     version_same u v same = cc same
@@ -169,19 +169,19 @@ begun_kept c [] bytes begun same = refl
 begun_kept c (l ∷ before) bytes (rest, (d, keeps, are)) same =
     subst (λ v. IsTrue (list_all (is_line v most_atoms) (l ∷ before))) (sym versions) (first_kept d.version (l ∷ before) rest (subst (λ lines. IsTrue (list_all (is_line d.version most_atoms) lines)) are (kept_lines d keeps)))
   where
-    behind_version : NamedCertificate → List TextLine
-    behind_version e = claims e.claim ∷ constant e.constants ∷ (map (λ a. atom a) e.atoms ++ map (λ l. listed l) e.lines) ++ last (length e.lines) ∷ []
+    after_version : NamedCertificate → List TextLine
+    after_version e = claims e.claim ∷ constant e.constants ∷ (map (λ a. atom a) e.atoms ++ map (λ l. listed l) e.lines) ++ last (length e.lines) ∷ []
 
     first_is : (a b : TextLine) (xs ys : List TextLine) → a ∷ xs ≡ b ∷ ys → a ≡ b
     first_is a b xs ys same = cc same
 
     here : version d.version ≡ l
-    here = first_is (version d.version) l (behind_version d) (before ++ rest) are
+    here = first_is (version d.version) l (after_version d) (before ++ rest) are
 
     versions : c.version ≡ d.version
     versions =
-        first_version c.version d.version (text_of (behind_version c)) (text_of before ++ bytes)
-        (sym (first_line (version c.version) (behind_version c)) ∙ same ∙ append_assoc (whole_line l) (text_of before) bytes ∙ append_assoc (line_text l) (10 ∷ []) (text_of before ++ bytes)
+        first_version c.version d.version (text_of (after_version c)) (text_of before ++ bytes)
+        (sym (first_line (version c.version) (after_version c)) ∙ same ∙ append_assoc (whole_line l) (text_of before) bytes ∙ append_assoc (line_text l) (10 ∷ []) (text_of before ++ bytes)
         ∙ ap (λ (line : TextLine). line_text line ++ 10 ∷ (text_of before ++ bytes)) (sym here))
 
 pub split_off : (v : Version) (before lines : List TextLine) (bytes : List ℕ) → IsTrue (list_all (is_line v most_atoms) before) → IsTrue (list_all (is_line v most_atoms) lines)

@@ -17,11 +17,11 @@ use Rattle.model.specs.Claims.{Claim, opened, cut, dead, Line, IsClosed, ClaimHo
 use Rattle.certificate_definitions.specs.Certificates.{Certificate, is_dead_end_of, lines_of, value_of, IsClosedFor}
 use Rattle.model.proofs.ClaimsLemmas.{claim-of_closed, reachable_next}
 use Rattle.model.proofs.GroundTaskLemmas.{are_numbered, numbered-distinct, numbered-fluent}
-use Rattle.model.proofs.NumberingLemmas.{distinct-from_pairs, Contains-stands_in}
+use Rattle.model.proofs.NumberingLemmas.{distinct-from_pairs, Contains-occurs_in}
 use Rattle.model.proofs.StaticLemmas.{contains-reachable}
 use Rattle.potential_functions.specs.PotentialFunctions.{PotentialFunction, value, value_of_state}
 use Rattle.potential_functions.specs.Laws.{AreNumberable}
-use Rattle.potential_functions.proofs.LowerBound.{dead_fair_ones_tell_dead_ends, fair_ones_are_lower_bounds}
+use Rattle.potential_functions.proofs.LowerBound.{dead_fair_ones_detect_dead_ends, fair_ones_are_lower_bounds}
 use Rattle.cert_checker.proofs.WeightsLemmas.{alike_itself, value-numbered}
 use Rattle.cert_checker.specs.OnListing.{IsOpenWithin, IsOnCut, StaysListed, to_its_end, to_a_cut}
 
@@ -164,7 +164,7 @@ module _ (task : Task) (c : Certificate) (closed : IsClosedFor task c) where
     distinct = numbered-distinct task c.atoms;
     fluent = λ place d within.
         let atoms = numbered_atoms task c.atoms in
-        numbered-fluent task c.atoms more_fluent (get_or atoms place d) (Contains-stands_in atoms (get_or atoms place d) (All-contains_itself atoms place d within));
+        numbered-fluent task c.atoms more_fluent (get_or atoms place d) (Contains-occurs_in atoms (get_or atoms place d) (All-contains_itself atoms place d within));
   }
 
   -- the certificate's atoms are the first of those that have numbers
@@ -182,16 +182,16 @@ module _ (task : Task) (c : Certificate) (closed : IsClosedFor task c) where
       (λ q static. contains-reachable task s q static reached) runs goal in
       omega (arith, value_same c.potentials closed.one_weight_an_atom s, lower)
 
-  -- and a reachable state that it tells to be a dead end is one
-  pub tells_dead_ends : AreDeadEnds (system_of task) (is_dead_end_of c)
-  tells_dead_ends s end plan reached told runs =
-      (dead_fair_ones_tell_dead_ends task (numbered_atoms task c.atoms) c.dead_ends numberable closed.dead_ends_are_fair).dead_ends s end plan
-      (λ q static. contains-reachable task s q static reached) (ap (nat_le 1) (value_same c.dead_ends closed.one_dead_end_weight_an_atom s) ∙ told) runs
+  -- and a reachable state that it reports to be a dead end is one
+  pub detects_dead_ends : AreDeadEnds (system_of task) (is_dead_end_of c)
+  detects_dead_ends s end plan reached reported runs =
+      (dead_fair_ones_detect_dead_ends task (numbered_atoms task c.atoms) c.dead_ends numberable closed.dead_ends_are_fair).dead_ends s end plan
+      (λ q static. contains-reachable task s q static reached) (ap (nat_le 1) (value_same c.dead_ends closed.one_dead_end_weight_an_atom s) ∙ reported) runs
 
 pub closed_holds : (task : Task) (c : Certificate) → IsClosedFor task c → ClaimHolds (system_of task) c.claim
 closed_holds task c closed =
-    claim-of_closed (system_of task) (value_of c) (is_dead_end_of c) c.claim (lines_of task c) (value_below task c closed) (tells_dead_ends task c closed) closed.listing_is_closed
+    claim-of_closed (system_of task) (value_of c) (is_dead_end_of c) c.claim (lines_of task c) (value_below task c closed) (detects_dead_ends task c closed) closed.listing_is_closed
 
 pub solving_stays : (task : Task) (c : Certificate) (plan : List Instance) → IsClosedFor task c → Solves (system_of task) plan → StaysListed (system_of task) (lines_of task c) plan
 solving_stays task c plan closed =
-    stays_listed (system_of task) (value_of c) (is_dead_end_of c) c.claim (lines_of task c) (tells_dead_ends task c closed) closed.listing_is_closed (value_below task c closed) plan
+    stays_listed (system_of task) (value_of c) (is_dead_end_of c) c.claim (lines_of task c) (detects_dead_ends task c closed) closed.listing_is_closed (value_below task c closed) plan

@@ -130,7 +130,7 @@ alike said width p has = record { constant = has.constant; weights = has.weights
 pub alike_back : (said : PotentialFunction) (width : ℕ) (p : PotentialFunction) → HasItsWeights said width p → AreAlike said p
 alike_back said width p has = record { constant = sym has.constant; weights = λ n. sym (has.weights n) }
 
--- weights with zeros behind them
+-- weights with zeros after them
 weight-zeros : (v : List ℤ) (more n : ℕ) → weight (v ++ replicate more (pos 0)) n ≡ weight v n
 weight-zeros [] more n = zeros more n
   where
@@ -182,22 +182,22 @@ widened_in_range said width p within has = record {
   weights = all_in_range p.weights (λ n. subst IsInRange (sym (has.weights n)) (range_at said.weights n within.weights));
 }
 
--- ---- what is told of them is told of the certificate
+-- ---- what is reported for them is reported for the certificate
 
 module _ (allowance : Instance → ℕ) (task : Task) (c : Certificate) (said : PotentialFunction) (atoms : List Atom) (p : PotentialFunction) (numbered : atoms ≡ numbered_atoms task c.atoms)
     (has : HasItsWeights said (length atoms) p) where
-  pub fair_told : AreFairAt allowance task atoms p → AreFairAt allowance task (numbered_atoms task c.atoms) said
-  fair_told fair = subst (λ those. AreFairAt allowance task those said) numbered (fair-alike task atoms p said (alike said (length atoms) p has) allowance fair)
+  pub fair_reported : AreFairAt allowance task atoms p → AreFairAt allowance task (numbered_atoms task c.atoms) said
+  fair_reported fair = subst (λ those. AreFairAt allowance task those said) numbered (fair-alike task atoms p said (alike said (length atoms) p has) allowance fair)
 
-  pub instances_told : AreInstancesFairAt allowance task atoms p → AreInstancesFairAt allowance task (numbered_atoms task c.atoms) said
-  instances_told fair = subst (λ those. AreInstancesFairAt allowance task those said) numbered (instances-alike task atoms p said (alike said (length atoms) p has) allowance fair)
+  pub instances_reported : AreInstancesFairAt allowance task atoms p → AreInstancesFairAt allowance task (numbered_atoms task c.atoms) said
+  instances_reported fair = subst (λ those. AreInstancesFairAt allowance task those said) numbered (instances-alike task atoms p said (alike said (length atoms) p has) allowance fair)
 
-  pub goals_told : ¬ IsFairAtGoals task atoms p → ¬ IsFairAtGoals task (numbered_atoms task c.atoms) said
-  goals_told unfair fair =
+  pub goals_reported : ¬ IsFairAtGoals task atoms p → ¬ IsFairAtGoals task (numbered_atoms task c.atoms) said
+  goals_reported unfair fair =
       unfair (goals-alike task atoms said p (alike_back said (length atoms) p has) (subst (λ those. IsFairAtGoals task those said) (sym numbered) fair))
 
-  pub first_told : (number : ℕ) (i : Instance) → IsFirstUnfairAt allowance task atoms p number → slice_get (kept_instances task) number ≡ Some i → IsFirstToLoseAt allowance task c said i
-  first_told number i first at =
+  pub first_reported : (number : ℕ) (i : Instance) → IsFirstUnfairAt allowance task atoms p number → slice_get (kept_instances task) number ≡ Some i → IsFirstToLoseAt allowance task c said i
+  first_reported number i first at =
       subst (λ those. (n : ℕ) × (f : IsFirstUnfairAt allowance task those said n) × (f.instance ≡ i)) numbered (number, there, is)
     where
       there : IsFirstUnfairAt allowance task atoms said number
@@ -212,9 +212,9 @@ module _ (allowance : Instance → ℕ) (task : Task) (c : Certificate) (said : 
       is = same_Some first.instance i (sym first.named ∙ at)
 
   -- the first one that is unfair is one
-  pub unfair_told : (number : ℕ) (i : Instance) → IsFirstUnfairAt allowance task atoms p number → slice_get (kept_instances task) number ≡ Some i → IsUnfairAt allowance task c said i
-  unfair_told number i first at =
-      let (place, there, is) = first_told number i first at in
+  pub unfair_reported : (number : ℕ) (i : Instance) → IsFirstUnfairAt allowance task atoms p number → slice_get (kept_instances task) number ≡ Some i → IsUnfairAt allowance task c said i
+  unfair_reported number i first at =
+      let (place, there, is) = first_reported number i first at in
       subst (IsUnfairAt allowance task c said) is (Contains-got (kept_instances task) place there.instance there.named, there.unfair)
 
 -- ---- potentials that are all 0
@@ -227,7 +227,7 @@ zeros_are (w ∷ v) all =
     λ i. here i ∷ more i
 
 -- they are dead-fair
-pub zero_told : (task : Task) (atoms : List Atom) (p : PotentialFunction) → length p.weights ≡ length atoms → p.constant ≡ pos 0 → All (λ (w : ℤ). w ≡ pos 0) p.weights → AreDeadFair task atoms p
-zero_told task atoms p long constant weights =
+pub zero_reported : (task : Task) (atoms : List Atom) (p : PotentialFunction) → length p.weights ≡ length atoms → p.constant ≡ pos 0 → All (λ (w : ℤ). w ≡ pos 0) p.weights → AreDeadFair task atoms p
+zero_reported task atoms p long constant weights =
     let weights_are : p.weights ≡ replicate (length atoms) (pos 0) = zeros_are p.weights weights ∙ ap (λ n. replicate n (pos 0)) long in
     subst (AreDeadFair task atoms) (λ i. record { constant = sym constant i; weights = sym weights_are i }) (zero-dead_fair task atoms)

@@ -263,9 +263,9 @@ module _ (task : Task) (c : Certificate) (well : IsTrue (is_task task)) (has_nam
       let number : is_number (length c.lines) ≡ true = lt-ltb (length c.lines) 1152921504606846976 (omega (arith, below)) in
       let end_is : list_all keeps_line end ≡ true = λ i. number i && true in
       let body : list_all keeps_line (atoms ++ lines) ≡ true = list_all-append keeps_line atoms lines ∙ (λ i. atoms_are i && lines_are i) in
-      let behind : list_all keeps_line ((atoms ++ lines) ++ end) ≡ true = list_all-append keeps_line (atoms ++ lines) end ∙ (λ i. body i && end_is i) in
+      let following : list_all keeps_line ((atoms ++ lines) ++ end) ≡ true = list_all-append keeps_line (atoms ++ lines) end ∙ (λ i. body i && end_is i) in
       let few_atoms : nat_le count most_atoms ≡ true = ap (λ n. nat_le n most_atoms) same ∙ few in
-      λ i. (few_atoms i && few_states i) && (claim i && (constants_are i && behind i))
+      λ i. (few_atoms i && few_states i) && (claim i && (constants_are i && following i))
 
   pub written_reads_back : IsTextOf task (certificate_text task c) c
   written_reads_back = record {

@@ -18,14 +18,14 @@ use Rattle.potential_functions.specs.Fair.{nothing, IsFairAt, IsFirstUnfairAt}
 use Rattle.certificate_definitions.specs.Certificates.{Certificate, lines_of}
 use Rattle.certificate_definitions.specs.CertificateRefusals.{Reason, limit, unfair, dead_unfair, successor_missing, successor_dearer, IsFirst, IsListed, HasState, IsWrong, IsWrongLine}
 
--- What an accepted certificate shows is true, of all lists of instances: the plan that was handed in is optimal at
+-- What an accepted certificate shows is true, of all lists of instances: the plan that was given is optimal at
 -- this cost; every list that solves costs at least this; no list solves.
 abbrev pub IsShown : Task → Option (List Instance) → Accepted → Type 0
 IsShown task plan (Optimal cost) = MatchOption plan ⊥ (λ p. IsOptimal (system_of task) p × (cost_of_all (system_of task) p ≡ cost))
 IsShown task plan (AtLeast cost) = CostsAtLeast (system_of task) cost
 IsShown task plan Unsolvable = IsUnsolvable (system_of task)
 
--- The answer is the one to this claim, by whether a plan was handed in; its cost is the claim's.
+-- The answer is the one to this claim, by whether a plan was given; its cost is the claim's.
 abbrev pub Answers : Claim → Option (List Instance) → Accepted → Type 0
 Answers claim plan (Optimal cost) = (claim ≡ bound cost) × IsSome plan
 Answers claim plan (AtLeast cost) = (claim ≡ bound cost) × (plan ≡ None)
@@ -46,14 +46,14 @@ IsUnfair task c = IsUnfairAt (cost_of task) task c c.potentials
 abbrev pub IsFirstToLose : Task → Certificate → Instance → Type 0
 IsFirstToLose task c = IsFirstToLoseAt (cost_of task) task c c.potentials
 
--- it may lose anything at all of what tells dead ends
+-- it may lose anything at all of what detects dead ends
 abbrev pub IsDeadUnfair : Task → Certificate → Instance → Type 0
 IsDeadUnfair task c = IsUnfairAt nothing task c c.dead_ends
 
 abbrev pub IsFirstDeadToLose : Task → Certificate → Instance → Type 0
 IsFirstDeadToLose task c = IsFirstToLoseAt nothing task c c.dead_ends
 
--- The refusal is true of the certificate, the plan that was handed in, if one was, and the limit of kept instances.
+-- The refusal is true of the certificate, the plan that was given, if one was, and the limit of kept instances.
 abbrev pub IsTrueRefusal : Task → Certificate → Option (List Instance) → ℕ → Refusal → Type 0
 IsTrueRefusal task c plan most (refusal.Line code line) = MatchOption (reason_of code) ⊥ (λ reason. IsWrongLine task c reason line)
 IsTrueRefusal task c plan most (refusal.Unfair i) = IsUnfair task c (instance_of i)
@@ -73,14 +73,14 @@ IsNoFault _ = ⊥
 -- This line lists an open state, from which this instance leads to this state. Each that is applicable there and comes
 -- before it, in the order of all instances, leads to a state that is listed at no more than the line's cost and its own.
 pub record IsFirstToLeave (task : Task) (c : Certificate) (line : ℕ) (l : Line State) (i : Instance) (next : State) : Type 0 where
-  pub stands_there : HasState task c line l
+  pub found_there : HasState task c line l
   pub is_open : l.mark ≡ opened
   pub place : ℕ
   pub leads : slice_get (successors_of task l.state) place ≡ Some (i, next)
   pub listed_before : (k : ℕ) (j : Instance) (s : State) → k < place → slice_get (successors_of task l.state) k ≡ Some (j, s)
       → IsListedWithin (lines_of task c) s (l.cost + (system_of task).cost j)
 
--- Where a successor is told of a line, it is the first one, in the order of the instances, that is not as it is to be.
+-- Where a successor is reported for a line, it is the first one, in the order of the instances, that is not as it is to be.
 abbrev pub IsFirstSuccessor : Task → Certificate → Reason → ℕ → Type 0
 IsFirstSuccessor task c successor_missing line =
     (l : Line State) × (i : Instance) × (next : State) × IsFirstToLeave task c line l i next × ¬ IsListed (lines_of task c) next

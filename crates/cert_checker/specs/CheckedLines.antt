@@ -7,12 +7,12 @@ use Rattle.model.specs.Task.{Task, Instance}
 use Rattle.model.specs.Meaning.{State, initial_state, step, meets_goal, system_of}
 use Rattle.model.specs.NumberedAtoms.{numbered_atoms}
 use Rattle.model.specs.Limits.{max_numbered_atoms}
-use Rattle.model.specs.Grounding.{limit_told}
+use Rattle.model.specs.Grounding.{exceeded_limit}
 use Rattle.model.specs.Claims.{none, Allows, Mark, opened, cut, dead, Line, IsListedWithin}
 use Rattle.potential_functions.specs.Fair.{AreFair, AreDeadFair}
 use Rattle.certificate_definitions.specs.Certificates.{Certificate, StateLine, lines_of, value_of, is_dead_end_of}
 
--- the refusal is true, whatever plan is handed in and whatever the limit of kept instances
+-- the refusal is true, whatever plan is given and whatever the limit of kept instances
 abbrev pub IsTrueAnyway : Task → Certificate → Refusal → Type 0
 IsTrueAnyway task c refusal = (plan : Option (List Instance)) (most : ℕ) → IsTrueRefusal task c plan most refusal
 
@@ -22,19 +22,19 @@ CutsAreAllowed task c count =
     (place : ℕ) (l : Line State) (rest : ℕ) → place < count → slice_get (lines_of task c) place ≡ Some l → l.mark ≡ cut rest → c.claim ≡ none → ⊥
 
 -- The refusal is the first, where nothing is wrong with what was read and the ground task keeps its limits, whatever plan is
--- handed in.
+-- given.
 abbrev pub IsFirstGrounded : Task → Certificate → Refusal → Type 0
 IsFirstGrounded task c refusal =
     AllPairs (λ (k l : Line State). k.state ≢ l.state) (lines_of task c) → CutsAreAllowed task c (length (lines_of task c))
-    → (plan : Option (List Instance)) (most : ℕ) → limit_told most max_numbered_atoms task c.atoms ≡ None → IsFirstRefusal task c plan most refusal
+    → (plan : Option (List Instance)) (most : ℕ) → exceeded_limit most max_numbered_atoms task c.atoms ≡ None → IsFirstRefusal task c plan most refusal
 
 -- the certificate's line at this place has this cost and this mark
 abbrev pub HasCost : Certificate → ℕ → ℕ → Mark → Type 0
 HasCost c place cost mark = (l : StateLine) × (slice_get c.lines place ≡ Some l) × (l.cost ≡ cost) × (l.mark ≡ mark)
 
 -- the listing has this state at this place, at this cost and with this mark
-abbrev pub Stands : Task → Certificate → ℕ → State → ℕ → Mark → Type 0
-Stands task c place state cost mark = slice_get (lines_of task c) place ≡ Some (record { state = state; cost = cost; mark = mark })
+abbrev pub IsListedAs : Task → Certificate → ℕ → State → ℕ → Mark → Type 0
+IsListedAs task c place state cost mark = slice_get (lines_of task c) place ≡ Some (record { state = state; cost = cost; mark = mark })
 
 -- the state is listed at just this cost
 abbrev pub IsListedAt : {S : Type 0} → List (Line S) → S → ℕ → Type 0
@@ -69,7 +69,7 @@ pub record IsRightUpTo (task : Task) (c : Certificate) (most place : ℕ) : Type
   pub atoms : AreFluent task c.atoms
   pub distinct : AllPairs (λ (k l : Line State). k.state ≢ l.state) (lines_of task c)
   pub allowed : CutsAreAllowed task c (length (lines_of task c))
-  pub within : limit_told most max_numbered_atoms task c.atoms ≡ None
+  pub within : exceeded_limit most max_numbered_atoms task c.atoms ≡ None
   pub fair : AreFairFor task c
   pub initial : IsListedWithin (lines_of task c) (initial_state task) 0
   pub lines : (k : ℕ) (l : Line State) → k < place → slice_get (lines_of task c) k ≡ Some l → IsLineClosed task c l
@@ -78,4 +78,4 @@ pub record IsRightUpTo (task : Task) (c : Certificate) (most place : ℕ) : Type
 abbrev pub IsRightGrounded : Task → Certificate → Type 0
 IsRightGrounded task c =
     AllPairs (λ (k l : Line State). k.state ≢ l.state) (lines_of task c) → CutsAreAllowed task c (length (lines_of task c))
-    → (most : ℕ) → limit_told most max_numbered_atoms task c.atoms ≡ None → IsRightUpTo task c most (length (lines_of task c))
+    → (most : ℕ) → exceeded_limit most max_numbered_atoms task c.atoms ≡ None → IsRightUpTo task c most (length (lines_of task c))

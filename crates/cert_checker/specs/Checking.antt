@@ -3,7 +3,7 @@ use Rattle.std.specs.Prelude.{◌≡◌, ℕ, ◌⊎◌, List, Option, None}
 use Rattle.std.specs.Io.KnownBytes.{Consumes, IsAtEnd}
 use Rattle.model.specs.Task.{Task, Instance}
 use Rattle.model.specs.Limits.{max_numbered_atoms}
-use Rattle.model.specs.Grounding.{limit_told}
+use Rattle.model.specs.Grounding.{exceeded_limit}
 use Rattle.certificate_definitions.specs.Certificates.{Certificate}
 use Rattle.certificate_definitions.specs.CertificateChecking.{IsAccepted}
 use Rattle.certificate_reader.specs.declared.reader.CertReader.{CertReader}
@@ -19,7 +19,7 @@ pub record Accepts {R : Type 0} (remaining : R → Option (List ℕ)) (task : Ta
   pub consumed : Consumes (remaining (source_of first)) (remaining (source_of now)) text
   pub at_end : IsAtEnd (remaining (source_of now))
   pub accepted : IsAccepted task text plan
-  pub within : limit_told most max_numbered_atoms task accepted.certificate.atoms ≡ None
+  pub within : exceeded_limit most max_numbered_atoms task accepted.certificate.atoms ≡ None
   pub answers : Answers accepted.certificate.claim plan answer
 
 -- The refusal is that of the first line at fault; or what came to the end is the text of a certificate none of whose lines

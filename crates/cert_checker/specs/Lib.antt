@@ -1,6 +1,6 @@
 pub mod RefusalCode
 pub mod CertFaults
-pub mod Told
+pub mod Given
 pub mod Listed
 pub mod Taking
 pub mod Reading

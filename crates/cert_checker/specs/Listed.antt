@@ -7,15 +7,15 @@ use Rattle.certificate_definitions.specs.Certificates.{StateLine, rise}
 use Rattle.certificate_definitions.specs.CertificateText.{TextLine, version, claims, constant, atom, listed, last}
 use Rattle.certificate_definitions.specs.CertificateChecking.{IsCut}
 use Rattle.certificate.specs.ListedSets.{Marked, marked}
-use Rattle.cert_checker.specs.Told.{states_told}
+use Rattle.cert_checker.specs.Given.{states_given}
 
 -- Of the states that the lines list these are the marks, and the sets of numbers below the width; under a claim that no
 -- list of actions solves none is cut.
 pub record HaveListed (lines : List TextLine) (claim : Claim) (width : ℕ) (marks : List Marked) (sets : List (List Bool)) : Type 0 where
-  pub rising : IsTrue (list_all (λ (l : StateLine). rise width 0 l.atoms) (states_told lines))
-  pub marks_are : marks ≡ map marked (states_told lines)
-  pub allowed : claim ≡ none → All (λ (l : StateLine). ¬ IsCut l.mark) (states_told lines)
-  pub sets_are : sets ≡ map (λ (l : StateLine). set_of width l.atoms) (states_told lines)
+  pub rising : IsTrue (list_all (λ (l : StateLine). rise width 0 l.atoms) (states_given lines))
+  pub marks_are : marks ≡ map marked (states_given lines)
+  pub allowed : claim ≡ none → All (λ (l : StateLine). ¬ IsCut l.mark) (states_given lines)
+  pub sets_are : sets ≡ map (λ (l : StateLine). set_of width l.atoms) (states_given lines)
 
 -- where the line lists a state, its numbers rise below the width, and there is room for one more
 abbrev pub IsFit : ℕ → List (List Bool) → TextLine → Type 0

@@ -1,4 +1,4 @@
--- Where a list of actions stands in a listing of states, over any transition system.
+-- Where a list of actions is in a listing of states, over any transition system.
 use Rattle.std.specs.Prelude.{◌≡◌, ℕ, ◌+◌, ◌<◌, ◌≤◌, List, length, take, drop, Contains, Some}
 use Rattle.model.specs.Runs.{System, run, cost_of_all}
 use Rattle.model.specs.Claims.{opened, cut, Line}

@@ -16,7 +16,7 @@ packed_line width l = set_of width l.atoms
 abbrev pub NamesAtoms : Certificate → StateLine → Type 0
 NamesAtoms c l = (number : ℕ) → Contains l.atoms number → number < length c.atoms
 
--- The store has the certificate's lines, in order, as sets of numbers below the width, and no set stands there twice.
+-- The store has the certificate's lines, in order, as sets of numbers below the width, and no set is there twice.
 pub record HoldsLines (c : Certificate) (width : ℕ) (store : PooledStore) : Type 0 where
   pub wide : pooled_width store ≡ width
   pub sets : pooled_states store ≡ map (packed_line width) c.lines

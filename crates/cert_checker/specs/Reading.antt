@@ -1,4 +1,4 @@
--- How far a text has been read, and what is told of it.
+-- How far a text has been read, and what is reported for it.
 use Rattle.std.specs.Prelude.{◌≡◌, ◌≢◌, ◌&&◌, IsTrue, All, AllPairs, ℕ, Bool, true, false, List, [], ◌∷◌, ◌++◌, Option, Some, None, Result, Err}
 use Rattle.std.specs.Io.KnownBytes.{Consumes, IsAtEnd}
 use Rattle.devices.specs.Devices.{one_more}
@@ -20,18 +20,18 @@ use Rattle.cert_checker.specs.declared.refusal.RefusalCode.TheVariants.{Truncate
 use Rattle.cert_checker.specs.declared.refusal.Refusal.{Refusal}
 use Rattle.cert_checker.specs.declared.refusal.Refusal.TheVariants as refusal
 use Rattle.cert_checker.specs.RefusalCode.{number_of}
-use Rattle.cert_checker.specs.Told.{is_body, states_told}
+use Rattle.cert_checker.specs.Given.{is_body, states_given}
 use Rattle.certificate.specs.ListedSets.{Marked}
 use Rattle.cert_checker.specs.Listed.{HaveListed}
 use Rattle.cert_checker.specs.Taking.{HasTaken}
 
--- a reader that has handed out nothing, and holds nothing
+-- a reader that has given out nothing, and holds nothing
 pub record IsFresh {R : Type 0} (reader : CertReader R) : Type 0 where
   pub read : HasRead reader []
   pub waits : waits_in reader ≡ []
   pub going : has_failed reader ≡ false
 
--- From where it was first until now a reader has handed out these lines: they and what waits are what came.
+-- From where it was first until now a reader has given out these lines: they and what waits are what came.
 pub record IsAt {R : Type 0} (remaining : R → Option (List ℕ)) (first now : CertReader R) (lines : List TextLine) : Type 0 where
   pub read : HasRead now lines
   pub going : has_failed now ≡ false
@@ -45,34 +45,34 @@ pub record IsAtLast {R : Type 0} (remaining : R → Option (List ℕ)) (first no
   pub consumed : Consumes (remaining (source_of first)) (remaining (source_of now)) (text_of lines)
   pub at_end : IsAtEnd (remaining (source_of now))
 
--- The number is told of this line of what came: of a text that ends too early where it has ended, and else whatever follows.
-abbrev pub IsToldAt : {R : Type 0} → (remaining : R → Option (List ℕ)) → Task → (first now : CertReader R) → RefusalCode → ℕ → Type 0
-IsToldAt remaining task first now Truncated line =
+-- The number is reported for this line of what came: of a text that ends too early where it has ended, and else whatever follows.
+abbrev pub IsReportedAt : {R : Type 0} → (remaining : R → Option (List ℕ)) → Task → (first now : CertReader R) → RefusalCode → ℕ → Type 0
+IsReportedAt remaining task first now Truncated line =
     (bytes : List ℕ) × Consumes (remaining (source_of first)) (remaining (source_of now)) bytes × IsAtEnd (remaining (source_of now)) × IsLineFault task bytes 42 line
-IsToldAt remaining task first now code line =
+IsReportedAt remaining task first now code line =
     (bytes : List ℕ) × Consumes (remaining (source_of first)) (remaining (source_of now)) bytes × ((more : List ℕ) → IsLineFault task (bytes ++ more) (number_of code) line)
 
 -- the refusal is that of a line; or memory was refused, or the device failed
 abbrev pub IsLineRefusal : {R : Type 0} → (remaining : R → Option (List ℕ)) → Task → (first now : CertReader R) → Refusal → Type 0
-IsLineRefusal remaining task first now (refusal.Line code line) = IsToldAt remaining task first now code line
+IsLineRefusal remaining task first now (refusal.Line code line) = IsReportedAt remaining task first now code line
 IsLineRefusal remaining task first now refusal.NoMemory = Unit {0}
 IsLineRefusal remaining task first now refusal.Device = Unit {0}
 IsLineRefusal remaining task first now _ = ⊥
 
--- The lines up to the next one have told this; the next one lists a state, or is the last, or the text has ended.
+-- The lines up to the next one have reported this; the next one lists a state, or is the last, or the text has ended.
 abbrev pub IsBegun : {R : Type 0} → (remaining : R → Option (List ℕ)) → Task → (first now : CertReader R) → Header → Option CertLine → Type 0
 IsBegun remaining task first now header (Some line) =
     (before : List TextLine) × IsAt remaining first now (before ++ text_line_of line ∷ []) × HasTaken task before header
-    × (states_told before ≡ []) × (is_body (text_line_of line) ≡ true)
+    × (states_given before ≡ []) × (is_body (text_line_of line) ≡ true)
 IsBegun remaining task first now header None =
-    (lines : List TextLine) × IsAtLast remaining first now lines × HasTaken task lines header × (states_told lines ≡ [])
+    (lines : List TextLine) × IsAtLast remaining first now lines × HasTaken task lines header × (states_given lines ≡ [])
 
 -- the failure of a device counts one failure, another answer none
 abbrev pub CountsRefusal : {T : Type 0} → (before after : ℕ) → Result T Refusal → Type 0
 CountsRefusal before after (Err refusal.Device) = after ≡ one_more before
 CountsRefusal before after _ = after ≡ before
 
--- The lines up to the next one have told and listed this; the next one lists a state, or is the last, or the text has ended.
+-- The lines up to the next one have reported and listed this; the next one lists a state, or is the last, or the text has ended.
 abbrev pub IsListedSoFar : {R : Type 0} → (remaining : R → Option (List ℕ)) → Task → (first now : CertReader R) → Header → (width : ℕ) → List Marked → List (List Bool) → Option CertLine → Type 0
 IsListedSoFar remaining task first now header width marks sets (Some line) =
     (before : List TextLine) × IsAt remaining first now (before ++ text_line_of line ∷ []) × HasTaken task before header

@@ -5,7 +5,7 @@ use Rattle.cert_checker.specs.declared.refusal.RefusalCode.TheVariants.{CertForm
 use Rattle.certificate_definitions.specs.CertificateRefusals.{Reason, not_fluent, repeated, no_initial, unfair_goal, goal_open, successor_missing, successor_dearer, cut_weak, cut_not_allowed, plan_invalid, plan_dearer, limit, dead_unfair_goal, not_dead}
 
 -- What is wrong with a certificate. Of a text that is none, nothing is said of one; that an instance is not fair, or not
--- dead-fair, is told by a refusal that carries the instance.
+-- dead-fair, is reported by a refusal that carries the instance.
 abbrev pub reason_of : RefusalCode → Option Reason
 reason_of CertForm = None
 reason_of CertVersion = None

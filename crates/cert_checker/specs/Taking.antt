@@ -10,7 +10,7 @@ use Rattle.certificate.specs.declared.header.Header.{Header}
 use Rattle.cert_checker.specs.declared.refusal.Refusal.{Refusal}
 use Rattle.cert_checker.specs.declared.refusal.Refusal.TheVariants as refusal
 use Rattle.cert_checker.specs.RefusalCode.{number_of}
-use Rattle.cert_checker.specs.Told.{Heading, HaveTold, is_body, state_in}
+use Rattle.cert_checker.specs.Given.{Heading, HaveGiven, is_body, state_in}
 use Rattle.certificate.specs.CertificateParts.{potential_of}
 
 abbrev pub heading_of : Header → Heading
@@ -22,11 +22,11 @@ heading_of header = record {
   dead_ends = potential_of header.bounds.dead_ends;
 }
 
--- it is what these lines tell
+-- it is what these lines report
 abbrev pub HasTaken : Task → List TextLine → Header → Type 0
-HasTaken task lines header = HaveTold task lines (heading_of header)
+HasTaken task lines header = HaveGiven task lines (heading_of header)
 
--- the line was taken; or it is of the states, or the last, and was handed back
+-- the line was taken; or it is of the states, or the last, and was given back
 abbrev pub IsTaken : Task → (before : List TextLine) → TextLine → Header → Option CertLine → Type 0
 IsTaken task before line header None = HasTaken task (before ++ line ∷ []) header × (state_in line ≡ None)
 IsTaken task before line header (Some back) = HasTaken task before header × (text_line_of back ≡ line) × (is_body line ≡ true)

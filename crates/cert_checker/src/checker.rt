@@ -11,7 +11,7 @@ ghost use Rattle.certificate_reader.specs.Reader.{source_of};
 ghost use Rattle.cert_checker.specs.Reading.{CountsRefusal, IsFresh};
 ghost use Rattle.certificate.specs.Certificate.{certificate_of};
 ghost use Rattle.model.specs.Limits.{max_numbered_atoms};
-ghost use Rattle.model.specs.Grounding.{limit_told};
+ghost use Rattle.model.specs.Grounding.{exceeded_limit};
 ghost use Rattle.certificate_definitions.specs.Certificates.{IsClosedFor, lines_of};
 ghost use Rattle.cert_checker.specs.FluentAtoms.{AreFluent};
 ghost use Rattle.cert_checker.specs.CheckedLines.{CutsAreAllowed};
@@ -34,7 +34,7 @@ use task::Task;
 /// What an accepted certificate shows.
 #[derive(Clone, Copy, Debug, PartialEq, Eq)]
 pub enum Accepted {
-    /// The plan that was handed in solves the task at this cost, and no plan solves it at less.
+    /// The plan that was given solves the task at this cost, and no plan solves it at less.
     Optimal {
         /// The plan's cost.
         cost: u64,
@@ -49,14 +49,14 @@ pub enum Accepted {
 }
 
 /// Decides whether what comes to the reader's end is the text of a certificate that is closed for the task, and whether
-/// the plan, if one is handed in, solves the task at a cost of at most the claim's. Each instance of the plan is one of the
+/// the plan, if one is given, solves the task at a cost of at most the claim's. Each instance of the plan is one of the
 /// task's, and nothing was read of the reader. Each line is taken as it comes, and no text is kept.
 ///
 /// # Errors
-/// The first that applies: the first line at fault, as [`read_cert`] tells it (40 to 44, 52 and 55); 55 where the task
+/// The first that applies: the first line at fault, as [`read_cert`] reports it (40 to 44, 52 and 55); 55 where the task
 /// keeps more than `max_instances` instances once it is grounded, or would number more than 1,048,576 atoms; the first
 /// instance that may lose more than it costs (46), or 47 where more than 0 may be left at a goal; the first that may lose
-/// anything of what tells dead ends (56), or 57 where more than 0 of it may be left at a goal; 45 where the initial state is
+/// anything of what detects dead ends (56), or 57 where more than 0 of it may be left at a goal; 45 where the initial state is
 /// not listed at 0; what is wrong with the successors, the cost or the cut of a listed state, or with a dead end, line by
 /// line (48 to 51, 58); what is wrong with the plan (53, 54). [`Refusal::Device`] where the device failed; [`Refusal::NoMemory`] where
 /// memory is refused.
@@ -73,8 +73,8 @@ pub fn check<R: Source>(
     // What is accepted is true of all lists of instances.
     ensures shown { IfOk result (IsShown (task_of task.now) (option_map (λ p. plan_of p.now) plan.entry)) }
 
-    // It accepts exactly where the text is that of a closed certificate, and the plan, if one is handed in, costs no more
-    // than is claimed; the limits of the ground task, want of memory and failures of the device aside.
+    // It accepts exactly where the text is that of a closed certificate, and the plan, if one is given, costs no more
+    // than is claimed; the limits of the ground task, running out of memory and failures of the device aside.
     ensures accepted { IfOk result (Accepts R.remaining (task_of task.now) reader.old reader.new (option_map (λ p. plan_of p.now) plan.entry) max_instances) }
     ensures accepts { (text : List ℕ) → R.remaining (source_of reader.old) ≡ Some text
         → IsAccepted (task_of task.now) text (option_map (λ p. plan_of p.now) plan.entry) → IfErr result IsNoFault }
@@ -88,7 +88,7 @@ pub fn check<R: Source>(
 }
 
 /// Decides whether a certificate none of whose lines is at fault is closed for the task, and whether the plan, if one is
-/// handed in, solves the task at a cost of at most the claim's.
+/// given, solves the task at a cost of at most the claim's.
 fn judge(
     alloc: Global,
     task: &Task,
@@ -102,7 +102,7 @@ fn judge(
     ensures shown { IfOk result (IsShown (task_of task.now) (option_map (λ p. plan_of p.now) plan.entry)) }
     ensures closed { OnOk result (IsClosedFor (task_of task.now) (certificate_of cert)) }
     ensures answers { IfOk result (Answers (certificate_of cert).claim (option_map (λ p. plan_of p.now) plan.entry)) }
-    ensures within { OnOk result (limit_told max_instances max_numbered_atoms (task_of task.now) (certificate_of cert).atoms ≡ None) }
+    ensures within { OnOk result (exceeded_limit max_instances max_numbered_atoms (task_of task.now) (certificate_of cert).atoms ≡ None) }
     ensures refused { IfErr result (IsTrueRefusal (task_of task.now) (certificate_of cert) (option_map (λ p. plan_of p.now) plan.entry) max_instances) }
     ensures first { IfErr result (IsFirstRefusal (task_of task.now) (certificate_of cert) (option_map (λ p. plan_of p.now) plan.entry) max_instances) }
 {

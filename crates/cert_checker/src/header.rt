@@ -22,8 +22,8 @@ use indexmap::IndexSet;
 use std::alloc::Global;
 use task::Task;
 
-/// What no lines have told: version 1, a bound of 0, which is always true, and the constants 0, until their lines come.
-fn nothing_told(alloc: Global) -> Header
+/// What no lines have reported: version 1, a bound of 0, which is always true, and the constants 0, until their lines come.
+fn nothing_reported(alloc: Global) -> Header
     ensures { (task : model.Task) → HasTaken task [] result }
 {
     Header {
@@ -47,7 +47,7 @@ fn zero_potential(alloc: Global) -> Potential
     }
 }
 
-/// The weight by which dead ends are told, which is 0 where the text has none.
+/// The weight by which dead ends are reported, which is 0 where the text has none.
 fn dead_end_weight(weights: Weights) -> i64
     ensures { result ≡ of_dead_end_or_zero (weights_of weights) }
 {
@@ -57,7 +57,7 @@ fn dead_end_weight(weights: Weights) -> i64
     }
 }
 
-/// Takes the line of this number, from 1; a line that lists a state, or is the last, is handed back.
+/// Takes the line of this number, from 1; a line that lists a state, or is the last, is given back.
 fn take(
     header: &mut Header,
     task: &Task,
@@ -93,7 +93,7 @@ fn take(
     }
 }
 
-/// Puts the atom of these names, which the line of this number gives, and its weights behind the others.
+/// Puts the atom of these names, which the line of this number gives, and its weights after the others.
 fn add_atom(
     header: &mut Header,
     task: &Task,
@@ -103,7 +103,7 @@ fn add_atom(
     number: u64,
 ) -> Result<(), Refusal>
     requires { AreFluentsOf (task_of task.now) fluents.now }
-    ensures told { OnOk result ((before : List TextLine) → HasTaken (task_of task.now) before header.old
+    ensures reported { OnOk result ((before : List TextLine) → HasTaken (task_of task.now) before header.old
         → HasTaken (task_of task.now) (before ++ atom (record { weights = weights_of weights; atom = named_atom_of name.now }) ∷ []) header.new) }
     ensures wrong { IfErr result (λ refusal. (before : List TextLine) → number ≡ length before + 1 → HasTaken (task_of task.now) before header.old
         → IsWrongNow (task_of task.now) before (atom (record { weights = weights_of weights; atom = named_atom_of name.now })) refusal) }
@@ -129,7 +129,7 @@ fn add_atom(
     Ok(())
 }
 
-/// Reads what stands before the states, and the line behind it; `None` where the text has ended before it.
+/// Reads what comes before the states, and the line after it; `None` where the text has ended before it.
 pub(crate) fn read_header<R: Source>(
     alloc: Global,
     task: &Task,
@@ -141,7 +141,7 @@ pub(crate) fn read_header<R: Source>(
     ensures failures { CountsRefusal (R.failures (source_of reader.old)) (R.failures (source_of reader.new)) result }
 {
     let fluents = FluentPredicates::new(alloc, task)?;
-    let mut header = nothing_told(alloc);
+    let mut header = nothing_reported(alloc);
     'lines: loop {
         let Some(line) = reader.next_line()? else {
             return Ok((header, None));

@@ -14,7 +14,7 @@ ghost use Rattle.cert_checker.specs.OnListing.{StaysListed};
 
 /// What a certificate that is closed for a task claims is true of all lists of instances, whatever their length; the value
 /// that it gives to a reachable state is no more than what is still to pay from there; and from a reachable state that it
-/// tells to be a dead end, no list leads to the goal.
+/// reports to be a dead end, no list leads to the goal.
 pub fn closed_claim_holds()
     ensures claim { (task : Task) (c : Certificate) → IsClosedFor task c → ClaimHolds (system_of task) c.claim }
     ensures values { (task : Task) (c : Certificate) → IsClosedFor task c → IsLowerBound (system_of task) (value_of c) }

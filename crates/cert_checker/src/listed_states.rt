@@ -7,7 +7,7 @@ ghost use Rattle.certificate_definitions.specs.Certificates.{rise};
 ghost use Rattle.certificate_reader.specs.Lines.{claim_of, line_of, mark_of, text_line_of};
 ghost use Rattle.certificate_definitions.specs.CertificateChecking.{IsCut};
 ghost use Rattle.certificate_definitions.specs.CertificateText.{TextLine, listed};
-ghost use Rattle.cert_checker.specs.Told.{Heading, HaveTold, is_body};
+ghost use Rattle.cert_checker.specs.Given.{Heading, HaveGiven, is_body};
 ghost use Rattle.cert_checker.specs.Taking.{IsWrongNow};
 ghost use Rattle.cert_checker.specs.Listed.{HaveListed, IsFit};
 ghost use Rattle.certificate.specs.CertificateParts.{listed_of};
@@ -28,14 +28,14 @@ fn take(
     requires rising { IsTrue (rise (pooled_width states.old.sets) 0 line.now.atoms.items) }
     requires room { length (pooled_states states.old.sets) < 16777216 }
     ensures width { pooled_width states.new.sets ≡ pooled_width states.old.sets }
-    ensures told { OnOk result ((task : model.Task) (before : List TextLine) (heading : Heading) → heading.claim ≡ claim_of claim → HaveTold task before heading
+    ensures reported { OnOk result ((task : model.Task) (before : List TextLine) (heading : Heading) → heading.claim ≡ claim_of claim → HaveGiven task before heading
         → HaveListed before (claim_of claim) (pooled_width states.old.sets) (map listed_of states.old.marks.items) (pooled_states states.old.sets)
-        → HaveTold task (before ++ listed (line_of line.now) ∷ []) heading) }
+        → HaveGiven task (before ++ listed (line_of line.now) ∷ []) heading) }
     ensures listed { OnOk result ((before : List TextLine)
         → HaveListed before (claim_of claim) (pooled_width states.old.sets) (map listed_of states.old.marks.items) (pooled_states states.old.sets)
         → HaveListed (before ++ listed (line_of line.now) ∷ []) (claim_of claim) (pooled_width states.old.sets) (map listed_of states.new.marks.items) (pooled_states states.new.sets)) }
     ensures wrong { IfErr result (λ refusal. (task : model.Task) (before : List TextLine) (heading : Heading) → heading.claim ≡ claim_of claim → number ≡ length before + 1
-        → HaveTold task before heading
+        → HaveGiven task before heading
         → HaveListed before (claim_of claim) (pooled_width states.old.sets) (map listed_of states.old.marks.items) (pooled_states states.old.sets)
         → IsWrongNow task before (listed (line_of line.now)) refusal) }
 {
@@ -65,12 +65,12 @@ pub(crate) fn take_line(
     requires fit { IsFit (pooled_width states.old.sets) (pooled_states states.old.sets) (text_line_of line) }
     ensures width { pooled_width states.new.sets ≡ pooled_width states.old.sets }
     ensures taken { OnOk result ((task : model.Task) (before : List TextLine) (heading : Heading) → heading.claim ≡ claim_of claim → IsTrue (is_body (text_line_of line))
-        → HaveTold task before heading
+        → HaveGiven task before heading
         → HaveListed before (claim_of claim) (pooled_width states.old.sets) (map listed_of states.old.marks.items) (pooled_states states.old.sets)
-        → HaveTold task (before ++ text_line_of line ∷ []) heading
+        → HaveGiven task (before ++ text_line_of line ∷ []) heading
         × HaveListed (before ++ text_line_of line ∷ []) (claim_of claim) (pooled_width states.old.sets) (map listed_of states.new.marks.items) (pooled_states states.new.sets)) }
     ensures wrong { IfErr result (λ refusal. (task : model.Task) (before : List TextLine) (heading : Heading) → heading.claim ≡ claim_of claim → number ≡ length before + 1
-        → HaveTold task before heading
+        → HaveGiven task before heading
         → HaveListed before (claim_of claim) (pooled_width states.old.sets) (map listed_of states.old.marks.items) (pooled_states states.old.sets)
         → IsWrongNow task before (text_line_of line) refusal) }
 {

@@ -8,11 +8,11 @@ use formulas::Instance;
 use std::alloc::AllocFailed;
 use std::fmt;
 
-/// What is wrong with a certificate, or with the plan that was handed in with it. The number of a code is the one
+/// What is wrong with a certificate, or with the plan that was given with it. The number of a code is the one
 /// that the program prints.
 #[derive(Clone, Copy, Debug, PartialEq, Eq, Drop)]
 pub enum RefusalCode {
-    /// A line that cannot stand in its place, or is too long, or a byte behind the last line.
+    /// A line that cannot occur in its place, or is too long, or a byte after the last line.
     CertForm = 40,
     /// The first line of another version.
     CertVersion = 41,
@@ -98,7 +98,7 @@ impl fmt::Display for RefusalCode {
     }
 }
 
-/// Why a certificate, or the plan that was handed in with it, is refused.
+/// Why a certificate, or the plan that was given with it, is refused.
 #[derive(Drop)]
 pub enum Refusal {
     /// This is wrong with a line of the certificate.
@@ -118,7 +118,7 @@ pub enum Refusal {
     NoMemory,
     /// The device failed.
     Device,
-    /// The reader had told a fault before.
+    /// The reader had reported a fault before.
     Failed,
 }
 

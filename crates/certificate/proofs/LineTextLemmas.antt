@@ -18,7 +18,7 @@ pub where_added : {T E : Type 0} (r : Result T E) (new old piece whole : List �
 where_added (Ok value) new old piece whole added is = added ∙ is
 where_added (Err error) new old piece whole added is = tt
 
--- a piece, and a piece behind it
+-- a piece, and a piece after it
 pub pieces : (old a b : List ℕ) → (old ++ a) ++ b ≡ old ++ (a ++ b)
 pieces old a b = append_assoc old a b
 

@@ -43,17 +43,17 @@ module _ (width : ℕ) where
       omega (arith, earlier, distinct j k (set_at (get_or lines j d)) there again)
 
   module _ (lines : List StateLine) (i : ℕ) (line : StateLine) (within : i < length lines) (is : get_or lines i line ≡ line) where
-    -- a line whose set stands among those of the lines before lists one of their states
+    -- a line whose set is among those of the lines before lists one of their states
     pub listed_twice : All IsRising lines → Contains (map set_at (take i lines)) (set_at line) → ListOnce lines → ⊥
     listed_twice rising there once =
-        let (m, stands, same) = map-Contains set_at (take i lines) (set_at line) there in
-        let j = stands.0 in
+        let (m, occurs, same) = map-Contains set_at (take i lines) (set_at line) there in
+        let j = occurs.0 in
         let few : length (take i lines) ≡ i = length-take-le i lines (omega (arith, within)) in
-        let earlier : j < i = omega (arith, stands.1, few) in
-        let first : get_or lines j m ≡ m = sym (get_or-take i lines j m earlier) ∙ stands.2 in
+        let earlier : j < i = omega (arith, occurs.1, few) in
+        let first : get_or lines j m ≡ m = sym (get_or-take i lines j m earlier) ∙ occurs.2 in
         let at : slice_get lines i ≡ Some line = slice_get-get_or lines i line within ∙ ap (λ l. Some l) is in
         let second : get_or lines i m ≡ line = get_or_from_slice_get lines i line m at in
-        let one = one_set width m.atoms line.atoms (All-contains IsRising (take i lines) m (All-take IsRising i lines rising) stands) (All-contains IsRising lines line rising (Contains-got lines i line at)) same in
+        let one = one_set width m.atoms line.atoms (All-contains IsRising (take i lines) m (All-take IsRising i lines rising) occurs) (All-contains IsRising lines line rising (Contains-got lines i line at)) same in
         once j i m earlier within (ap (λ (l : StateLine). l.atoms) first ∙ one ∙ ap (λ (l : StateLine). l.atoms) (sym second))
 
     -- one line more

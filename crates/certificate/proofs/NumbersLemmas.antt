@@ -158,7 +158,7 @@ potential_parts is_in_range count p are =
     let (constant_is, many) = and_parts (is_in_range p.constant) (length p.weights == count) first in
     (constant_is, eqb-true (length p.weights) count many, weights)
 
--- what tells dead ends is a weight, in version 1 too, where it is 0
+-- what detects dead ends is a weight, in version 1 too, where it is 0
 dead_end_weight : (version : Version) (w : ℤ) → is_dead_end_weight version w ≡ true → is_weight w ≡ true
 dead_end_weight one (pos zero) is = refl
 dead_end_weight one (pos (suc n)) is = absurd (cc)

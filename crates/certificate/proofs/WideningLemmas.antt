@@ -57,16 +57,16 @@ module _ (width wide : ℕ) (sets : List (List Bool)) (distinct : AreDistinct se
   one_more_wide new place true (absent, pushed, there) =
       pushed ∙ sym (map-append (at_width wide) (take k sets) (set ∷ [])) ∙ ap (map (at_width wide)) (sym taken)
   one_more_wide new place false (there, kept) =
-      let (other, stands, same) = map-Contains (at_width wide) (take k sets) (at_width wide set) (Contains-got (map (at_width wide) (take k sets)) place (at_width wide set) there) in
-      let is : other ≡ set = one_wide width wide other set (All-contains (λ (set : List Bool). length set ≡ width) (take k sets) other lengths stands) long
-      (below_there other stands) (below_at (Contains-got sets k set at)) same in
-      absurd (not_before (subst (Contains (take k sets)) is stands))
+      let (other, occurs, same) = map-Contains (at_width wide) (take k sets) (at_width wide set) (Contains-got (map (at_width wide) (take k sets)) place (at_width wide set) there) in
+      let is : other ≡ set = one_wide width wide other set (All-contains (λ (set : List Bool). length set ≡ width) (take k sets) other lengths occurs) long
+      (below_there other occurs) (below_at (Contains-got sets k set at)) same in
+      absurd (not_before (subst (Contains (take k sets)) is occurs))
     where
       below_at : {set : List Bool} → Contains sets set → IsBelow wide set
-      below_at {set} stands = All-contains (IsBelow wide) sets set below stands
+      below_at {set} occurs = All-contains (IsBelow wide) sets set below occurs
 
       below_there : (other : List Bool) → Contains (take k sets) other → IsBelow wide other
-      below_there other stands = All-contains (IsBelow wide) (take k sets) other (All-take (IsBelow wide) k sets below) stands
+      below_there other occurs = All-contains (IsBelow wide) (take k sets) other (All-take (IsBelow wide) k sets below) occurs
 
   pub lengths_more : All (λ (set : List Bool). length set ≡ width) (take (k + 1) sets)
   lengths_more = subst (All (λ (set : List Bool). length set ≡ width)) (sym taken) (All-push (λ (set : List Bool). length set ≡ width) (take k sets) set lengths long)

@@ -7,7 +7,7 @@ use Rattle.certificate_definitions.specs.Certificates.{Version, Certificate, Sta
 use Rattle.certificate_definitions.specs.CertificateText.{Weights, atom, listed, whole_line}
 use Rattle.certificate_definitions.specs.CertificateNames.{named_atom, weighted_atom}
 
--- Behind the bytes that were held comes this text: of both, in their order, some went to the sink, and the others are held.
+-- After the bytes that were held comes this text: of both, in their order, some went to the sink, and the others are held.
 abbrev pub IsPassedOn : (before after : Option (List ℕ)) → (held held_after : List ℕ) → List ℕ → Type 0
 IsPassedOn before after held held_after text = (written : List ℕ) × Appends before after written × (held ++ text ≡ written ++ held_after)
 

@@ -15,7 +15,7 @@ ListOnce lines = AllPairs (λ (k l : StateLine). k.atoms ≢ l.atoms) lines
 abbrev pub set_in : States → StateLine → List Bool
 set_in states line = set_of (pooled_width states.sets) line.atoms
 
--- the line's state is put behind the others, if it is not among them
+-- the line's state is put after the others, if it is not among them
 abbrev pub IsPushed : (old new : States) → StateLine → Bool → Type 0
 IsPushed old new line is_new =
     MatchBool is_new

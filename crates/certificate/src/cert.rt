@@ -99,7 +99,7 @@ impl Cert {
         self.header.bounds.values.weights.as_slice()
     }
 
-    /// The constant of the potential function that tells dead ends.
+    /// The constant of the potential function that detects dead ends.
     pub fn dead_end_constant(&self) -> i64
         ensures constant { result ≡ (certificate_of self.now).dead_ends.constant }
         ensures within_limits { IsTrue (is_weight result) }
@@ -107,7 +107,7 @@ impl Cert {
         self.header.bounds.dead_ends.constant
     }
 
-    /// The weights of its atoms that tell dead ends, in their order.
+    /// The weights of its atoms that detect dead ends, in their order.
     pub fn dead_end_weights(&self) -> &[i64]
         ensures weights { result.now ≡ (certificate_of self.now).dead_ends.weights }
         ensures one_for_each { length result.now ≡ length (certificate_of self.now).atoms }

@@ -17,7 +17,7 @@ pub struct Potential {
 pub struct Bounds {
     /// The potential function by which a state has a value, a lower bound of what is still to pay from it on.
     pub values: Potential,
-    /// That by which a state is told a dead end. In version 1 all of it is 0.
+    /// That by which a state is reported as a dead end. In version 1 all of it is 0.
     pub dead_ends: Potential,
 }
 

@@ -23,14 +23,14 @@ pub(crate) fn keeps_limits(header: &Header, lines: &[StateLine]) -> bool
         && are_dead_ends(header.version, &header.bounds.dead_ends, atom_count)
 }
 
-/// Whether the number may stand in a certificate.
+/// Whether the number may occur in a certificate.
 fn is_number(number: u64) -> bool
     ensures { result ≡ is_number number }
 {
     number < NUMBER_LIMIT
 }
 
-/// Whether the claim may stand in a certificate.
+/// Whether the claim may occur in a certificate.
 fn is_claim(claim: Claim) -> bool
     ensures { result ≡ is_claim (claim_of claim) }
 {
@@ -49,7 +49,7 @@ fn are_potentials(potential: &Potential, atom_count: usize) -> bool
         && are_weights(&potential.weights)
 }
 
-/// Whether they may tell dead ends in a certificate of this version and of this many atoms.
+/// Whether they may detect dead ends in a certificate of this version and of this many atoms.
 fn are_dead_ends(version: Version, potential: &Potential, atom_count: usize) -> bool
     ensures { result ≡ are_potentials (is_dead_end_weight (version_of version)) atom_count (potential_of potential.now) }
 {
@@ -65,7 +65,7 @@ fn are_weights(weights: &[i64]) -> bool
     weights.iter().all(|weight| is_weight(*weight))
 }
 
-/// Whether each number may be a weight that tells dead ends.
+/// Whether each number may be a weight that detects dead ends.
 fn are_dead_end_weights(version: Version, weights: &[i64]) -> bool
     ensures { result ≡ list_all (is_dead_end_weight (version_of version)) weights.now }
 {
@@ -81,7 +81,7 @@ fn is_weight(number: i64) -> bool
     -MAX_WEIGHT <= number && number <= MAX_WEIGHT
 }
 
-/// Whether the number may be a weight that tells dead ends, of which version 1 has none.
+/// Whether the number may be a weight that detects dead ends, of which version 1 has none.
 fn is_dead_end_weight(version: Version, number: i64) -> bool
     ensures { result ≡ is_dead_end_weight (version_of version) number }
 {
@@ -91,7 +91,7 @@ fn is_dead_end_weight(version: Version, number: i64) -> bool
     }
 }
 
-/// Whether each line may stand in a certificate of this version and of this many atoms.
+/// Whether each line may occur in a certificate of this version and of this many atoms.
 fn are_state_lines(version: Version, lines: &[StateLine], atom_count: usize) -> bool
     ensures { result ≡ list_all (is_state_line (version_of version) atom_count) (map line_of lines.now) }
 {
@@ -103,7 +103,7 @@ fn are_state_lines(version: Version, lines: &[StateLine], atom_count: usize) -> 
     true
 }
 
-/// Whether the line may stand in a certificate of this version and of this many atoms.
+/// Whether the line may occur in a certificate of this version and of this many atoms.
 fn is_state_line(version: Version, line: &StateLine, atom_count: usize) -> bool
     ensures { result ≡ is_state_line (version_of version) atom_count (line_of line.now) }
 {

@@ -42,7 +42,7 @@ impl States {
         })
     }
 
-    /// Puts the state of the line behind the others and answers `true`, if it is not among them; else `false`.
+    /// Puts the state of the line after the others and answers `true`, if it is not among them; else `false`.
     ///
     /// # Errors
     /// Where memory is refused.

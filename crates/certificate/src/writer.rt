@@ -52,7 +52,7 @@ pub fn write_cert<W: Sink>(
     write_all(out, held.as_slice())
 }
 
-/// Writes the lines of the atoms, each with its weights, behind the bytes that are held.
+/// Writes the lines of the atoms, each with its weights, after the bytes that are held.
 fn write_atoms<W: Sink>(
     task: &Task,
     cert: &Cert,
@@ -77,7 +77,7 @@ fn write_atoms<W: Sink>(
     Ok(())
 }
 
-/// Writes the lines of the listed states behind the bytes that are held.
+/// Writes the lines of the listed states after the bytes that are held.
 fn write_states<W: Sink>(
     alloc: Global,
     cert: &Cert,

@@ -19,7 +19,7 @@ use Rattle.model.specs.Claims as model
 use Rattle.model.specs.Fluents.{is_fluent}
 use Rattle.certificate_definitions.specs.Certificates.{two, StateLine, state_of_line, IsClosedFor}
 use Rattle.certificate_definitions.specs.CertificateRefusals.{IsWrong, IsWrongLine, unfair, unfair_goal, dead_unfair, dead_unfair_goal, not_dead}
-use Rattle.certificate_definitions.specs.CertificateExamples.{AreJudged, open_at, cut_at, linked, tied, claims, weighs, zeros, token_told}
+use Rattle.certificate_definitions.specs.CertificateExamples.{AreJudged, open_at, cut_at, linked, tied, claims, weighs, zeros, token_reported}
 use Rattle.potential_functions.specs.PotentialFunctions.{PotentialFunction, or_zero, value_of_state, is_dead_by, is_dead_state}
 use Rattle.potential_functions.specs.Fair.{IsFairAt, IsFairAtGoals, AreFair, nothing, AreDeadFair}
 use Rattle.potential_functions.specs.FairExamples.{token_task, token_atoms, one_missing, minus}
@@ -130,7 +130,7 @@ zero_is_fair = over_numbered (potentials (pos 0) (pos 0)) (zero-fair tie_task (t
 worth_one : AreFair tie_task (numbered_atoms tie_task (tied ∷ [])) (potentials (pos 1) (negsuc 0))
 worth_one = over_numbered (potentials (pos 1) (negsuc 0)) (record { instances = one_fair (negsuc 0) (le_z_yes tt); goals = record { within = le_z_yes tt } })
 
--- where nothing weighs, no state is told a dead end, and that is dead-fair
+-- where nothing weighs, no state is reported as a dead end, and that is dead-fair
 zero_is_dead_fair : AreDeadFair tie_task (numbered_atoms tie_task (tied ∷ [])) (potentials (pos 0) (pos 0))
 zero_is_dead_fair = subst (λ atoms. AreDeadFair tie_task atoms (potentials (pos 0) (pos 0))) (sym atoms_are) (record {
   instances =
@@ -204,13 +204,13 @@ at_x = from_list {R = atom_cmp} (ground 0 [] ∷ [])
 token_atoms_are : numbered_atoms token_task token_atoms ≡ token_atoms
 token_atoms_are = numbered-is token_task token_atoms ∙ refl
 
-told_at_x : (p : PotentialFunction) → is_dead_state token_atoms p at_x ≡ is_dead_by p (true ∷ false ∷ [])
-told_at_x p = λ i. is_dead_by p (contains-from_list atoms_total (ground 0 [] ∷ []) (ground 0 []) i ∷ contains-from_list atoms_total (ground 0 [] ∷ []) (ground 1 []) i ∷ [])
+reported_at_x : (p : PotentialFunction) → is_dead_state token_atoms p at_x ≡ is_dead_by p (true ∷ false ∷ [])
+reported_at_x p = λ i. is_dead_by p (contains-from_list atoms_total (ground 0 [] ∷ []) (ground 0 []) i ∷ contains-from_list atoms_total (ground 0 [] ∷ []) (ground 1 []) i ∷ [])
 
 abbrev dead_line : Line State
 dead_line = record { state = at_x; cost = 0; mark = dead }
 
-dead_closed : (claim : Claim) → IsClosedFor token_task (token_told two claim (pos 2) (minus 1))
+dead_closed : (claim : Claim) → IsClosedFor token_task (token_reported two claim (pos 2) (minus 1))
 dead_closed claim = record {
   one_weight_an_atom = refl;
   one_dead_end_weight_an_atom = refl;
@@ -232,22 +232,22 @@ dead_closed claim = record {
     cuts_allowed = λ line rest at is_cut.
         the_one_line (λ (l : Line State). l.mark ≡ cut rest → (rest ≤ value_of_state token_atoms (zeros token_atoms) l.state) × Allows claim (l.cost + rest)) dead_line line at
         (λ is. absurd (cc)) is_cut;
-    dead_are_dead = λ line at is_dead. the_one_line (λ (l : Line State). IsTrue (is_dead_state token_atoms one_missing l.state)) dead_line line at (told_at_x one_missing);
+    dead_are_dead = λ line at is_dead. the_one_line (λ (l : Line State). IsTrue (is_dead_state token_atoms one_missing l.state)) dead_line line at (reported_at_x one_missing);
   };
 }
 
 -- with a constant of 1 it has the value 0
-not_told : IsWrongLine token_task (token_told two model.none (pos 1) (minus 1)) not_dead 6
-not_told = (dead_line, (0, refl, refl), refl, told_at_x (fair.potentials (pos 1) (minus 1 ∷ minus 1 ∷ [])))
+not_reported : IsWrongLine token_task (token_reported two model.none (pos 1) (minus 1)) not_dead 6
+not_reported = (dead_line, (0, refl, refl), refl, reported_at_x (fair.potentials (pos 1) (minus 1 ∷ minus 1 ∷ [])))
 
 -- with a constant of 3, 1 is left at the goal
-dead_left : IsWrong token_task (token_told two model.none (pos 3) (minus 1)) None 1 dead_unfair_goal
+dead_left : IsWrong token_task (token_reported two model.none (pos 3) (minus 1)) None 1 dead_unfair_goal
 dead_left =
     subst (λ atoms. ¬ IsFairAtGoals token_task atoms (fair.potentials (pos 3) (minus 1 ∷ minus 1 ∷ []))) (sym token_atoms_are)
     (λ fair. more_than_none (pos 1) refl fair.within)
 
 -- where (y) weighs -2, the first step makes the sum fall by 1
-fore_loses : IsWrong token_task (token_told two model.none (pos 2) (minus 2)) None 1 dead_unfair
+fore_loses : IsWrong token_task (token_reported two model.none (pos 2) (minus 2)) None 1 dead_unfair
 fore_loses = (
   fore,
   subst (λ l. Contains l fore) (sym kept) (0, omega arith, refl),
@@ -312,7 +312,7 @@ are_judged = record {
   weight_missing = refl;
   dead_start = dead_closed model.none;
   dead_within_bound = dead_closed (bound 7);
-  not_told_dead = not_told;
+  not_reported_dead = not_reported;
   dead_left_at_goal = dead_left;
   lost_by_fore = fore_loses;
   version_2_has_dead_ends = refl;

@@ -35,31 +35,31 @@ module _ (task : Task) (c : Certificate) (closed : IsClosedFor task c) where
   listed = lines_of task c
 
   pub right_line : (reason : Reason) (line : ℕ) → IsWrongLine task c reason line → ⊥
-  right_line not_fluent line (a, (place, told, at), wrong) =
+  right_line not_fluent line (a, (place, reported, at), wrong) =
       let right = closed.atoms_are_fluent place a (slice_get_within c.atoms place a at) in
       let here : IsTrue (is_atom task a && is_fluent task a.predicate) =
       subst (λ (b : Atom). IsTrue (is_atom task b && is_fluent task b.predicate)) (get_or_from_slice_get c.atoms place a a at) right in
       absurd (cc)
-  right_line repeated line (inl (a, before, lt, (j, told_j, at_j), (k, told_k, at_k))) =
+  right_line repeated line (inl (a, before, lt, (j, reported_j, at_j), (k, reported_k, at_k))) =
       apart (λ (a b : Atom). a ≢ b) c.atoms j k a a closed.atoms_are_distinct (omega arith) at_j at_k refl
-  right_line repeated line (inr (earlier, l, before, lt, (j, told_j, at_j), (k, told_k, at_k), same)) =
+  right_line repeated line (inr (earlier, l, before, lt, (j, reported_j, at_j), (k, reported_k, at_k), same)) =
       apart (λ (k l : Line State). k.state ≢ l.state) listed j k earlier l closed.states_are_distinct (omega arith) at_j at_k same
-  right_line goal_open line (l, (place, told, at), is_open, goal, denied) =
+  right_line goal_open line (l, (place, reported, at), is_open, goal, denied) =
       denied (closed.listing_is_closed.open_goals_allowed l (Contains-got listed place l at) is_open goal)
-  right_line successor_missing line (l, i, next, ((place, told, at), is_open, leads), missing) =
+  right_line successor_missing line (l, i, next, ((place, reported, at), is_open, leads), missing) =
       let there = closed.listing_is_closed.successors_listed l i next (Contains-got listed place l at) is_open leads in
       missing (there.0, there.1, there.2)
-  right_line successor_dearer line (l, i, next, ((place, told, at), is_open, leads), is_listed, dearer) =
+  right_line successor_dearer line (l, i, next, ((place, reported, at), is_open, leads), is_listed, dearer) =
       dearer (closed.listing_is_closed.successors_listed l i next (Contains-got listed place l at) is_open leads)
-  right_line cut_weak line (l, rest, (place, told, at), is_cut, inl more) =
+  right_line cut_weak line (l, rest, (place, reported, at), is_cut, inl more) =
       let allowed = closed.listing_is_closed.cuts_allowed l rest (Contains-got listed place l at) is_cut in
       omega (arith, allowed.0)
-  right_line cut_weak line (l, rest, (place, told, at), is_cut, inr denied) =
+  right_line cut_weak line (l, rest, (place, reported, at), is_cut, inr denied) =
       denied (closed.listing_is_closed.cuts_allowed l rest (Contains-got listed place l at) is_cut).1
-  right_line cut_not_allowed line (l, rest, (place, told, at), is_cut, is_none) =
+  right_line cut_not_allowed line (l, rest, (place, reported, at), is_cut, is_none) =
       let allowed = (closed.listing_is_closed.cuts_allowed l rest (Contains-got listed place l at) is_cut).1 in
       subst (λ (claim : Claim). Allows claim (l.cost + rest)) is_none allowed
-  right_line not_dead line (l, (place, told, at), is_dead, alive) =
+  right_line not_dead line (l, (place, reported, at), is_dead, alive) =
       absurd (true≢false (sym (closed.listing_is_closed.dead_are_dead l (Contains-got listed place l at) is_dead) ∙ alive))
   right_line no_initial line wrong = wrong
   right_line unfair line wrong = wrong

@@ -1,4 +1,4 @@
--- The place of a reader behind some lines says just what they are.
+-- The place of a reader after some lines says just what they are.
 use Rattle.std.proofs.Common.{◌≡◌, ℕ, suc, ◌+◌, ◌<◌, ◌≤◌, Bool, true, false, List, [], ◌∷◌, ◌++◌, map, length, Option, None, Some, refl, sym, ap, ◌∙◌, subst, append_assoc, append-nil, length-append, arith}
 use Rattle.std.specs.Prelude.{◌&&◌, ◌==◌, nat_le, nat_lt, pos, IsTrue}
 use Rattle.std.specs.List.{list_all}
@@ -13,7 +13,7 @@ use Rattle.certificate_definitions.specs.CertificateText.{Weights, WeightedAtom,
 use Rattle.certificate_definitions.specs.CertificateNames.{weights_in}
 use Rattle.certificate_definitions.specs.CertificateMachine.{Place, at_version, at_claim, at_constant, in_body, ended, only_if, next_place, place_from, place_after}
 
--- ---- what stands before a place
+-- ---- what comes before a place
 
 pub record IsBody (v : Version) (atom_count state_count : ℕ) (lines : List TextLine) : Type 0 where
   pub claim : Claim
@@ -30,12 +30,12 @@ pub record IsBody (v : Version) (atom_count state_count : ℕ) (lines : List Tex
   pub few_states : state_count ≤ most_states
   pub lines_are : lines ≡ head_lines v claim constant atoms states
 
-abbrev pub StandsBefore : Place → List TextLine → Type 0
-StandsBefore at_version lines = lines ≡ []
-StandsBefore (at_claim v) lines = lines ≡ version v ∷ []
-StandsBefore (at_constant v) lines = (claim : Claim) × IsTrue (is_claim claim) × (lines ≡ version v ∷ claims claim ∷ [])
-StandsBefore (in_body v atoms states) lines = IsBody v atoms states lines
-StandsBefore ended lines = AreWhole lines
+abbrev pub ComesBefore : Place → List TextLine → Type 0
+ComesBefore at_version lines = lines ≡ []
+ComesBefore (at_claim v) lines = lines ≡ version v ∷ []
+ComesBefore (at_constant v) lines = (claim : Claim) × IsTrue (is_claim claim) × (lines ≡ version v ∷ claims claim ∷ [])
+ComesBefore (in_body v atoms states) lines = IsBody v atoms states lines
+ComesBefore ended lines = AreWhole lines
 
 -- ---- one line more
 
@@ -124,10 +124,10 @@ whole_body v n m lines body =
     lt-ltb (length body.states) 1152921504606846976 (omega (arith, body.state_count_is, body.few_states)) in
     let all_body : list_all (keeps n) (map (λ a. atom a) body.atoms ++ map (λ l. listed l) body.states) ≡ true =
     list_all-append (keeps n) (map (λ a. atom a) body.atoms) (map (λ l. listed l) body.states) ∙ both_true _ _ atoms states in
-    let behind : list_all (keeps n) ((map (λ a. atom a) body.atoms ++ map (λ l. listed l) body.states) ++ last (length body.states) ∷ []) ≡ true =
+    let following : list_all (keeps n) ((map (λ a. atom a) body.atoms ++ map (λ l. listed l) body.states) ++ last (length body.states) ∷ []) ≡ true =
     list_all-append (keeps n) (map (λ a. atom a) body.atoms ++ map (λ l. listed l) body.states) (last (length body.states) ∷ [])
     ∙ both_true _ _ all_body (both_true (is_number (length body.states)) true number refl) in
-    let each : list_all (keeps n) (text_lines c) ≡ true = both_true (is_claim body.claim) _ body.claim_is (both_true (are_weights v body.constant) _ body.constant_is behind) in
+    let each : list_all (keeps n) (text_lines c) ≡ true = both_true (is_claim body.claim) _ body.claim_is (both_true (are_weights v body.constant) _ body.constant_is following) in
     let few : nat_le (length body.atoms) most_atoms ≡ true = le-leb (length body.atoms) most_atoms (omega (arith, body.atom_count_is, body.few_atoms)) in
     let few_states : nat_le (length body.states) most_states ≡ true = le-leb (length body.states) most_states (omega (arith, body.state_count_is, body.few_states)) in (
       c,
@@ -136,28 +136,28 @@ whole_body v n m lines body =
     )
 
 -- one line more leads to the next place
-step : (place : Place) (line : TextLine) (next : Place) (lines : List TextLine) → StandsBefore place lines → next_place place line ≡ Some next
-    → StandsBefore next (lines ++ line ∷ [])
-step at_version (version v) next lines stands leads = subst (λ q. StandsBefore q (lines ++ version v ∷ [])) (place_same (at_claim v) next leads) (ap (λ lines. lines ++ version v ∷ []) stands)
-step at_version (claims claim) next lines stands leads = never next leads
-step at_version (constant k) next lines stands leads = never next leads
-step at_version (atom a) next lines stands leads = never next leads
-step at_version (listed l) next lines stands leads = never next leads
-step at_version (last count) next lines stands leads = never next leads
-step (at_claim v) (version w) next lines stands leads = never next leads
-step (at_claim v) (claims claim) next lines stands leads =
+step : (place : Place) (line : TextLine) (next : Place) (lines : List TextLine) → ComesBefore place lines → next_place place line ≡ Some next
+    → ComesBefore next (lines ++ line ∷ [])
+step at_version (version v) next lines occurs leads = subst (λ q. ComesBefore q (lines ++ version v ∷ [])) (place_same (at_claim v) next leads) (ap (λ lines. lines ++ version v ∷ []) occurs)
+step at_version (claims claim) next lines occurs leads = never next leads
+step at_version (constant k) next lines occurs leads = never next leads
+step at_version (atom a) next lines occurs leads = never next leads
+step at_version (listed l) next lines occurs leads = never next leads
+step at_version (last count) next lines occurs leads = never next leads
+step (at_claim v) (version w) next lines occurs leads = never next leads
+step (at_claim v) (claims claim) next lines occurs leads =
     let (is, same) = only_where (is_line v 0 (claims claim)) (at_constant v) next leads in
-    subst (λ q. StandsBefore q (lines ++ claims claim ∷ [])) same (claim, is, ap (λ lines. lines ++ claims claim ∷ []) stands)
-step (at_claim v) (constant k) next lines stands leads = never next leads
-step (at_claim v) (atom a) next lines stands leads = never next leads
-step (at_claim v) (listed l) next lines stands leads = never next leads
-step (at_claim v) (last count) next lines stands leads = never next leads
-step (at_constant v) (version w) next lines stands leads = never next leads
-step (at_constant v) (claims claim) next lines stands leads = never next leads
-step (at_constant v) (constant k) next lines stands leads =
-    let (claim, is, are) = stands in
+    subst (λ q. ComesBefore q (lines ++ claims claim ∷ [])) same (claim, is, ap (λ lines. lines ++ claims claim ∷ []) occurs)
+step (at_claim v) (constant k) next lines occurs leads = never next leads
+step (at_claim v) (atom a) next lines occurs leads = never next leads
+step (at_claim v) (listed l) next lines occurs leads = never next leads
+step (at_claim v) (last count) next lines occurs leads = never next leads
+step (at_constant v) (version w) next lines occurs leads = never next leads
+step (at_constant v) (claims claim) next lines occurs leads = never next leads
+step (at_constant v) (constant k) next lines occurs leads =
+    let (claim, is, are) = occurs in
     let (holds, same) = only_where (is_line v 0 (constant k)) (in_body v 0 0) next leads in
-    subst (λ q. StandsBefore q (lines ++ constant k ∷ [])) same (record {
+    subst (λ q. ComesBefore q (lines ++ constant k ∷ [])) same (record {
       claim = claim;
       constant = k;
       atoms = [];
@@ -172,46 +172,46 @@ step (at_constant v) (constant k) next lines stands leads =
       few_states = omega arith;
       lines_are = ap (λ lines. lines ++ constant k ∷ []) are;
     })
-step (at_constant v) (atom a) next lines stands leads = never next leads
-step (at_constant v) (listed l) next lines stands leads = never next leads
-step (at_constant v) (last count) next lines stands leads = never next leads
-step (in_body v n m) (version w) next lines stands leads = never next leads
-step (in_body v n m) (claims claim) next lines stands leads = never next leads
-step (in_body v n m) (constant k) next lines stands leads = never next leads
-step (in_body v n m) (atom a) next lines stands leads =
+step (at_constant v) (atom a) next lines occurs leads = never next leads
+step (at_constant v) (listed l) next lines occurs leads = never next leads
+step (at_constant v) (last count) next lines occurs leads = never next leads
+step (in_body v n m) (version w) next lines occurs leads = never next leads
+step (in_body v n m) (claims claim) next lines occurs leads = never next leads
+step (in_body v n m) (constant k) next lines occurs leads = never next leads
+step (in_body v n m) (atom a) next lines occurs leads =
     let (holds, same) = only_where ((m == 0) && nat_lt n most_atoms && is_line v n (atom a)) (in_body v (n + 1) m) next leads in
     let parts = and_parts ((m == 0) && nat_lt n most_atoms) (is_line v n (atom a)) holds in
     let counts = and_parts (m == 0) (nat_lt n most_atoms) parts.0 in
-    subst (λ q. StandsBefore q (lines ++ atom a ∷ [])) same
-    (body_with_atom v n m a lines stands (eqb-true m 0 counts.0) (ltb-true n most_atoms counts.1) parts.1)
-step (in_body v n m) (listed l) next lines stands leads =
+    subst (λ q. ComesBefore q (lines ++ atom a ∷ [])) same
+    (body_with_atom v n m a lines occurs (eqb-true m 0 counts.0) (ltb-true n most_atoms counts.1) parts.1)
+step (in_body v n m) (listed l) next lines occurs leads =
     let (holds, same) = only_where (nat_lt m most_states && is_line v n (listed l)) (in_body v n (m + 1)) next leads in
     let parts = and_parts (nat_lt m most_states) (is_line v n (listed l)) holds in
-    subst (λ q. StandsBefore q (lines ++ listed l ∷ [])) same (body_with_state v n m l lines stands (ltb-true m most_states parts.0) parts.1)
-step (in_body v n m) (last count) next lines stands leads =
+    subst (λ q. ComesBefore q (lines ++ listed l ∷ [])) same (body_with_state v n m l lines occurs (ltb-true m most_states parts.0) parts.1)
+step (in_body v n m) (last count) next lines occurs leads =
     let (holds, same) = only_where (count == m) ended next leads in
-    subst (λ q. StandsBefore q (lines ++ last count ∷ [])) same
-    (subst (λ k. AreWhole (lines ++ last k ∷ [])) (sym (eqb-true count m holds)) (whole_body v n m lines stands))
-step ended (version w) next lines stands leads = never next leads
-step ended (claims claim) next lines stands leads = never next leads
-step ended (constant k) next lines stands leads = never next leads
-step ended (atom a) next lines stands leads = never next leads
-step ended (listed l) next lines stands leads = never next leads
-step ended (last count) next lines stands leads = never next leads
+    subst (λ q. ComesBefore q (lines ++ last count ∷ [])) same
+    (subst (λ k. AreWhole (lines ++ last k ∷ [])) (sym (eqb-true count m holds)) (whole_body v n m lines occurs))
+step ended (version w) next lines occurs leads = never next leads
+step ended (claims claim) next lines occurs leads = never next leads
+step ended (constant k) next lines occurs leads = never next leads
+step ended (atom a) next lines occurs leads = never next leads
+step ended (listed l) next lines occurs leads = never next leads
+step ended (last count) next lines occurs leads = never next leads
 
--- and so many lines lead to the place behind them
-pub stands_after : (lines done : List TextLine) (place after : Place) → StandsBefore place done → place_from place lines ≡ Some after
-    → StandsBefore after (done ++ lines)
-stands_after [] done place after stands leads =
-    subst (λ q. StandsBefore q (done ++ [])) (place_same place after leads) (subst (StandsBefore place) (sym (append-nil done)) stands)
-stands_after (line ∷ lines) done place after stands leads =
-    by_next (λ next is more. stands_after lines (done ++ line ∷ []) next after (step place line next done stands is) more) (next_place place line) refl leads
+-- and so many lines lead to the place after them
+pub comes_after : (lines done : List TextLine) (place after : Place) → ComesBefore place done → place_from place lines ≡ Some after
+    → ComesBefore after (done ++ lines)
+comes_after [] done place after occurs leads =
+    subst (λ q. ComesBefore q (done ++ [])) (place_same place after leads) (subst (ComesBefore place) (sym (append-nil done)) occurs)
+comes_after (line ∷ lines) done place after occurs leads =
+    by_next (λ next is more. comes_after lines (done ++ line ∷ []) next after (step place line next done occurs is) more) (next_place place line) refl leads
   where
-    by_next : ((next : Place) → next_place place line ≡ Some next → place_from next lines ≡ Some after → StandsBefore after ((done ++ line ∷ []) ++ lines))
+    by_next : ((next : Place) → next_place place line ≡ Some next → place_from next lines ≡ Some after → ComesBefore after ((done ++ line ∷ []) ++ lines))
         → (next : Option Place) → next_place place line ≡ next → option_and_then (λ next. place_from next lines) next ≡ Some after
-        → StandsBefore after (done ++ line ∷ lines)
+        → ComesBefore after (done ++ line ∷ lines)
     by_next rest None is leads = never after leads
-    by_next rest (Some next) is leads = subst (StandsBefore after) (append_assoc done (line ∷ []) lines) (rest next is leads)
+    by_next rest (Some next) is leads = subst (ComesBefore after) (append_assoc done (line ∷ []) lines) (rest next is leads)
 
 -- ---- what begins a certificate, and what is one
 
@@ -222,35 +222,35 @@ zero_weights : (v : Version) → are_weights v (weights_in v (pos 0) (pos 0)) �
 zero_weights one = refl
 zero_weights two = refl
 
-begin_constant : (v : Version) (lines : List TextLine) → StandsBefore (at_constant v) lines → BeginCertificate lines
-begin_constant v lines stands =
+begin_constant : (v : Version) (lines : List TextLine) → ComesBefore (at_constant v) lines → BeginCertificate lines
+begin_constant v lines occurs =
     let k : Weights = weights_in v (pos 0) (pos 0) in
     begins_before lines (constant k) (
       last 0 ∷ [],
       whole_body v 0 0 (lines ++ constant k ∷ [])
-          (step (at_constant v) (constant k) (in_body v 0 0) lines stands (ap (λ b. only_if b (in_body v 0 0)) (zero_weights v))),
+          (step (at_constant v) (constant k) (in_body v 0 0) lines occurs (ap (λ b. only_if b (in_body v 0 0)) (zero_weights v))),
     )
 
-begin_claim : (v : Version) (lines : List TextLine) → StandsBefore (at_claim v) lines → BeginCertificate lines
-begin_claim v lines stands = begins_before lines (claims none) (begin_constant v (lines ++ claims none ∷ []) (step (at_claim v) (claims none) (at_constant v) lines stands refl))
+begin_claim : (v : Version) (lines : List TextLine) → ComesBefore (at_claim v) lines → BeginCertificate lines
+begin_claim v lines occurs = begins_before lines (claims none) (begin_constant v (lines ++ claims none ∷ []) (step (at_claim v) (claims none) (at_constant v) lines occurs refl))
 
-begin : (place : Place) (lines : List TextLine) → StandsBefore place lines → BeginCertificate lines
-begin at_version lines stands = begins_before lines (version one) (begin_claim one (lines ++ version one ∷ []) (step at_version (version one) (at_claim one) lines stands refl))
-begin (at_claim v) lines stands = begin_claim v lines stands
-begin (at_constant v) lines stands = begin_constant v lines stands
-begin (in_body v n m) lines stands = (last m ∷ [], whole_body v n m lines stands)
-begin ended lines stands = ([], subst AreWhole (sym (append-nil lines)) stands)
+begin : (place : Place) (lines : List TextLine) → ComesBefore place lines → BeginCertificate lines
+begin at_version lines occurs = begins_before lines (version one) (begin_claim one (lines ++ version one ∷ []) (step at_version (version one) (at_claim one) lines occurs refl))
+begin (at_claim v) lines occurs = begin_claim v lines occurs
+begin (at_constant v) lines occurs = begin_constant v lines occurs
+begin (in_body v n m) lines occurs = (last m ∷ [], whole_body v n m lines occurs)
+begin ended lines occurs = ([], subst AreWhole (sym (append-nil lines)) occurs)
 
--- where a place stands behind lines, they begin a certificate, and are one behind its end
+-- where a place comes after lines, they begin a certificate, and are one after its end
 module _ (lines : List TextLine) where
-  pub stands : (place : Place) → place_after lines ≡ Some place → StandsBefore place lines
-  stands place leads = stands_after lines [] at_version place refl leads
+  pub occurs : (place : Place) → place_after lines ≡ Some place → ComesBefore place lines
+  occurs place leads = comes_after lines [] at_version place refl leads
 
   pub begins : (place : Place) → place_after lines ≡ Some place → BeginCertificate lines
-  begins place leads = begin place lines (stands place leads)
+  begins place leads = begin place lines (occurs place leads)
 
   pub ends : place_after lines ≡ Some ended → AreWhole lines
-  ends leads = stands ended leads
+  ends leads = occurs ended leads
 
 -- ---- and the other way
 
@@ -301,8 +301,8 @@ lines_read c keeps =
     let state_lines : List TextLine = map (λ l. listed l) c.lines in
     let end : List TextLine = last (length c.lines) ∷ [] in
     let (claim, other) = and_parts (is_claim c.claim) (list_all (is_line v k) (constant c.constants ∷ (atom_lines ++ state_lines) ++ end)) each in
-    let (constant_is, behind) = and_parts (are_weights v c.constants) (list_all (is_line v k) ((atom_lines ++ state_lines) ++ end)) other in
-    let (body, _) = and_parts (list_all (is_line v k) (atom_lines ++ state_lines)) (list_all (is_line v k) end) (sym (list_all-append (is_line v k) (atom_lines ++ state_lines) end) ∙ behind) in
+    let (constant_is, following) = and_parts (are_weights v c.constants) (list_all (is_line v k) ((atom_lines ++ state_lines) ++ end)) other in
+    let (body, _) = and_parts (list_all (is_line v k) (atom_lines ++ state_lines)) (list_all (is_line v k) end) (sym (list_all-append (is_line v k) (atom_lines ++ state_lines) end) ∙ following) in
     let (atoms, states) = and_parts (list_all (is_line v k) atom_lines) (list_all (is_line v k) state_lines) (sym (list_all-append (is_line v k) atom_lines state_lines) ∙ body) in
     let atoms_are : list_all (λ a. is_line v k (atom a)) c.atoms ≡ true = sym (list_all-map (is_line v k) (λ a. atom a) c.atoms) ∙ atoms in
     let atoms_within : k ≤ most_atoms = leb-true k most_atoms few in
@@ -320,7 +320,7 @@ lines_read c keeps =
 pub end_of_whole : (lines : List TextLine) → AreWhole lines → place_after lines ≡ Some ended
 end_of_whole lines (c, keeps, are) = subst (λ lines. place_after lines ≡ Some ended) are (lines_read c keeps)
 
--- the place behind the first of some lines
+-- the place after the first of some lines
 pub front_leads : (front rest : List TextLine) (place after : Place) → place_from place (front ++ rest) ≡ Some after
     → (between : Place) × (place_from place front ≡ Some between) × (place_from between rest ≡ Some after)
 front_leads [] rest place after leads = (place, refl, leads)
@@ -346,7 +346,7 @@ there_is (Some next) after leads = (next, refl)
 
 module _ (before : List TextLine) (place : Place) (leads : place_after before ≡ Some place) where
   pub follows : (line : TextLine) (next : Place) → next_place place line ≡ Some next → BeginCertificate (before ++ line ∷ [])
-  follows line next is = begin next (before ++ line ∷ []) (step place line next before (stands before place leads) is)
+  follows line next is = begin next (before ++ line ∷ []) (step place line next before (occurs before place leads) is)
 
   pub followed : (line : TextLine) → BeginCertificate (before ++ line ∷ []) → (next : Place) × (next_place place line ≡ Some next)
   followed line begun =

@@ -1,13 +1,13 @@
--- What is one line too many, by the place where it stands.
+-- What is one line too many, by the place where it is.
 use Rattle.std.proofs.Common.{◌≡◌, ℕ, ◌+◌, ◌⊎◌, inl, inr, List, [], ◌∷◌, ◌++◌, map, length, Some, refl, sym, ap, ◌∙◌, subst, arith}
 use Rattle.std.specs.Prelude.{IsTrue}
 use Rattle.model.specs.Claims.{Claim}
 use Rattle.certificate_definitions.specs.Certificates.{Version, StateLine}
 use Rattle.certificate_definitions.specs.CertificateText.{Weights, WeightedAtom, TextLine, version, claims, constant, atom, listed, last, is_line, line_text, most_atoms, most_states, IsOneTooMany, atoms, states, head_lines}
 use Rattle.certificate_definitions.specs.CertificateMachine.{Place, at_version, at_claim, at_constant, in_body, ended, place_after}
-use Rattle.certificate_definitions.proofs.Machine.{StandsBefore, stands}
+use Rattle.certificate_definitions.proofs.Machine.{ComesBefore, occurs}
 
--- The bytes are a line that may not stand at this place for the limit alone.
+-- The bytes are a line that may not occur at this place for the limit alone.
 abbrev pub IsTooManyAt : Place → List ℕ → Type 0
 IsTooManyAt (in_body v n m) bytes =
     ((m ≡ 0) × (n ≡ most_atoms) × ((a : WeightedAtom) × IsTrue (is_line v n (atom a)) × (bytes ≡ line_text (atom a))))
@@ -88,13 +88,13 @@ module _ (v : Version) (claim : Claim) (k : Weights) (all : List WeightedAtom) (
 one_version : (v w : Version) (lines others : List TextLine) → version v ∷ lines ≡ version w ∷ others → v ≡ w
 one_version v w lines others same = cc
 
--- the place behind such lines is behind so many atoms and states
-place_behind : (v : Version) (claim : Claim) (k : Weights) (all : List WeightedAtom) (lines : List StateLine) (place : Place) → StandsBefore place (head_lines v claim k all lines)
+-- the place after such lines is after so many atoms and states
+place_past : (v : Version) (claim : Claim) (k : Weights) (all : List WeightedAtom) (lines : List StateLine) (place : Place) → ComesBefore place (head_lines v claim k all lines)
     → place ≡ in_body v (length all) (length lines)
-place_behind v claim k all lines at_version stands = absurd (cc stands)
-place_behind v claim k all lines (at_claim w) stands = absurd (cc stands)
-place_behind v claim k all lines (at_constant w) (other, is, are) = absurd (cc are)
-place_behind v claim k all lines (in_body w n m) body =
+place_past v claim k all lines at_version occurs = absurd (cc occurs)
+place_past v claim k all lines (at_claim w) occurs = absurd (cc occurs)
+place_past v claim k all lines (at_constant w) (other, is, are) = absurd (cc are)
+place_past v claim k all lines (in_body w n m) body =
     let rest : List TextLine = claims claim ∷ constant k ∷ map (λ a. atom a) all ++ map (λ l. listed l) lines in
     let same_version : v ≡ w =
     one_version v w rest (claims body.claim ∷ constant body.constant ∷ map (λ a. atom a) body.atoms ++ map (λ l. listed l) body.states) body.lines_are in
@@ -103,7 +103,7 @@ place_behind v claim k all lines (in_body w n m) body =
     let same_states : length lines ≡ m =
     sym (states_in v claim k all lines) ∙ ap (weight_of state_weight) body.lines_are ∙ states_in w body.claim body.constant body.atoms body.states ∙ body.state_count_is in
     λ i. in_body (sym same_version i) (sym same_atoms i) (sym same_states i)
-place_behind v claim k all lines ended (c, keeps, are) =
+place_past v claim k all lines ended (c, keeps, are) =
     let none_first = last_in c.version c.claim c.constants c.atoms c.lines in
     let split = weight_append last_weight (head_lines c.version c.claim c.constants c.atoms c.lines) (last (length c.lines) ∷ []) in
     absurd (omega (arith, split, none_first, sym (last_in v claim k all lines) ∙ ap (weight_of last_weight) (sym are)))
@@ -113,22 +113,22 @@ place_behind v claim k all lines ended (c, keeps, are) =
 module _ (before : List TextLine) (place : Place) (leads : place_after before ≡ Some place) (bytes : List ℕ) where
   pub too_many_at : IsOneTooMany before bytes → IsTooManyAt place bytes
   too_many_at (atoms v claim k all a are full is same) =
-      let here : place ≡ in_body v (length all) 0 = place_behind v claim k all [] place (subst (StandsBefore place) are (stands before place leads)) in
+      let here : place ≡ in_body v (length all) 0 = place_past v claim k all [] place (subst (ComesBefore place) are (occurs before place leads)) in
       subst (λ place. IsTooManyAt place bytes) (sym here)
       (inl (refl, full, (a, subst (λ n. IsTrue (is_line v n (atom a))) (sym full) is, same)))
   too_many_at (states v claim k all lines l are full is same) =
-      let here : place ≡ in_body v (length all) (length lines) = place_behind v claim k all lines place (subst (StandsBefore place) are (stands before place leads)) in
+      let here : place ≡ in_body v (length all) (length lines) = place_past v claim k all lines place (subst (ComesBefore place) are (occurs before place leads)) in
       subst (λ place. IsTooManyAt place bytes) (sym here) (inr (full, (l, is, same)))
 
 no_states : (lines : List StateLine) → length lines ≡ 0 → lines ≡ []
 no_states [] empty = refl
 no_states (l ∷ lines) empty = absurd (omega (arith, empty))
 
-pub too_many_of : (before : List TextLine) (bytes : List ℕ) (place : Place) → StandsBefore place before → IsTooManyAt place bytes → IsOneTooMany before bytes
-too_many_of before bytes at_version stands over = absurd over
-too_many_of before bytes (at_claim v) stands over = absurd over
-too_many_of before bytes (at_constant v) stands over = absurd over
-too_many_of before bytes ended stands over = absurd over
+pub too_many_of : (before : List TextLine) (bytes : List ℕ) (place : Place) → ComesBefore place before → IsTooManyAt place bytes → IsOneTooMany before bytes
+too_many_of before bytes at_version occurs over = absurd over
+too_many_of before bytes (at_claim v) occurs over = absurd over
+too_many_of before bytes (at_constant v) occurs over = absurd over
+too_many_of before bytes ended occurs over = absurd over
 too_many_of before bytes (in_body v n m) body (inl (none_yet, full, (a, is, same))) =
     atoms v body.claim body.constant body.atoms a
     (body.lines_are ∙ ap (head_lines v body.claim body.constant body.atoms) (no_states body.states (body.state_count_is ∙ none_yet)))

@@ -1,5 +1,5 @@
 -- What is wrong with the lines of a certificate's text for a task, and which text is accepted for it. The lines are looked
--- at in order, and the first at fault is told: by the text's own rules, or for what it says of the task.
+-- at in order, and the first at fault is reported: by the text's own rules, or for what it says of the task.
 use Rattle.std.specs.Prelude.{◌≡◌, ℕ, ◌+◌, ◌⊎◌, IsTrue, List, [], ◌∷◌, ◌++◌, length, Contains, Option}
 use Rattle.model.specs.Task.{Atom, Task, Instance}
 use Rattle.model.specs.WellTyped.{is_atom}
@@ -25,7 +25,7 @@ ListsAtoms lines atoms = (l : StateLine) × Contains lines (listed l) × (l.atom
 abbrev pub IsCut : Mark → Type 0
 IsCut mark = (rest : ℕ) × (mark ≡ cut rest)
 
--- The line says what is wrong of the task, after these lines, and the number is told.
+-- The line says what is wrong of the task, after these lines, and the number is reported.
 pub data IsWrongAfter (task : Task) (before : List TextLine) : TextLine → ℕ → Type 0 where
   -- an atom that is not one of the task's, or whose predicate is static
   not_fluent : (a : WeightedAtom) → ¬ NamesFluent task a.atom → IsWrongAfter task before (atom a) 43
@@ -45,7 +45,7 @@ abbrev pub IsWrongHere : Task → List TextLine → List ℕ → ℕ → Type 0
 IsWrongHere task before bytes number =
     (line : TextLine) × (more : List ℕ) × (bytes ≡ whole_line line ++ more) × BeginCertificate (before ++ line ∷ []) × IsWrongAfter task before line number
 
--- The number is told of this line, counted from 1, which is the first at fault: the lines before it begin a certificate,
+-- The number is reported for this line, counted from 1, which is the first at fault: the lines before it begin a certificate,
 -- and nothing is wrong with them.
 pub record IsLineFault (task : Task) (text : List ℕ) (number line : ℕ) : Type 0 where
   pub before : List TextLine
@@ -56,7 +56,7 @@ pub record IsLineFault (task : Task) (text : List ℕ) (number line : ℕ) : Typ
   pub line_is : line ≡ length before + 1
   pub at_fault : IsFaultAfter before bytes number ⊎ IsWrongHere task before bytes number
 
--- The text is that of a certificate that is closed for the task, and no plan is handed in, or one that solves the task and
+-- The text is that of a certificate that is closed for the task, and no plan is given, or one that solves the task and
 -- costs no more than is claimed.
 pub record IsAccepted (task : Task) (text : List ℕ) (plan : Option (List Instance)) : Type 0 where
   pub certificate : Certificate

@@ -23,7 +23,7 @@ dead_at cost atoms = record { cost = cost; mark = dead; atoms = atoms }
 abbrev pub zeros : List Atom → PotentialFunction
 zeros atoms = potentials (pos 0) (map (λ (a : Atom). pos 0) atoms)
 
--- a certificate of version 1, which tells no dead ends
+-- a certificate of version 1, which says no dead ends
 abbrev pub first_version : Claim → List Atom → PotentialFunction → List StateLine → Certificate
 first_version claim atoms p lines = record { version = one; claim = claim; atoms = atoms; potentials = p; dead_ends = zeros atoms; lines = lines }
 
@@ -49,9 +49,9 @@ start_open = open_at 0 [] ∷ cut_at 1 0 (0 ∷ []) ∷ []
 
 -- In the task `token`, whose token is at x or at y, the goal is that it is at both. The one line says that the initial state
 -- is a dead end: the token is missing at one of the two, and no step changes that. These are the constant and the weight of
--- (y) by which dead ends are told; that of (x) is -1.
-abbrev pub token_told : Version → Claim → (constant of_y : ℤ) → Certificate
-token_told version claim constant of_y = record {
+-- (y) by which dead ends are reported; that of (x) is -1.
+abbrev pub token_reported : Version → Claim → (constant of_y : ℤ) → Certificate
+token_reported version claim constant of_y = record {
   version = version;
   claim = claim;
   atoms = token_atoms;
@@ -61,7 +61,7 @@ token_told version claim constant of_y = record {
 }
 
 pub record AreJudged : Type 0 where
-  -- Static atoms stand in no line, and are true in each listed state.
+  -- Static atoms are in no line, and are true in each listed state.
   pub link_is_static : is_fluent tie_task 0 ≡ false
   pub tied_is_fluent : is_fluent tie_task 1 ≡ true
   pub static_at_start : static_atoms tie_task ≡ linked ∷ []
@@ -70,13 +70,13 @@ pub record AreJudged : Type 0 where
   -- That none costs less than 2 is too much, both of a cut and of an open line.
   pub cut_claims_too_little : IsWrongLine tie_task (claims (bound 2) (tied ∷ []) start_open) cut_weak 6
   pub open_goal : IsWrongLine tie_task (claims (bound 2) (tied ∷ []) (open_at 0 [] ∷ open_at 1 (0 ∷ []) ∷ [])) goal_open 6
-  -- A cut that tells a bound of its own is not believed, and none is allowed where no plan is claimed to be.
+  -- A cut that reports a bound of its own is not believed, and none is allowed where no plan is claimed to be.
   pub cut_by_its_bound : IsWrongLine tie_task (claims (bound 2) (tied ∷ []) (open_at 0 [] ∷ cut_at 1 1 (0 ∷ []) ∷ [])) cut_weak 6
   pub cut_without_bound : IsWrongLine tie_task (claims none (tied ∷ []) start_open) cut_not_allowed 6
   -- An open line's successors are listed, and the initial state is at 0.
   pub missing : IsWrongLine tie_task (claims (bound 1) (tied ∷ []) (open_at 0 [] ∷ [])) successor_missing 5
   pub dear_start : IsWrong tie_task (claims (bound 1) (tied ∷ []) (open_at 1 [] ∷ cut_at 1 0 (0 ∷ []) ∷ [])) None 1 no_initial
-  -- A potential function tells what is still to pay: where `tied` is worth the one instance, the initial state alone, cut,
+  -- A potential function says what is still to pay: where `tied` is worth the one instance, the initial state alone, cut,
   -- shows that no plan costs less than 1. It does not show that none costs less than 2, nor more than its value.
   pub cut_by_value : IsClosedFor tie_task (weighs (bound 1) (pos 1) (negsuc 0) (cut_at 0 1 [] ∷ []))
   pub claims_above_value : IsWrongLine tie_task (weighs (bound 2) (pos 1) (negsuc 0) (cut_at 0 1 [] ∷ [])) cut_weak 5
@@ -84,7 +84,7 @@ pub record AreJudged : Type 0 where
   -- Where it is worth 2, the instance loses more than it costs; and where the constant is 2, more than 0 is left at the goal.
   pub worth_more : IsWrong tie_task (weighs (bound 1) (pos 2) (negsuc 1) (cut_at 0 1 [] ∷ [])) None 1 unfair
   pub left_at_goal : IsWrong tie_task (weighs (bound 1) (pos 2) (negsuc 0) (cut_at 0 1 [] ∷ [])) None 1 unfair_goal
-  -- Atoms are fluent, and stand once; numbers of atoms rise; there is a weight for each atom, within its limits.
+  -- Atoms are fluent, and are once; numbers of atoms rise; there is a weight for each atom, within its limits.
   pub static_atom : IsWrongLine tie_task (claims (bound 1) (linked ∷ tied ∷ []) start_open) not_fluent 4
   pub atom_twice : IsWrongLine tie_task (claims (bound 1) (tied ∷ tied ∷ []) start_open) repeated 5
   pub state_twice : IsWrongLine tie_task (claims (bound 1) (tied ∷ []) (open_at 0 [] ∷ cut_at 0 0 [] ∷ [])) repeated 6
@@ -93,14 +93,14 @@ pub record AreJudged : Type 0 where
   pub least_weight : keeps_limits (weighs (bound 1) (pos 2147483647) (negsuc 2147483646) []) ≡ true
   pub weight_missing : keeps_limits (first_version (bound 1) (tied ∷ []) (potentials (pos 0) []) []) ≡ false
   -- A line of a dead end shows that no plan starts there, whatever is claimed.
-  pub dead_start : IsClosedFor token_task (token_told two none (pos 2) (minus 1))
-  pub dead_within_bound : IsClosedFor token_task (token_told two (bound 7) (pos 2) (minus 1))
+  pub dead_start : IsClosedFor token_task (token_reported two none (pos 2) (minus 1))
+  pub dead_within_bound : IsClosedFor token_task (token_reported two (bound 7) (pos 2) (minus 1))
   -- A dead end has a value of at least 1; more than 0 is never left at the goal; and no step makes the sum fall, though it
   -- costs 1.
-  pub not_told_dead : IsWrongLine token_task (token_told two none (pos 1) (minus 1)) not_dead 6
-  pub dead_left_at_goal : IsWrong token_task (token_told two none (pos 3) (minus 1)) None 1 dead_unfair_goal
-  pub lost_by_fore : IsWrong token_task (token_told two none (pos 2) (minus 2)) None 1 dead_unfair
-  -- Version 1 has no line of a dead end, and no weights that tell one.
-  pub version_2_has_dead_ends : keeps_limits (token_told two none (pos 2) (minus 1)) ≡ true
-  pub version_1_has_none : keeps_limits (token_told one none (pos 2) (minus 1)) ≡ false
+  pub not_reported_dead : IsWrongLine token_task (token_reported two none (pos 1) (minus 1)) not_dead 6
+  pub dead_left_at_goal : IsWrong token_task (token_reported two none (pos 3) (minus 1)) None 1 dead_unfair_goal
+  pub lost_by_fore : IsWrong token_task (token_reported two none (pos 2) (minus 2)) None 1 dead_unfair
+  -- Version 1 has no line of a dead end, and no weights that report one.
+  pub version_2_has_dead_ends : keeps_limits (token_reported two none (pos 2) (minus 1)) ≡ true
+  pub version_1_has_none : keeps_limits (token_reported one none (pos 2) (minus 1)) ≡ false
   pub dead_in_version_1 : keeps_limits (first_version none token_atoms (zeros token_atoms) (dead_at 0 (0 ∷ []) ∷ [])) ≡ false

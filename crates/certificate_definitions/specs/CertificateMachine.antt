@@ -1,4 +1,4 @@
--- Where a reader of a certificate's lines stands, and what may come next. The theorem does not cite it: it says the same as
+-- Where a reader of a certificate's lines is, and what may come next. The theorem does not cite it: it says the same as
 -- `BeginCertificate` and `AreWhole` of `CertificateText`, a line at a time.
 use Rattle.std.specs.Prelude.{ℕ, ◌+◌, Bool, ◌&&◌, ◌==◌, nat_lt, if◌then◌else◌, List, [], ◌∷◌, Option, None, Some}
 use Rattle.std.specs.Option.{option_and_then}
@@ -18,7 +18,7 @@ pub data Place : Type 0 where
 abbrev pub only_if : Bool → Place → Option Place
 only_if holds place = if holds then Some place else None
 
--- the place after one line more, and None where it may not stand there
+-- the place after one line more, and None where it may not occur there
 abbrev pub next_place : Place → TextLine → Option Place
 next_place at_version (version v) = Some (at_claim v)
 next_place (at_claim v) (claims claim) = only_if (is_line v 0 (claims claim)) (at_constant v)

@@ -1,4 +1,4 @@
--- What is wrong with a certificate, or with the plan that was handed in with it, where the checker refuses it.
+-- What is wrong with a certificate, or with the plan that was given with it, where the checker refuses it.
 use Rattle.std.specs.Prelude.{◌≡◌, ℕ, ◌+◌, ◌<◌, ◌≤◌, ◌⊎◌, ◌&&◌, false, IsTrue, List, length, Contains, slice_get, Option, None, Some, IsSome, MatchOption}
 use Rattle.model.specs.Task.{Atom, Task, Instance}
 use Rattle.model.specs.WellTyped.{is_atom}
@@ -7,13 +7,13 @@ use Rattle.model.specs.Meaning.{State, cost_of, initial_state, step, meets_goal,
 use Rattle.model.specs.Limits.{max_numbered_atoms}
 use Rattle.model.specs.ClosedOff.{kept_instances}
 use Rattle.model.specs.NumberedAtoms.{numbered_atoms}
-use Rattle.model.specs.Grounding.{limit_told}
+use Rattle.model.specs.Grounding.{exceeded_limit}
 use Rattle.model.specs.Claims.{Claim, bound, none, Allows, opened, cut, dead, Line, IsListedWithin}
 use Rattle.potential_functions.specs.Fair.{IsFairAt, IsFairAtGoals}
 use Rattle.model.specs.Fluents.{is_fluent}
 use Rattle.certificate_definitions.specs.Certificates.{Certificate, lines_of, value_of, is_dead_end_of}
 
--- the reasons, each with the number that is told
+-- the reasons, each with the number that is reported
 pub data Reason : Type 0 where
   not_fluent : Reason  -- 43
   repeated : Reason  -- 44
@@ -52,7 +52,7 @@ HasState task c line l = (place : ℕ) × (line ≡ state_line c place) × (slic
 abbrev pub IsListed : {S : Type 0} → List (Line S) → S → Type 0
 IsListed {S} lines s = (line : Line S) × Contains lines line × (line.state ≡ s)
 
--- the atom, or the state, of this line stands in a line before
+-- the atom, or the state, of this line is in a line before
 abbrev pub IsRepeatedAtom : Certificate → ℕ → Type 0
 IsRepeatedAtom c line = (a : Atom) × (before : ℕ) × (before < line) × HasAtom c before a × HasAtom c line a
 
@@ -68,7 +68,7 @@ LeadsFrom task c line l i next = HasState task c line l × (l.mark ≡ opened) �
 abbrev pub IsWrongLine : Task → Certificate → Reason → ℕ → Type 0
 -- its atom is not well-typed, or its predicate is static
 IsWrongLine task c not_fluent line = (a : Atom) × HasAtom c line a × ((is_atom task a && is_fluent task a.predicate) ≡ false)
--- its atom, or its state, stands in a line before
+-- its atom, or its state, is in a line before
 IsWrongLine task c repeated line = IsRepeatedAtom c line ⊎ IsRepeatedState task c line
 -- its open state meets the goal, at a cost that the claim does not allow
 IsWrongLine task c goal_open line = (l : Line State) × HasState task c line l × (l.mark ≡ opened) × IsTrue (meets_goal task l.state) × ¬ Allows c.claim l.cost
@@ -88,7 +88,7 @@ IsWrongLine task c cut_not_allowed line = (l : Line State) × (rest : ℕ) × Ha
 IsWrongLine task c not_dead line = (l : Line State) × HasState task c line l × (l.mark ≡ dead) × (is_dead_end_of c l.state ≡ false)
 IsWrongLine task c _ line = ⊥
 
--- What is wrong, and not with a line: with the whole certificate, with the plan, if one is handed in, or with the
+-- What is wrong, and not with a line: with the whole certificate, with the plan, if one is given, or with the
 -- ground task in which the certificate's atoms have the first numbers, of whose instances at most `most` may be kept.
 abbrev pub IsWrong : Task → Certificate → Option (List Instance) → ℕ → Reason → Type 0
 -- the initial state is not listed at 0
@@ -109,7 +109,7 @@ IsWrong task c plan most dead_unfair =
 -- more than 0 of it may be left at a goal
 IsWrong task c plan most dead_unfair_goal = ¬ IsFairAtGoals task (numbered_atoms task c.atoms) c.dead_ends
 -- more instances are kept, or too many atoms have numbers
-IsWrong task c plan most limit = IsSome (limit_told most max_numbered_atoms task c.atoms)
+IsWrong task c plan most limit = IsSome (exceeded_limit most max_numbered_atoms task c.atoms)
 IsWrong task c plan most _ = ⊥
 
 -- The checker looks for what is wrong in this order: it reads the lines one by one, grounds the task, looks whether the
@@ -133,7 +133,7 @@ stage_of not_dead = 4
 stage_of plan_invalid = 5
 stage_of plan_dearer = 5
 
--- and of one line in this order; of a line's successors it tells the first one that is not as it is to be
+-- and of one line in this order; of a line's successors it reports the first one that is not as it is to be
 abbrev pub rank_of : Reason → ℕ
 rank_of repeated = 1
 rank_of cut_not_allowed = 2
@@ -145,7 +145,7 @@ rank_of successor_dearer = 1
 rank_of plan_dearer = 1
 rank_of _ = 0
 
--- the one reason comes before the other, in these lines; what is not wrong with a line is told as in line 0
+-- the one reason comes before the other, in these lines; what is not wrong with a line is reported as in line 0
 abbrev pub ComesBefore : Reason → ℕ → Reason → ℕ → Type 0
 ComesBefore earlier line later other =
     (stage_of earlier < stage_of later) ⊎ ((stage_of earlier ≡ stage_of later) × ((line < other) ⊎ ((line ≡ other) × (rank_of earlier < rank_of later))))
@@ -155,7 +155,7 @@ abbrev pub IsFirst : Task → Certificate → Option (List Instance) → ℕ →
 IsFirst task c plan most reason line =
     (earlier : Reason) (before : ℕ) → ComesBefore earlier before reason line → ¬ (IsWrongLine task c earlier before ⊎ IsWrong task c plan most earlier)
 
--- no plan is handed in, or one that solves the task and costs no more than is claimed
+-- no plan is given, or one that solves the task and costs no more than is claimed
 abbrev pub IsPlanWithin : Task → Claim → Option (List Instance) → Type 0
 IsPlanWithin task claim None = Unit {0}
 IsPlanWithin task (bound least) (Some p) = Solves (system_of task) p × (cost_of_all (system_of task) p ≤ least)

@@ -8,7 +8,7 @@ use Rattle.model.specs.Claims.{Claim, bound, none, Mark, opened, cut, dead}
 use Rattle.certificate_definitions.specs.Certificates.{Version, one, two, StateLine, is_number, is_weight, is_claim, is_state_line}
 use Rattle.model.specs.PlanWriting.{is_lower_name}
 
--- ---- what stands in a text
+-- ---- what is in a text
 
 -- an atom, by the names of its predicate and its objects
 pub record NamedAtom : Type 0 where
@@ -79,7 +79,7 @@ whole_line line = line_text line ++ codes "\n"
 abbrev pub text_of : List TextLine → List ℕ
 text_of lines = flat_map whole_line lines
 
--- the certificate's lines: its atoms stand before its states
+-- the certificate's lines: its atoms come before its states
 abbrev pub text_lines : NamedCertificate → List TextLine
 text_lines c = version c.version ∷ claims c.claim ∷ constant c.constants ∷ map atom c.atoms ++ map listed c.lines ++ last (length c.lines) ∷ []
 
@@ -131,7 +131,7 @@ AreWhole lines = (c : NamedCertificate) × IsTrue (keeps_text_limits c) × (text
 abbrev pub BeginCertificate : List TextLine → Type 0
 BeginCertificate lines = (rest : List TextLine) × AreWhole (lines ++ rest)
 
--- these bytes are a line that may stand after these lines
+-- these bytes are a line that may occur after these lines
 abbrev pub MayFollow : List TextLine → List ℕ → Type 0
 MayFollow before bytes = (line : TextLine) × BeginCertificate (before ++ line ∷ []) × (line_text line ≡ bytes)
 
@@ -143,14 +143,14 @@ IsOtherVersion before bytes = (before ≡ []) × (number : ℕ) × IsTrue (is_nu
 abbrev pub head_lines : Version → Claim → Weights → List WeightedAtom → List StateLine → List TextLine
 head_lines v claim k atoms lines = version v ∷ claims claim ∷ constant k ∷ map atom atoms ++ map listed lines
 
--- they are a line of an atom, or of a state, that may stand there but for the limit, which the lines before have used up
+-- they are a line of an atom, or of a state, that may occur there but for the limit, which the lines before have used up
 pub data IsOneTooMany (before : List TextLine) (bytes : List ℕ) : Type 0 where
   atoms : (v : Version) (claim : Claim) (k : Weights) (all : List WeightedAtom) (a : WeightedAtom) → before ≡ head_lines v claim k all [] → length all ≡ most_atoms
       → IsTrue (is_line v most_atoms (atom a)) → bytes ≡ line_text (atom a) → IsOneTooMany before bytes
   states : (v : Version) (claim : Claim) (k : Weights) (all : List WeightedAtom) (lines : List StateLine) (l : StateLine) → before ≡ head_lines v claim k all lines
       → length lines ≡ most_states → IsTrue (is_line v (length all) (listed l)) → bytes ≡ line_text (listed l) → IsOneTooMany before bytes
 
--- no LF stands in these bytes
+-- no LF is in these bytes
 abbrev pub IsInOneLine : List ℕ → Type 0
 IsInOneLine bytes = ¬ Contains bytes 10
 
@@ -158,11 +158,11 @@ IsInOneLine bytes = ¬ Contains bytes 10
 abbrev pub HasLine : List ℕ → List ℕ → Type 0
 HasLine bytes line = (more : List ℕ) × (bytes ≡ line ++ codes "\n" ++ more) × IsInOneLine line × (length line ≤ longest_line)
 
--- What comes after these lines, which begin a certificate, is at fault, and the number is told of it.
+-- What comes after these lines, which begin a certificate, is at fault, and the number is reported for it.
 pub data IsFaultAfter (before : List TextLine) (bytes : List ℕ) : ℕ → Type 0 where
   -- another version
   other_version : (line : List ℕ) → HasLine bytes line → IsOtherVersion before line → IsFaultAfter before bytes 41
-  -- a line that cannot stand in its place
+  -- a line that cannot occur in its place
   malformed : (line : List ℕ) → HasLine bytes line → ¬ MayFollow before line → ¬ IsOtherVersion before line → ¬ IsOneTooMany before line
       → IsFaultAfter before bytes 40
   -- a line that is too long, whether its LF comes or not
@@ -174,7 +174,7 @@ pub data IsFaultAfter (before : List TextLine) (bytes : List ℕ) : ℕ → Type
   -- an atom, or a state, too many
   too_many : (line : List ℕ) → HasLine bytes line → IsOneTooMany before line → IsFaultAfter before bytes 55
 
--- The number is told of this line, counted from 1, which is the first at fault: the lines before it begin a certificate.
+-- The number is reported for this line, counted from 1, which is the first at fault: the lines before it begin a certificate.
 pub record IsTextFault (text : List ℕ) (number line : ℕ) : Type 0 where
   pub before : List TextLine
   pub bytes : List ℕ

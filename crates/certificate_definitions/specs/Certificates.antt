@@ -90,12 +90,12 @@ lines_of task certificate =
 abbrev pub value_of : Certificate → State → ℕ
 value_of certificate state = value_of_state certificate.atoms certificate.potentials state
 
--- the certificate tells that the state is a dead end
+-- the certificate says that the state is a dead end
 abbrev pub is_dead_end_of : Certificate → State → Bool
 is_dead_end_of certificate state = is_dead_state certificate.atoms certificate.dead_ends state
 
 -- The certificate is closed for the task: its potential functions, which have a weight for each of its atoms, are fair and
--- dead-fair for the ground task in which they have the first numbers, and its listing is closed by what they tell of states.
+-- dead-fair for the ground task in which they have the first numbers, and its listing is closed by what they say of states.
 pub record IsClosedFor (task : Task) (certificate : Certificate) : Type 0 where
   pub one_weight_an_atom : length certificate.potentials.weights ≡ length certificate.atoms
   pub one_dead_end_weight_an_atom : length certificate.dead_ends.weights ≡ length certificate.atoms

@@ -1,4 +1,4 @@
--- What is told of a whole line at a place is the fault of the text there.
+-- What is reported for a whole line at a place is the fault of the text there.
 use Rattle.std.proofs.Common.{◌≡◌, ◌≢◌, ℕ, inl, inr, List, [], ◌∷◌, ◌++◌, codes, Option, None, Some, sym, ap, ◌∙◌, subst}
 use Rattle.std.specs.Prelude.{IsTrue}
 use Rattle.std.specs.Option.{option_and_then}
@@ -6,7 +6,7 @@ use Rattle.std.specs.Fmt.{decimal}
 use Rattle.certificate_definitions.specs.Certificates.{is_number}
 use Rattle.certificate_definitions.specs.CertificateText.{TextLine, version, claims, constant, atom, listed, last, is_line, line_text, MayFollow, IsOtherVersion, IsOneTooMany, HasLine, IsFaultAfter, other_version, malformed, too_many}
 use Rattle.certificate_definitions.specs.CertificateMachine.{Place, at_version, at_claim, at_constant, in_body, ended, next_place, place_from, place_after}
-use Rattle.certificate_definitions.proofs.Machine.{StandsBefore, stands, followed, place_same}
+use Rattle.certificate_definitions.proofs.Machine.{ComesBefore, occurs, followed, place_same}
 use Rattle.certificate_definitions.proofs.TooMany.{IsTooManyAt, too_many_at, too_many_of}
 use Rattle.certificate_reader.specs.Stages.{IsOver, atoms_at, version_at}
 
@@ -36,20 +36,20 @@ over_of ended bytes over = absurd over
 
 module _ (before : List TextLine) (place : Place) (leads : place_after before ≡ Some place) (text line : List ℕ) (has : HasLine text line) where
   nothing_before : place ≡ at_version → before ≡ []
-  nothing_before at = subst (λ place. StandsBefore place before) at (stands before place leads)
+  nothing_before at = subst (λ place. ComesBefore place before) at (occurs before place leads)
 
-  pub told_other_version : place ≡ at_version → (number : ℕ) × IsTrue (is_number number) × (number ≢ 1) × (number ≢ 2) × (codes "pddl-cert " ++ decimal number ≡ line)
+  pub reported_other_version : place ≡ at_version → (number : ℕ) × IsTrue (is_number number) × (number ≢ 1) × (number ≢ 2) × (codes "pddl-cert " ++ decimal number ≡ line)
       → IsFaultAfter before text 41
-  told_other_version at (number, is, not_one, not_two, same) = other_version line has (nothing_before at, number, is, not_one, not_two, sym same)
+  reported_other_version at (number, is, not_one, not_two, same) = other_version line has (nothing_before at, number, is, not_one, not_two, sym same)
 
-  pub told_too_many : (over : TextLine) → IsTrue (is_line (version_at place) (atoms_at place) over) → IsOver place over → line_text over ≡ line → IsFaultAfter before text 55
-  told_too_many over is limit same = too_many line has (too_many_of before line place (stands before place leads) (over_is place over line is limit same))
+  pub reported_too_many : (over : TextLine) → IsTrue (is_line (version_at place) (atoms_at place) over) → IsOver place over → line_text over ≡ line → IsFaultAfter before text 55
+  reported_too_many over is limit same = too_many line has (too_many_of before line place (occurs before place leads) (over_is place over line is limit same))
 
-  pub told_malformed : ((other : TextLine) (next : Place) → next_place place other ≡ Some next → line_text other ≢ line)
+  pub reported_malformed : ((other : TextLine) (next : Place) → next_place place other ≡ Some next → line_text other ≢ line)
       → ((other : TextLine) → IsTrue (is_line (version_at place) (atoms_at place) other) → IsOver place other → line_text other ≢ line)
       → (place ≡ at_version → (number : ℕ) → IsTrue (is_number number) → number ≢ 1 → number ≢ 2 → codes "pddl-cert " ++ decimal number ≢ line)
       → IsFaultAfter before text 40
-  told_malformed nowhere within other = malformed line has no_line no_version not_over
+  reported_malformed nowhere within other = malformed line has no_line no_version not_over
     where
       no_line : MayFollow before line → ⊥
       no_line (l, begun, same) = let (next, is) = followed before place leads l begun in nowhere l next is same
@@ -61,19 +61,19 @@ module _ (before : List TextLine) (place : Place) (leads : place_after before �
       not_over : IsOneTooMany before line → ⊥
       not_over over = let (l, is, limit, same) = over_of place line (too_many_at before place leads line over) in within l is limit same
 
--- the place behind one line more
-line_behind : (lines : List TextLine) (from place next : Place) (line : TextLine) → place_from from lines ≡ Some place → next_place place line ≡ Some next
+-- the place after one line more
+line_after : (lines : List TextLine) (from place next : Place) (line : TextLine) → place_from from lines ≡ Some place → next_place place line ≡ Some next
     → place_from from (lines ++ line ∷ []) ≡ Some next
-line_behind [] from place next line leads is =
+line_after [] from place next line leads is =
     ap (option_and_then (λ next. place_from next [])) (ap (λ place. next_place place line) (place_same from place leads) ∙ is)
-line_behind (first ∷ lines) from place next line leads is =
-    by_next (λ then more. line_behind lines then place next line more is) (next_place from first) leads
+line_after (first ∷ lines) from place next line leads is =
+    by_next (λ then more. line_after lines then place next line more is) (next_place from first) leads
   where
     by_next : ((then : Place) → place_from then lines ≡ Some place → place_from then (lines ++ line ∷ []) ≡ Some next)
         → (then : Option Place) → option_and_then (λ next. place_from next lines) then ≡ Some place → option_and_then (λ next. place_from next (lines ++ line ∷ [])) then ≡ Some next
     by_next more None leads = absurd (cc leads)
     by_next more (Some then) leads = more then leads
 
-pub one_line_behind : (before : List TextLine) (place next : Place) (line : TextLine) → place_after before ≡ Some place → next_place place line ≡ Some next
+pub one_line_after : (before : List TextLine) (place next : Place) (line : TextLine) → place_after before ≡ Some place → next_place place line ≡ Some next
     → place_after (before ++ line ∷ []) ≡ Some next
-one_line_behind before place next line leads is = line_behind before at_version place next line leads is
+one_line_after before place next line leads is = line_after before at_version place next line leads is

@@ -1,4 +1,4 @@
--- The first place of a list at which a test passes, and where it is looked for behind places at which it does not.
+-- The first place of a list at which a test passes, and where it is looked for after places at which it does not.
 use Rattle.std.proofs.Common.{◌≡◌, ℕ, suc, zero, ◌+◌, ◌<◌, ◌≤◌, Bool, true, false, not, cond, List, [], ◌∷◌, ◌++◌, drop, length, None, Some, refl, sym, ap, ◌∙◌, subst, length-append, arith}
 use Rattle.std.specs.Prelude.{if◌then◌else◌, nat_lt}
 use Rattle.std.specs.List.{position, position_or_len}
@@ -34,32 +34,32 @@ module _ (test : ℕ → Bool) where
       by_test true below at = absurd (cc at)
       by_test false past at = ltb-false (position_or_len test xs) (length xs) past
 
-  first_behind : (n : ℕ) (xs : List ℕ) → n ≤ position_or_len test xs → position_or_len test xs ≡ n + position_or_len test (drop n xs)
-  first_behind zero xs within = omega arith
-  first_behind (suc n) [] within = absurd (omega (arith, within))
-  first_behind (suc n) (x ∷ xs) within = by_test (first_behind n xs) (test x) within
+  first_after : (n : ℕ) (xs : List ℕ) → n ≤ position_or_len test xs → position_or_len test xs ≡ n + position_or_len test (drop n xs)
+  first_after zero xs within = omega arith
+  first_after (suc n) [] within = absurd (omega (arith, within))
+  first_after (suc n) (x ∷ xs) within = by_test (first_after n xs) (test x) within
     where
       by_test : (n ≤ position_or_len test xs → position_or_len test xs ≡ n + position_or_len test (drop n xs))
           → (b : Bool) → suc n ≤ cond (not b) (1 + position_or_len test xs) 0 → cond (not b) (1 + position_or_len test xs) 0 ≡ suc n + position_or_len test (drop n xs)
       by_test more true within = absurd (omega (arith, within))
       by_test more false within = let rest = more (omega (arith, within)) in omega (arith, rest)
 
-  -- where nothing passes at the first n places, the first place is found behind them
-  pub found_behind : (n : ℕ) (xs : List ℕ) (k : ℕ) → n ≤ position_or_len test xs → position test (drop n xs) ≡ Some k → position test xs ≡ Some (n + k)
-  found_behind n xs k before at =
+  -- where nothing passes at the first n places, the first place is found after them
+  pub found_after : (n : ℕ) (xs : List ℕ) (k : ℕ) → n ≤ position_or_len test xs → position test (drop n xs) ≡ Some k → position test xs ≡ Some (n + k)
+  found_after n xs k before at =
       let first = first_at (drop n xs) k at in
-      let there : position_or_len test xs ≡ n + k = omega (arith, first_behind n xs before, first.is_first) in
+      let there : position_or_len test xs ≡ n + k = omega (arith, first_after n xs before, first.is_first) in
       ap (λ b. cond b (Some (position_or_len test xs)) None)
       (lt-ltb (position_or_len test xs) (length xs) (omega (arith, there, first.within, length-drop n xs)))
       ∙ ap (λ k. Some k) there
 
-  -- and where none is found behind them, there is none
-  pub nowhere_behind : (n : ℕ) (xs : List ℕ) → n ≤ position_or_len test xs → position test (drop n xs) ≡ None → position test xs ≡ None
-  nowhere_behind n xs before at =
+  -- and where none is found after them, there is none
+  pub nowhere_after : (n : ℕ) (xs : List ℕ) → n ≤ position_or_len test xs → position test (drop n xs) ≡ None → position test xs ≡ None
+  nowhere_after n xs before at =
       ap (λ b. cond b (Some (position_or_len test xs)) None)
-      (le-ltb (position_or_len test xs) (length xs) (omega (arith, first_behind n xs before, passes_nowhere (drop n xs) at, length-drop n xs)))
+      (le-ltb (position_or_len test xs) (length xs) (omega (arith, first_after n xs before, passes_nowhere (drop n xs) at, length-drop n xs)))
 
-  -- what comes behind brings no earlier place
+  -- what comes after brings no earlier place
   first_grows : (xs ys : List ℕ) → position_or_len test xs ≤ position_or_len test (xs ++ ys)
   first_grows [] ys = omega arith
   first_grows (x ∷ xs) ys = by_test (first_grows xs ys) (test x)

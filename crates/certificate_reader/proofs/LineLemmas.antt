@@ -7,7 +7,7 @@ use Rattle.std.specs.List.{flat_map, list_all}
 use Rattle.std.specs.Str.Parse.{AllDigits}
 use Rattle.std.proofs.lemmas.Bool.{and_parts, leb-true, ltb-true, ne_eqb, eqb-true}
 use Rattle.std.proofs.lemmas.Fmt.{decimal_is_IsNumeral}
-use Rattle.std.proofs.lemmas.Str.Parse.{tells_digits}
+use Rattle.std.proofs.lemmas.Str.Parse.{reports_digits}
 use Rattle.model.specs.Words.{is_name, is_name_byte}
 use Rattle.model.specs.PlanWriting.{is_lower_name}
 use Rattle.model.specs.Claims.{bound, none, Mark, opened, cut, dead}
@@ -22,7 +22,7 @@ use Rattle.certificate_reader.proofs.WordLemmas.{one_first}
 digits_are_word : (digits : List ℕ) → AllDigits 10 digits → IsTrue (is_word digits)
 digits_are_word [] all = refl
 digits_are_word (digit ∷ digits) all =
-    let (here, more) = tells_digits.parts digit digits all in
+    let (here, more) = reports_digits.parts digit digits all in
     ap (λ b. not b && is_word digits) (ne_eqb digit 32 (λ same. omega (arith, same, here.0))) ∙ digits_are_word digits more
 
 pub number_is_word : (n : ℕ) → IsTrue (is_number n) → IsTrue (is_word (decimal n))
@@ -68,21 +68,21 @@ listed_splits cost dead atoms = refl
 second_weight_split : (s t r : List ℕ) → (s ++ codes " ") ++ ((t ++ codes " ") ++ r) ≡ ((s ++ (codes " " ++ t)) ++ codes " ") ++ r
 second_weight_split s t r = simp append_assoc
 
--- what stands behind weights stands behind their text, alone or with a blank before it
+-- what comes after weights comes after their text, alone or with a blank before it
 weights_alone : (of_value : ℤ) (of_dead_end : Option ℤ)
     → with_weights (record { of_value = of_value; of_dead_end = of_dead_end }) None ≡ weights_text (record { of_value = of_value; of_dead_end = of_dead_end })
 weights_alone of_value None = refl
 weights_alone of_value (Some n) = append_assoc (signed_decimal of_value) (codes " ") (signed_decimal n)
 
-weights_behind : (of_value : ℤ) (of_dead_end : Option ℤ) (rest : List ℕ)
+weights_after : (of_value : ℤ) (of_dead_end : Option ℤ) (rest : List ℕ)
     → with_weights (record { of_value = of_value; of_dead_end = of_dead_end }) (Some rest) ≡ weights_text (record { of_value = of_value; of_dead_end = of_dead_end }) ++ codes " " ++ rest
-weights_behind of_value None rest = refl
-weights_behind of_value (Some n) rest = second_weight_split (signed_decimal of_value) (signed_decimal n) rest
+weights_after of_value None rest = refl
+weights_after of_value (Some n) rest = second_weight_split (signed_decimal of_value) (signed_decimal n) rest
 
 parts_split : (c s b o p f e : List ℕ) → ((((c ++ s) ++ (b ++ o)) ++ p) ++ f) ++ e ≡ c ++ ((s ++ b) ++ (((o ++ p) ++ f) ++ e))
 parts_split c s b o p f e = simp append_assoc
 
--- the line of an atom, by its weight, its predicate and what comes behind that
+-- the line of an atom, by its weight, its predicate and what comes after that
 atom_splits : (s p f : List ℕ)
     → ((((codes "atom " ++ s) ++ codes " (") ++ p) ++ f) ++ codes ")" ≡ codes "atom " ++ with_rest s (Some (((codes "(" ++ p) ++ f) ++ codes ")"))
 atom_splits s p f = parts_split (codes "atom ") s (codes " ") (codes "(") p f (codes ")")
@@ -94,7 +94,7 @@ line_splits (claims none) = refl
 line_splits (constant k) = ap (λ rest. codes "constant " ++ rest) (sym (weights_alone k.of_value k.of_dead_end))
 line_splits (atom a) =
     atom_splits (weights_text a.weights) a.atom.predicate (flat_map after_blank a.atom.objects)
-    ∙ ap (λ rest. codes "atom " ++ rest) (sym (weights_behind a.weights.of_value a.weights.of_dead_end (((codes "(" ++ a.atom.predicate) ++ flat_map after_blank a.atom.objects) ++ codes ")")))
+    ∙ ap (λ rest. codes "atom " ++ rest) (sym (weights_after a.weights.of_value a.weights.of_dead_end (((codes "(" ++ a.atom.predicate) ++ flat_map after_blank a.atom.objects) ++ codes ")")))
 line_splits (listed l) = listed_splits l.cost l.mark l.atoms
 line_splits (last count) = refl
 
@@ -118,7 +118,7 @@ pub then_words_more : (words : List (List ℕ)) (word : List ℕ) (rest : Option
 then_words_more [] word rest = refl
 then_words_more (first ∷ words) word rest = ap (λ r. Some (with_rest first r)) (then_words_more words word rest)
 
--- the bytes behind the words that were read are words too, where all of them are
+-- the bytes after the words that were read are words too, where all of them are
 pub record IsNext (words done : List (List ℕ)) (bytes : List ℕ) : Type 0 where
   pub word : List ℕ
   pub more : List (List ℕ)
@@ -160,10 +160,10 @@ all_words (first ∷ done) (word ∷ words) d w same =
     let more = all_words done words d_more w_more both.1 in
     λ i. both.0 i ∷ more i
 
--- words behind a first one, in the bytes of a line
-pub words_behind : {X : Type 0} (text : X → List ℕ) (word : List ℕ) (parts : List X)
+-- words after a first one, in the bytes of a line
+pub words_after : {X : Type 0} (text : X → List ℕ) (word : List ℕ) (parts : List X)
     → with_rest word (then_words (map text parts) None) ≡ word ++ flat_map (λ (part : X). after_blank (text part)) parts
-words_behind text word [] = sym (append-nil word)
-words_behind text word (part ∷ parts) =
-    ap (λ rest. word ++ codes " " ++ rest) (words_behind text (text part) parts)
+words_after text word [] = sym (append-nil word)
+words_after text word (part ∷ parts) =
+    ap (λ rest. word ++ codes " " ++ rest) (words_after text (text part) parts)
     ∙ append_assoc word (32 ∷ []) (text part ++ flat_map (λ part. after_blank (text part)) parts)

@@ -1,4 +1,4 @@
--- The lines of states and atoms, by what stands behind their first word.
+-- The lines of states and atoms, by what comes after their first word.
 use Rattle.std.proofs.Common.{◌≡◌, ℕ, Bool, true, false, List, [], ◌∷◌, ◌++◌, codes, map, Option, None, Some, refl, sym, ap, ◌∙◌, subst, append_assoc, append-nil}
 use Rattle.std.specs.Prelude.{◌&&◌, ◌≤◌, IsTrue, length, nat_le}
 use Rattle.std.specs.Fmt.{decimal}
@@ -13,25 +13,25 @@ use Rattle.certificate_definitions.specs.Certificates.{Version, two, is_number, 
 use Rattle.certificate_definitions.specs.CertificateText.{NamedAtom, Weights, WeightedAtom, TextLine, version, claims, constant, atom, listed, last, after_blank, are_weights, is_line, line_text, longest_line}
 use Rattle.certificate_reader.specs.Words.{IsFirstWord, IsNumbered, IsReadAs, are_lower, atom_rest, mark_head, then_words, with_rest, with_weights}
 use Rattle.certificate_reader.proofs.WordLemmas.{one_first}
-use Rattle.certificate_reader.proofs.LineLemmas.{line_splits, lower_name_is_word, number_is_word, words_behind}
+use Rattle.certificate_reader.proofs.LineLemmas.{line_splits, lower_name_is_word, number_is_word, words_after}
 use Rattle.certificate_reader.proofs.WeightsRead.{one_weights}
 
--- ---- a number and numbers behind it
+-- ---- a number and numbers after it
 
-module _ (bytes word : List ℕ) (behind : Option (List ℕ)) (count : ℕ) (first : IsFirstWord bytes word behind) where
-  numbered_parts : (n : ℕ) (atoms : List ℕ) → IsNumbered bytes count n atoms → (word ≡ decimal n) × (behind ≡ then_words (map decimal atoms) None)
+module _ (bytes word : List ℕ) (following : Option (List ℕ)) (count : ℕ) (first : IsFirstWord bytes word following) where
+  numbered_parts : (n : ℕ) (atoms : List ℕ) → IsNumbered bytes count n atoms → (word ≡ decimal n) × (following ≡ then_words (map decimal atoms) None)
   numbered_parts n atoms is =
-      one_first word (decimal n) behind (then_words (map decimal atoms) None) first.is_word (number_is_word n is.is_number) (sym first.splits ∙ is.splits)
+      one_first word (decimal n) following (then_words (map decimal atoms) None) first.is_word (number_is_word n is.is_number) (sym first.splits ∙ is.splits)
 
   pub no_number_first : ((n : ℕ) → IsTrue (is_number n) → decimal n ≡ word → ⊥) → (n : ℕ) (atoms : List ℕ) → IsNumbered bytes count n atoms → ⊥
   no_number_first never n atoms is = never n is.is_number (sym (numbered_parts n atoms is).0)
 
-  pub no_numbers_behind : ((atoms : List ℕ) → IsTrue (rise count 0 atoms) → then_words (map decimal atoms) None ≡ behind → ⊥)
+  pub no_numbers_after : ((atoms : List ℕ) → IsTrue (rise count 0 atoms) → then_words (map decimal atoms) None ≡ following → ⊥)
       → (n : ℕ) (atoms : List ℕ) → IsNumbered bytes count n atoms → ⊥
-  no_numbers_behind never n atoms is = never atoms is.rising (sym (numbered_parts n atoms is).1)
+  no_numbers_after never n atoms is = never atoms is.rising (sym (numbered_parts n atoms is).1)
 
   pub is_numbered : (n : ℕ) (atoms : List ℕ) → IsTrue (is_number n) → decimal n ≡ word → IsTrue (rise count 0 atoms)
-      → then_words (map decimal atoms) None ≡ behind → IsNumbered bytes count n atoms
+      → then_words (map decimal atoms) None ≡ following → IsNumbered bytes count n atoms
   is_numbered n atoms is same rising numbers = record {
     is_number = is;
     rising = rising;
@@ -66,14 +66,14 @@ module _ (word : List ℕ) (no_version : bytes_eq (codes "pddl-cert") word ≡ f
   only_listed never (listed l) read = never l.cost l.mark l.atoms read
   only_listed never (last n) read = unlike (codes "end") word no_end read.head
 
--- ---- open states and dead ends: a number, and numbers behind it
+-- ---- open states and dead ends: a number, and numbers after it
 
 module _ (rest : List ℕ) (count : ℕ) where
   pub open_is_read : (cost : ℕ) (atoms : List ℕ) → IsNumbered rest count cost atoms
       → (v : Version) → IsReadAs (codes "open") rest v count (listed (record { cost = cost; mark = opened; atoms = atoms }))
   open_is_read cost atoms is v = record {
     head = refl;
-    behind = sym (words_behind decimal (decimal cost) atoms) ∙ sym is.splits;
+    following = sym (words_after decimal (decimal cost) atoms) ∙ sym is.splits;
     within = and_all (is_number cost) true (rise count 0 atoms) is.is_number refl is.rising;
   }
 
@@ -84,7 +84,7 @@ module _ (rest : List ℕ) (count : ℕ) where
       record {
         is_number = (and_parts (is_number cost) true parts.0).0;
         rising = parts.1;
-        splits = sym read.behind ∙ sym (words_behind decimal (decimal cost) atoms);
+        splits = sym read.following ∙ sym (words_after decimal (decimal cost) atoms);
       }
   open_parts v cost (cut least) atoms read = absurd (unlike (codes "cut") (codes "open") refl read.head)
   open_parts v cost dead atoms read = absurd (unlike (codes "dead") (codes "open") refl read.head)
@@ -96,7 +96,7 @@ module _ (rest : List ℕ) (count : ℕ) where
       → IsReadAs (codes "dead") rest two count (listed (record { cost = cost; mark = dead; atoms = atoms }))
   dead_is_read cost atoms is = record {
     head = refl;
-    behind = sym (words_behind decimal (decimal cost) atoms) ∙ sym is.splits;
+    following = sym (words_after decimal (decimal cost) atoms) ∙ sym is.splits;
     within = and_all (is_number cost) true (rise count 0 atoms) is.is_number refl is.rising;
   }
 
@@ -107,7 +107,7 @@ module _ (rest : List ℕ) (count : ℕ) where
       record {
         is_number = (and_parts (is_number cost) (is_mark v dead) parts.0).0;
         rising = parts.1;
-        splits = sym read.behind ∙ sym (words_behind decimal (decimal cost) atoms);
+        splits = sym read.following ∙ sym (words_after decimal (decimal cost) atoms);
       }
   dead_parts v cost (cut least) atoms read = absurd (unlike (codes "cut") (codes "dead") refl read.head)
   dead_parts v cost opened atoms read = absurd (unlike (codes "open") (codes "dead") refl read.head)
@@ -117,7 +117,7 @@ module _ (rest : List ℕ) (count : ℕ) where
 
 -- ---- cuts
 
--- the bytes are a number and, behind it, a number with those of atoms
+-- the bytes are a number and, after it, a number with those of atoms
 pub record IsCut (rest : List ℕ) (count cost least : ℕ) (atoms : List ℕ) : Type 0 where
   pub is_number : IsTrue (is_number cost)
   pub bytes : List ℕ
@@ -128,7 +128,7 @@ cut_text : (cost least : ℕ) (atoms : List ℕ)
     → with_rest (decimal cost) (Some (with_rest (decimal least) (then_words (map decimal atoms) None)))
     ≡ (decimal cost ++ after_blank (decimal least)) ++ flat_map (λ (number : ℕ). after_blank (decimal number)) atoms
 cut_text cost least atoms =
-    ap (λ bytes. decimal cost ++ codes " " ++ bytes) (words_behind decimal (decimal least) atoms)
+    ap (λ bytes. decimal cost ++ codes " " ++ bytes) (words_after decimal (decimal least) atoms)
     ∙ append_assoc (decimal cost) (codes " ") (decimal least ++ flat_map (λ (number : ℕ). after_blank (decimal number)) atoms)
     ∙ sym (append_assoc (decimal cost) (codes " " ++ decimal least) (flat_map (λ (number : ℕ). after_blank (decimal number)) atoms))
 
@@ -137,7 +137,7 @@ module _ (rest : List ℕ) (count : ℕ) where
       → (v : Version) → IsReadAs (codes "cut") rest v count (listed (record { cost = cost; mark = cut least; atoms = atoms }))
   cut_is_read cost least atoms is v = record {
     head = refl;
-    behind = sym (cut_text cost least atoms) ∙ ap (λ bytes. with_rest (decimal cost) (Some bytes)) (sym is.numbered.splits) ∙ sym is.splits;
+    following = sym (cut_text cost least atoms) ∙ ap (λ bytes. with_rest (decimal cost) (Some bytes)) (sym is.numbered.splits) ∙ sym is.splits;
     within = and_all (is_number cost) (is_number least) (rise count 0 atoms) is.is_number is.numbered.is_number is.numbered.rising;
   }
 
@@ -150,7 +150,7 @@ module _ (rest : List ℕ) (count : ℕ) where
         is_number = numbers.0;
         bytes = with_rest (decimal least) (then_words (map decimal atoms) None);
         numbered = record { is_number = numbers.1; rising = parts.1; splits = refl };
-        splits = sym read.behind ∙ sym (cut_text cost least atoms);
+        splits = sym read.following ∙ sym (cut_text cost least atoms);
       }
 
   cut_parts : (v : Version) (cost : ℕ) (mark : Mark) (atoms : List ℕ) → IsReadAs (codes "cut") rest v count (listed (record { cost = cost; mark = mark; atoms = atoms }))
@@ -163,24 +163,24 @@ module _ (rest : List ℕ) (count : ℕ) where
   no_cut never v = only_listed (codes "cut") refl refl refl refl refl rest v count
       (λ cost mark atoms read. let (least, is) = cut_parts v cost mark atoms read in never cost least atoms is)
 
-  module _ (word : List ℕ) (behind : Option (List ℕ)) (first : IsFirstWord rest word behind) where
-    cut_first : (cost least : ℕ) (atoms : List ℕ) (is : IsCut rest count cost least atoms) → (word ≡ decimal cost) × (behind ≡ Some is.bytes)
+  module _ (word : List ℕ) (following : Option (List ℕ)) (first : IsFirstWord rest word following) where
+    cut_first : (cost least : ℕ) (atoms : List ℕ) (is : IsCut rest count cost least atoms) → (word ≡ decimal cost) × (following ≡ Some is.bytes)
     cut_first cost least atoms is =
-        one_first word (decimal cost) behind (Some is.bytes) first.is_word (number_is_word cost is.is_number) (sym first.splits ∙ is.splits)
+        one_first word (decimal cost) following (Some is.bytes) first.is_word (number_is_word cost is.is_number) (sym first.splits ∙ is.splits)
 
     pub no_cut_cost : ((n : ℕ) → IsTrue (is_number n) → decimal n ≡ word → ⊥) → (v : Version) (line : TextLine) → IsReadAs (codes "cut") rest v count line → ⊥
     no_cut_cost never = no_cut (λ cost least atoms is. never cost is.is_number (sym (cut_first cost least atoms is).0))
 
-    pub no_cut_alone : behind ≡ None → (v : Version) (line : TextLine) → IsReadAs (codes "cut") rest v count line → ⊥
+    pub no_cut_alone : following ≡ None → (v : Version) (line : TextLine) → IsReadAs (codes "cut") rest v count line → ⊥
     no_cut_alone alone = no_cut (λ cost least atoms is. absurd (cc (sym alone ∙ (cut_first cost least atoms is).1)))
 
-    pub no_cut_behind : (bytes : List ℕ) → behind ≡ Some bytes → ((n : ℕ) (atoms : List ℕ) → IsNumbered bytes count n atoms → ⊥)
+    pub no_cut_after : (bytes : List ℕ) → following ≡ Some bytes → ((n : ℕ) (atoms : List ℕ) → IsNumbered bytes count n atoms → ⊥)
         → (v : Version) (line : TextLine) → IsReadAs (codes "cut") rest v count line → ⊥
-    no_cut_behind bytes at never = no_cut (λ cost least atoms is.
+    no_cut_after bytes at never = no_cut (λ cost least atoms is.
         let same : is.bytes ≡ bytes = cc (sym (cut_first cost least atoms is).1 ∙ at) in
         never least atoms (subst (λ bytes. IsNumbered bytes count least atoms) same is.numbered))
 
-    pub is_cut : (bytes : List ℕ) → behind ≡ Some bytes → (cost least : ℕ) (atoms : List ℕ) → IsTrue (is_number cost) → decimal cost ≡ word
+    pub is_cut : (bytes : List ℕ) → following ≡ Some bytes → (cost least : ℕ) (atoms : List ℕ) → IsTrue (is_number cost) → decimal cost ≡ word
         → IsNumbered bytes count least atoms → IsCut rest count cost least atoms
     is_cut bytes at cost least atoms is same numbered = record {
       is_number = is;
@@ -191,28 +191,28 @@ module _ (rest : List ℕ) (count : ℕ) where
 
 -- ---- atoms
 
--- the bytes are weights and, behind them, an atom
+-- the bytes are weights and, after them, an atom
 module _ (rest : List ℕ) (v : Version) (count : ℕ) where
   atom_within : (a : WeightedAtom) → IsTrue (is_line v count (atom a)) → IsTrue (are_weights v a.weights) × IsTrue (are_lower a.atom)
   atom_within a within =
       and_parts (are_weights v a.weights) (are_lower a.atom)
       (and_parts (are_weights v a.weights && are_lower a.atom) (nat_le (length (line_text (atom a))) longest_line) within).0
 
-  pub no_weights_first : ((w : Weights) (behind : Option (List ℕ)) → IsTrue (are_weights v w) → with_weights w behind ≡ rest → ⊥)
+  pub no_weights_first : ((w : Weights) (following : Option (List ℕ)) → IsTrue (are_weights v w) → with_weights w following ≡ rest → ⊥)
       → (a : WeightedAtom) → IsReadAs (codes "atom") rest v count (atom a) → ⊥
-  no_weights_first never a read = never a.weights (Some (atom_rest a.atom)) (atom_within a read.within).0 read.behind
+  no_weights_first never a read = never a.weights (Some (atom_rest a.atom)) (atom_within a read.within).0 read.following
 
-  module _ (w : Weights) (behind : Option (List ℕ)) (is : IsTrue (are_weights v w)) (first : with_weights w behind ≡ rest) where
-    behind_is : (a : WeightedAtom) → IsReadAs (codes "atom") rest v count (atom a) → behind ≡ Some (atom_rest a.atom)
-    behind_is a read = (one_weights v w a.weights behind (Some (atom_rest a.atom)) is (atom_within a read.within).0 (first ∙ sym read.behind)).1
+  module _ (w : Weights) (following : Option (List ℕ)) (is : IsTrue (are_weights v w)) (first : with_weights w following ≡ rest) where
+    after_is : (a : WeightedAtom) → IsReadAs (codes "atom") rest v count (atom a) → following ≡ Some (atom_rest a.atom)
+    after_is a read = (one_weights v w a.weights following (Some (atom_rest a.atom)) is (atom_within a read.within).0 (first ∙ sym read.following)).1
 
-    pub nothing_behind : behind ≡ None → (a : WeightedAtom) → IsReadAs (codes "atom") rest v count (atom a) → ⊥
-    nothing_behind alone a read = absurd (cc (sym alone ∙ behind_is a read))
+    pub nothing_after : following ≡ None → (a : WeightedAtom) → IsReadAs (codes "atom") rest v count (atom a) → ⊥
+    nothing_after alone a read = absurd (cc (sym alone ∙ after_is a read))
 
-    pub no_atom_behind : (bytes : List ℕ) → behind ≡ Some bytes → ((a : NamedAtom) → IsTrue (are_lower a) → atom_rest a ≡ bytes → ⊥)
+    pub no_atom_after : (bytes : List ℕ) → following ≡ Some bytes → ((a : NamedAtom) → IsTrue (are_lower a) → atom_rest a ≡ bytes → ⊥)
         → (a : WeightedAtom) → IsReadAs (codes "atom") rest v count (atom a) → ⊥
-    no_atom_behind bytes at never a read =
-        never a.atom (atom_within a read.within).1 (some_bytes (atom_rest a.atom) bytes (sym (behind_is a read) ∙ at))
+    no_atom_after bytes at never a read =
+        never a.atom (atom_within a read.within).1 (some_bytes (atom_rest a.atom) bytes (sym (after_is a read) ∙ at))
       where
         some_bytes : (a b : List ℕ) → ◌≡◌ {A = Option (List ℕ)} (Some a) (Some b) → a ≡ b
         some_bytes a b same = cc
@@ -221,7 +221,7 @@ pub atom_is_read : (rest : List ℕ) (v : Version) (count : ℕ) (a : WeightedAt
     → with_weights a.weights (Some (atom_rest a.atom)) ≡ rest → length (with_rest (codes "atom") (Some rest)) ≤ longest_line → IsReadAs (codes "atom") rest v count (atom a)
 atom_is_read rest v count a weights lower same short = record {
   head = refl;
-  behind = same;
+  following = same;
   within =
       let text : line_text (atom a) ≡ with_rest (codes "atom") (Some rest) = line_splits (atom a) ∙ ap (λ rest. with_rest (codes "atom") (Some rest)) same in
       let fits : nat_le (length (line_text (atom a))) longest_line ≡ true = le-leb (length (line_text (atom a))) longest_line (subst (λ text. length text ≤ longest_line) (sym text) short) in
@@ -237,28 +237,28 @@ no_atom rest v count never (atom a) read = never a read
 no_atom rest v count never (listed l) read = is_no_mark (codes "atom") refl refl refl l.mark read.head
 no_atom rest v count never (last n) read = unlike (codes "end") (codes "atom") refl read.head
 
-names_behind : (word : List ℕ) (words : List (List ℕ)) → with_rest word (then_words words None) ≡ word ++ flat_map after_blank words
-names_behind word [] = sym (append-nil word)
-names_behind word (next ∷ words) =
-    ap (λ rest. word ++ codes " " ++ rest) (names_behind next words) ∙ append_assoc word (codes " ") (next ++ flat_map after_blank words)
+names_after : (word : List ℕ) (words : List (List ℕ)) → with_rest word (then_words words None) ≡ word ++ flat_map after_blank words
+names_after word [] = sym (append-nil word)
+names_after word (next ∷ words) =
+    ap (λ rest. word ++ codes " " ++ rest) (names_after next words) ∙ append_assoc word (codes " ") (next ++ flat_map after_blank words)
 
--- an atom by what stands in its parentheses
+-- an atom by what is in its parentheses
 abbrev pub inner_of : NamedAtom → List ℕ
 inner_of a = with_rest a.predicate (then_words a.objects None)
 
 pub atom_text : (a : NamedAtom) → atom_rest a ≡ codes "(" ++ inner_of a ++ codes ")"
 atom_text a = ap (λ inner. inner ++ codes ")")
-    (append_assoc (codes "(") a.predicate (flat_map after_blank a.objects) ∙ ap (λ inner. codes "(" ++ inner) (sym (names_behind a.predicate a.objects)))
+    (append_assoc (codes "(") a.predicate (flat_map after_blank a.objects) ∙ ap (λ inner. codes "(" ++ inner) (sym (names_after a.predicate a.objects)))
 
 pub same_inner : (x y : List ℕ) → codes "(" ++ x ++ codes ")" ≡ codes "(" ++ y ++ codes ")" → x ≡ y
 same_inner x y same = append_cancel_left (codes "(") x y (append_cancel_right (codes "(" ++ x) (codes "(" ++ y) (codes ")") same)
 
-module _ (rest inner : List ℕ) (stands : rest ≡ codes "(" ++ inner ++ codes ")") (predicate : List ℕ) (behind : Option (List ℕ))
-    (first : IsFirstWord inner predicate behind) where
-  atom_parts : (a : NamedAtom) → IsTrue (are_lower a) → atom_rest a ≡ rest → (predicate ≡ a.predicate) × (behind ≡ then_words a.objects None)
+module _ (rest inner : List ℕ) (occurs : rest ≡ codes "(" ++ inner ++ codes ")") (predicate : List ℕ) (following : Option (List ℕ))
+    (first : IsFirstWord inner predicate following) where
+  atom_parts : (a : NamedAtom) → IsTrue (are_lower a) → atom_rest a ≡ rest → (predicate ≡ a.predicate) × (following ≡ then_words a.objects None)
   atom_parts a lower same =
-      let both : inner ≡ inner_of a = same_inner inner (inner_of a) (sym stands ∙ sym same ∙ atom_text a) in
-      one_first predicate a.predicate behind (then_words a.objects None) first.is_word
+      let both : inner ≡ inner_of a = same_inner inner (inner_of a) (sym occurs ∙ sym same ∙ atom_text a) in
+      one_first predicate a.predicate following (then_words a.objects None) first.is_word
       (lower_name_is_word a.predicate (and_parts (is_lower_name a.predicate) (list_all is_lower_name a.objects) lower).0) (sym first.splits ∙ both)
 
   pub no_lower_predicate : is_lower_name predicate ≡ false → (a : NamedAtom) → IsTrue (are_lower a) → atom_rest a ≡ rest → ⊥
@@ -266,17 +266,17 @@ module _ (rest inner : List ℕ) (stands : rest ≡ codes "(" ++ inner ++ codes 
       let is = (and_parts (is_lower_name a.predicate) (list_all is_lower_name a.objects) lower).0 in
       absurd (cc (sym other ∙ ap is_lower_name (atom_parts a lower same).0 ∙ is))
 
-  pub no_names_behind : ((names : List (List ℕ)) → IsTrue (list_all is_lower_name names) → then_words names None ≡ behind → ⊥)
+  pub no_names_after : ((names : List (List ℕ)) → IsTrue (list_all is_lower_name names) → then_words names None ≡ following → ⊥)
       → (a : NamedAtom) → IsTrue (are_lower a) → atom_rest a ≡ rest → ⊥
-  no_names_behind never a lower same =
+  no_names_after never a lower same =
       never a.objects (and_parts (is_lower_name a.predicate) (list_all is_lower_name a.objects) lower).1 (sym (atom_parts a lower same).1)
 
   pub is_atom_line : is_lower_name predicate ≡ true → (name : List ℕ) (names : List (List ℕ)) → name ≡ predicate
-      → IsTrue (list_all is_lower_name names) → then_words names None ≡ behind
+      → IsTrue (list_all is_lower_name names) → then_words names None ≡ following
       → IsTrue (is_lower_name name && list_all is_lower_name names) × (atom_rest (record { predicate = name; objects = names }) ≡ rest)
   is_atom_line is name names same lower read = (
     (λ i. (ap is_lower_name same ∙ is) i && lower i),
     atom_text (record { predicate = name; objects = names })
         ∙ ap (λ inner. codes "(" ++ inner ++ codes ")") ((λ i. with_rest (same i) (read i)) ∙ sym first.splits)
-        ∙ sym stands,
+        ∙ sym occurs,
   )

@@ -59,15 +59,15 @@ more_lower (name ∷ done) word all is =
     let (here, more) = and_parts (is_lower_name name) (list_all is_lower_name done) all in
     ap (λ b. b && list_all is_lower_name (done ++ word ∷ [])) here ∙ more_lower done word more is
 
-module _ (start : Option (List ℕ)) (done : List (List ℕ)) (bytes word : List ℕ) (behind : Option (List ℕ)) (first : IsFirstWord bytes word behind)
+module _ (start : Option (List ℕ)) (done : List (List ℕ)) (bytes word : List ℕ) (following : Option (List ℕ)) (first : IsFirstWord bytes word following)
     (read : then_words done (Some bytes) ≡ start) where
   pub no_names : IsTrue (list_all is_lower_name done) → is_lower_name word ≡ false
       → (names : List (List ℕ)) → IsTrue (list_all is_lower_name names) → then_words names None ≡ start → ⊥
   no_names all other names lower same =
       let next = next_word done names bytes (names_are_words done all) (names_are_words names lower) (read ∙ sym same) in
       let is : IsTrue (is_lower_name next.word) = last_lower done next.word next.more (subst (λ names. IsTrue (list_all is_lower_name names)) next.are lower) in
-      let both = one_first word next.word behind (then_words next.more None) first.is_word (lower_name_is_word next.word is) (sym first.splits ∙ next.splits) in
+      let both = one_first word next.word following (then_words next.more None) first.is_word (lower_name_is_word next.word is) (sym first.splits ∙ next.splits) in
       absurd (cc (sym other ∙ ap is_lower_name both.0 ∙ is))
 
-  pub one_name_more : then_words (done ++ word ∷ []) behind ≡ start
-  one_name_more = sym (then_words_more done word behind) ∙ ap (λ bytes. then_words done (Some bytes)) (sym first.splits) ∙ read
+  pub one_name_more : then_words (done ++ word ∷ []) following ≡ start
+  one_name_more = sym (then_words_more done word following) ∙ ap (λ bytes. then_words done (Some bytes)) (sym first.splits) ∙ read

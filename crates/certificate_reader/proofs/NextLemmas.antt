@@ -1,4 +1,4 @@
--- Lines in the bytes that wait, and what is told of them.
+-- Lines in the bytes that wait, and what is reported for them.
 use Rattle.std.proofs.Common.{◌≡◌, ◌≢◌, ℕ, ◌+◌, ◌<◌, ◌≤◌, List, [], ◌∷◌, ◌++◌, codes, take, drop, length, get_or, Option, None, Some, sym, ap, ◌∙◌, subst, append_assoc, arith}
 use Rattle.std.specs.Prelude.{Contains, Result, Ok, Err}
 use Rattle.std.specs.Io.KnownBytes.{IsAtEnd}
@@ -19,11 +19,11 @@ use Rattle.certificate_reader.specs.Ends.{is_end}
 use Rattle.certificate_reader.specs.Ready.{IsGrown}
 use Rattle.certificate_reader.proofs.FirstPlaces.{first_at, first_within, passes_nowhere}
 use Rattle.certificate_reader.specs.Next.{HasEnd, IsFaultAt, IsNext, IsTaken}
-use Rattle.certificate_reader.proofs.FaultsRead.{told_other_version, told_too_many, told_malformed}
+use Rattle.certificate_reader.proofs.FaultsRead.{reported_other_version, reported_too_many, reported_malformed}
 
 -- ---- where lines end
 
--- before the first LF none stands
+-- before the first LF none is
 no_end_before : (bytes : List ℕ) (n : ℕ) → n ≤ position_or_len is_end bytes → Contains (take n bytes) 10 → ⊥
 no_end_before bytes n before (k, within, same) =
     let below : k < n = omega (arith, within, length-take n bytes) in
@@ -58,40 +58,40 @@ module _ (place : Place) (bytes : List ℕ) (end : ℕ) (has : HasEnd bytes end)
       ∙ sym (append_assoc (take end bytes) (10 ∷ []) (drop (end + 1) bytes))
       ∙ (λ i. sym text i ++ codes "\n" ++ sym left i)
 
-  -- what is told of its bytes is told of what waits
-  pub line_told : (why : NextFault) → IsReadAt place (take end bytes) (Err why) → (new : List ℕ) → IsTaken place bytes new (Err why)
-  line_told (Text Version) (at, is) new = λ before leads more. told_other_version before place leads (bytes ++ more) (take end bytes) (has_line bytes end has more) at is
-  line_told (Text Form) (nowhere, limits, other) new = λ before leads more.
-      told_malformed before place leads (bytes ++ more) (take end bytes) (has_line bytes end has more) nowhere limits other
-  line_told (Text Limit) (over, is, limit, same) new = λ before leads more.
-      told_too_many before place leads (bytes ++ more) (take end bytes) (has_line bytes end has more) over is limit same
-  line_told NoMemory told new = tt
-  line_told _ told new = told
+  -- what is reported for its bytes is reported for what waits
+  pub line_reported : (why : NextFault) → IsReadAt place (take end bytes) (Err why) → (new : List ℕ) → IsTaken place bytes new (Err why)
+  line_reported (Text Version) (at, is) new = λ before leads more. reported_other_version before place leads (bytes ++ more) (take end bytes) (has_line bytes end has more) at is
+  line_reported (Text Form) (nowhere, limits, other) new = λ before leads more.
+      reported_malformed before place leads (bytes ++ more) (take end bytes) (has_line bytes end has more) nowhere limits other
+  line_reported (Text Limit) (over, is, limit, same) new = λ before leads more.
+      reported_too_many before place leads (bytes ++ more) (take end bytes) (has_line bytes end has more) over is limit same
+  line_reported NoMemory reported new = tt
+  line_reported _ reported new = reported
 
--- ---- what came and what is told
+-- ---- what came and what is reported
 
 module _ (place : Place) (old waiting : List ℕ) (before after : Option (List ℕ)) (grown : IsGrown before after old waiting) where
   pub next_of_line : (new : List ℕ) (r : Result (CertLine × Stage) NextFault) → IsTaken place waiting new r → IsNext place old new before after r
   next_of_line new (Ok (line, next)) (splits, leads) = (grown.bytes, grown.consumed, sym grown.appended ∙ splits, leads, grown.prompt)
-  next_of_line new (Err (Text Truncated)) told = absurd told
-  next_of_line new (Err (Text why)) told = (grown.bytes, grown.consumed, subst (λ bytes. IsFaultAt place bytes why) grown.appended told, grown.prompt)
-  next_of_line new (Err Device) told = absurd told
-  next_of_line new (Err NoMemory) told = tt
+  next_of_line new (Err (Text Truncated)) reported = absurd reported
+  next_of_line new (Err (Text why)) reported = (grown.bytes, grown.consumed, subst (λ bytes. IsFaultAt place bytes why) grown.appended reported, grown.prompt)
+  next_of_line new (Err Device) reported = absurd reported
+  next_of_line new (Err NoMemory) reported = tt
 
-  pub too_long_told : longest_line < position_or_len is_end waiting → IsNext place old waiting before after (Err (Text Form))
-  too_long_told long = (grown.bytes, grown.consumed, subst (λ bytes. IsFaultAt place bytes Form) grown.appended told, grown.prompt)
+  pub too_long_reported : longest_line < position_or_len is_end waiting → IsNext place old waiting before after (Err (Text Form))
+  too_long_reported long = (grown.bytes, grown.consumed, subst (λ bytes. IsFaultAt place bytes Form) grown.appended reported, grown.prompt)
     where
-      told : IsFaultAt place waiting Form
-      told lines leads more =
+      reported : IsFaultAt place waiting Form
+      reported lines leads more =
           too_long (take (longest_line + 1) waiting) (drop (longest_line + 1) waiting ++ more)
           (ap (λ bytes. bytes ++ more) (sym (take-append-drop (longest_line + 1) waiting)) ∙ append_assoc (take (longest_line + 1) waiting) (drop (longest_line + 1) waiting) more)
           (omega (arith, length-take (longest_line + 1) waiting, long, first_within is_end waiting)) (no_end_before waiting (longest_line + 1) (omega (arith, long)))
 
-  pub cut_short_told : position is_end waiting ≡ None → length waiting ≤ longest_line → IsAtEnd after → IsNext place old waiting before after (Err (Text Truncated))
-  cut_short_told nowhere short at_end = (grown.bytes, grown.consumed, at_end, told)
+  pub cut_short_reported : position is_end waiting ≡ None → length waiting ≤ longest_line → IsAtEnd after → IsNext place old waiting before after (Err (Text Truncated))
+  cut_short_reported nowhere short at_end = (grown.bytes, grown.consumed, at_end, reported)
     where
-      told : (lines : List TextLine) → place_after lines ≡ Some place → place ≢ ended → IsFaultAfter lines (old ++ grown.bytes) 42
-      told lines leads goes_on =
+      reported : (lines : List TextLine) → place_after lines ≡ Some place → place ≢ ended → IsFaultAfter lines (old ++ grown.bytes) 42
+      reported lines leads goes_on =
           subst (λ bytes. IsFaultAfter lines bytes 42) grown.appended
           (cut_short (not_whole lines place leads goes_on)
           (subst (λ bytes. Contains bytes 10 → ⊥) (take_all (position_or_len is_end waiting) waiting (passes_nowhere is_end waiting nowhere)) (no_end_before waiting (position_or_len is_end waiting) (omega arith)))

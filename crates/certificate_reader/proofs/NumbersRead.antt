@@ -20,13 +20,13 @@ use Rattle.certificate_reader.proofs.LineLemmas.{number_is_word, then_words_more
 -- ---- a claim
 
 -- a claim of two words begins with `bound`
-pub not_bound : (rest word : List ℕ) (behind : Option (Bor (List ℕ))) (least : Bor (List ℕ)) → IsFirstWord rest word (text_in behind) → behind ≡ Some least
+pub not_bound : (rest word : List ℕ) (following : Option (Bor (List ℕ))) (least : Bor (List ℕ)) → IsFirstWord rest word (text_in following) → following ≡ Some least
     → bytes_eq word (codes "bound") ≡ false → (claim : Claim) → claim_rest claim ≡ rest → ⊥
-not_bound rest word behind least first is unlike (bound n) same =
-    let both = one_first word (codes "bound") (text_in behind) (Some (decimal n)) first.is_word refl (sym first.splits ∙ sym same) in
+not_bound rest word following least first is unlike (bound n) same =
+    let both = one_first word (codes "bound") (text_in following) (Some (decimal n)) first.is_word refl (sym first.splits ∙ sym same) in
     absurd (cc (sym unlike ∙ (bytes_eq-Decides word (codes "bound")).1 both.0))
-not_bound rest word behind least first is unlike none same =
-    let both = one_first word (codes "none") (text_in behind) None first.is_word refl (sym first.splits ∙ sym same) in
+not_bound rest word following least first is unlike none same =
+    let both = one_first word (codes "none") (text_in following) None first.is_word refl (sym first.splits ∙ sym same) in
     absurd (cc (ap text_in is, both.1))
 
 -- ---- numbers
@@ -52,7 +52,7 @@ rising_are_numbers count least (n ∷ numbers) few all =
     let (above, below, more) = rise_parts count least n numbers all in
     ap (λ b. b && list_all is_number numbers) (few_are_numbers count n few below) ∙ rising_are_numbers count (n + 1) numbers few more
 
--- the number behind those that were read, where all are numbers
+-- the number after those that were read, where all are numbers
 record NextNumber (done numbers : List ℕ) (bytes : List ℕ) : Type 0 where
   next : ℕ
   more : List ℕ
@@ -63,25 +63,25 @@ record NextNumber (done numbers : List ℕ) (bytes : List ℕ) : Type 0 where
 some_same : (a b : List ℕ) → ◌≡◌ {A = Option (List ℕ)} (Some a) (Some b) → a ≡ b
 some_same a b same = cc
 
-number_behind : (done numbers : List ℕ) (bytes : List ℕ) → IsTrue (list_all is_number done) → IsTrue (list_all is_number numbers)
+number_after : (done numbers : List ℕ) (bytes : List ℕ) → IsTrue (list_all is_number done) → IsTrue (list_all is_number numbers)
     → then_words (map decimal done) (Some bytes) ≡ then_words (map decimal numbers) None → NextNumber done numbers bytes
-number_behind [] [] bytes d w same = absurd (cc same)
-number_behind [] (n ∷ more) bytes d w same = record {
+number_after [] [] bytes d w same = absurd (cc same)
+number_after [] (n ∷ more) bytes d w same = record {
   next = n;
   more = more;
   are = refl;
   is = (and_parts (is_number n) (list_all is_number more) w).0;
   splits = some_same bytes (with_rest (decimal n) (then_words (map decimal more) None)) same;
 }
-number_behind (first ∷ done) [] bytes d w same = absurd (cc same)
-number_behind (first ∷ done) (n ∷ numbers) bytes d w same =
+number_after (first ∷ done) [] bytes d w same = absurd (cc same)
+number_after (first ∷ done) (n ∷ numbers) bytes d w same =
     let (d_here, d_more) = and_parts (is_number first) (list_all is_number done) d in
     let (w_here, w_more) = and_parts (is_number n) (list_all is_number numbers) w in
     let left : Option (List ℕ) = then_words (map decimal done) (Some bytes) in
     let right : Option (List ℕ) = then_words (map decimal numbers) None in
     let both = one_first (decimal first) (decimal n) left right (number_is_word first d_here) (number_is_word n w_here)
     (some_same (with_rest (decimal first) left) (with_rest (decimal n) right) same) in
-    let more = number_behind done numbers bytes d_more w_more both.1 in
+    let more = number_after done numbers bytes d_more w_more both.1 in
     record {
       next = more.next;
       more = more.more;
@@ -95,37 +95,37 @@ abbrev pub bytes_left : Option (List ℕ) → ℕ
 bytes_left None = 0
 bytes_left (Some bytes) = 1 + length bytes
 
-pub fewer_left : (bytes word : List ℕ) (behind : Option (List ℕ)) → IsFirstWord bytes word behind → bytes_left behind < bytes_left (Some bytes)
+pub fewer_left : (bytes word : List ℕ) (following : Option (List ℕ)) → IsFirstWord bytes word following → bytes_left following < bytes_left (Some bytes)
 fewer_left bytes word None first =
     let nothing : bytes_left None ≡ 0 = refl in
     let whole : bytes_left (Some bytes) ≡ 1 + length bytes = refl in
     omega (arith, nothing, whole)
 fewer_left bytes word (Some rest) first =
-    let behind : bytes_left (Some rest) ≡ 1 + length rest = refl in
+    let following : bytes_left (Some rest) ≡ 1 + length rest = refl in
     let whole : bytes_left (Some bytes) ≡ 1 + length bytes = refl in
     let blank : length (codes " ") ≡ 1 = refl in
-    omega (arith, behind, whole, blank, ap length first.splits, length-append (word ++ codes " ") rest, length-append word (codes " "))
+    omega (arith, following, whole, blank, ap length first.splits, length-append (word ++ codes " ") rest, length-append word (codes " "))
 
 module _ (count : ℕ) (few : count ≤ most_atoms) (start : Option (List ℕ)) (done : List ℕ) (least : ℕ)
     (rises : (more : List ℕ) → rise count 0 (done ++ more) ≡ rise count least more) where
   pub done_rise : rise count 0 done ≡ true
   done_rise = ap (rise count 0) (sym (append-nil done)) ∙ rises []
 
-  module _ (bytes word : List ℕ) (behind : Option (List ℕ)) (first : IsFirstWord bytes word behind) (read : then_words (map decimal done) (Some bytes) ≡ start) where
+  module _ (bytes word : List ℕ) (following : Option (List ℕ)) (first : IsFirstWord bytes word following) (read : then_words (map decimal done) (Some bytes) ≡ start) where
     pub no_numbers : ((n : ℕ) → least ≤ n → n < count → decimal n ≡ word → ⊥)
         → (numbers : List ℕ) → IsTrue (rise count 0 numbers) → then_words (map decimal numbers) None ≡ start → ⊥
     no_numbers never numbers rising same =
-        let next = number_behind done numbers bytes (rising_are_numbers count 0 done few done_rise) (rising_are_numbers count 0 numbers few rising) (read ∙ sym same) in
+        let next = number_after done numbers bytes (rising_are_numbers count 0 done few done_rise) (rising_are_numbers count 0 numbers few rising) (read ∙ sym same) in
         let (above, below, more) = rise_parts count least next.next next.more (sym (rises (next.next ∷ next.more)) ∙ ap (rise count 0) (sym next.are) ∙ rising) in
-        let both = one_first word (decimal next.next) behind (then_words (map decimal next.more) None) first.is_word (number_is_word next.next next.is) (sym first.splits ∙ next.splits) in
+        let both = one_first word (decimal next.next) following (then_words (map decimal next.more) None) first.is_word (number_is_word next.next next.is) (sym first.splits ∙ next.splits) in
         never next.next above below (sym both.0)
 
     module _ (n : ℕ) (is : decimal n ≡ word) (above : least ≤ n) (below : n < count) where
-      pub one_more_read : then_words (map decimal (done ++ n ∷ [])) behind ≡ start
+      pub one_more_read : then_words (map decimal (done ++ n ∷ [])) following ≡ start
       one_more_read =
-          ap (λ words. then_words words behind) (map-append decimal done (n ∷ []))
-          ∙ sym (then_words_more (map decimal done) (decimal n) behind)
-          ∙ ap (λ word. then_words (map decimal done) (Some (with_rest word behind))) is
+          ap (λ words. then_words words following) (map-append decimal done (n ∷ []))
+          ∙ sym (then_words_more (map decimal done) (decimal n) following)
+          ∙ ap (λ word. then_words (map decimal done) (Some (with_rest word following))) is
           ∙ ap (λ bytes. then_words (map decimal done) (Some bytes)) (sym first.splits)
           ∙ read
 

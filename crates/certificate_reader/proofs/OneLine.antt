@@ -53,7 +53,7 @@ same_numbers (m ∷ a) (n ∷ b) a_are b_are same =
     let rest : a ≡ b = same_numbers a b a_more b_more (more_same (decimal m) (decimal n) (map decimal a) (map decimal b) same) in
     λ i. here i ∷ rest i
 
--- bytes are one number with one list of numbers behind it
+-- bytes are one number with one list of numbers after it
 one_numbered : (bytes : List ℕ) (count : ℕ) → count ≤ most_atoms → (m n : ℕ) (a b : List ℕ) → IsNumbered bytes count m a → IsNumbered bytes count n b → (m ≡ n) × (a ≡ b)
 one_numbered bytes count few m n a b h g =
     let both = one_first (decimal m) (decimal n) (then_words (map decimal a) None) (then_words (map decimal b) None) (number_is_word m h.is_number) (number_is_word n g.is_number) (sym h.splits ∙ g.splits) in
@@ -167,7 +167,7 @@ module _ (v : Version) (count : ℕ) (few : count ≤ most_atoms) where
   by_parts (listed r) (constant k) h g heads rests = absurd (is_no_mark (codes "constant") refl refl refl r.mark heads)
   by_parts (listed r) (atom b) h g heads rests = absurd (is_no_mark (codes "atom") refl refl refl r.mark heads)
   by_parts (listed r) (listed s) h g heads rests = one_state v count few (line_rest (listed s)) (line_head (listed s)) r.cost s.cost r.mark s.mark r.atoms s.atoms
-      (record { head = heads; behind = rests; within = h }) (record { head = refl; behind = refl; within = g })
+      (record { head = heads; following = rests; within = h }) (record { head = refl; following = refl; within = g })
   by_parts (listed r) (last n) h g heads rests = absurd (is_no_mark (codes "end") refl refl refl r.mark heads)
   by_parts (last m) (version w) h g heads rests = absurd (unlike (codes "end") (codes "pddl-cert") refl heads)
   by_parts (last m) (claims d) h g heads rests = absurd (unlike (codes "end") (codes "claim") refl heads)

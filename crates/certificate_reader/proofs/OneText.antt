@@ -8,7 +8,7 @@ use Rattle.std.specs.Str.Parse.{AllDigits}
 use Rattle.std.proofs.lemmas.Bool.{and_parts, eqb-true, leb-true, le-leb, lt-ltb, ltb-true, ne_eqb}
 use Rattle.std.proofs.lemmas.Fmt.{decimal_is_IsNumeral}
 use Rattle.std.proofs.lemmas.List.Folds.{list_all-append}
-use Rattle.std.proofs.lemmas.Str.Parse.{tells_digits}
+use Rattle.std.proofs.lemmas.Str.Parse.{reports_digits}
 use Rattle.model.specs.Words.{is_name, is_name_byte}
 use Rattle.model.specs.PlanWriting.{is_lower_name}
 use Rattle.model.specs.Claims.{Claim, bound, none, Mark, opened, cut, dead}
@@ -20,7 +20,7 @@ use Rattle.certificate_reader.proofs.NumbersRead.{few_are_numbers, rise_parts}
 use Rattle.certificate_reader.proofs.WordLemmas.{same_head, same_tail}
 use Rattle.certificate_reader.proofs.OneLine.{one_line}
 
--- ---- no LF stands in a line
+-- ---- no LF is in a line
 
 abbrev is_no_end : ℕ → Bool
 is_no_end byte = not (byte == 10)
@@ -34,7 +34,7 @@ both a b x y = list_all-append is_no_end a b ∙ (λ i. x i && y i)
 digits_in_one : (digits : List ℕ) → AllDigits 10 digits → is_one_line digits ≡ true
 digits_in_one [] all = refl
 digits_in_one (digit ∷ digits) all =
-    let (here, more) = tells_digits.parts digit digits all in
+    let (here, more) = reports_digits.parts digit digits all in
     ap (λ b. not b && is_one_line digits) (ne_eqb digit 10 (λ same. omega (arith, same, here.0))) ∙ digits_in_one digits more
 
 number_in_one : (n : ℕ) → IsTrue (is_number n) → is_one_line (decimal n) ≡ true
@@ -131,14 +131,14 @@ line_in_one v count few (last n) is = both (codes "end ") (decimal n) refl (numb
 ends_here : (byte : ℕ) (bytes : List ℕ) → is_one_line (byte ∷ bytes) ≡ true → byte ≡ 10 → ⊥
 ends_here byte bytes is same = absurd (cc (sym (and_parts (is_no_end byte) (is_one_line bytes) is).0 ∙ ap is_no_end same))
 
-pub one_whole : (a b rest behind : List ℕ) → is_one_line a ≡ true → is_one_line b ≡ true → a ++ 10 ∷ rest ≡ b ++ 10 ∷ behind → (a ≡ b) × (rest ≡ behind)
-one_whole [] [] rest behind x y same = (refl, same_tail 10 10 rest behind same)
-one_whole [] (d ∷ b) rest behind x y same = absurd (ends_here d b y (sym (same_head 10 d rest (b ++ 10 ∷ behind) same)))
-one_whole (c ∷ a) [] rest behind x y same = absurd (ends_here c a x (same_head c 10 (a ++ 10 ∷ rest) behind same))
-one_whole (c ∷ a) (d ∷ b) rest behind x y same =
-    let (lines, rests) = one_whole a b rest behind (and_parts (is_no_end c) (is_one_line a) x).1 (and_parts (is_no_end d) (is_one_line b) y).1
-    (same_tail c d (a ++ 10 ∷ rest) (b ++ 10 ∷ behind) same) in
-    ((λ i. same_head c d (a ++ 10 ∷ rest) (b ++ 10 ∷ behind) same i ∷ lines i), rests)
+pub one_whole : (a b rest following : List ℕ) → is_one_line a ≡ true → is_one_line b ≡ true → a ++ 10 ∷ rest ≡ b ++ 10 ∷ following → (a ≡ b) × (rest ≡ following)
+one_whole [] [] rest following x y same = (refl, same_tail 10 10 rest following same)
+one_whole [] (d ∷ b) rest following x y same = absurd (ends_here d b y (sym (same_head 10 d rest (b ++ 10 ∷ following) same)))
+one_whole (c ∷ a) [] rest following x y same = absurd (ends_here c a x (same_head c 10 (a ++ 10 ∷ rest) following same))
+one_whole (c ∷ a) (d ∷ b) rest following x y same =
+    let (lines, rests) = one_whole a b rest following (and_parts (is_no_end c) (is_one_line a) x).1 (and_parts (is_no_end d) (is_one_line b) y).1
+    (same_tail c d (a ++ 10 ∷ rest) (b ++ 10 ∷ following) same) in
+    ((λ i. same_head c d (a ++ 10 ∷ rest) (b ++ 10 ∷ following) same i ∷ lines i), rests)
 
 not_nothing : (a rest : List ℕ) → [] ≡ a ++ 10 ∷ rest → ⊥
 not_nothing [] rest same = absurd (cc same)
@@ -245,16 +245,16 @@ lines_of_one c d same =
 
 -- ---- the version, by the first line
 
-abbrev behind_version : NamedCertificate → List TextLine
-behind_version c = claims c.claim ∷ constant c.constants ∷ body_of c
+abbrev after_version : NamedCertificate → List TextLine
+after_version c = claims c.claim ∷ constant c.constants ∷ body_of c
 
 same_version : (text : List ℕ) (c d : NamedCertificate) → IsCertificateText text c → IsCertificateText text d → c.version ≡ d.version
 same_version text c d h g =
     let first : version c.version ≡ version d.version =
     one_line one 0 (omega arith) (version c.version) (version d.version) refl refl
-    (one_whole (line_text (version c.version)) (line_text (version d.version)) (text_of (behind_version c)) (text_of (behind_version d))
+    (one_whole (line_text (version c.version)) (line_text (version d.version)) (text_of (after_version c)) (text_of (after_version d))
     (version_in_one c.version) (version_in_one d.version)
-    (sym (line_first (version c.version) (behind_version c)) ∙ sym h.lines ∙ g.lines ∙ line_first (version d.version) (behind_version d))).0 in
+    (sym (line_first (version c.version) (after_version c)) ∙ sym h.lines ∙ g.lines ∙ line_first (version d.version) (after_version d))).0 in
     by_line c.version d.version first
   where
     by_line : (u v : Version) → version u ≡ version v → u ≡ v

@@ -1,4 +1,4 @@
--- A line is read by its first word and what stands behind it.
+-- A line is read by its first word and what comes after it.
 use Rattle.std.proofs.Common.{◌≡◌, ℕ, true, false, List, codes, Option, None, Some, refl, sym, ap, ◌∙◌, subst}
 use Rattle.std.specs.Prelude.{◌≢◌, Result, Ok, Err, IsTrue}
 use Rattle.std.specs.Borrow.{Bor}
@@ -14,7 +14,7 @@ use Rattle.certificate_definitions.specs.CertificateText.{Weights, WeightedAtom,
 use Rattle.certificate_reader.specs.declared.fault.NextFault.{NextFault}
 use Rattle.certificate_reader.specs.declared.fault.NextFault.TheVariants.{Text, NoMemory}
 use Rattle.certificate_reader.specs.declared.fault.TextFault.TheVariants as fault
-use Rattle.certificate_reader.specs.Parsing.{IsParsed, IsParsedBehind}
+use Rattle.certificate_reader.specs.Parsing.{IsParsed, IsParsedAfter}
 use Rattle.certificate_reader.specs.Words.{IsFirstWord, IsReadAs, line_head, line_rest, text_in, with_rest, with_weights}
 use Rattle.certificate_reader.proofs.WordLemmas.{one_first}
 use Rattle.certificate_reader.proofs.LineLemmas.{head_is_word, line_splits}
@@ -25,7 +25,7 @@ use Rattle.certificate_reader.proofs.WeightsRead.{one_weights}
 
 pub is_version : (rest : List ℕ) (number : ℕ) (w : Version) → number ≡ version_number w → decimal number ≡ rest
     → (v : Version) (count : ℕ) → IsReadAs (codes "pddl-cert") rest v count (version w)
-is_version rest number w is same v count = record { head = refl; behind = ap decimal (sym is) ∙ same; within = refl }
+is_version rest number w is same v count = record { head = refl; following = ap decimal (sym is) ∙ same; within = refl }
 
 version_is_number : (v : Version) → IsTrue (is_number (version_number v))
 version_is_number one = refl
@@ -33,7 +33,7 @@ version_is_number two = refl
 
 pub no_version : (rest : List ℕ) → ((n : ℕ) → IsTrue (is_number n) → decimal n ≡ rest → ⊥)
     → (v : Version) (count : ℕ) (line : TextLine) → IsReadAs (codes "pddl-cert") rest v count line → ⊥
-no_version rest never v count (version w) read = never (version_number w) (version_is_number w) read.behind
+no_version rest never v count (version w) read = never (version_number w) (version_is_number w) read.following
 no_version rest never v count (claims claim) read = unlike (codes "claim") (codes "pddl-cert") refl read.head
 no_version rest never v count (constant k) read = unlike (codes "constant") (codes "pddl-cert") refl read.head
 no_version rest never v count (atom a) read = unlike (codes "atom") (codes "pddl-cert") refl read.head
@@ -47,66 +47,66 @@ is_two Two other = refl
 
 -- ---- no line
 
--- what stands behind a word is no line, and the word is not that of the first line
+-- what comes after a word is no line, and the word is not that of the first line
 pub malformed : (word rest : List ℕ) (v : Version) (count : ℕ) → bytes_eq word (codes "pddl-cert") ≡ false
-    → ((line : TextLine) → IsReadAs word rest v count line → ⊥) → IsParsedBehind word rest v count (Err (Text fault.Form))
-malformed word rest v count other never = (never, λ same n is told. unlike word (codes "pddl-cert") other same)
+    → ((line : TextLine) → IsReadAs word rest v count line → ⊥) → IsParsedAfter word rest v count (Err (Text fault.Form))
+malformed word rest v count other never = (never, λ same n is reported. unlike word (codes "pddl-cert") other same)
 
 -- ---- the line of the constants
 
 pub malformed_constant : (rest : List ℕ) (v : Version) → ((k : Weights) → IsTrue (are_weights v k) → with_weights k None ≡ rest → ⊥) → (count : ℕ)
-    → IsParsedBehind (codes "constant") rest v count (Err (Text fault.Form))
+    → IsParsedAfter (codes "constant") rest v count (Err (Text fault.Form))
 malformed_constant rest v never count = malformed (codes "constant") rest v count refl no_line
   where
     no_line : (line : TextLine) → IsReadAs (codes "constant") rest v count line → ⊥
     no_line (version w) read = unlike (codes "pddl-cert") (codes "constant") refl read.head
     no_line (claims claim) read = unlike (codes "claim") (codes "constant") refl read.head
-    no_line (constant k) read = never k read.within read.behind
+    no_line (constant k) read = never k read.within read.following
     no_line (atom a) read = unlike (codes "atom") (codes "constant") refl read.head
     no_line (listed l) read = is_no_mark (codes "constant") refl refl refl l.mark read.head
     no_line (last n) read = unlike (codes "end") (codes "constant") refl read.head
 
--- something stands behind the constants
-pub constant_goes_on : (rest : List ℕ) (v : Version) (w : Weights) (behind : Option (Bor (List ℕ))) (more : Bor (List ℕ)) → IsTrue (are_weights v w)
-    → with_weights w (text_in behind) ≡ rest → behind ≡ Some more → (k : Weights) → IsTrue (are_weights v k) → with_weights k None ≡ rest → ⊥
-constant_goes_on rest v w behind more is same at k k_is k_same =
-    let both = one_weights v k w None (text_in behind) k_is is (k_same ∙ sym same) in
+-- something comes after the constants
+pub constant_goes_on : (rest : List ℕ) (v : Version) (w : Weights) (following : Option (Bor (List ℕ))) (more : Bor (List ℕ)) → IsTrue (are_weights v w)
+    → with_weights w (text_in following) ≡ rest → following ≡ Some more → (k : Weights) → IsTrue (are_weights v k) → with_weights k None ≡ rest → ⊥
+constant_goes_on rest v w following more is same at k k_is k_same =
+    let both = one_weights v k w None (text_in following) k_is is (k_same ∙ sym same) in
     absurd (cc (both.1 ∙ ap text_in at))
 
 -- ---- the line of an atom
 
 pub malformed_atom : (rest : List ℕ) (v : Version) → ((count : ℕ) (a : WeightedAtom) → IsReadAs (codes "atom") rest v count (atom a) → ⊥) → (count : ℕ)
-    → IsParsedBehind (codes "atom") rest v count (Err (Text fault.Form))
+    → IsParsedAfter (codes "atom") rest v count (Err (Text fault.Form))
 malformed_atom rest v never count = malformed (codes "atom") rest v count refl (no_atom rest v count (never count))
 
 -- ---- any line
 
--- what is told behind a word is told behind bytes that are it
+-- what is reported after a word is reported after bytes that are it
 pub parsed_as : (word own rest : List ℕ) (v : Version) (count : ℕ) (r : Result CertLine NextFault) → bytes_eq word own ≡ true
-    → IsParsedBehind own rest v count r → IsParsedBehind word rest v count r
-parsed_as word own rest v count r is told = subst (λ word. IsParsedBehind word rest v count r) (sym ((bytes_eq-Decides word own).0 is)) told
+    → IsParsedAfter own rest v count r → IsParsedAfter word rest v count r
+parsed_as word own rest v count r is reported = subst (λ word. IsParsedAfter word rest v count r) (sym ((bytes_eq-Decides word own).0 is)) reported
 
 some_same : (a b : List ℕ) → ◌≡◌ {A = Option (List ℕ)} (Some a) (Some b) → a ≡ b
 some_same a b same = cc
 
--- what is told of a word and the rest is told of the bytes that they are
-whole : (bytes word rest : List ℕ) (v : Version) (count : ℕ) → IsFirstWord bytes word (Some rest) → (r : Result CertLine NextFault) → IsParsedBehind word rest v count r → IsParsed bytes v count r
+-- what is reported for a word and the rest is reported for the bytes that they are
+whole : (bytes word rest : List ℕ) (v : Version) (count : ℕ) → IsFirstWord bytes word (Some rest) → (r : Result CertLine NextFault) → IsParsedAfter word rest v count r → IsParsed bytes v count r
 whole bytes word rest v count first (Ok line) read =
-    (line_splits (text_line_of line) ∙ (λ i. with_rest (read.head i) (Some (read.behind i))) ∙ sym first.splits, read.within)
+    (line_splits (text_line_of line) ∙ (λ i. with_rest (read.head i) (Some (read.following i))) ∙ sym first.splits, read.within)
 whole bytes word rest v count first (Err (Text fault.Version)) (head, (n, is, not_one, not_two, same)) =
     (n, is, not_one, not_two, (λ i. with_rest (sym head i) (Some (same i))) ∙ sym first.splits)
 whole bytes word rest v count first (Err (Text fault.Form)) (never, other) = (
   λ line within same.
       let both = one_first (line_head line) word (Some (line_rest line)) (Some rest) (head_is_word line) first.is_word (sym (line_splits line) ∙ same ∙ first.splits) in
-      never line (record { head = both.0; behind = some_same (line_rest line) rest both.1; within = within }),
+      never line (record { head = both.0; following = some_same (line_rest line) rest both.1; within = within }),
   λ n is same.
       let both = one_first (codes "pddl-cert") word (Some (decimal n)) (Some rest) refl first.is_word (same ∙ first.splits) in
       other (sym both.0) n is (some_same (decimal n) rest both.1),
 )
-whole bytes word rest v count first (Err NoMemory) told = tt
-whole bytes word rest v count first _ told = told
+whole bytes word rest v count first (Err NoMemory) reported = tt
+whole bytes word rest v count first _ reported = reported
 
-pub parsed_whole : (bytes word : List ℕ) (behind : Option (Bor (List ℕ))) (rest : Bor (List ℕ)) (v : Version) (count : ℕ) (r : Result CertLine NextFault)
-    → IsFirstWord bytes word (text_in behind) → behind ≡ Some rest → IsParsedBehind word rest.now v count r → IsParsed bytes v count r
-parsed_whole bytes word behind rest v count r first is told =
-    whole bytes word rest.now v count (subst (λ behind. IsFirstWord bytes word (text_in behind)) is first) r told
+pub parsed_whole : (bytes word : List ℕ) (following : Option (Bor (List ℕ))) (rest : Bor (List ℕ)) (v : Version) (count : ℕ) (r : Result CertLine NextFault)
+    → IsFirstWord bytes word (text_in following) → following ≡ Some rest → IsParsedAfter word rest.now v count r → IsParsed bytes v count r
+parsed_whole bytes word following rest v count r first is reported =
+    whole bytes word rest.now v count (subst (λ following. IsFirstWord bytes word (text_in following)) is first) r reported

@@ -1,4 +1,4 @@
--- A line that is read at a place, and what is told of one that cannot stand there.
+-- A line that is read at a place, and what is reported for one that cannot occur there.
 use Rattle.std.proofs.Common.{◌≡◌, ◌≢◌, ℕ, ◌+◌, ◌≤◌, List, ◌++◌, codes, Option, Some, refl, sym, ap, ◌∙◌, subst, arith}
 use Rattle.std.specs.Prelude.{◌&&◌, ◌==◌, Err, IsTrue, nat_le, nat_lt}
 use Rattle.std.specs.Fmt.{decimal}
@@ -83,36 +83,36 @@ no_other_version line n is not_one not_two same =
     let (v, rest) = version_rest line (sym both.0) in
     neither n is not_one not_two v (some_same (decimal n) (line_rest line) both.1 ∙ rest)
 
--- what is told of bytes that are no line there is told of the place
+-- what is reported for bytes that are no line there is reported for the place
 malformed_at : (place : Place) → IsWithin place → (bytes : List ℕ) (v : Version) (count : ℕ) → v ≡ version_at place → count ≡ atoms_at place → IsParsed bytes v count (Err (Text fault.Form))
     → IsReadAt place bytes (Err (Text fault.Form))
-malformed_at place within bytes v count v_is count_is told =
-    let (never, other) = subst (λ v. IsParsed bytes v (atoms_at place) (Err (Text fault.Form))) v_is (subst (λ n. IsParsed bytes v n (Err (Text fault.Form))) count_is told) in (
+malformed_at place within bytes v count v_is count_is reported =
+    let (never, other) = subst (λ v. IsParsed bytes v (atoms_at place) (Err (Text fault.Form))) v_is (subst (λ n. IsParsed bytes v n (Err (Text fault.Form))) count_is reported) in (
       λ line next leads. never line (leads_line place within line next leads),
       λ line is over. never line is,
       λ at n is not_one not_two. other n is,
     )
 
--- so is another fault of the bytes alone, but for another version, which is told of the first line only
-pub told_at : (place : Place) → IsWithin place → (bytes : List ℕ) (v : Version) (count : ℕ) → v ≡ version_at place → count ≡ atoms_at place
+-- so is another fault of the bytes alone, but for another version, which is reported for the first line only
+pub reported_at : (place : Place) → IsWithin place → (bytes : List ℕ) (v : Version) (count : ℕ) → v ≡ version_at place → count ≡ atoms_at place
     → (why : NextFault) → why ≢ Text fault.Version → IsParsed bytes v count (Err why) → IsReadAt place bytes (Err why)
-told_at place within bytes v count v_is count_is (Text fault.Version) other told = absurd (other refl)
-told_at place within bytes v count v_is count_is (Text fault.Form) other told = malformed_at place within bytes v count v_is count_is told
-told_at place within bytes v count v_is count_is NoMemory other told = tt
-told_at place within bytes v count v_is count_is _ other told = absurd told
+reported_at place within bytes v count v_is count_is (Text fault.Version) other reported = absurd (other refl)
+reported_at place within bytes v count v_is count_is (Text fault.Form) other reported = malformed_at place within bytes v count v_is count_is reported
+reported_at place within bytes v count v_is count_is NoMemory other reported = tt
+reported_at place within bytes v count v_is count_is _ other reported = absurd reported
 
 module _ (place : Place) (within : IsWithin place) (line : TextLine) (is : IsTrue (is_line (version_at place) (atoms_at place) line)) (bytes : List ℕ) (text : line_text line ≡ bytes) where
   only_line : (other : TextLine) → IsTrue (is_line (version_at place) (atoms_at place) other) → line_text other ≡ bytes → other ≡ line
   only_line other other_is same = one_line (version_at place) (atoms_at place) (few_atoms place within) other line other_is is (same ∙ sym text)
 
-  -- what comes of the line there is told of its bytes
-  pub told_after : (why : TextFault) → IsStep place line (Err why) → IsReadAt place bytes (Err (Text why))
-  told_after fault.Limit over = (line, is, over, text)
-  told_after fault.Form (nowhere, within_limits) = (
+  -- what comes of the line there is reported for its bytes
+  pub reported_after : (why : TextFault) → IsStep place line (Err why) → IsReadAt place bytes (Err (Text why))
+  reported_after fault.Limit over = (line, is, over, text)
+  reported_after fault.Form (nowhere, within_limits) = (
     λ other next leads same.
         let here = only_line other (leads_line place within other next leads) same in
         never next (sym nowhere ∙ ap (next_place place) (sym here) ∙ leads),
     λ other other_is over same. within_limits (subst (IsOver place) (only_line other other_is same) over),
     λ at n n_is not_one not_two same. no_other_version line n n_is not_one not_two (same ∙ sym text),
   )
-  told_after _ told = absurd told
+  reported_after _ reported = absurd reported

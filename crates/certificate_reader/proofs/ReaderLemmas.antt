@@ -1,11 +1,11 @@
--- What a reader hands out and tells, where some lines were handed out before.
+-- What a reader gives out and reports, where some lines were given out before.
 use Rattle.std.proofs.Common.{◌≡◌, ◌≢◌, ℕ, ◌+◌, ◌<◌, true, List, [], ◌∷◌, ◌++◌, map, length, Option, None, Some, refl, ap, ◌∙◌, subst, length-append, arith}
 use Rattle.std.specs.Prelude.{◌&&◌, ◌==◌, nat_le, nat_lt, Err, Ok}
 use Rattle.std.proofs.lemmas.Bool.{and_parts, le-leb, leb-true, ltb-true}
 use Rattle.std.proofs.lemmas.List.{length-map}
 use Rattle.certificate_definitions.specs.CertificateText.{TextLine, version, claims, constant, atom, listed, last, is_line, most_atoms, most_states, AreWhole, IsFaultAfter, trailing}
 use Rattle.certificate_definitions.specs.CertificateMachine.{Place, at_version, at_claim, at_constant, in_body, ended, next_place}
-use Rattle.certificate_definitions.proofs.Machine.{StandsBefore, begins, never, only_where, place_same}
+use Rattle.certificate_definitions.proofs.Machine.{ComesBefore, begins, never, only_where, place_same}
 use Rattle.certificate_reader.specs.declared.line.CertLine.{CertLine}
 use Rattle.certificate_reader.specs.Lines.{text_line_of}
 use Rattle.certificate_reader.specs.declared.reader.CertReader.{CertReader}
@@ -17,7 +17,7 @@ use Rattle.certificate_reader.specs.declared.stage.Stage.{Stage}
 use Rattle.certificate_reader.specs.declared.stage.Stage.TheVariants as stage
 use Rattle.certificate_reader.specs.Stages.{IsWithin, place_of}
 use Rattle.certificate_reader.specs.Ready.{IsPrompt, come_at, is_ready}
-use Rattle.certificate_reader.specs.Reader.{HasRead, HaveBegun, IsAdvance, IsAnswer, IsToldOf, fault_at}
+use Rattle.certificate_reader.specs.Reader.{HasRead, HaveBegun, IsAdvance, IsAnswer, IsReportedOf, fault_at}
 
 -- one line more leads to a place within the limits
 pub leads_within : (place : Place) → IsWithin place → (line : TextLine) (next : Place) → next_place place line ≡ Some next → IsWithin next
@@ -63,7 +63,7 @@ leads_within ended within (last count) next leads = never next leads
 body_length : {X Y : Type 0} (f : X → TextLine) (g : Y → TextLine) (xs : List X) (ys : List Y) → length (map f xs ++ map g ys) ≡ length xs + length ys
 body_length f g xs ys = omega (arith, length-append (map f xs) (map g ys), length-map xs f, length-map ys g)
 
-pub few_lines : (lines : List TextLine) (place : Place) → StandsBefore place lines → length lines < 20000000
+pub few_lines : (lines : List TextLine) (place : Place) → ComesBefore place lines → length lines < 20000000
 few_lines lines at_version are = omega (arith, ap length are)
 few_lines lines (at_claim v) are = omega (arith, ap length are)
 few_lines lines (at_constant v) (claim, is, are) = omega (arith, ap length are)
@@ -81,14 +81,14 @@ few_lines lines ended (c, keeps, are) =
       leb-true (length c.lines) most_states states,
     )
 
--- ---- behind the last line
+-- ---- after the last line
 
 something : (bytes more : List ℕ) → bytes ≢ [] → bytes ++ more ≢ []
 something [] more some = λ same. some refl
 something (byte ∷ bytes) more some = λ same. absurd (cc same)
 
-pub trailing_told : (before : List TextLine) → AreWhole before → (old bytes new : List ℕ) → new ≡ old ++ bytes → new ≢ [] → (more : List ℕ) → IsFaultAfter before (old ++ bytes ++ more) 40
-trailing_told before whole old bytes new grown some more =
+pub trailing_reported : (before : List TextLine) → AreWhole before → (old bytes new : List ℕ) → new ≡ old ++ bytes → new ≢ [] → (more : List ℕ) → IsFaultAfter before (old ++ bytes ++ more) 40
+trailing_reported before whole old bytes new grown some more =
     trailing whole (something (old ++ bytes) more (λ empty. some (grown ∙ empty)))
 
 -- ---- what has come
@@ -105,24 +105,24 @@ prompt_unless_ended at goes_on waited came prompt = λ some.
     let (earlier, piece, splits, short, nothing) = prompt some in
     (earlier, piece, splits, short, come_unless_ended at (waited ++ earlier) goes_on ∙ nothing)
 
--- ---- what is told of a line
+-- ---- what is reported for a line
 
 module _ {R : Type 0} (remaining : R → Option (List ℕ)) (old between : CertReader R) (before : List TextLine) where
-  -- the reader, once it has told a fault
+  -- the reader, once it has reported a fault
   abbrev pub failed : CertReader R
   failed = record { alloc = between.alloc; source = between.source; waiting = between.waiting; position = between.position; failed = true }
 
-  told_still : (fault : TextFault) → IsToldOf remaining old between before fault → IsToldOf remaining old failed before fault
-  told_still Truncated told = told
-  told_still _ told = told
+  reported_still : (fault : TextFault) → IsReportedOf remaining old between before fault → IsReportedOf remaining old failed before fault
+  reported_still Truncated reported = reported
+  reported_still _ reported = reported
 
-  pub told_answer : (fault : NextFault) (line : ℕ) → line ≡ length before + 1 → IsAdvance remaining old between before (Err fault)
+  pub reported_answer : (fault : NextFault) (line : ℕ) → line ≡ length before + 1 → IsAdvance remaining old between before (Err fault)
       → IsAnswer remaining old failed before (Err (fault_at fault line))
-  told_answer (next.Text fault) line is told = (is, told_still fault told)
-  told_answer next.Device line is told = record { bytes = told.bytes; consumed = told.consumed; waits = told.waits; nothing = told.nothing }
-  told_answer next.NoMemory line is told = tt
+  reported_answer (next.Text fault) line is reported = (is, reported_still fault reported)
+  reported_answer next.Device line is reported = record { bytes = reported.bytes; consumed = reported.consumed; waits = reported.waits; nothing = reported.nothing }
+  reported_answer next.NoMemory line is reported = tt
 
--- ---- what the lines that were handed out begin
+-- ---- what the lines that were given out begin
 
 module _ {R : Type 0} (remaining : R → Option (List ℕ)) (old new : CertReader R) (before : List TextLine) (read : HasRead old before) where
   pub begun : (line : Option CertLine) → IsAdvance remaining old new before (Ok line) → HaveBegun before (Ok line)

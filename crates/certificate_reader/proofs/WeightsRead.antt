@@ -51,9 +51,9 @@ value_is : (v : Version) (w : Weights) → IsTrue (are_weights v w) → IsTrue (
 value_is one w is = (and_parts (is_weight w.of_value) _ is).0
 value_is two w is = (and_parts (is_weight w.of_value) _ is).0
 
-module _ (bytes word : List ℕ) (behind : Option (List ℕ)) (first : IsFirstWord bytes word behind) where
-  first_is : (n : ℤ) → IsTrue (is_weight n) → (rest : Option (List ℕ)) → with_rest (signed_decimal n) rest ≡ bytes → (signed_decimal n ≡ word) × (rest ≡ behind)
-  first_is n is rest same = one_first (signed_decimal n) word rest behind (weight_is_word n is) first.is_word (same ∙ first.splits)
+module _ (bytes word : List ℕ) (following : Option (List ℕ)) (first : IsFirstWord bytes word following) where
+  first_is : (n : ℤ) → IsTrue (is_weight n) → (rest : Option (List ℕ)) → with_rest (signed_decimal n) rest ≡ bytes → (signed_decimal n ≡ word) × (rest ≡ following)
+  first_is n is rest same = one_first (signed_decimal n) word rest following (weight_is_word n is) first.is_word (same ∙ first.splits)
 
   pub no_first_weight : ((n : ℤ) → IsTrue (is_weight n) → signed_decimal n ≡ word → ⊥)
       → (v : Version) (w : Weights) (rest : Option (List ℕ)) → IsTrue (are_weights v w) → with_weights w rest ≡ bytes → ⊥
@@ -61,7 +61,7 @@ module _ (bytes word : List ℕ) (behind : Option (List ℕ)) (first : IsFirstWo
       let value = value_is v w is in
       never w.of_value value (first_is w.of_value value (option_map_or (λ (n : ℤ). Some (with_rest (signed_decimal n) rest)) w.of_dead_end rest) same).0
 
-  pub no_second_weight : ((n : ℤ) (rest : Option (List ℕ)) → IsTrue (is_weight n) → Some (with_rest (signed_decimal n) rest) ≡ behind → ⊥)
+  pub no_second_weight : ((n : ℤ) (rest : Option (List ℕ)) → IsTrue (is_weight n) → Some (with_rest (signed_decimal n) rest) ≡ following → ⊥)
       → (w : Weights) (rest : Option (List ℕ)) → IsTrue (are_weights two w) → with_weights w rest ≡ bytes → ⊥
   no_second_weight never w rest = by_second w.of_value w.of_dead_end
     where
@@ -71,14 +71,14 @@ module _ (bytes word : List ℕ) (behind : Option (List ℕ)) (first : IsFirstWo
           let (a_is, n_is) = and_parts (is_weight a) (is_weight n) is in
           never n rest n_is (first_is a a_is (Some (with_rest (signed_decimal n) rest)) same).1
 
--- the second weight, where what stands behind the first is none
-pub no_word_behind : (behind : Option (Bor (List ℕ))) (bytes : Bor (List ℕ)) (word : List ℕ) (rest : Option (List ℕ)) → behind ≡ Some bytes → IsFirstWord bytes.now word rest
+-- the second weight, where what comes after the first is none
+pub no_word_after : (following : Option (Bor (List ℕ))) (bytes : Bor (List ℕ)) (word : List ℕ) (rest : Option (List ℕ)) → following ≡ Some bytes → IsFirstWord bytes.now word rest
     → ((n : ℤ) → IsTrue (is_weight n) → signed_decimal n ≡ word → ⊥)
-    → (n : ℤ) (more : Option (List ℕ)) → IsTrue (is_weight n) → ◌≡◌ {A = Option (List ℕ)} (Some (with_rest (signed_decimal n) more)) (text_in behind) → ⊥
-no_word_behind behind bytes word rest at first never n more is same =
+    → (n : ℤ) (more : Option (List ℕ)) → IsTrue (is_weight n) → ◌≡◌ {A = Option (List ℕ)} (Some (with_rest (signed_decimal n) more)) (text_in following) → ⊥
+no_word_after following bytes word rest at first never n more is same =
     never n is (first_is bytes.now word rest first n is more (some_same (with_rest (signed_decimal n) more) bytes.now (same ∙ ap text_in at))).0
 
--- where there is none behind the first weight, no weights are read, whatever is answered then
-pub none_behind : {X P Q : Type 0} (read : Option X) → (P → Q) → IfNone read P → IfNone read Q
-none_behind None then none = then none
-none_behind (Some x) then none = tt
+-- where there is none after the first weight, no weights are read, whatever is answered then
+pub none_after : {X P Q : Type 0} (read : Option X) → (P → Q) → IfNone read P → IfNone read Q
+none_after None then none = then none
+none_after (Some x) then none = tt

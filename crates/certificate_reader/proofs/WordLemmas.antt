@@ -6,7 +6,7 @@ use Rattle.std.proofs.lemmas.List.{take_all, length-drop}
 use Rattle.std.proofs.lemmas.Bool.{and_parts, eqb-true, ltb-true, ltb-false}
 use Rattle.certificate_reader.specs.Words.{IsFirstWord, is_blank, is_word, with_rest}
 
--- Up to the first blank stands a word, and behind it the rest.
+-- Up to the first blank is a word, and after it the rest.
 record IsCut (bytes : List ℕ) (end : ℕ) : Type 0 where
   is_word : IsTrue (is_word (take end bytes))
   splits : end < length bytes → bytes ≡ take end bytes ++ 32 ∷ drop (suc end) bytes
@@ -15,8 +15,8 @@ record IsCut (bytes : List ℕ) (end : ℕ) : Type 0 where
 one_after : (n : ℕ) → 1 + n ≡ suc n
 one_after n = omega arith
 
-one_behind : (n : ℕ) → n + 1 ≡ suc n
-one_behind n = omega arith
+one_past : (n : ℕ) → n + 1 ≡ suc n
+one_past n = omega arith
 
 cut_at_first : (bytes : List ℕ) → IsCut bytes (position_or_len is_blank bytes)
 cut_at_first [] = record { is_word = refl; splits = λ within. absurd (omega (arith, within)); whole = λ past. refl }
@@ -54,7 +54,7 @@ word_then_rest bytes end at = by_test (nat_lt place (length bytes)) refl at
         let cut : IsCut bytes end = subst (IsCut bytes) same (cut_at_first bytes) in
         let before : end < length bytes = subst (λ n. n < length bytes) same (ltb-true place (length bytes) within) in
         let rest_is : take (length bytes - (end + 1)) (drop (end + 1) bytes) ≡ drop (suc end) bytes =
-        take_of_drop bytes (end + 1) ∙ ap (λ n. drop n bytes) (one_behind end) in
+        take_of_drop bytes (end + 1) ∙ ap (λ n. drop n bytes) (one_past end) in
         record {
           is_word = cut.is_word;
           splits = cut.splits before ∙ sym (append_assoc (take end bytes) (32 ∷ []) (drop (suc end) bytes))
@@ -91,23 +91,23 @@ no_blank byte word is same = absurd (cc (sym (and_parts (not (is_blank byte)) (i
 rest_is_word : (byte : ℕ) (word : List ℕ) → IsTrue (is_word (byte ∷ word)) → IsTrue (is_word word)
 rest_is_word byte word is = (and_parts (not (is_blank byte)) (is_word word) is).1
 
-pub one_first : (word other : List ℕ) (rest behind : Option (List ℕ)) → IsTrue (is_word word) → IsTrue (is_word other)
-    → with_rest word rest ≡ with_rest other behind → (word ≡ other) × (rest ≡ behind)
+pub one_first : (word other : List ℕ) (rest following : Option (List ℕ)) → IsTrue (is_word word) → IsTrue (is_word other)
+    → with_rest word rest ≡ with_rest other following → (word ≡ other) × (rest ≡ following)
 one_first [] [] None None is so same = (refl, refl)
-one_first [] [] None (Some behind) is so same = absurd (cc same)
+one_first [] [] None (Some following) is so same = absurd (cc same)
 one_first [] [] (Some rest) None is so same = absurd (cc same)
-one_first [] [] (Some rest) (Some behind) is so same = (refl, ap (λ r. Some r) (same_tail 32 32 rest behind same))
-one_first [] (b ∷ other) None behind is so same = absurd (cc (same ∙ with_rest-cons b other behind))
-one_first [] (b ∷ other) (Some rest) behind is so same =
-    absurd (no_blank b other so (sym (same_head 32 b rest (with_rest other behind) (same ∙ with_rest-cons b other behind))))
+one_first [] [] (Some rest) (Some following) is so same = (refl, ap (λ r. Some r) (same_tail 32 32 rest following same))
+one_first [] (b ∷ other) None following is so same = absurd (cc (same ∙ with_rest-cons b other following))
+one_first [] (b ∷ other) (Some rest) following is so same =
+    absurd (no_blank b other so (sym (same_head 32 b rest (with_rest other following) (same ∙ with_rest-cons b other following))))
 one_first (a ∷ word) [] rest None is so same = absurd (cc (sym (with_rest-cons a word rest) ∙ same))
-one_first (a ∷ word) [] rest (Some behind) is so same =
-    absurd (no_blank a word is (same_head a 32 (with_rest word rest) behind (sym (with_rest-cons a word rest) ∙ same)))
-one_first (a ∷ word) (b ∷ other) rest behind is so same =
-    let both : a ∷ with_rest word rest ≡ b ∷ with_rest other behind = sym (with_rest-cons a word rest) ∙ same ∙ with_rest-cons b other behind in
-    let (words, rests) = one_first word other rest behind (rest_is_word a word is) (rest_is_word b other so)
-    (same_tail a b (with_rest word rest) (with_rest other behind) both) in
-    (cons_same a b word other (same_head a b (with_rest word rest) (with_rest other behind) both) words, rests)
+one_first (a ∷ word) [] rest (Some following) is so same =
+    absurd (no_blank a word is (same_head a 32 (with_rest word rest) following (sym (with_rest-cons a word rest) ∙ same)))
+one_first (a ∷ word) (b ∷ other) rest following is so same =
+    let both : a ∷ with_rest word rest ≡ b ∷ with_rest other following = sym (with_rest-cons a word rest) ∙ same ∙ with_rest-cons b other following in
+    let (words, rests) = one_first word other rest following (rest_is_word a word is) (rest_is_word b other so)
+    (same_tail a b (with_rest word rest) (with_rest other following) both) in
+    (cons_same a b word other (same_head a b (with_rest word rest) (with_rest other following) both) words, rests)
   where
     cons_same : (a b : ℕ) (xs ys : List ℕ) → a ≡ b → xs ≡ ys → a ∷ xs ≡ b ∷ ys
     cons_same a b xs ys first more = λ i. first i ∷ more i

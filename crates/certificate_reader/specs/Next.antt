@@ -1,4 +1,4 @@
--- What is told of the next line of a text, at a place in it.
+-- What is reported for the next line of a text, at a place in it.
 use Rattle.std.specs.Prelude.{◌≡◌, ◌≢◌, ℕ, ◌≤◌, Bool, true, false, List, [], ◌++◌, Option, Some, Result, Ok, Err}
 use Rattle.std.specs.List.{position}
 use Rattle.std.specs.Io.KnownBytes.{Consumes, IsAtEnd, Keeps}
@@ -34,7 +34,7 @@ abbrev pub CountsFault : {T : Type 0} → (before after : ℕ) → Result T Next
 CountsFault before after (Err Device) = after ≡ one_more before
 CountsFault before after _ = after ≡ before
 
--- The bytes are at fault at this place, whatever comes behind them.
+-- The bytes are at fault at this place, whatever comes after them.
 abbrev pub IsFaultAt : Place → List ℕ → TextFault → Type 0
 IsFaultAt place bytes fault =
     (before : List TextLine) → place_after before ≡ Some place → (more : List ℕ) → IsFaultAfter before (bytes ++ more) (number_of fault)
@@ -43,7 +43,7 @@ IsFaultAt place bytes fault =
 abbrev pub HasEnd : List ℕ → ℕ → Type 0
 HasEnd bytes end = (position is_end bytes ≡ Some end) × (end ≤ longest_line)
 
--- The line that waits is handed out, or it is at fault.
+-- The line that waits is given out, or it is at fault.
 abbrev pub IsTaken : Place → (old new : List ℕ) → Result (CertLine × Stage) NextFault → Type 0
 IsTaken place old new (Ok (line, next)) = (old ≡ whole_line (text_line_of line) ++ new) × (next_place place (text_line_of line) ≡ Some (place_of next))
 IsTaken place old new (Err (Text Truncated)) = ⊥
@@ -51,7 +51,7 @@ IsTaken place old new (Err (Text fault)) = IsFaultAt place old fault
 IsTaken place old new (Err Device) = ⊥
 IsTaken place old new (Err NoMemory) = Unit {0}
 
--- Of the bytes that waited and those that came, no more than had to, the next line is handed out; or they are at fault, or
+-- Of the bytes that waited and those that came, no more than had to, the next line is given out; or they are at fault, or
 -- end too early.
 abbrev pub IsNext : Place → (old new : List ℕ) → (before after : Option (List ℕ)) → Result (CertLine × Stage) NextFault → Type 0
 IsNext place old new before after (Ok (line, next)) =

@@ -1,4 +1,4 @@
--- What is told of bytes that are to be a line.
+-- What is reported for bytes that are to be a line.
 use Rattle.std.specs.Prelude.{◌≡◌, ◌≢◌, ℕ, List, ◌++◌, codes, Result, Ok, Err, IsTrue}
 use Rattle.std.specs.Fmt.{decimal}
 use Rattle.certificate_definitions.specs.Certificates.{Version, is_number}
@@ -22,13 +22,13 @@ IsParsed bytes v atom_count (Err (Text fault.Form)) =
 IsParsed bytes v atom_count (Err NoMemory) = Unit {0}
 IsParsed bytes v atom_count _ = ⊥
 
--- the same of bytes that are this word and, behind a blank, these
-abbrev pub IsParsedBehind : (word rest : List ℕ) → Version → ℕ → Result CertLine NextFault → Type 0
-IsParsedBehind word rest v atom_count (Ok line) = IsReadAs word rest v atom_count (text_line_of line)
-IsParsedBehind word rest v atom_count (Err (Text fault.Version)) =
+-- the same of bytes that are this word and, after a blank, these
+abbrev pub IsParsedAfter : (word rest : List ℕ) → Version → ℕ → Result CertLine NextFault → Type 0
+IsParsedAfter word rest v atom_count (Ok line) = IsReadAs word rest v atom_count (text_line_of line)
+IsParsedAfter word rest v atom_count (Err (Text fault.Version)) =
     (word ≡ codes "pddl-cert") × ((number : ℕ) × IsTrue (is_number number) × (number ≢ 1) × (number ≢ 2) × (decimal number ≡ rest))
-IsParsedBehind word rest v atom_count (Err (Text fault.Form)) =
+IsParsedAfter word rest v atom_count (Err (Text fault.Form)) =
     ((line : TextLine) → IsReadAs word rest v atom_count line → ⊥)
     × (word ≡ codes "pddl-cert" → (number : ℕ) → IsTrue (is_number number) → decimal number ≢ rest)
-IsParsedBehind word rest v atom_count (Err NoMemory) = Unit {0}
-IsParsedBehind word rest v atom_count _ = ⊥
+IsParsedAfter word rest v atom_count (Err NoMemory) = Unit {0}
+IsParsedAfter word rest v atom_count _ = ⊥

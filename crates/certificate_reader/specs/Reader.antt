@@ -1,4 +1,4 @@
--- What a reader of a certificate's text has handed out, and what it tells.
+-- What a reader of a certificate's text has given out, and what it reports.
 use Rattle.std.specs.Prelude.{◌≡◌, ℕ, ◌+◌, Bool, false, List, [], ◌∷◌, ◌++◌, length, Option, Some, None, Result, Ok, Err}
 use Rattle.std.specs.Io.KnownBytes.{Consumes, IsAtEnd}
 use Rattle.devices.specs.Devices.{one_more}
@@ -18,11 +18,11 @@ use Rattle.certificate_reader.specs.Ready.{IsPrompt, come_at}
 use Rattle.certificate_reader.specs.Stages.{place_of}
 use Rattle.certificate_reader.specs.Waiting.{waiting_of}
 
--- the source that it reads, the bytes that came and were not handed out, and whether a fault was told
+-- the source that it reads, the bytes that came and were not given out, and whether a fault was reported
 abbrev pub source_of : {R : Type 0} → CertReader R → R
 source_of reader = reader.source
 
--- how many lines were handed out
+-- how many lines were given out
 abbrev pub lines_read : {R : Type 0} → CertReader R → ℕ
 lines_read reader = reader.position.lines
 
@@ -32,11 +32,11 @@ waits_in reader = waiting_of reader.waiting
 abbrev pub has_failed : {R : Type 0} → CertReader R → Bool
 has_failed reader = reader.failed
 
--- what is to be told next waits
+-- what is to be reported next waits
 abbrev pub has_come : {R : Type 0} → CertReader R → Bool
 has_come reader = come_at (place_of reader.position.stage) (waits_in reader)
 
--- These lines were handed out.
+-- These lines were given out.
 pub record HasRead {R : Type 0} (reader : CertReader R) (lines : List TextLine) : Type 0 where
   pub place : place_after lines ≡ Some (place_of reader.position.stage)
   pub count : reader.position.lines ≡ length lines
@@ -51,19 +51,19 @@ abbrev pub CountsCert : {T : Type 0} → (before after : ℕ) → Result T CertF
 CountsCert before after (Err cert.Device) = after ≡ one_more before
 CountsCert before after _ = after ≡ before
 
--- The source was read only while what is to be told next had not come.
+-- The source was read only while what is to be reported next had not come.
 abbrev pub WasPrompt : {R : Type 0} → CertReader R → (came : List ℕ) → Type 0
 WasPrompt old came = IsPrompt (come_at (place_of old.position.stage)) (waits_in old) came
 
 -- The bytes that waited and that came are this line, with its LF, and those that wait now.
-pub record IsHandedOut {R : Type 0} (remaining : R → Option (List ℕ)) (old new : CertReader R) (before : List TextLine) (line : TextLine) : Type 0 where
+pub record IsYielded {R : Type 0} (remaining : R → Option (List ℕ)) (old new : CertReader R) (before : List TextLine) (line : TextLine) : Type 0 where
   pub bytes : List ℕ
   pub consumed : Consumes (remaining (source_of old)) (remaining (source_of new)) bytes
   pub splits : waits_in old ++ bytes ≡ whole_line line ++ waits_in new
   pub read : HasRead new (before ++ line ∷ [])
   pub prompt : WasPrompt old bytes
 
--- The lines that were handed out are all of a certificate, and nothing stands behind them.
+-- The lines that were given out are all of a certificate, and nothing comes after them.
 pub record IsOver {R : Type 0} (remaining : R → Option (List ℕ)) (old new : CertReader R) (before : List TextLine) : Type 0 where
   pub whole : AreWhole before
   pub nothing : waits_in old ≡ []
@@ -72,7 +72,7 @@ pub record IsOver {R : Type 0} (remaining : R → Option (List ℕ)) (old new : 
   pub still : waits_in new ≡ []
   pub read : HasRead new before
 
--- Nothing that was to be told had come when the device failed, and what came waits.
+-- Nothing that was to be reported had come when the device failed, and what came waits.
 pub record IsCutOff {R : Type 0} (remaining : R → Option (List ℕ)) (old new : CertReader R) : Type 0 where
   pub bytes : List ℕ
   pub consumed : Consumes (remaining (source_of old)) (remaining (source_of new)) bytes
@@ -80,31 +80,31 @@ pub record IsCutOff {R : Type 0} (remaining : R → Option (List ℕ)) (old new 
   pub nothing : has_come new ≡ false
 
 -- Of what waited and came this is the fault: of a text that ends too early where it has ended, and else whatever follows.
-abbrev pub IsToldOf : {R : Type 0} → (remaining : R → Option (List ℕ)) → (old new : CertReader R) → List TextLine → TextFault → Type 0
-IsToldOf remaining old new before Truncated =
+abbrev pub IsReportedOf : {R : Type 0} → (remaining : R → Option (List ℕ)) → (old new : CertReader R) → List TextLine → TextFault → Type 0
+IsReportedOf remaining old new before Truncated =
     (bytes : List ℕ) × Consumes (remaining (source_of old)) (remaining (source_of new)) bytes × IsAtEnd (remaining (source_of new))
     × IsFaultAfter before (waits_in old ++ bytes) 42
-IsToldOf remaining old new before fault =
+IsReportedOf remaining old new before fault =
     (bytes : List ℕ) × Consumes (remaining (source_of old)) (remaining (source_of new)) bytes
     × ((more : List ℕ) → IsFaultAfter before (waits_in old ++ bytes ++ more) (number_of fault)) × WasPrompt old bytes
 
--- what is handed out or told, where these lines were handed out before
+-- what is given out or reported, where these lines were given out before
 abbrev pub IsAdvance : {R : Type 0} → (remaining : R → Option (List ℕ)) → (old new : CertReader R) → List TextLine → Result (Option CertLine) NextFault → Type 0
-IsAdvance remaining old new before (Ok (Some line)) = IsHandedOut remaining old new before (text_line_of line)
+IsAdvance remaining old new before (Ok (Some line)) = IsYielded remaining old new before (text_line_of line)
 IsAdvance remaining old new before (Ok None) = IsOver remaining old new before
-IsAdvance remaining old new before (Err (next.Text fault)) = IsToldOf remaining old new before fault
+IsAdvance remaining old new before (Err (next.Text fault)) = IsReportedOf remaining old new before fault
 IsAdvance remaining old new before (Err next.Device) = IsCutOff remaining old new
 IsAdvance remaining old new before (Err next.NoMemory) = Unit {0}
 
 abbrev pub IsAnswer : {R : Type 0} → (remaining : R → Option (List ℕ)) → (old new : CertReader R) → List TextLine → Result (Option CertLine) CertFault → Type 0
-IsAnswer remaining old new before (Ok (Some line)) = IsHandedOut remaining old new before (text_line_of line)
+IsAnswer remaining old new before (Ok (Some line)) = IsYielded remaining old new before (text_line_of line)
 IsAnswer remaining old new before (Ok None) = IsOver remaining old new before
-IsAnswer remaining old new before (Err (cert.Line fault line)) = (line ≡ length before + 1) × IsToldOf remaining old new before fault
+IsAnswer remaining old new before (Err (cert.Line fault line)) = (line ≡ length before + 1) × IsReportedOf remaining old new before fault
 IsAnswer remaining old new before (Err cert.Device) = IsCutOff remaining old new
 IsAnswer remaining old new before (Err cert.NoMemory) = Unit {0}
 IsAnswer remaining old new before (Err cert.Failed) = ⊥
 
--- What was handed out begins a certificate, and so does what stands before a line that is at fault.
+-- What was given out begins a certificate, and so does what comes before a line that is at fault.
 abbrev pub HaveBegun : List TextLine → Result (Option CertLine) CertFault → Type 0
 HaveBegun before (Ok (Some line)) = BeginCertificate (before ++ text_line_of line ∷ [])
 HaveBegun before (Ok None) = BeginCertificate before

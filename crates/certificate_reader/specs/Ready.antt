@@ -12,7 +12,7 @@ use Rattle.certificate_reader.specs.Ends.{is_end}
 abbrev pub is_ready : List ℕ → Bool
 is_ready bytes = is_some (position is_end bytes) || nat_lt longest_line (length bytes)
 
--- what is to be told next is in these bytes: a line, or too long a one, and behind the last line any byte
+-- what is to be reported next is in these bytes: a line, or too long a one, and after the last line any byte
 abbrev pub come_at : Place → List ℕ → Bool
 come_at at_version bytes = is_ready bytes
 come_at (at_claim v) bytes = is_ready bytes
@@ -21,7 +21,7 @@ come_at (in_body v atoms states) bytes = is_ready bytes
 come_at ended [] = false
 come_at ended (byte ∷ bytes) = true
 
--- What is told of bytes, behind which this remains of the source.
+-- What is reported for bytes, after which this remains of the source.
 abbrev pub IsReady : List ℕ → Option (List ℕ) → Ready → Type 0
 IsReady bytes remaining (Line end) = (position is_end bytes ≡ Some end) × (end ≤ longest_line)
 IsReady bytes remaining TooLong = longest_line < position_or_len is_end bytes
@@ -39,7 +39,7 @@ IsLineIn bytes None = (position is_end bytes ≡ None) × (length bytes ≤ long
 abbrev pub IsPrompt : (has_come : List ℕ → Bool) → (waited came : List ℕ) → Type 0
 IsPrompt has_come waited came = came ≢ [] → (earlier piece : List ℕ) × (came ≡ earlier ++ piece) × (length piece ≤ 65536) × (has_come (waited ++ earlier) ≡ false)
 
--- bytes came from a source, no more than had to, and wait behind those that waited
+-- bytes came from a source, no more than had to, and wait after those that waited
 pub record IsGrown (before after : Option (List ℕ)) (old new : List ℕ) : Type 0 where
   pub bytes : List ℕ
   pub appended : new ≡ old ++ bytes

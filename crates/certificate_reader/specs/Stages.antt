@@ -1,4 +1,4 @@
--- Where the code's reader stands, and what comes of a line there.
+-- Where the code's reader is, and what comes of a line there.
 use Rattle.std.specs.Prelude.{◌≡◌, ◌≢◌, ℕ, Bool, true, ◌&&◌, nat_le, List, ◌++◌, codes, None, Some, Result, Ok, Err, IsTrue}
 use Rattle.std.specs.Fmt.{decimal}
 use Rattle.certificate_definitions.specs.Certificates.{Version, one, is_number}
@@ -20,7 +20,7 @@ place_of (stage.Constants version) = at_constant (version_of version)
 place_of (stage.Body version atoms states) = in_body (version_of version) atoms states
 place_of stage.Ended = ended
 
--- the version of the text; where none is told yet, or none matters any more, any will do
+-- the version of the text; where none is reported yet, or none matters any more, any will do
 abbrev pub version_at : Place → Version
 version_at at_version = one
 version_at (at_claim v) = v
@@ -28,7 +28,7 @@ version_at (at_constant v) = v
 version_at (in_body v atoms states) = v
 version_at ended = one
 
--- how many atoms stand before the place
+-- how many atoms come before the place
 abbrev pub atoms_at : Place → ℕ
 atoms_at at_version = 0
 atoms_at (at_claim v) = 0
@@ -36,7 +36,7 @@ atoms_at (at_constant v) = 0
 atoms_at (in_body v atoms states) = atoms
 atoms_at ended = 0
 
--- the place is behind no more atoms and states than there may be
+-- the place is after no more atoms and states than there may be
 abbrev pub is_within : Place → Bool
 is_within at_version = true
 is_within (at_claim v) = true
@@ -47,20 +47,20 @@ is_within ended = true
 abbrev pub IsWithin : Place → Type 0
 IsWithin place = IsTrue (is_within place)
 
--- the line could stand there but for a limit
+-- the line could occur there but for a limit
 abbrev pub IsOver : Place → TextLine → Type 0
 IsOver (in_body v atoms states) (atom a) = (states ≡ 0) × (atoms ≡ most_atoms)
 IsOver (in_body v atoms states) (listed l) = states ≡ most_states
 IsOver _ _ = ⊥
 
--- the line leads to this stage, is one too many, or cannot stand there
+-- the line leads to this stage, is one too many, or cannot occur there
 abbrev pub IsStep : Place → TextLine → Result Stage TextFault → Type 0
 IsStep place line (Ok next) = next_place place line ≡ Some (place_of next)
 IsStep place line (Err fault.Limit) = IsOver place line
 IsStep place line (Err fault.Form) = (next_place place line ≡ None) × (IsOver place line → ⊥)
 IsStep place line _ = ⊥
 
--- The bytes are the line that is answered, and lead to this stage; or what is told of them is so.
+-- The bytes are the line that is answered, and lead to this stage; or what is reported for them is so.
 abbrev pub IsReadAt : Place → List ℕ → Result (CertLine × Stage) NextFault → Type 0
 IsReadAt place bytes (Ok (line, next)) = (line_text (text_line_of line) ≡ bytes) × (next_place place (text_line_of line) ≡ Some (place_of next))
 IsReadAt place bytes (Err (Text fault.Version)) =

@@ -1,4 +1,4 @@
--- The words of a line, and a line by its first word and what stands behind it.
+-- The words of a line, and a line by its first word and what comes after it.
 use Rattle.std.specs.Prelude.{◌≡◌, ℕ, ℤ, ◌==◌, Bool, false, not, ◌||◌, List, [], ◌∷◌, ◌++◌, codes, length, map, Option, None, Some, IsTrue}
 use Rattle.std.specs.Borrow.{Bor}
 use Rattle.std.specs.Char.{is_ascii_uppercase}
@@ -21,12 +21,12 @@ is_blank byte = byte == 32
 abbrev pub is_word : List ℕ → Bool
 is_word = list_all (λ byte. not (is_blank byte))
 
--- a word, and what stands behind the blank after it, if there is one
+-- a word, and what comes after the blank after it, if there is one
 abbrev pub with_rest : List ℕ → Option (List ℕ) → List ℕ
 with_rest word None = word
 with_rest word (Some rest) = word ++ codes " " ++ rest
 
--- The bytes begin with this word, and behind a blank stands the rest, if any.
+-- The bytes begin with this word, and after a blank is the rest, if any.
 pub record IsFirstWord (bytes word : List ℕ) (rest : Option (List ℕ)) : Type 0 where
   pub is_word : IsTrue (is_word word)
   pub splits : bytes ≡ with_rest word rest
@@ -42,7 +42,7 @@ mark_head opened = codes "open"
 mark_head (cut rest) = codes "cut"
 mark_head dead = codes "dead"
 
--- and what stands behind it, up to the numbers of atoms
+-- and what comes after it, up to the numbers of atoms
 abbrev pub mark_rest : Mark → ℕ → List ℕ
 mark_rest opened cost = decimal cost
 mark_rest (cut rest) cost = decimal cost ++ after_blank (decimal rest)
@@ -57,16 +57,16 @@ line_head (atom a) = codes "atom"
 line_head (listed l) = mark_head l.mark
 line_head (last count) = codes "end"
 
--- what stands behind it
+-- what comes after it
 abbrev pub claim_rest : Claim → List ℕ
 claim_rest (bound least) = codes "bound " ++ decimal least
 claim_rest none = codes "none"
 
--- the words of weights, and what stands behind them, if anything does
+-- the words of weights, and what comes after them, if anything does
 abbrev pub with_weights : Weights → Option (List ℕ) → List ℕ
 with_weights w rest = with_rest (signed_decimal w.of_value) (option_map_or (λ (n : ℤ). Some (with_rest (signed_decimal n) rest)) w.of_dead_end rest)
 
--- what stands behind the weights of an atom
+-- what comes after the weights of an atom
 abbrev pub atom_rest : NamedAtom → List ℕ
 atom_rest a = codes "(" ++ a.predicate ++ flat_map after_blank a.objects ++ codes ")"
 
@@ -78,12 +78,12 @@ line_rest (atom a) = with_weights a.weights (Some (atom_rest a.atom))
 line_rest (listed l) = mark_rest l.mark l.cost ++ flat_map (λ (number : ℕ). after_blank (decimal number)) l.atoms
 line_rest (last count) = decimal count
 
--- these words, each behind a blank, and then the rest, if any: all but the first blank
+-- these words, each after a blank, and then the rest, if any: all but the first blank
 abbrev pub then_words : List (List ℕ) → Option (List ℕ) → Option (List ℕ)
 then_words [] rest = rest
 then_words (word ∷ words) rest = Some (with_rest word (then_words words rest))
 
--- The bytes are a number, and behind it numbers of atoms, rising.
+-- The bytes are a number, and after it numbers of atoms, rising.
 pub record IsNumbered (bytes : List ℕ) (atom_count number : ℕ) (atoms : List ℕ) : Type 0 where
   pub is_number : IsTrue (is_number number)
   pub rising : IsTrue (rise atom_count 0 atoms)
@@ -97,8 +97,8 @@ are_lower a = list_all is_lower_name (a.predicate ∷ a.objects)
 abbrev pub is_no_capital : ℕ → Bool
 is_no_capital byte = not (is_ascii_uppercase byte)
 
--- the line begins with this word, behind which these bytes stand, and keeps the limits
+-- the line begins with this word, after which these bytes are, and keeps the limits
 pub record IsReadAs (word rest : List ℕ) (v : Version) (atom_count : ℕ) (line : TextLine) : Type 0 where
   pub head : line_head line ≡ word
-  pub behind : line_rest line ≡ rest
+  pub following : line_rest line ≡ rest
   pub within : IsTrue (is_line v atom_count line)

@@ -5,7 +5,7 @@ use std::alloc::AllocError;
 /// What is at fault in a text.
 #[derive(Clone, Copy, Debug, PartialEq, Eq)]
 pub enum TextFault {
-    /// A line that cannot stand in its place, or is too long, or a byte behind the last line: 40.
+    /// A line that cannot occur in its place, or is too long, or a byte after the last line: 40.
     Form,
     /// The first line of another version: 41.
     Version,

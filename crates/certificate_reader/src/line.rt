@@ -25,7 +25,7 @@ pub enum Claim {
 }
 
 /// The version of a certificate's text. In version 2 a state may be listed as a dead end, and each atom has a second weight,
-/// by which dead ends are told.
+/// by which dead ends are reported.
 #[derive(Clone, Copy, Debug, PartialEq, Eq)]
 pub enum Version {
     /// `pddl-cert 1`.
@@ -39,7 +39,7 @@ pub enum Version {
 pub struct Weights {
     /// That by which a state has a value, a lower bound of what is still to pay from it on.
     pub of_value: i64,
-    /// That by which a state is told a dead end. Version 1 has none.
+    /// That by which a state is reported as a dead end. Version 1 has none.
     pub of_dead_end: Option<i64>,
 }
 

@@ -12,7 +12,7 @@ use tokens::is_name;
 /// The most bytes that a name may have.
 const LONGEST_NAME: usize = 255;
 
-/// The names that stand there, and `None` where there are none, or something else stands there.
+/// The names that are there, and `None` where there are none, or something else is there.
 pub(crate) fn names(alloc: Global, rest: Option<&[u8]>) -> Result<Option<Vec<Vec<u8>>>, AllocError>
     ensures some { IfOk result (λ found. IfSome found (λ names. IsTrue (list_all writing.is_lower_name (map name_of names.items))
         × (then_words (map name_of names.items) None ≡ text_in rest.entry))) }
@@ -22,12 +22,12 @@ pub(crate) fn names(alloc: Global, rest: Option<&[u8]>) -> Result<Option<Vec<Vec
     let mut names = Vec::new(alloc);
     let mut left = rest;
     'words: while let Some(bytes) = left {
-        let (word, behind) = first_word(bytes);
+        let (word, following) = first_word(bytes);
         if !is_lower_name(word) {
             return Ok(None);
         }
         names.push(copy(alloc, word)?)?;
-        left = behind;
+        left = following;
     }
     Ok(Some(names))
 }

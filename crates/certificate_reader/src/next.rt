@@ -14,7 +14,7 @@ use crate::waiting::Waiting;
 use devices::{Source, WriteFault};
 use std::alloc::Global;
 
-/// The next line, and the stage behind it; it is read only where none waits.
+/// The next line, and the stage after it; it is read only where none waits.
 pub(crate) fn next_line<S: Source>(
     alloc: Global,
     stage: Stage,
@@ -49,7 +49,7 @@ fn take_line(
     Ok(read)
 }
 
-/// Whether nothing stands behind the last line; it is read only where nothing waits.
+/// Whether nothing comes after the last line; it is read only where nothing waits.
 pub(crate) fn is_at_end<S: Source>(
     waiting: &mut Waiting,
     source: &mut S,

@@ -6,7 +6,7 @@ ghost use Rattle.certificate_definitions.specs.Certificates.{is_number};
 ghost use Rattle.certificate_definitions.specs.CertificateText.{TextLine, is_line, line_text, listed, longest_line, most_atoms};
 ghost use Rattle.certificate_reader.specs.Lines.{line_of, named_atom_of, text_line_of, version_of};
 ghost use Rattle.certificate_definitions.specs.CertificateText as text;
-ghost use Rattle.certificate_reader.specs.Parsing.{IsParsed, IsParsedBehind};
+ghost use Rattle.certificate_reader.specs.Parsing.{IsParsed, IsParsedAfter};
 ghost use Rattle.certificate_reader.specs.Words.{IsReadAs, are_lower, atom_rest, with_rest};
 
 use crate::fault::{NextFault, TextFault};
@@ -32,15 +32,15 @@ pub(crate) fn parse(
     requires short { length bytes.now ≤ longest_line }
     ensures { IsParsed bytes.now (version_of version) atom_count result }
 {
-    let (word, behind) = first_word(bytes);
-    let Some(rest) = behind else {
+    let (word, following) = first_word(bytes);
+    let Some(rest) = following else {
         return Err(NextFault::Text(TextFault::Form));
     };
-    parse_behind(alloc, word, rest, version, atom_count)
+    parse_after(alloc, word, rest, version, atom_count)
 }
 
-/// The line that begins with this word, behind which the rest stands.
-fn parse_behind(
+/// The line that begins with this word, after which the rest is.
+fn parse_after(
     alloc: Global,
     word: &[u8],
     rest: &[u8],
@@ -49,7 +49,7 @@ fn parse_behind(
 ) -> Result<CertLine, NextFault>
     requires few { atom_count ≤ most_atoms }
     requires short { length (with_rest word.now (Some rest.now)) ≤ longest_line }
-    ensures { IsParsedBehind word.now rest.now (version_of version) atom_count result }
+    ensures { IsParsedAfter word.now rest.now (version_of version) atom_count result }
 {
     if is(word, b"open") {
         return open_line(alloc, rest, atom_count);
@@ -78,9 +78,9 @@ fn parse_behind(
     Err(NextFault::Text(TextFault::Form))
 }
 
-/// The first line, of which the rest stands behind `pddl-cert`.
+/// The first line, of which the rest comes after `pddl-cert`.
 fn head_line(rest: &[u8]) -> Result<CertLine, NextFault>
-    ensures { (v : certificates.Version) (atom_count : ℕ) → IsParsedBehind (codes "pddl-cert") rest.now v atom_count result }
+    ensures { (v : certificates.Version) (atom_count : ℕ) → IsParsedAfter (codes "pddl-cert") rest.now v atom_count result }
 {
     match number(rest) {
         Some(1) => Ok(CertLine::Version(Version::One)),
@@ -90,9 +90,9 @@ fn head_line(rest: &[u8]) -> Result<CertLine, NextFault>
     }
 }
 
-/// The line of the claim that stands behind `claim`.
+/// The line of the claim that comes after `claim`.
 fn claim_line(rest: &[u8]) -> Result<CertLine, NextFault>
-    ensures { (v : certificates.Version) (atom_count : ℕ) → IsParsedBehind (codes "claim") rest.now v atom_count result }
+    ensures { (v : certificates.Version) (atom_count : ℕ) → IsParsedAfter (codes "claim") rest.now v atom_count result }
 {
     match claim(rest) {
         Some(claim) => Ok(CertLine::Claim(claim)),
@@ -100,22 +100,22 @@ fn claim_line(rest: &[u8]) -> Result<CertLine, NextFault>
     }
 }
 
-/// The line of the constants that stand behind `constant`.
+/// The line of the constants that come after `constant`.
 fn constant_line(rest: &[u8], version: Version) -> Result<CertLine, NextFault>
-    ensures { (atom_count : ℕ) → IsParsedBehind (codes "constant") rest.now (version_of version) atom_count result }
+    ensures { (atom_count : ℕ) → IsParsedAfter (codes "constant") rest.now (version_of version) atom_count result }
 {
-    let Some((constants, behind)) = weights(rest, version) else {
+    let Some((constants, following)) = weights(rest, version) else {
         return Err(NextFault::Text(TextFault::Form));
     };
-    match behind {
+    match following {
         None => Ok(CertLine::Constants(constants)),
         Some(_) => Err(NextFault::Text(TextFault::Form)),
     }
 }
 
-/// The last line, whose count stands behind `end`.
+/// The last line, whose count comes after `end`.
 fn last_line(rest: &[u8]) -> Result<CertLine, NextFault>
-    ensures { (v : certificates.Version) (atom_count : ℕ) → IsParsedBehind (codes "end") rest.now v atom_count result }
+    ensures { (v : certificates.Version) (atom_count : ℕ) → IsParsedAfter (codes "end") rest.now v atom_count result }
 {
     match number(rest) {
         Some(count) => Ok(CertLine::Last { count }),
@@ -123,27 +123,27 @@ fn last_line(rest: &[u8]) -> Result<CertLine, NextFault>
     }
 }
 
-/// The line of the atom, with its weights, that stands behind `atom`.
+/// The line of the atom, with its weights, that comes after `atom`.
 fn atom_line(alloc: Global, rest: &[u8], version: Version) -> Result<CertLine, NextFault>
     requires short { length (with_rest (codes "atom") (Some rest.now)) ≤ longest_line }
-    ensures { (atom_count : ℕ) → IsParsedBehind (codes "atom") rest.now (version_of version) atom_count result }
+    ensures { (atom_count : ℕ) → IsParsedAfter (codes "atom") rest.now (version_of version) atom_count result }
 {
-    let Some((weights, behind)) = weights(rest, version) else {
+    let Some((weights, following)) = weights(rest, version) else {
         return Err(NextFault::Text(TextFault::Form));
     };
-    let Some(behind) = behind else {
+    let Some(following) = following else {
         return Err(NextFault::Text(TextFault::Form));
     };
-    match named_atom(alloc, behind)? {
+    match named_atom(alloc, following)? {
         Some(atom) => Ok(CertLine::Weight { weights, atom }),
         None => Err(NextFault::Text(TextFault::Form)),
     }
 }
 
-/// The line of the open state that stands behind `open`.
+/// The line of the open state that comes after `open`.
 fn open_line(alloc: Global, rest: &[u8], atom_count: usize) -> Result<CertLine, NextFault>
     requires few { atom_count ≤ most_atoms }
-    ensures { (v : certificates.Version) → IsParsedBehind (codes "open") rest.now v atom_count result }
+    ensures { (v : certificates.Version) → IsParsedAfter (codes "open") rest.now v atom_count result }
 {
     match numbered(alloc, rest, atom_count)? {
         Some((cost, atoms)) => Ok(CertLine::Listed(StateLine {
@@ -155,19 +155,19 @@ fn open_line(alloc: Global, rest: &[u8], atom_count: usize) -> Result<CertLine, 
     }
 }
 
-/// The line of the cut that stands behind `cut`.
+/// The line of the cut that comes after `cut`.
 fn cut_line(alloc: Global, rest: &[u8], atom_count: usize) -> Result<CertLine, NextFault>
     requires few { atom_count ≤ most_atoms }
-    ensures { (v : certificates.Version) → IsParsedBehind (codes "cut") rest.now v atom_count result }
+    ensures { (v : certificates.Version) → IsParsedAfter (codes "cut") rest.now v atom_count result }
 {
-    let (word, behind) = first_word(rest);
+    let (word, following) = first_word(rest);
     let Some(cost) = number(word) else {
         return Err(NextFault::Text(TextFault::Form));
     };
-    let Some(behind) = behind else {
+    let Some(following) = following else {
         return Err(NextFault::Text(TextFault::Form));
     };
-    match numbered(alloc, behind, atom_count)? {
+    match numbered(alloc, following, atom_count)? {
         Some((least, atoms)) => Ok(CertLine::Listed(StateLine {
             cost,
             mark: Mark::Cut { rest: least },
@@ -177,7 +177,7 @@ fn cut_line(alloc: Global, rest: &[u8], atom_count: usize) -> Result<CertLine, N
     }
 }
 
-/// The line of the dead end that stands behind `dead`; version 1 has none.
+/// The line of the dead end that comes after `dead`; version 1 has none.
 fn dead_line(
     alloc: Global,
     rest: &[u8],
@@ -185,7 +185,7 @@ fn dead_line(
     atom_count: usize,
 ) -> Result<CertLine, NextFault>
     requires few { atom_count ≤ most_atoms }
-    ensures { IsParsedBehind (codes "dead") rest.now (version_of version) atom_count result }
+    ensures { IsParsedAfter (codes "dead") rest.now (version_of version) atom_count result }
 {
     if let Version::One = version {
         return Err(NextFault::Text(TextFault::Form));
@@ -200,7 +200,7 @@ fn dead_line(
     }
 }
 
-/// The atom that stands behind the weights, and `None` where none does.
+/// The atom that comes after the weights, and `None` where none does.
 fn named_atom(alloc: Global, rest: &[u8]) -> Result<Option<NamedAtom>, AllocError>
     ensures some { IfOk result (λ found. IfSome found (λ a. IsTrue (are_lower (named_atom_of a)) × (atom_rest (named_atom_of a) ≡ rest.now))) }
     ensures none { IfOk result (λ found. IfNone found ((a : text.NamedAtom) → IsTrue (are_lower a) → atom_rest a ≢ rest.now)) }
@@ -208,11 +208,11 @@ fn named_atom(alloc: Global, rest: &[u8]) -> Result<Option<NamedAtom>, AllocErro
     let Some(inner) = in_parentheses(rest) else {
         return Ok(None);
     };
-    let (predicate, behind) = first_word(inner);
+    let (predicate, following) = first_word(inner);
     if !is_lower_name(predicate) {
         return Ok(None);
     }
-    match names(alloc, behind)? {
+    match names(alloc, following)? {
         Some(objects) => Ok(Some(NamedAtom {
             predicate: copy(alloc, predicate)?,
             objects,
@@ -221,7 +221,7 @@ fn named_atom(alloc: Global, rest: &[u8]) -> Result<Option<NamedAtom>, AllocErro
     }
 }
 
-/// What stands in the parentheses, and `None` where there is something else.
+/// What is in the parentheses, and `None` where there is something else.
 fn in_parentheses(rest: &[u8]) -> Option<&[u8]>
     ensures some { IfSome result (λ inner. rest.now ≡ codes "(" ++ inner.now ++ codes ")") }
     ensures none { IfNone result ((inner : List ℕ) → rest.now ≢ codes "(" ++ inner ++ codes ")") }

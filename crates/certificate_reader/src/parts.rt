@@ -1,4 +1,4 @@
-//! What stands behind the first word of a line.
+//! What comes after the first word of a line.
 ghost use Rattle.std.specs.Prelude.{◌≡◌, ◌≢◌, ℕ, ℤ, ◌≤◌, ◌<◌, Err, IfNone, IfOk, IfSome, IsTrue, List, None, OnOk, Option, Some, codes, map};
 ghost use Rattle.std.specs.Fmt.{decimal, signed_decimal};
 ghost use Rattle.std.specs.List.{list_all};
@@ -19,8 +19,8 @@ pub(crate) fn claim(rest: &[u8]) -> Option<Claim>
     ensures some { IfSome result (λ claim. IsTrue (is_claim (claim_of claim)) × (claim_rest (claim_of claim) ≡ rest.now)) }
     ensures none { IfNone result ((claim : model.Claim) → IsTrue (is_claim claim) → claim_rest claim ≢ rest.now) }
 {
-    let (word, behind) = first_word(rest);
-    let Some(least) = behind else {
+    let (word, following) = first_word(rest);
+    let Some(least) = following else {
         return if is(word, b"none") {
             Some(Claim::Unsolvable)
         } else {
@@ -36,7 +36,7 @@ pub(crate) fn claim(rest: &[u8]) -> Option<Claim>
     }
 }
 
-/// The constants, or the weights of an atom, that the bytes begin with, and what stands behind them; `None` where they begin
+/// The constants, or the weights of an atom, that the bytes begin with, and what comes after them; `None` where they begin
 /// with none. In version 1 there is one, in version 2 there are two.
 pub(crate) fn weights(bytes: &[u8], version: Version) -> Option<(Weights, Option<&[u8]>)>
     ensures some { IfSome result (λ read. IsTrue (are_weights (version_of version) (weights_of read.0))
@@ -44,7 +44,7 @@ pub(crate) fn weights(bytes: &[u8], version: Version) -> Option<(Weights, Option
     ensures none { IfNone result ((w : text.Weights) (rest : Option (List ℕ)) → IsTrue (are_weights (version_of version) w)
         → with_weights w rest ≢ bytes.now) }
 {
-    let (word, behind) = first_word(bytes);
+    let (word, following) = first_word(bytes);
     let Some(of_value) = weight(word) else {
         return None;
     };
@@ -54,19 +54,19 @@ pub(crate) fn weights(bytes: &[u8], version: Version) -> Option<(Weights, Option
                 of_value,
                 of_dead_end: None,
             },
-            behind,
+            following,
         )),
-        Version::Two => two_weights(of_value, behind),
+        Version::Two => two_weights(of_value, following),
     }
 }
 
-/// This weight and one behind it, with what stands behind that; `None` where there is none behind it.
-fn two_weights(of_value: i64, behind: Option<&[u8]>) -> Option<(Weights, Option<&[u8]>)>
+/// This weight and one after it, with what comes after that; `None` where there is none after it.
+fn two_weights(of_value: i64, following: Option<&[u8]>) -> Option<(Weights, Option<&[u8]>)>
     ensures some { IfSome result (λ read. (n : ℤ) × (weights_of read.0 ≡ record { of_value = of_value; of_dead_end = Some n }) × IsTrue (is_weight n)
-        × (Some (with_rest (signed_decimal n) (text_in read.1)) ≡ text_in behind.entry)) }
-    ensures none { IfNone result ((n : ℤ) (rest : Option (List ℕ)) → IsTrue (is_weight n) → Some (with_rest (signed_decimal n) rest) ≢ text_in behind.entry) }
+        × (Some (with_rest (signed_decimal n) (text_in read.1)) ≡ text_in following.entry)) }
+    ensures none { IfNone result ((n : ℤ) (rest : Option (List ℕ)) → IsTrue (is_weight n) → Some (with_rest (signed_decimal n) rest) ≢ text_in following.entry) }
 {
-    let Some(bytes) = behind else {
+    let Some(bytes) = following else {
         return None;
     };
     let (word, rest) = first_word(bytes);
@@ -82,7 +82,7 @@ fn two_weights(of_value: i64, behind: Option<&[u8]>) -> Option<(Weights, Option<
     ))
 }
 
-/// A number and, behind it, numbers of atoms, rising, and `None` where something else stands there.
+/// A number and, after it, numbers of atoms, rising, and `None` where something else is there.
 pub(crate) fn numbered(
     alloc: Global,
     bytes: &[u8],
@@ -92,11 +92,11 @@ pub(crate) fn numbered(
     ensures some { IfOk result (λ found. IfSome found (λ read. IsNumbered bytes.now atom_count read.0 read.1.items)) }
     ensures none { IfOk result (λ found. IfNone found ((n : ℕ) (atoms : List ℕ) → IsNumbered bytes.now atom_count n atoms → ⊥)) }
 {
-    let (word, behind) = first_word(bytes);
+    let (word, following) = first_word(bytes);
     let Some(number) = number(word) else {
         return Ok(None);
     };
-    match numbers(alloc, behind, atom_count)? {
+    match numbers(alloc, following, atom_count)? {
         Some(atoms) => Ok(Some((number, atoms))),
         None => Ok(None),
     }
@@ -118,13 +118,13 @@ fn numbers(
     let mut least = 0;
     let mut left = rest;
     'words: while let Some(bytes) = left {
-        let (word, behind) = first_word(bytes);
+        let (word, following) = first_word(bytes);
         let Some(next) = next_number(word, least, atom_count) else {
             return Ok(None);
         };
         numbers.push(next)?;
         least = next + 1;
-        left = behind;
+        left = following;
     }
     Ok(Some(numbers))
 }

@@ -4,10 +4,10 @@ ghost use Rattle.certificate_reader.specs.Stages.{IsWithin, place_of};
 
 use crate::stage::Stage;
 
-/// How many lines were handed out, and what may come next.
+/// How many lines were given out, and what may come next.
 #[derive(Clone, Copy)]
 pub(crate) struct Position {
-    /// How many lines were handed out; at the last value of 64 bits the count stays.
+    /// How many lines were given out; at the last value of 64 bits the count stays.
     pub(crate) lines: u64,
     /// What may come next.
     pub(crate) stage: Stage,

@@ -15,7 +15,7 @@ use crate::waiting::Waiting;
 use devices::Source;
 use std::alloc::Global;
 
-/// Why no line is handed out.
+/// Why no line is given out.
 #[derive(Clone, Copy, Debug, PartialEq, Eq)]
 pub enum CertFault {
     /// The text is at fault: what, and at which line, counted from 1. It is the first line at fault.
@@ -29,7 +29,7 @@ pub enum CertFault {
     Device,
     /// Memory was refused.
     NoMemory,
-    /// A fault was told before.
+    /// A fault was reported before.
     Failed,
 }
 
@@ -63,7 +63,7 @@ impl<R: Source> CertReader<R> {
         }
     }
 
-    /// How many lines were handed out.
+    /// How many lines were given out.
     pub fn lines(&self) -> u64
         ensures { result ≡ lines_read self.now }
     {
@@ -77,21 +77,21 @@ impl<R: Source> CertReader<R> {
         self.source
     }
 
-    /// The next line; behind the last one `None`, where nothing follows it. The source is read only while no whole line
-    /// has come, or, behind the last line, until a byte or the end has.
+    /// The next line; after the last one `None`, where nothing follows it. The source is read only while no whole line
+    /// has come, or, after the last line, until a byte or the end has.
     ///
     /// # Errors
     /// [`CertFault::Line`] where the text is at fault; [`CertFault::Device`] where the device failed;
     /// [`CertFault::NoMemory`] where memory is refused; from then on [`CertFault::Failed`].
     pub fn next_line(&mut self) -> Result<Option<CertLine>, CertFault>
-        // What is handed out of the text, or told of it, where these lines were handed out before.
-        ensures told { (before : List TextLine) → HasRead self.old before → has_failed self.old ≡ false
+        // What is given out of the text, or reported for it, where these lines were given out before.
+        ensures reported { (before : List TextLine) → HasRead self.old before → has_failed self.old ≡ false
             → IsAnswer R.remaining self.old self.new before result }
-        // The lines that were handed out begin a certificate, and so those before the first line at fault.
+        // The lines that were given out begin a certificate, and so those before the first line at fault.
         ensures begins { (before : List TextLine) → HasRead self.old before → has_failed self.old ≡ false → HaveBegun before result }
         ensures failed { has_failed self.new ≡ is_err result }
         ensures still { has_failed self.old ≡ true → (result ≡ Err Failed) × (self.new ≡ self.old) }
-        // The source is left alone where what is to be told has come.
+        // The source is left alone where what is to be reported has come.
         ensures lazy { IsTrue (has_come self.old) → source_of self.new ≡ source_of self.old }
         ensures failures { CountsCert (R.failures (source_of self.old)) (R.failures (source_of self.new)) result }
     {
@@ -103,14 +103,14 @@ impl<R: Source> CertReader<R> {
             Ok(read) => Ok(read),
             Err(fault) => {
                 self.failed = true;
-                Err(told_at(fault, line))
+                Err(reported_at(fault, line))
             }
         }
     }
 
-    /// The next line, and the place behind it.
+    /// The next line, and the place after it.
     fn advance(&mut self) -> Result<Option<CertLine>, NextFault>
-        ensures told { (before : List TextLine) → HasRead self.old before → IsAdvance R.remaining self.old self.new before result }
+        ensures reported { (before : List TextLine) → HasRead self.old before → IsAdvance R.remaining self.old self.new before result }
         ensures failed { has_failed self.new ≡ has_failed self.old }
         ensures lazy { IsTrue (has_come self.old) → source_of self.new ≡ source_of self.old }
         ensures failures { CountsFault (R.failures (source_of self.old)) (R.failures (source_of self.new)) result }
@@ -135,8 +135,8 @@ impl<R: Source> CertReader<R> {
     }
 }
 
-/// The fault that is told of this line.
-fn told_at(fault: NextFault, line: u64) -> CertFault
+/// The fault that is reported for this line.
+fn reported_at(fault: NextFault, line: u64) -> CertFault
     ensures { result ≡ fault_at fault line }
 {
     match fault {

@@ -1,4 +1,4 @@
-//! Where a reader stands in a certificate, and which line may come next.
+//! Where a reader is in a certificate, and which line may come next.
 ghost use Rattle.std.specs.Prelude.{◌≡◌, ℕ, ◌≤◌, IsTrue, length};
 ghost use Rattle.certificate_definitions.specs.CertificateText.{WeightedAtom, atom, is_line, longest_line};
 ghost use Rattle.certificate_definitions.specs.CertificateMachine.{in_body};
@@ -55,7 +55,7 @@ impl Stage {
         }
     }
 
-    /// The stage behind this line, or the fault of one that cannot stand here.
+    /// The stage after this line, or the fault of one that cannot occur here.
     pub(crate) fn after(self, line: &CertLine) -> Result<Stage, TextFault>
         requires within { IsWithin (place_of self) }
         requires line { IsTrue (is_line (version_at (place_of self)) (atoms_at (place_of self)) (text_line_of line.now)) }
@@ -88,7 +88,7 @@ impl Stage {
     }
 }
 
-/// The stage behind this line, or its fault, where so many atoms and states stand before it.
+/// The stage after this line, or its fault, where so many atoms and states come before it.
 fn after_body(
     version: Version,
     atoms: usize,
@@ -122,7 +122,7 @@ fn after_body(
     }
 }
 
-/// The stage behind an atom, or its fault, where so many atoms and states stand before it.
+/// The stage after an atom, or its fault, where so many atoms and states come before it.
 fn after_atom(version: Version, atoms: usize, states: usize) -> Result<Stage, TextFault>
     requires within { IsWithin (in_body (version_of version) atoms states) }
     ensures { (a : WeightedAtom) → IsTrue (is_line (version_of version) atoms (atom a)) → IsStep (in_body (version_of version) atoms states) (atom a) result }
@@ -140,7 +140,7 @@ fn after_atom(version: Version, atoms: usize, states: usize) -> Result<Stage, Te
     })
 }
 
-/// The line that these bytes are at a stage, and the stage behind it.
+/// The line that these bytes are at a stage, and the stage after it.
 pub(crate) fn read_line(
     alloc: Global,
     stage: Stage,

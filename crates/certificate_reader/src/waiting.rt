@@ -1,4 +1,4 @@
-//! The bytes of a text that came from a source and were not handed out yet.
+//! The bytes of a text that came from a source and were not given out yet.
 ghost use Rattle.std.specs.Prelude.{◌≡◌, ◌≤◌, ◌++◌, drop, take, Err, IfOk, length, OnOk, position, []};
 ghost use Rattle.std.specs.List.{position_or_len};
 ghost use Rattle.certificate_reader.specs.Ends.{is_end};
@@ -11,7 +11,7 @@ use std::alloc::{AllocError, Global};
 /// How many bytes are asked for at a read.
 const PIECE: usize = 65_536;
 
-/// The bytes that came and were not handed out yet.
+/// The bytes that came and were not given out yet.
 #[derive(Drop)]
 pub(crate) struct Waiting {
     alloc: Global,
@@ -47,12 +47,12 @@ impl Waiting {
         &self.held[self.start..]
     }
 
-    /// Where the first LF stands. A byte is looked at once.
+    /// Where the first LF is. A byte is looked at once.
     pub(crate) fn line_end(&mut self) -> Option<usize>
         ensures end { result ≡ position is_end (waiting_of self.old) }
         ensures kept { waiting_of self.new ≡ waiting_of self.old }
     {
-        let end = end_behind(self.bytes(), self.passed_over);
+        let end = end_after(self.bytes(), self.passed_over);
         if end.is_none() {
             self.passed_over = self.bytes().len();
         }
@@ -68,7 +68,7 @@ impl Waiting {
         self.passed_over = 0;
     }
 
-    /// Reads once, to the end of the bytes, and tells how many bytes came.
+    /// Reads once, to the end of the bytes, and says how many bytes came.
     pub(crate) fn fill<S: Source>(&mut self, source: &mut S) -> Result<usize, WriteFault>
         ensures ok { IfOk result (λ count. ReadsSome 65536 count (S.remaining source.old) (S.remaining source.new) (waiting_of self.old) (waiting_of self.new)) }
         ensures device { result ≡ Err device_failed → IsKept (S.remaining source.old) (S.remaining source.new) (waiting_of self.old) (waiting_of self.new) }
@@ -81,7 +81,7 @@ impl Waiting {
         Ok(count)
     }
 
-    /// Lets so many bytes of the room wait behind the others.
+    /// Lets so many bytes of the room wait after the others.
     fn hold(&mut self, count: usize) -> Result<(), AllocError>
         requires { count ≤ length self.old.room.items }
         ensures { OnOk result (waiting_of self.new ≡ waiting_of self.old ++ take count self.old.room.items) }
@@ -101,7 +101,7 @@ impl Waiting {
         Ok(())
     }
 
-    /// Forgets the bytes that were handed out.
+    /// Forgets the bytes that were given out.
     fn forget(&mut self)
         ensures { waiting_of self.new ≡ waiting_of self.old }
     {
@@ -110,19 +110,19 @@ impl Waiting {
     }
 }
 
-/// Where the first LF stands; among the first bytes, so many, there is none.
+/// Where the first LF is; among the first bytes, so many, there is none.
 #[tactic(auto, using(crate::proofs::FirstPlaces::first_within))]
-fn end_behind(bytes: &[u8], passed_over: usize) -> Option<usize>
+fn end_after(bytes: &[u8], passed_over: usize) -> Option<usize>
     requires { passed_over ≤ position_or_len is_end bytes.now }
     ensures { result ≡ position is_end bytes.now }
 {
     match first_end(rest_from(bytes, passed_over)) {
-        Some(behind) => Some(passed_over + behind),
+        Some(following) => Some(passed_over + following),
         None => None,
     }
 }
 
-/// Where the first LF stands.
+/// Where the first LF is.
 fn first_end(bytes: &[u8]) -> Option<usize>
     ensures { result ≡ position is_end bytes.now }
 {

@@ -50,7 +50,7 @@ abbrev pub explain : Shape
 explain = subcommand (codes "explain")
     (file (codes "DOMAIN") ∷ file (codes "PROBLEM") ∷ optional_file (codes "PLAN") ∷ limit (codes "instances") ∷ [])
 
--- the program: one of the four commands must be there, and it is told how the program is used where no word is
+-- the program: one of the four commands must be there, and it is reported how the program is used where no word is
 abbrev pub optplan : App
 optplan = record {
   top = record (new_shape (codes "optplan")) {

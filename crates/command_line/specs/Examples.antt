@@ -7,7 +7,7 @@ use Rattle.clap.specs.declared.error.kind.ErrorKind.TheVariants.{ArgumentConflic
 use Rattle.command_line.specs.Description.{optplan}
 use Rattle.command_line.specs.Orders.{Asks, Asked, to_solve, to_validate, to_check, to_explain}
 
--- `solve d p`, with the words before, between and behind the two names
+-- `solve d p`, with the words before, between and after the two names
 abbrev pub solve_words : (first second third : List Text) → List Text
 solve_words first second third = codes "solve" ∷ (first ++ (codes "d" ∷ (second ++ (codes "p" ∷ third))))
 
@@ -33,16 +33,16 @@ pub record AreRead : Type 0 where
   pub states : AskToSolve (words (codes "--states" ∷ codes "5" ∷ [])) (record plain { states = 5 })
   pub instances : AskToSolve (words (codes "--instances" ∷ codes "5" ∷ [])) (record plain { instances = 5 })
   pub in_json : AskToSolve (words (codes "--json" ∷ [])) (record plain { json = true })
-  -- a value may stand in the option's word, and then begin with a hyphen
+  -- a value may occur in the option's word, and then begin with a hyphen
   pub in_one_word : AskToSolve (words (codes "--states=5" ∷ codes "--plan=-x=y" ∷ [])) (record plain { states = 5; plan = Some (codes "-x=y") })
-  -- options stand before, between and behind the files
+  -- options come before, between and after the files
   pub around : AskToSolve (solve_words (codes "--json" ∷ []) (codes "--plan" ∷ codes "x" ∷ []) (codes "--states" ∷ codes "5" ∷ []))
       (record plain { states = 5; plan = Some (codes "x"); json = true })
-  -- what stands behind two hyphens is the name of a file, and one hyphen is one
-  pub behind_hyphens : Asks (codes "solve" ∷ codes "--json" ∷ codes "--" ∷ codes "-d" ∷ codes "--states" ∷ [])
+  -- what comes after two hyphens is the name of a file, and one hyphen is one
+  pub after_hyphens : Asks (codes "solve" ∷ codes "--json" ∷ codes "--" ∷ codes "-d" ∷ codes "--states" ∷ [])
       (to_solve (codes "-d") (codes "--states") (record plain { json = true }))
   pub one_hyphen : Asks (codes "solve" ∷ codes "-" ∷ codes "p" ∷ []) (to_solve (codes "-") (codes "p") plain)
-  -- a plus may stand before the digits, and noughts
+  -- a plus may occur before the digits, and noughts
   pub plus : AskToSolve (words (codes "--states" ∷ codes "+016777216" ∷ [])) (record plain { states = 16777216 })
   pub to_validate : Asks (codes "validate" ∷ codes "d" ∷ codes "p" ∷ codes "l" ∷ codes "--json" ∷ []) (to_validate (codes "d") (codes "p") (codes "l") true)
   pub to_check : Asks (codes "check" ∷ codes "d" ∷ codes "p" ∷ codes "c" ∷ codes "--plan" ∷ codes "l" ∷ codes "--instances=7" ∷ [])

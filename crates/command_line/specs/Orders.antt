@@ -11,7 +11,7 @@ use Rattle.command_line.specs.Description.{optplan}
 use Rattle.command_line.specs.Limit.{most}
 
 -- what `solve` is asked for: how many states and instances are allowed, the files that the plan and the certificate are to be written
--- to, if any, and whether the answer is told as JSON
+-- to, if any, and whether the answer is reported as JSON
 pub record Asked : Type 0 where
   pub states : ℕ
   pub instances : ℕ
@@ -19,7 +19,7 @@ pub record Asked : Type 0 where
   pub cert : Option Text
   pub json : Bool
 
--- what `check` is asked for: how many instances are allowed, the file that the plan is read from, if any, and whether the answer is told as JSON
+-- what `check` is asked for: how many instances are allowed, the file that the plan is read from, if any, and whether the answer is reported as JSON
 pub record AskedOfCheck : Type 0 where
   pub instances : ℕ
   pub plan : Option Text

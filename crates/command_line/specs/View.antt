@@ -27,7 +27,7 @@ wanted_of (Check domain problem cert plan instances json) =
 wanted_of (Explain domain problem plan instances) =
     to_explain domain.now problem.now (record { instances = instances.number; plan = text_in plan })
 
--- the fault is one of the words, and not want of memory
+-- the fault is one of the words, and not running out of memory
 abbrev pub IsOfWords : WordsFault → Type 0
 IsOfWords (Words error) = Unit {0}
 IsOfWords NoMemory = ⊥

@@ -18,7 +18,7 @@ pub enum Order<'a> {
         states: MaxCount,
         /// How many instances may be kept.
         instances: MaxCount,
-        /// Whether the answer is told as JSON.
+        /// Whether the answer is reported as JSON.
         json: bool,
     },
     /// Whether the plan of a file solves the task of two files.
@@ -29,7 +29,7 @@ pub enum Order<'a> {
         problem: &'a str,
         /// The name of the plan file.
         plan: &'a str,
-        /// Whether the answer is told as JSON.
+        /// Whether the answer is reported as JSON.
         json: bool,
     },
     /// What the certificate of a file shows of the task of two files.
@@ -44,10 +44,10 @@ pub enum Order<'a> {
         plan: Option<&'a str>,
         /// How many instances may be kept.
         instances: MaxCount,
-        /// Whether the answer is told as JSON.
+        /// Whether the answer is reported as JSON.
         json: bool,
     },
-    /// What is wrong with two files or with the plan of a third, told for people; without a plan, what the task holds.
+    /// What is wrong with two files or with the plan of a third, reported for people; without a plan, what the task holds.
     Explain {
         /// The name of the domain file.
         domain: &'a str,

@@ -24,7 +24,7 @@ use std::alloc::{AllocError, Global};
 /// optplan explain DOMAIN PROBLEM [PLAN] [--instances N]
 /// ```
 ///
-/// Options stand in any order, each at most once, before, between and after the files, as `--states 5` or `--states=5`. What
+/// Options are in any order, each at most once, before, between and after the files, as `--states 5` or `--states=5`. What
 /// follows `--` is the name of a file, even if it begins with a hyphen. A number is from 1 to 16,777,216 in decimal digits, which
 /// a plus may precede; the default is 1,000,000. Words that ask for help or the version are no order: the fault's text is what
 /// they ask for.
@@ -44,7 +44,7 @@ pub fn examples_are_read()
     ensures { AreRead }
 {}
 
-/// What is told of a match that is no order. `clap` finds none without a command and its files.
+/// What is reported for a match that is no order. `clap` finds none without a command and its files.
 fn no_order(alloc: Global) -> WordsFault {
     match missing(alloc) {
         Ok(error) => WordsFault::Words(error),

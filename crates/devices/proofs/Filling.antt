@@ -6,7 +6,7 @@ use Rattle.std.proofs.lemmas.List.{drop-drop, drop_min, take_rest, take_at, drop
 pub from_place : (slice items : List ℕ) (place : ℕ) → slice ≡ items → take (length slice - place) (drop place slice) ≡ drop place items
 from_place slice items place same = take_rest slice place ∙ ap (drop place) same
 
--- what stands in the room that was filled, and past it
+-- what is in the room that was filled, and past it
 pub past : (into bytes new : List ℕ) (count : ℕ) → count ≡ min (length into) (length bytes)
     → new ≡ take (length into) bytes ++ drop (length bytes) into
     → (take count new ≡ take (length into) bytes) × (drop count new ≡ drop (length bytes) into)

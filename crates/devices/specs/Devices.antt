@@ -13,7 +13,7 @@ abbrev pub Counts : {T E : Type 0} → ℕ → ℕ → Result T E → Type 0
 Counts before after (Ok value) = after ≡ before
 Counts before after (Err fault) = after ≡ one_more before
 
--- A call in which the device fails counts one failure; want of memory is none.
+-- A call in which the device fails counts one failure; running out of memory is none.
 abbrev pub CountsDevice : {T : Type 0} → ℕ → ℕ → Result T WriteFault → Type 0
 CountsDevice before after (Ok value) = after ≡ before
 CountsDevice before after (Err Device) = after ≡ one_more before
@@ -41,7 +41,7 @@ pub record IsReading (limit : ℕ) (before after : Option (List ℕ)) (bytes : L
   pub within : length bytes ≤ limit
   pub whole : length bytes < limit → IsAtEnd after
 
--- One read into some room gave this many bytes, which stand at the end of what was read before.
+-- One read into some room gave this many bytes, which are at the end of what was read before.
 pub record ReadsSome (room count : ℕ) (before after : Option (List ℕ)) (old new : List ℕ) : Type 0 where
   pub bytes : List ℕ
   pub appended : new ≡ old ++ bytes

@@ -61,21 +61,21 @@ pub trait Source {
     /// How often the device has failed. At 18446744073709551615 the count stays.
     ghost failures: { Self → ℕ };
 
-    /// The bytes that reads will give from here on, where the device tells them.
+    /// The bytes that reads will give from here on, where the device reports them.
     ghost remaining: { Self → Option (List ℕ) } = { λ _. None };
 
-    /// How many bytes a read that succeeds gives into room of a length, where the device tells it.
+    /// How many bytes a read that succeeds gives into room of a length, where the device reports it.
     ghost read_count: { Self → ℕ → Option ℕ } = { λ _ _. None };
 
     /// Whether the next read fails, where that is known.
     ghost is_failing: { Self → Bool } = { λ _. false };
 
-    /// Reads some bytes into the room that is lent, and tells how many. 0 for room that is not empty means
+    /// Reads some bytes into the room that is lent, and says how many. 0 for room that is not empty means
     /// the end. An interrupted call has failed. Where the call fails, the room is as it was.
     fn read(&mut self, into: &mut [u8]) -> Result<usize, DeviceFault>
         ensures bound { ReadsAtMost result into.new }
         ensures unchanged { OnErr result (into.new ≡ into.old) }
-        ensures gives { IfOk result (λ count. IfSome (read_count self.old (length into.old)) (λ told. count ≡ told)) }
+        ensures gives { IfOk result (λ count. IfSome (read_count self.old (length into.old)) (λ reported. count ≡ reported)) }
         ensures bytes { ReadConsumes (remaining self.old) (remaining self.new) result into.new }
         ensures failing { IsTrue (is_failing self.old) → IsErr result }
         ensures failures { Counts (failures self.old) (failures self.new) result };
@@ -86,24 +86,24 @@ pub trait Sink {
     /// How often the device has failed. At 18446744073709551615 the count stays.
     ghost failures: { Self → ℕ };
 
-    /// The bytes that it has taken, where the device tells them.
+    /// The bytes that it has taken, where the device reports them.
     ghost taken: { Self → Option (List ℕ) } = { λ _. None };
 
-    /// How many bytes a write that succeeds takes of a piece of a length, where the device tells it.
+    /// How many bytes a write that succeeds takes of a piece of a length, where the device reports it.
     ghost write_count: { Self → ℕ → Option ℕ } = { λ _ _. None };
 
-    /// Whether a write may be refused for want of memory.
+    /// Whether a write may be refused for running out of memory.
     ghost wants_memory: { Bool } = { true };
 
     /// The name of the file that it writes, where that is known.
     ghost name: { Self → List ℕ } = { λ _. [] };
 
-    /// Takes some of the bytes, and tells how many. A device that takes nothing of a piece that is not empty
+    /// Takes some of the bytes, and says how many. A device that takes nothing of a piece that is not empty
     /// has failed, and so has an interrupted call.
     fn write(&mut self, piece: &[u8]) -> Result<usize, WriteFault>
         ensures bound { WritesAtMost result piece.now }
         ensures progress { 0 < length piece.now → IfOk result (λ count. 0 < count) }
-        ensures takes { IfOk result (λ count. IfSome (write_count self.old (length piece.now)) (λ told. count ≡ told)) }
+        ensures takes { IfOk result (λ count. IfSome (write_count self.old (length piece.now)) (λ reported. count ≡ reported)) }
         ensures bytes { WriteAppends (taken self.old) (taken self.new) result piece.now }
         ensures memory { result ≡ Err WriteFault.NoMemory → IsTrue wants_memory }
         ensures failures { CountsDevice (failures self.old) (failures self.new) result }

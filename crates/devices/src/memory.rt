@@ -72,7 +72,7 @@ impl Sink for Memory {
     }
 }
 
-/// Copies as many of the bytes as there is room for, to its beginning, and tells how many. What else is in the room stays.
+/// Copies as many of the bytes as there is room for, to its beginning, and says how many. What else is in the room stays.
 pub fn fill(into: &mut [u8], bytes: &[u8]) -> usize
     ensures count { result ≡ min (length into.old) (length bytes.now) }
     ensures room { into.new ≡ take (length into.old) bytes.now ++ drop (length bytes.now) into.old }

@@ -1,4 +1,4 @@
--- Where a reader's refusal is told of no bytes, the words begin a file.
+-- Where a reader's refusal is reported for no bytes, the words begin a file.
 use Rattle.std.specs.Prelude.{◌≡◌, ◌+◌, ◌<◌, Bool, true, IsTrue, List, [], ◌∷◌, ◌++◌, length, map, Result, Ok, Err, IfOk, IfSome}
 use Rattle.std.specs.List.{All, list_all}
 use Rattle.std.proofs.Common.{zero, suc, ap, sym, ◌∙◌, subst, arith}
@@ -7,7 +7,7 @@ use Rattle.std.proofs.lemmas.List.Elements.{All-append}
 use Rattle.std.proofs.lemmas.List.Folds.{list_all-append, list_all-map}
 use Rattle.std.proofs.lemmas.Bool.{and_parts, ltb-true}
 use Rattle.faults.specs.declared.refused.Refused.TheVariants.{At, NoMemory}
-use Rattle.tokens.specs.Told as told
+use Rattle.tokens.specs.Reported as reported
 use Rattle.tokens.specs.Word.{word_of}
 use Rattle.tokens.specs.declared.word.Word as code
 use Rattle.model.specs.Words.{Word}
@@ -15,7 +15,7 @@ use Rattle.model.specs.Trees.{File}
 use Rattle.model.specs.Fault.{Fault, Span}
 use Rattle.model.specs.GrammarWords.{Token, token_of, tokens_of}
 use Rattle.model.specs.Refusals.{Begins, IsWhole, IsRefused, at_word, at_end}
-use Rattle.explained_faults.specs.Expected.{has_bytes, TellsEnd, HaveBytes, MayFollow}
+use Rattle.explained_faults.specs.Expected.{has_bytes, ReportsEnd, HaveBytes, MayFollow}
 
 -- a whole file begins with its words
 pub whole_begins : (file : File) (words : List Word) → IsWhole file (tokens_of words) → Begins file (tokens_of words)
@@ -30,20 +30,20 @@ has_some before after word full =
 -- words that are refused at a place without bytes run out
 pub runs_out : (file : File) (words : List Word) (fault : Fault) → IsTrue (list_all has_bytes words) → IsRefused file words fault
     → fault.span.start ≡ fault.span.end → Begins file (tokens_of words)
-runs_out file words fault full (at_word before after word stands begins not_more told span) empty =
-    let some : 0 < length word.text = has_some before after word (ap (list_all has_bytes) (sym stands) ∙ full) in
+runs_out file words fault full (at_word before after word occurs begins not_more reported span) empty =
+    let some : 0 < length word.text = has_some before after word (ap (list_all has_bytes) (sym occurs) ∙ full) in
     let starts : fault.span.start ≡ word.start = ap (λ (s : Span). s.start) span in
     let ends : fault.span.end ≡ word.start + length word.text = ap (λ (s : Span). s.end) span in
     absurd (omega arith)
 runs_out file words fault full (at_end begins not_whole code span) empty = begins
 
--- so they do where a refusal of theirs is said to be told of no bytes
-pub refused_begins : {E : Type 0} (file : File) (words : List Word) (fault : told.Fault) (r : Result Bool E)
-    → IsTrue (list_all has_bytes words) → IfSome (told.told_by fault) (IsRefused file words) → IfOk r (TellsEnd fault)
+-- so they do where a refusal of theirs is said to be reported for no bytes
+pub refused_begins : {E : Type 0} (file : File) (words : List Word) (fault : reported.Fault) (r : Result Bool E)
+    → IsTrue (list_all has_bytes words) → IfSome (reported.reported_by fault) (IsRefused file words) → IfOk r (ReportsEnd fault)
     → IfOk r (λ answer. answer ≡ true → Begins file (tokens_of words))
-refused_begins file words fault (Err e) full refused tells = tt
-refused_begins file words (At refusal) (Ok answer) full refused tells = λ is. runs_out file words (told.refusal_of refusal) full refused (tells is)
-refused_begins file words NoMemory (Ok answer) full refused tells = absurd tells
+refused_begins file words fault (Err e) full refused reports = tt
+refused_begins file words (At refusal) (Ok answer) full refused reports = λ is. runs_out file words (reported.refusal_of refusal) full refused (reports is)
+refused_begins file words NoMemory (Ok answer) full refused reports = absurd reports
 
 -- a file begins with words and one more
 pub follows : (file : File) (before : List code.Word) (word : code.Word) → Begins file (tokens_of (map word_of (before ++ word ∷ []))) → MayFollow file before word

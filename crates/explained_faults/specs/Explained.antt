@@ -1,4 +1,4 @@
--- What is told of a fault: the fault as it was handed in, and its place in its file.
+-- What is reported for a fault: the fault as it was given, and its place in its file.
 use Rattle.std.specs.Prelude.{◌≡◌, ℕ, List, [], ◌++◌, codes}
 use Rattle.std.specs.Fmt.{decimal}
 use Rattle.faults.specs.Fault.{number_of}
@@ -11,11 +11,11 @@ use Rattle.source_text.specs.declared.texts.File.TheVariants.{Domain, Problem, P
 use Rattle.source_text.specs.declared.texts.NamedTexts.{NamedTexts}
 use Rattle.explained_faults.specs.declared.explanation.FileRefusal.{FileRefusal}
 use Rattle.explained_faults.specs.declared.explanation.FaultExplanation.{FaultExplanation}
-use Rattle.explained_faults.specs.Expected.{MayStand}
+use Rattle.explained_faults.specs.Expected.{MayOccur}
 use Rattle.tokens.specs.declared.word.Word.{Word}
 use Rattle.model.specs.Trees.{domain_file, problem_file}
 
--- the first line of what is told of a fault: the file, the line and the column, and the number and the name of what is wrong
+-- the first line of what is reported for a fault: the file, the line and the column, and the number and the name of what is wrong
 abbrev pub heading : (name : List ℕ) → LineColumn → Code → List ℕ
 heading name place code =
     name ++ (codes ":" ++ (decimal place.line ++ (codes ":" ++ (decimal place.column ++ (codes ": fault " ++ (decimal (number_of code)
@@ -25,14 +25,14 @@ heading name place code =
 abbrev pub BeginsWith : (text beginning : List ℕ) → Type 0
 BeginsWith text beginning = (rest : List ℕ) × (text ≡ beginning ++ rest)
 
--- the words may stand where a domain or a problem is at fault; of a plan none are told
+-- the words may occur where a domain or a problem is at fault; of a plan none are reported
 abbrev pub AreWanted : NamedTexts → FileRefusal → List Word → Type 0
 AreWanted texts fault wanted =
-    (fault.file ≡ Domain → MayStand domain_file (text_in texts Domain) fault.span.start wanted)
-    × (fault.file ≡ Problem → MayStand problem_file (text_in texts Problem) fault.span.start wanted)
+    (fault.file ≡ Domain → MayOccur domain_file (text_in texts Domain) fault.span.start wanted)
+    × (fault.file ≡ Problem → MayOccur problem_file (text_in texts Problem) fault.span.start wanted)
     × (fault.file ≡ Plan → wanted ≡ [])
 
--- it is told of this fault, the place is that of the first byte of its span, and the words that are told may stand there
+-- it is reported for this fault, the place is that of the first byte of its span, and the words that are reported may occur there
 pub record IsExplained (texts : NamedTexts) (fault : FileRefusal) (explanation : FaultExplanation) : Type 0 where
   pub is_fault : explanation.fault ≡ fault
   pub is_place : IsPlace (text_in texts fault.file) fault.span.start explanation.place

@@ -1,5 +1,5 @@
 //! A refused file in pieces, with those of the other files, and the names that are known there.
-use crate::explanation::{FileRefusal, told_bytes};
+use crate::explanation::{FileRefusal, reported_bytes};
 use crate::help::{FileOffset, Help};
 use faults::NoMemory;
 use source_text::{
@@ -13,7 +13,7 @@ use std::alloc::Global;
 pub(crate) struct Context<'a> {
     /// The fault.
     pub(crate) fault: FileRefusal,
-    /// The bytes that it is told of.
+    /// The bytes that it is reported for.
     pub(crate) word: &'a [u8],
     /// The pieces of the domain file.
     pub(crate) domain: Vec<Piece<'a>>,
@@ -35,7 +35,7 @@ impl<'a> Context<'a> {
         let plan = pieces(alloc, texts.plan.text)?;
         Ok(Context {
             fault,
-            word: told_bytes(texts, fault),
+            word: reported_bytes(texts, fault),
             domain,
             problem,
             plan,
@@ -51,12 +51,12 @@ impl<'a> Context<'a> {
         }
     }
 
-    /// The index of the piece that the fault is told of.
+    /// The index of the piece that the fault is reported for.
     pub(crate) fn at(&self) -> Option<usize> {
         index_at(self.here(), self.fault.span.start)
     }
 
-    /// The index of the `(` of the list that this piece stands in.
+    /// The index of the `(` of the list that this piece is in.
     pub(crate) fn open(&self) -> Option<usize> {
         match self.at() {
             Some(at) => opening_of(self.here(), at),
@@ -64,7 +64,7 @@ impl<'a> Context<'a> {
         }
     }
 
-    /// The list that this piece stands in, with its parentheses; no pieces where it stands in none.
+    /// The list that this piece is in, with its parentheses; no pieces where it is in none.
     pub(crate) fn list(&self) -> &[Piece<'a>] {
         match self.open() {
             Some(open) => list_from(self.here(), open),
@@ -85,7 +85,7 @@ impl<'a> Context<'a> {
         }
     }
 
-    /// That the same stands at this piece of the file at fault, if there is one.
+    /// That the same is at this piece of the file at fault, if there is one.
     pub(crate) fn earlier(&self, piece: Option<&Piece<'a>>) -> Help<'a> {
         match piece {
             Some(piece) => Help::Earlier(self.offset_of(piece)),
@@ -126,7 +126,7 @@ impl<'a> Context<'a> {
         }
     }
 
-    /// Whether the list whose `(` has this index is a function of objects: it stands after `(total-cost)` in an increase, or
+    /// Whether the list whose `(` has this index is a function of objects: it comes after `(total-cost)` in an increase, or
     /// after the `=` of a value in `:init`.
     pub(crate) fn is_function(&self, open: usize) -> bool {
         let here = self.here();

@@ -1,5 +1,5 @@
-//! What may stand at a refused word. The reader itself says so: of the words before the refused one with another word
-//! behind them, it refuses that word, or takes it and tells only that the words run out.
+//! What may occur at a refused word. The reader itself says so: of the words before the refused one with another word
+//! after them, it refuses that word, or takes it and reports only that the words run out.
 ghost use Rattle.std.specs.Prelude.{◌≡◌, map, All, IfOk, true};
 ghost use Rattle.std.specs.List.{list_all};
 ghost use Rattle.tokens.specs.Word.{word_of};
@@ -7,7 +7,7 @@ ghost use Rattle.model.specs.Trees.{domain_file, problem_file};
 ghost use Rattle.model.specs.GrammarWords.{tokens_of};
 ghost use Rattle.model.specs.Refusals.{Begins};
 ghost use Rattle.syntax_tree.specs.Tree.{file_of};
-ghost use Rattle.explained_faults.specs.Expected.{HaveBytes, MayFollow, TellsEnd, has_bytes};
+ghost use Rattle.explained_faults.specs.Expected.{HaveBytes, MayFollow, ReportsEnd, has_bytes};
 
 use crate::near::is_near;
 use faults::{Fault, NoMemory, Refused};
@@ -15,7 +15,7 @@ use pddl_tree::{TaskFile, domain, problem};
 use std::alloc::Global;
 use tokens::{Word, scan};
 
-/// A word of each kind that the grammar tells apart, and all that stand for themselves.
+/// A word of each kind that the grammar distinguishes, and all that stand for themselves.
 const CANDIDATES: &[u8] =
     b"name ?variable 0 - = preference define domain problem number minimize and or not imply \
     exists forall either when increase total-cost :requirements :types :constants :predicates :functions :action :domain \
@@ -37,9 +37,9 @@ fn have_bytes(words: &[Word<'_>]) -> bool
     words.iter().all(|word| has_bytes(word))
 }
 
-/// Whether it is told of the end of words that they run out.
-fn tells_end(fault: Fault) -> Result<bool, NoMemory>
-    ensures { IfOk result (λ answer. TellsEnd fault answer) }
+/// Whether it is reported for the end of words that they run out.
+fn reports_end(fault: Fault) -> Result<bool, NoMemory>
+    ensures { IfOk result (λ answer. ReportsEnd fault answer) }
 {
     match fault {
         Refused::At(refusal) => Ok(refusal.span.start == refusal.span.end),
@@ -67,7 +67,7 @@ fn begins_domain(alloc: Global, words: &[Word<'_>]) -> Result<bool, NoMemory>
         Ok(_) => return Ok(true),
         Err(fault) => fault,
     };
-    tells_end(fault)
+    reports_end(fault)
 }
 
 /// Whether a problem begins with these words, which have bytes.
@@ -79,7 +79,7 @@ fn begins_problem(alloc: Global, words: &[Word<'_>]) -> Result<bool, NoMemory>
         Ok(_) => return Ok(true),
         Err(fault) => fault,
     };
-    tells_end(fault)
+    reports_end(fault)
 }
 
 /// Whether a file of this kind begins with some words and this one.
@@ -113,7 +113,7 @@ fn is_expected<'a>(
     }
 }
 
-/// The words with which a file of this kind may go on after these, of one for each kind that the grammar tells apart, or of
+/// The words with which a file of this kind may go on after these, of one for each kind that the grammar distinguishes, or of
 /// those alone that are like a keyword, where one is given. A name stands for all others that stand for nothing else, and
 /// so do a variable and a number.
 pub(crate) fn expected<'a>(

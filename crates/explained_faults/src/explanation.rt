@@ -12,32 +12,32 @@ use source_text::{File, LineColumn, NamedTexts, place_of};
 use std::alloc::Global;
 use tokens::{LONGEST_TEXT, Word};
 
-/// A file is refused by this code, for what stands at this place of it.
+/// A file is refused by this code, for what is at this place of it.
 #[derive(Clone, Copy, Debug, PartialEq, Eq)]
 pub struct FileRefusal {
     /// The file that the place is in.
     pub file: File,
     /// What is wrong.
     pub code: Code,
-    /// Where it stands.
+    /// Where it is.
     pub span: Span,
 }
 
-/// A fault, where it stands, and what helps with it.
+/// A fault, where it is, and what helps with it.
 #[derive(Drop)]
 pub struct FaultExplanation<'a> {
-    /// The fault, as it was handed in.
+    /// The fault, as it was given.
     pub fault: FileRefusal,
     /// Where its span begins, as an editor shows it.
     pub place: LineColumn,
-    /// The words that may stand in the place of a refused one, one for each kind: a name is told for all names, and so are a
+    /// The words that may occur in the place of a refused one, one for each kind: a name is reported for all names, and so are a
     /// variable and a number. For a keyword those alone that are like it, if there are any.
     pub wanted: Vec<Word<'a>>,
     /// What else helps with it.
     pub help: Help<'a>,
 }
 
-/// What helps with a fault of some texts. That it is the first is the caller's to say; where it is none that is told of
+/// What helps with a fault of some texts. That it is the first is the caller's to say; where it is none that is reported for
 /// these texts, what helps is found as far as the words around its span allow.
 ///
 /// # Errors
@@ -60,7 +60,7 @@ pub fn explain_fault<'a>(
     })
 }
 
-/// The words that may stand in the place of a refused one; none where another help is told.
+/// The words that may occur in the place of a refused one; none where another help is reported.
 fn wanted_words<'a>(
     alloc: Global,
     texts: &NamedTexts<'a>,
@@ -73,15 +73,15 @@ fn wanted_words<'a>(
         Code::BadForm | Code::UnknownSection | Code::UnknownRequirement
     );
     let (domain, problem) = (texts.domain.text, texts.problem.text);
-    let (at, told) = (fault.span.start, told_bytes(texts, fault));
+    let (at, reported) = (fault.span.start, reported_bytes(texts, fault));
     match fault.file {
-        File::Domain if is_of_words => words_at(alloc, TaskFile::Domain, domain, at, told),
-        File::Problem if is_of_words => words_at(alloc, TaskFile::Problem, problem, at, told),
+        File::Domain if is_of_words => words_at(alloc, TaskFile::Domain, domain, at, reported),
+        File::Problem if is_of_words => words_at(alloc, TaskFile::Problem, problem, at, reported),
         _ => Ok(Vec::new(alloc)),
     }
 }
 
-/// What helps with a fault beside the words that may stand there.
+/// What helps with a fault beside the words that may occur there.
 fn help_with<'a>(
     alloc: Global,
     texts: &NamedTexts<'a>,
@@ -101,7 +101,7 @@ fn help_with<'a>(
     }
 }
 
-/// How many bytes the told ones are.
+/// How many bytes the reported ones are.
 fn length_of<'a>(fault: FileRefusal) -> Help<'a> {
     Help::Length(fault.span.end.saturating_sub(fault.span.start))
 }
@@ -128,8 +128,8 @@ fn help_in<'a>(alloc: Global, context: &Context<'a>) -> Result<Help<'a>, NoMemor
     }
 }
 
-/// The bytes that a fault is told of, as far as they are within the text.
-pub(crate) fn told_bytes<'a>(texts: &NamedTexts<'a>, fault: FileRefusal) -> &'a [u8] {
+/// The bytes that a fault is reported for, as far as they are within the text.
+pub(crate) fn reported_bytes<'a>(texts: &NamedTexts<'a>, fault: FileRefusal) -> &'a [u8] {
     let text = texts.text(fault.file);
     let end = fault.span.end.min(text.len());
     let start = fault.span.start.min(end);

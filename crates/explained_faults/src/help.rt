@@ -59,7 +59,7 @@ pub enum CostFault {
 pub struct Counts {
     /// How many are wanted.
     pub wanted: usize,
-    /// How many stand there.
+    /// How many are there.
     pub given: usize,
 }
 
@@ -79,11 +79,11 @@ pub struct Types<'a> {
 pub enum Help<'a> {
     /// Nothing more than the number says.
     Plain,
-    /// How many bytes the told ones are.
+    /// How many bytes the reported ones are.
     Length(usize),
     /// The `(` of the list that is open at the end of the text.
     Open(FileOffset),
-    /// Where the same stands that may stand only once, or where the list ends that nothing may follow.
+    /// Where the same is that may occur only once, or where the list ends that nothing may follow.
     Earlier(FileOffset),
     /// Where `:init` gives the same function of the same objects a value before.
     Valued(FileOffset),

@@ -1,4 +1,4 @@
-//! What is wrong with a text, told for people: the place as an editor shows it, the line with a mark, and a sentence, with what
+//! What is wrong with a text, reported for people: the place as an editor shows it, the line with a mark, and a sentence, with what
 //! may have been meant.
 #![tactic(auto)]
 

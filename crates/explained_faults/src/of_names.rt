@@ -111,7 +111,7 @@ pub(crate) fn action_name<'a>(list: &[Piece<'a>]) -> Option<Piece<'a>> {
     }
 }
 
-/// The chain of parents of a type, from itself on, up to the type that stands in it again.
+/// The chain of parents of a type, from itself on, up to the type that is in it again.
 pub(crate) fn type_cycle<'a>(alloc: Global, context: &Context<'a>) -> Result<Help<'a>, NoMemory> {
     let declared = context.declared(alloc, b":types")?;
     let mut chain: Vec<&'a [u8]> = Vec::new(alloc);
@@ -169,7 +169,7 @@ pub(crate) fn duplicate<'a>(alloc: Global, context: &Context<'a>) -> Result<Help
     })
 }
 
-/// Whether the fault is told of a function that `:init` gives a value.
+/// Whether the fault is reported for a function that `:init` gives a value.
 fn is_value(context: &Context<'_>) -> bool {
     match context.open() {
         Some(open) => context.is_function(open),
@@ -212,7 +212,7 @@ fn names_beside<'a>(alloc: Global, context: &Context<'a>) -> Result<Vec<Piece<'a
     }
 }
 
-/// The heads of the lists beside the one that the fault stands in, in the list around it; of values in `:init` those of the
+/// The heads of the lists beside the one that the fault is in, in the list around it; of values in `:init` those of the
 /// same objects.
 fn heads_beside<'a>(alloc: Global, context: &Context<'a>) -> Result<Vec<Piece<'a>>, NoMemory> {
     let here = context.here();

@@ -135,7 +135,7 @@ pub(crate) fn passed_limit<'a>(context: &Context<'a>) -> Help<'a> {
     })
 }
 
-/// What is wrong with a total cost, by the word that is told.
+/// What is wrong with a total cost, by the word that is reported.
 pub(crate) fn cost_fault<'a>(alloc: Global, context: &Context<'a>) -> Result<Help<'a>, NoMemory> {
     let list = section(alloc, context.domain.as_slice(), b":functions")?;
     let functions = heads(alloc, list)?;

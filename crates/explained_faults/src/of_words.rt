@@ -14,7 +14,7 @@ static IN_PROBLEM: [&[u8]; 3] = [b":domain", b":init", b":goal"];
 /// What an action needs.
 static IN_ACTION: [&[u8]; 1] = [b":parameters"];
 
-/// The `(` of the list that is open at the end of a text. Of a `)` without one nothing more is told.
+/// The `(` of the list that is open at the end of a text. Of a `)` without one nothing more is reported.
 pub(crate) fn unbalanced<'a>(context: &Context<'a>) -> Help<'a> {
     if context.fault.span.start < context.fault.span.end {
         return Help::Plain;
@@ -33,7 +33,7 @@ pub(crate) fn trailing<'a>(context: &Context<'a>) -> Help<'a> {
     context.earlier(list_from(here, first.unwrap_or(0)).last())
 }
 
-/// Where the section or part stands already.
+/// Where the section or part is already.
 pub(crate) fn repeated<'a>(context: &Context<'a>) -> Help<'a> {
     let start = context.fault.span.start;
     context.earlier(
@@ -45,7 +45,7 @@ pub(crate) fn repeated<'a>(context: &Context<'a>) -> Help<'a> {
     )
 }
 
-/// What is missing in the list that the told `)` closes.
+/// What is missing in the list that the reported `)` closes.
 pub(crate) fn missing<'a>(alloc: Global, context: &Context<'a>) -> Result<Help<'a>, NoMemory> {
     let list = context.list();
     if list.is_empty() {
@@ -63,7 +63,7 @@ pub(crate) fn missing<'a>(alloc: Global, context: &Context<'a>) -> Result<Help<'
     Ok(Help::Missing(missing))
 }
 
-/// The sections of these keywords that do not stand in a file's list.
+/// The sections of these keywords that do not occur in a file's list.
 fn absent(
     alloc: Global,
     list: &[Piece<'_>],
@@ -72,8 +72,8 @@ fn absent(
     let heads = heads(alloc, list)?;
     let mut found: Vec<&'static [u8]> = Vec::new(alloc);
     for keyword in keywords {
-        let stands = heads.iter().any(|head| head.is(keyword));
-        if !stands && found.push(*keyword).is_err() {
+        let occurs = heads.iter().any(|head| head.is(keyword));
+        if !occurs && found.push(*keyword).is_err() {
             return Err(NoMemory);
         }
     }

@@ -1,10 +1,10 @@
-//! A fault as it is told: its heading, its line with a mark, and a sentence.
+//! A fault as it is reported: its heading, its line with a mark, and a sentence.
 ghost use Rattle.std.specs.Prelude.{◌≡◌, IfOk};
 ghost use Rattle.std.specs.String.{string_bytes};
 ghost use Rattle.source_text.specs.Files.{name_in};
 ghost use Rattle.explained_faults.specs.Explained.{BeginsWith, heading};
 
-use crate::explanation::{FaultExplanation, FileRefusal, told_bytes};
+use crate::explanation::{FaultExplanation, FileRefusal, reported_bytes};
 use crate::help::{CostFault, Counts, Help, Limit, Named, Types};
 use crate::near::{Others, is_near};
 use crate::shown::{Chain, Name, Names, Place, add_words};
@@ -14,7 +14,7 @@ use std::alloc::{AllocError, Global};
 use tokens::{LONGEST_TEXT, Word};
 
 impl FaultExplanation<'_> {
-    /// What is told of the fault: a line with its place, number and name, the line of the text that it stands in with its
+    /// What is reported for the fault: a line with its place, number and name, the line of the text that it is in with its
     /// bytes marked below, and a sentence. Each line ends with LF.
     ///
     /// ```text
@@ -34,7 +34,7 @@ impl FaultExplanation<'_> {
         let marks = marked(alloc, texts.text(self.fault.file), self.fault.span)?;
         let mut sentence = String::new(alloc);
         self.add_sentence(alloc, texts, &mut sentence)?;
-        if self.is_rewritable(told_bytes(texts, self.fault)) {
+        if self.is_rewritable(reported_bytes(texts, self.fault)) {
             sentence.push_str(" `tools/ipc-files` can rewrite this.")?;
         }
         out.push_str(marks.as_str())?;
@@ -68,7 +68,7 @@ impl FaultExplanation<'_> {
         texts: &NamedTexts<'_>,
         out: &mut String,
     ) -> Result<(), AllocError> {
-        let word = told_bytes(texts, self.fault);
+        let word = reported_bytes(texts, self.fault);
         if !self.wanted.is_empty() {
             return add_wanted(alloc, word, self.wanted.as_slice(), out);
         }
@@ -126,7 +126,7 @@ fn are_near(word: &[u8], wanted: &[Word<'_>]) -> bool {
     word.starts_with(b":") && wanted.iter().all(|other| is_near(word, other.text()))
 }
 
-/// Adds the words that may stand in the place of this one. Keywords that are like it are told as a question.
+/// Adds the words that may occur in the place of this one. Keywords that are like it are reported as a question.
 fn add_wanted(
     alloc: Global,
     word: &[u8],

@@ -1,4 +1,4 @@
-//! Names, places and words as they are told.
+//! Names, places and words as they are reported.
 use crate::help::FileOffset;
 use source_text::{LineColumn, NamedTexts, place_of};
 use std::alloc::{AllocError, Global};
@@ -28,7 +28,7 @@ impl fmt::Display for Name<'_> {
 pub(crate) struct Names<'n, 'a> {
     /// The names.
     pub(crate) names: &'n [&'a [u8]],
-    /// What stands before the last, as ` and `.
+    /// What comes before the last, as ` and `.
     pub(crate) last: &'static str,
 }
 
@@ -42,7 +42,7 @@ impl fmt::Display for Names<'_, '_> {
     }
 }
 
-/// What stands between the items of a list, before the one of this index.
+/// What is between the items of a list, before the one of this index.
 fn separator(index: usize, count: usize, last: &'static str) -> &'static str {
     if index == 0 {
         ""
@@ -96,7 +96,7 @@ impl fmt::Display for Place<'_> {
     }
 }
 
-/// Adds the words that may stand at a place, as far as none is told by another.
+/// Adds the words that may occur at a place, as far as none is reported by another.
 pub(crate) fn add_words(
     alloc: Global,
     words: &[Word<'_>],
@@ -104,14 +104,14 @@ pub(crate) fn add_words(
 ) -> Result<(), AllocError> {
     let any_name = has(words, b"preference");
     let free_name = has(words, b"name");
-    let mut told = Vec::new(alloc);
+    let mut reported = Vec::new(alloc);
     for word in words {
-        if is_told(word, any_name, free_name) {
-            told.push(*word)?;
+        if is_reported(word, any_name, free_name) {
+            reported.push(*word)?;
         }
     }
-    for (index, word) in told.as_slice().iter().enumerate() {
-        out.push_str(separator(index, told.len(), " or "))?;
+    for (index, word) in reported.as_slice().iter().enumerate() {
+        out.push_str(separator(index, reported.len(), " or "))?;
         add_word(word, out)?;
     }
     Ok(())
@@ -121,8 +121,8 @@ fn has(words: &[Word<'_>], text: &[u8]) -> bool {
     words.iter().any(|word| word.text() == text)
 }
 
-/// Whether a word that may stand at a place is told: a name is not where any name may stand, or any that is not reserved.
-fn is_told(word: &Word<'_>, any_name: bool, free_name: bool) -> bool {
+/// Whether a word that may occur at a place is reported: a name is not where any name may occur, or any that is not reserved.
+fn is_reported(word: &Word<'_>, any_name: bool, free_name: bool) -> bool {
     match word.text() {
         b"name" => true,
         b"preference" => false,

@@ -1,7 +1,7 @@
-//! What may stand in the place of a word with which no file goes on.
+//! What may occur in the place of a word with which no file goes on.
 ghost use Rattle.std.specs.Prelude.{◌≡◌, IfOk, position};
 ghost use Rattle.syntax_tree.specs.Tree.{file_of};
-ghost use Rattle.explained_faults.specs.Expected.{MayStand, begins_from, words_before};
+ghost use Rattle.explained_faults.specs.Expected.{MayOccur, begins_from, words_before};
 
 use crate::expected::expected;
 use faults::{NoMemory, Refused};
@@ -9,7 +9,7 @@ use pddl_tree::TaskFile;
 use std::alloc::Global;
 use tokens::{Word, scan};
 
-/// The words that may stand at an offset of a file's text in the place of the told ones: for a keyword those that are like
+/// The words that may occur at an offset of a file's text in the place of the reported ones: for a keyword those that are like
 /// it, if there are any. Where the text does not read as words, there are none.
 ///
 /// # Errors
@@ -19,9 +19,9 @@ pub(crate) fn words_at<'a>(
     file: TaskFile,
     text: &'a [u8],
     offset: usize,
-    told: &[u8],
+    reported: &[u8],
 ) -> Result<Vec<Word<'a>>, NoMemory>
-    ensures { IfOk result (λ wanted. MayStand (file_of file) text.now offset wanted.items) }
+    ensures { IfOk result (λ wanted. MayOccur (file_of file) text.now offset wanted.items) }
 {
     let words = match scan(alloc, text) {
         Ok(words) => words,
@@ -29,8 +29,8 @@ pub(crate) fn words_at<'a>(
         Err(Refused::NoMemory) => return Err(NoMemory),
     };
     let before = words_before(&words, offset);
-    if told.starts_with(b":") {
-        let near = expected(alloc, file, before, Some(told))?;
+    if reported.starts_with(b":") {
+        let near = expected(alloc, file, before, Some(reported))?;
         if !near.is_empty() {
             return Ok(near);
         }

@@ -1,4 +1,4 @@
--- What the false parts of a formula tell.
+-- What the false parts of a formula report.
 use Rattle.std.specs.Prelude.{◌≡◌, ℕ, Bool, true, false, ◌&&◌, ◌||◌, not, if◌then◌else◌, List, [], ◌∷◌, ◌++◌, All, refl}
 use Rattle.std.proofs.Common.{ap, subst}
 use Rattle.std.specs.Cmp.{first_so, second_so}
@@ -6,7 +6,7 @@ use Rattle.std.specs.List.{flat_map, list_all}
 use Rattle.std.proofs.lemmas.List.Elements.{All-nil, All-cons, All-append, All-get_or}
 use Rattle.std.proofs.lemmas.Option.{slice_get_within, get_or_from_slice_get}
 use Rattle.task.proofs.Lists.{nil_left, nil_right}
-use Rattle.explained_plans.specs.FalseParts.{Part, part_holds, false_parts, false_parts_of_all, itself_if_false, FalsePartsTell}
+use Rattle.explained_plans.specs.FalseParts.{Part, part_holds, false_parts, false_parts_of_all, itself_if_false, FalsePartsReport}
 use Rattle.model.specs.Task.{Task, Formula, Formulas, atom, equal, and, or, imply, exists, forall, no_formula, more_formulas}
 use Rattle.model.specs.Task as task
 use Rattle.model.specs.Meaning.{State, holds, all_hold, objects_of}
@@ -124,8 +124,8 @@ module _ (t : Task) (s : State) where
     each_of_all_is_false (more_formulas first rest) b =
         All-append IsFalse (false_parts t first b s) (false_parts_of_all t rest b s) (each_is_false first b) (each_of_all_is_false rest b)
 
-pub they_tell : FalsePartsTell
-they_tell = record {
+pub they_report : FalsePartsReport
+they_report = record {
   none = λ t f b s. (none_where_holds t s f b, holds_where_none t s f b);
   are_false = λ t f b s n p got.
       let within = slice_get_within (false_parts t f b s) n p got in

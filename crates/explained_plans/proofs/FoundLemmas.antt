@@ -13,7 +13,7 @@ use Rattle.task.specs.declared.schemas.Formula as formula
 use Rattle.explained_plans.specs.declared.false_parts.Part as part
 use Rattle.explained_plans.specs.declared.false_parts.Found.{Found}
 use Rattle.explained_plans.specs.FalseParts.{Part, false_parts, false_parts_of_all, itself_if_false}
-use Rattle.explained_plans.specs.Parts.{AreFirst, AreFound, Finds, FitsPart, IsFalseIn, most_told, part_of}
+use Rattle.explained_plans.specs.Parts.{AreFirst, AreFound, Finds, FitsPart, IsFalseIn, most_reported, part_of}
 use Rattle.task.specs.TaskParts.{formula_of}
 use Rattle.formulas.proofs.Trees.{formulas_in, formula_of-And}
 use Rattle.model.specs.Task as task
@@ -24,56 +24,56 @@ as_part f objects = record { formula = f; objects = objects }
 
 -- ---- the first of some parts, and one more
 
-below : (count : ℕ) → nat_lt most_told count ≡ true → most_told < count
+below : (count : ℕ) → nat_lt most_reported count ≡ true → most_reported < count
 below count lt = grind (arith, nat_tests)
 
-is_below : (count : ℕ) → most_told < count → nat_lt most_told count ≡ true
+is_below : (count : ℕ) → most_reported < count → nat_lt most_reported count ≡ true
 is_below count lt = grind (arith, nat_tests)
 
-is_not_below : (count : ℕ) → count ≤ most_told → nat_lt most_told count ≡ false
+is_not_below : (count : ℕ) → count ≤ most_reported → nat_lt most_reported count ≡ false
 is_not_below count le = grind (arith, nat_tests)
 
-module _ (before : List Part) (told : List part.Part) (more : Bool) (is : AreFirst before told more) where
+module _ (before : List Part) (reported : List part.Part) (more : Bool) (is : AreFirst before reported more) where
   -- where there are more already, others change nothing
-  pub first_of_more : (xs : List Part) → more ≡ true → AreFirst (before ++ xs) told more
+  pub first_of_more : (xs : List Part) → more ≡ true → AreFirst (before ++ xs) reported more
   first_of_more xs full =
       let over = below (length before) (sym is.others ∙ full) in
       let counts = length-append before xs in
       record {
-        first = is.first ∙ sym (take-append-le most_told before xs (omega (arith, over)));
+        first = is.first ∙ sym (take-append-le most_reported before xs (omega (arith, over)));
         others = full ∙ sym (is_below (length (before ++ xs)) (omega (arith, over, counts)));
       }
 
   -- where there is no room
-  pub first_without : (x : Part) → length told ≡ most_told → AreFirst (before ++ x ∷ []) told true
+  pub first_without : (x : Part) → length reported ≡ most_reported → AreFirst (before ++ x ∷ []) reported true
   first_without x full =
-      elim (cases_lt (length before) most_told) [
+      elim (cases_lt (length before) most_reported) [
         | inl short ↦
-            let counts = sym (length-map told part_of) ∙ ap length (is.first ∙ take_all most_told before (omega (arith, short))) in
+            let counts = sym (length-map reported part_of) ∙ ap length (is.first ∙ take_all most_reported before (omega (arith, short))) in
             absurd (omega (arith, short, counts, full))
         | inr enough ↦
             let counts = length_push before x in
             record {
-              first = is.first ∙ sym (take-append-le most_told before (x ∷ []) enough);
+              first = is.first ∙ sym (take-append-le most_reported before (x ∷ []) enough);
               others = sym (is_below (length (before ++ x ∷ [])) (omega (arith, enough, counts)));
             }
       ]
 
   -- where there is room
-  pub first_with : (p : part.Part) (new : List part.Part) → new ≡ told ++ p ∷ [] → (length told ≡ most_told → ⊥) → AreFirst (before ++ part_of p ∷ []) new more
+  pub first_with : (p : part.Part) (new : List part.Part) → new ≡ reported ++ p ∷ [] → (length reported ≡ most_reported → ⊥) → AreFirst (before ++ part_of p ∷ []) new more
   first_with p new here room =
-      elim (cases_lt (length before) most_told) [
+      elim (cases_lt (length before) most_reported) [
         | inl short ↦
             let counts = length_push before (part_of p) in
-            let all = is.first ∙ take_all most_told before (omega (arith, short)) in
+            let all = is.first ∙ take_all most_reported before (omega (arith, short)) in
             record {
-              first = ap (map part_of) here ∙ map_push part_of told p ∙ ap (λ l. l ++ part_of p ∷ []) all
-                  ∙ sym (take_all most_told (before ++ part_of p ∷ []) (omega (arith, short, counts)));
+              first = ap (map part_of) here ∙ map_push part_of reported p ∙ ap (λ l. l ++ part_of p ∷ []) all
+                  ∙ sym (take_all most_reported (before ++ part_of p ∷ []) (omega (arith, short, counts)));
               others = is.others ∙ is_not_below (length before) (omega (arith, short))
                   ∙ sym (is_not_below (length (before ++ part_of p ∷ [])) (omega (arith, short, counts)));
             }
         | inr enough ↦
-            absurd (room (sym (length-map told part_of) ∙ ap length is.first ∙ length-take-le most_told before enough))
+            absurd (room (sym (length-map reported part_of) ∙ ap length is.first ∙ length-take-le most_reported before enough))
       ]
 
 -- ---- what is found
@@ -81,7 +81,7 @@ module _ (before : List Part) (told : List part.Part) (more : Bool) (is : AreFir
 module _ (t : task.Task) (s : State) where
   pub found_none : (found : Found) → found.parts.items ≡ [] → found.more ≡ false → AreFound t s [] found
   found_none found empty whole = record {
-    told = record { first = ap (map part_of) empty; others = whole };
+    reported = record { first = ap (map part_of) empty; others = whole };
     fit = subst (All (FitsPart t)) (sym empty) (All-nil (FitsPart t));
     are_false = subst (All (IsFalseIn t s)) (sym empty) (All-nil (IsFalseIn t s));
   }
@@ -95,27 +95,27 @@ module _ (t : task.Task) (s : State) where
 
   pub finds_when_full : (xs : List Part) (found : Found) → found.more ≡ true → Finds t s xs found found
   finds_when_full xs found full before is = record {
-    told = first_of_more before found.parts.items found.more is.told xs full;
+    reported = first_of_more before found.parts.items found.more is.reported xs full;
     fit = is.fit;
     are_false = is.are_false;
   }
 
   -- one part more, for which there is no room
-  finds_without : (p : Part) (old new : Found) → new.parts ≡ old.parts → new.more ≡ true → length old.parts.items ≡ most_told → Finds t s (p ∷ []) old new
+  finds_without : (p : Part) (old new : Found) → new.parts ≡ old.parts → new.more ≡ true → length old.parts.items ≡ most_reported → Finds t s (p ∷ []) old new
   finds_without p old new kept full no_room before is =
       let same = ap (λ (v : Vec part.Part). v.items) kept in
       record {
-        told = subst (λ l. AreFirst (before ++ p ∷ []) l new.more) (sym same)
-            (subst (AreFirst (before ++ p ∷ []) old.parts.items) (sym full) (first_without before old.parts.items old.more is.told p no_room));
+        reported = subst (λ l. AreFirst (before ++ p ∷ []) l new.more) (sym same)
+            (subst (AreFirst (before ++ p ∷ []) old.parts.items) (sym full) (first_without before old.parts.items old.more is.reported p no_room));
         fit = subst (All (FitsPart t)) (sym same) is.fit;
         are_false = subst (All (IsFalseIn t s)) (sym same) is.are_false;
       }
 
   -- and one for which there is
-  finds_with : (p : part.Part) (old new : Found) → new.parts.items ≡ old.parts.items ++ p ∷ [] → new.more ≡ old.more → (length old.parts.items ≡ most_told → ⊥)
+  finds_with : (p : part.Part) (old new : Found) → new.parts.items ≡ old.parts.items ++ p ∷ [] → new.more ≡ old.more → (length old.parts.items ≡ most_reported → ⊥)
       → FitsPart t p → IsFalseIn t s p → Finds t s (part_of p ∷ []) old new
   finds_with p old new here kept room fits is_false before is = record {
-    told = subst (AreFirst (before ++ part_of p ∷ []) new.parts.items) (sym kept) (first_with before old.parts.items old.more is.told p new.parts.items here room);
+    reported = subst (AreFirst (before ++ part_of p ∷ []) new.parts.items) (sym kept) (first_with before old.parts.items old.more is.reported p new.parts.items here room);
     fit = subst (All (FitsPart t)) (sym here) (All-push (FitsPart t) old.parts.items p is.fit fits);
     are_false = subst (All (IsFalseIn t s)) (sym here) (All-push (IsFalseIn t s) old.parts.items p is.are_false is_false);
   }
@@ -129,13 +129,13 @@ module _ (t : task.Task) (s : State) where
     pub finds_nothing : (found : Found) → holds t f objects s ≡ true → Finds t s (itself_if_false t f objects s) found found
     finds_nothing found so = subst (λ l. Finds t s l found found) (sym (alone true so)) (finds_none found)
 
-    pub finds_no_room : (old new : Found) → holds t f objects s ≡ false → new.parts ≡ old.parts → new.more ≡ true → length old.parts.items ≡ most_told
+    pub finds_no_room : (old new : Found) → holds t f objects s ≡ false → new.parts ≡ old.parts → new.more ≡ true → length old.parts.items ≡ most_reported
         → Finds t s (itself_if_false t f objects s) old new
     finds_no_room old new not_so kept full no_room =
         subst (λ l. Finds t s l old new) (sym (alone false not_so)) (finds_without (record { formula = f; objects = objects }) old new kept full no_room)
 
     pub finds_itself : (p : part.Part) (old new : Found) → holds t f objects s ≡ false → part_of p ≡ record { formula = f; objects = objects }
-        → new.parts.items ≡ old.parts.items ++ p ∷ [] → new.more ≡ old.more → (length old.parts.items ≡ most_told → ⊥) → FitsPart t p
+        → new.parts.items ≡ old.parts.items ++ p ∷ [] → new.more ≡ old.more → (length old.parts.items ≡ most_reported → ⊥) → FitsPart t p
         → Finds t s (itself_if_false t f objects s) old new
     finds_itself p old new not_so same here kept room fits =
         subst (λ l. Finds t s l old new) (ap (λ x. x ∷ []) same ∙ sym (alone false not_so))

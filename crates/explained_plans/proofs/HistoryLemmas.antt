@@ -18,14 +18,14 @@ use Rattle.model.specs.Meaning.{State, initial_state, system_of}
 use Rattle.model.specs.Runs.{run}
 
 module _ (task : Task) (steps : List Instance) where
-  -- the step made the part false, as far as the first n states tell
+  -- the step made the part false, as far as the first n states report
   pub record IsMadeFalseBefore (part : Part) (n step : ℕ) : Type 0 where
     pub counted_from_one : 1 ≤ step
     pub is_there : step ≤ n
     pub before : IsAfter task steps part (step - 1) true
     pub since : (k : ℕ) → step ≤ k → k < n → IsAfter task steps part k false
 
-  -- the history as far as the first n states tell
+  -- the history as far as the first n states report
   abbrev pub IsHistoryBefore : Part → ℕ → History → Type 0
   IsHistoryBefore part n always = (k : ℕ) → k < n → IsAfter task steps part k false
   IsHistoryBefore part n (by_step step) = IsMadeFalseBefore part n step

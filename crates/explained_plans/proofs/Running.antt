@@ -13,7 +13,7 @@ use Rattle.model.specs.Meaning as meaning
 use Rattle.model.specs.Meaning.{initial_state, is_instance, step, system_of}
 use Rattle.model.specs.Runs.{System, run}
 use Rattle.model.proofs.Tests.{passes_got}
-use Rattle.validator.proofs.VerdictRuns.{stands, run_more}
+use Rattle.validator.proofs.VerdictRuns.{occurs, run_more}
 
 module _ {S A : Type 0} (t : System S A) where
   -- where a list runs, each of its actions is applicable in its turn
@@ -36,7 +36,7 @@ module _ {S A : Type 0} (t : System S A) where
 -- the code's steps, up to this one
 module _ (t : task.Task) (steps : List Instance) (i : ℕ) (item : Instance) (lt : i < length steps) (at : item ≡ get_or steps i item) where
   here : slice_get (map instance_of steps) i ≡ Some (instance_of item)
-  here = stands steps (map instance_of steps) i item refl lt at
+  here = occurs steps (map instance_of steps) i item refl lt at
 
   -- which is an instance of the task where each is
   pub is_one : IsTrue (list_all (is_instance t) (map instance_of steps)) → IsTrue (is_instance t (instance_of item))

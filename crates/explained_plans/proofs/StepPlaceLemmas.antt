@@ -1,4 +1,4 @@
--- Where the steps of a plan text stand: the parts of a text one after another, and the steps of its words.
+-- Where the steps of a plan text are: the parts of a text one after another, and the steps of its words.
 use Rattle.std.specs.Prelude.{◌≡◌, ℕ, ◌+◌, ◌-◌, ◌<◌, ◌≤◌, ◌==◌, Bool, true, false, cond, ◌&&◌, if◌then◌else◌, List, [], ◌∷◌, ◌++◌, length, drop, get_or, Option, None, Some, IsSomeAnd, refl}
 use Rattle.std.proofs.Common.{sym, ◌∙◌, ap, subst, zero, suc, arith, ⊎_elim, append_assoc, true≢false}
 use Rattle.std.specs.Char.{is_ascii_alphabetic}
@@ -27,66 +27,66 @@ module _ (text : List ℕ) (start end : ℕ) (f : Form) (inside : start < length
   same_form : form here.part ≡ f
   same_form = ap form_of here.first ∙ sym f_is
 
-  abbrev behind : List Placed
-  behind = placed_from end (cut (drop end text))
+  abbrev following : List Placed
+  following = placed_from end (cut (drop end text))
 
   abbrev word_here : Placed
   word_here = record { start = start; part = here.part }
 
-  words_here : placed_from start (cut (drop start text)) ≡ cond (is_gap f) behind (word_here ∷ behind)
+  words_here : placed_from start (cut (drop start text)) ≡ cond (is_gap f) following (word_here ∷ following)
   words_here =
       ap (placed_from start) here.cut_is
       ∙ ap (λ k. cond (is_gap (form here.part)) (placed_from k (cut (drop end text))) (word_here ∷ placed_from k (cut (drop end text)))) here.size_is
-      ∙ ap (λ g. cond (is_gap g) behind (word_here ∷ behind)) same_form
+      ∙ ap (λ g. cond (is_gap g) following (word_here ∷ following)) same_form
 
   read_here : place_from n opened last (placed_from start (cut (drop start text)))
-      ≡ cond (is_gap f) (place_from n opened last behind)
-      (if opens f then place_from n (opened + 1) start behind
-      else (if closes f && opened == n then Some (record { start = last; end = end }) else place_from n opened last behind))
+      ≡ cond (is_gap f) (place_from n opened last following)
+      (if opens f then place_from n (opened + 1) start following
+      else (if closes f && opened == n then Some (record { start = last; end = end }) else place_from n opened last following))
   read_here =
       ap (place_from n opened last) words_here ∙ under (is_gap f)
     where
-      under : (b : Bool) → place_from n opened last (cond b behind (word_here ∷ behind))
-          ≡ cond b (place_from n opened last behind)
-          (if opens f then place_from n (opened + 1) start behind
-          else (if closes f && opened == n then Some (record { start = last; end = end }) else place_from n opened last behind))
+      under : (b : Bool) → place_from n opened last (cond b following (word_here ∷ following))
+          ≡ cond b (place_from n opened last following)
+          (if opens f then place_from n (opened + 1) start following
+          else (if closes f && opened == n then Some (record { start = last; end = end }) else place_from n opened last following))
       under true = refl
       under false =
-          ap (λ g. if opens g then place_from n (opened + 1) start behind
-          else (if closes g && opened == n then Some (record { start = last; end = start + size here.part }) else place_from n opened last behind)) same_form
-          ∙ ap (λ e. if opens f then place_from n (opened + 1) start behind
-          else (if closes f && opened == n then Some (record { start = last; end = e }) else place_from n opened last behind)) here.size_is
+          ap (λ g. if opens g then place_from n (opened + 1) start following
+          else (if closes g && opened == n then Some (record { start = last; end = start + size here.part }) else place_from n opened last following)) same_form
+          ∙ ap (λ e. if opens f then place_from n (opened + 1) start following
+          else (if closes f && opened == n then Some (record { start = last; end = e }) else place_from n opened last following)) here.size_is
 
   -- it closes the step
   pub closed_here : (closes f && opened == n) ≡ true → place_from n opened last (placed_from start (cut (drop start text))) ≡ Some (record { start = last; end = end })
   closed_here is = read_here ∙ by_form f is
     where
       by_form : (g : Form) → (closes g && opened == n) ≡ true
-          → cond (is_gap g) (place_from n opened last behind)
-          (if opens g then place_from n (opened + 1) start behind
-          else (if closes g && opened == n then Some (record { start = last; end = end }) else place_from n opened last behind))
+          → cond (is_gap g) (place_from n opened last following)
+          (if opens g then place_from n (opened + 1) start following
+          else (if closes g && opened == n then Some (record { start = last; end = end }) else place_from n opened last following))
           ≡ Some (record { start = last; end = end })
       by_form blank e = absurd (true≢false (sym e))
       by_form comment e = absurd (true≢false (sym e))
       by_form opening e = absurd (true≢false (sym e))
-      by_form closing e = ap (λ b. if b then Some (record { start = last; end = end }) else place_from n opened last behind) e
+      by_form closing e = ap (λ b. if b then Some (record { start = last; end = end }) else place_from n opened last following) e
       by_form run e = absurd (true≢false (sym e))
       by_form stray e = absurd (true≢false (sym e))
 
   -- it does not
   pub passed_here : (closes f && opened == n) ≡ false
-      → place_from n opened last (placed_from start (cut (drop start text))) ≡ place_from n (if opens f then opened + 1 else opened) (if opens f then start else last) behind
+      → place_from n opened last (placed_from start (cut (drop start text))) ≡ place_from n (if opens f then opened + 1 else opened) (if opens f then start else last) following
   passed_here other = read_here ∙ by_form f other
     where
       by_form : (g : Form) → (closes g && opened == n) ≡ false
-          → cond (is_gap g) (place_from n opened last behind)
-          (if opens g then place_from n (opened + 1) start behind
-          else (if closes g && opened == n then Some (record { start = last; end = end }) else place_from n opened last behind))
-          ≡ place_from n (if opens g then opened + 1 else opened) (if opens g then start else last) behind
+          → cond (is_gap g) (place_from n opened last following)
+          (if opens g then place_from n (opened + 1) start following
+          else (if closes g && opened == n then Some (record { start = last; end = end }) else place_from n opened last following))
+          ≡ place_from n (if opens g then opened + 1 else opened) (if opens g then start else last) following
       by_form blank e = refl
       by_form comment e = refl
       by_form opening e = refl
-      by_form closing e = ap (λ b. if b then Some (record { start = last; end = end }) else place_from n opened last behind) e
+      by_form closing e = ap (λ b. if b then Some (record { start = last; end = end }) else place_from n opened last following) e
       by_form run e = refl
       by_form stray e = refl
 
@@ -151,7 +151,7 @@ module _ (n : ℕ) where
       ∙ ap (λ f. if opens f then place_from n (k + 1 + 1) is.last.start rest
       else (if closes f && (k + 1) == n then Some (record { start = is.first.start; end = is.last.start + size is.last.part }) else place_from n (k + 1) is.first.start rest)) is.closes
 
-  -- the step before which so many stand
+  -- the step before which so many are
   record IsPlaced (words : List Placed) (m : ℕ) (span : Span) : Type 0 where
     before : List Placed
     these : List Placed

@@ -16,7 +16,7 @@ use Rattle.model.specs.Task as task
 use Rattle.model.specs.Meaning.{State, amount_of, fits, initial_state, is_instance, system_of}
 use Rattle.model.specs.Runs.{StopsAt, run}
 use Rattle.model.proofs.Tests.{passes_got}
-use Rattle.validator.proofs.VerdictRuns.{stands}
+use Rattle.validator.proofs.VerdictRuns.{occurs}
 
 -- the first elements of a list of which each passes
 passes_first : {X : Type 0} (p : X → Bool) (n : ℕ) (xs : List X) → list_all p xs ≡ true → list_all p (take n xs) ≡ true
@@ -41,12 +41,12 @@ module _ (t : task.Task) (steps : List Instance) (plan : List task.Instance) (sa
   -- the step is there
   pub within : n - 1 < length steps
   within =
-      let lt = slice_get_within plan (n - 1) h.next h.stands_there in
+      let lt = slice_get_within plan (n - 1) h.next h.found_there in
       let counts = sym (ap length same) ∙ length-map steps instance_of in
       omega (arith, lt, counts)
 
   pub is_there : (item : Instance) → item ≡ get_or steps (n - 1) item → slice_get plan (n - 1) ≡ Some (instance_of item)
-  is_there item at = stands steps plan (n - 1) item same within at
+  is_there item at = occurs steps plan (n - 1) item same within at
 
   -- those before it, which run
   firsts : map instance_of (take (n - 1) steps) ≡ take (n - 1) plan
@@ -79,13 +79,13 @@ module _ (t : task.Task) (steps : List Instance) (plan : List task.Instance) (sa
           (amount : Option ℕ) (amounts : amount ≡ option_and_then (λ s. amount_of t s.increase (instance_of item).objects) (slice_get t.schemas (instance_of item).schema))
           (lacks : Bool) (lacking : lacks ≡ not (is_some amount)) (reasons : Reasons) (before : List Instance) (first : before ≡ take (n - 1) steps)
           (why : AreReasons t (map instance_of before) shape.1 (instance_of item).objects reasons) where
-        pub told : IsWhyNotApplicable t plan n lacks reasons
-        told =
+        pub reported : IsWhyNotApplicable t plan n lacks reasons
+        reported =
             let s = found (slice_get t.schemas (instance_of item).schema) shape is in
             record {
               instance = instance_of item;
               schema = s.0;
-              stands_there = is_there item at;
+              found_there = is_there item at;
               is_its_schema = s.1;
               cost = lacking ∙ ap (λ o. not (is_some o)) (amounts ∙ ap (option_and_then (λ (x : task.Schema). amount_of t x.increase (instance_of item).objects)) s.1);
               precondition = subst (λ f. AreReasons t (take (n - 1) plan) f (instance_of item).objects reasons) (ap (λ (x : Shape). x.1) s.2)

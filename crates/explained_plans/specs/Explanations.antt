@@ -30,7 +30,7 @@ pub record AreReasons (task : Task) (steps : List Instance) (formula : Formula) 
 pub record IsWhyNotApplicable (task : Task) (plan : List Instance) (step : ℕ) (lacks_cost : Bool) (reasons : Reasons) : Type 0 where
   pub instance : Instance
   pub schema : Schema
-  pub stands_there : slice_get plan (step - 1) ≡ Some instance
+  pub found_there : slice_get plan (step - 1) ≡ Some instance
   pub is_its_schema : slice_get task.schemas instance.schema ≡ Some schema
   pub cost : lacks_cost ≡ not (has_amount task schema instance.objects)
   pub precondition : AreReasons task (take (step - 1) plan) schema.precondition instance.objects reasons

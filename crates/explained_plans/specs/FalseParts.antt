@@ -20,7 +20,7 @@ itself_if_false task formula objects state =
 
 -- The smallest false parts of a formula in a state, from the left, where its variables have these objects: those of each part of
 -- an `and`, of the conclusion of an `imply` whose premise holds, of the part of a `forall` for each object of its variable's
--- types. Every other formula is false by all that stands in it, and is its own.
+-- types. Every other formula is false by all that is in it, and is its own.
 abbrev mutual
   pub false_parts : Task → Formula → List ℕ → State → List Part
   false_parts task (and parts) objects state = false_parts_of_all task parts objects state
@@ -36,7 +36,7 @@ abbrev mutual
       false_parts task first objects state ++ false_parts_of_all task rest objects state
 
 -- a formula holds where it has no false part, and each false part is false
-pub record FalsePartsTell : Type 0 where
+pub record FalsePartsReport : Type 0 where
   pub none : (task : Task) (formula : Formula) (objects : List ℕ) (state : State)
       → IsTrue (holds task formula objects state) ↔ (false_parts task formula objects state ≡ [])
   pub are_false : (task : Task) (formula : Formula) (objects : List ℕ) (state : State) (number : ℕ) (part : Part)

@@ -1,4 +1,4 @@
--- Which forms stand in the formulas and effects of a task.
+-- Which forms are in the formulas and effects of a task.
 use Rattle.std.specs.Prelude.{◌≡◌, Bool, true, false, List, [], ◌∷◌, ◌++◌}
 use Rattle.std.specs.List.{flat_map, fold, list_any}
 use Rattle.model.specs.Task.{Task, Schema, Formula, Formulas, atom, equal, and, or, not, imply, exists, forall, no_formula, more_formulas, Effect, Effects, literal, both, each, when, no_effect, more_effects}
@@ -55,11 +55,11 @@ is_same negation negation = true
 is_same disjunction disjunction = true
 is_same _ _ = false
 
--- whether the form stands somewhere in the task
+-- whether the form is somewhere in the task
 abbrev pub has : Task → Form → Bool
 has t form = list_any (is_same form) (forms_of_task t)
 
--- those that are told of are those that the task has
+-- those that are reported for are those that the task has
 pub record AreForms (t : Task) (forms : Forms) : Type 0 where
   pub conditional_effects : forms.conditional_effects ≡ has t conditional_effect
   pub quantifiers : forms.quantifiers ≡ has t quantifier
@@ -74,6 +74,6 @@ with_form forms quantifier = record forms { quantifiers = true }
 with_form forms negation = record forms { negations = true }
 with_form forms disjunction = record forms { disjunctions = true }
 
--- these forms are told of too
+-- these forms are reported for too
 abbrev pub added : Forms → List Form → Forms
 added = fold with_form

@@ -18,14 +18,14 @@ abbrev pub history_of : history.History → History
 history_of Always = always
 history_of (ByStep step) = by_step step
 
--- how many false parts are told at most
-abbrev pub most_told : ℕ
-most_told = 20
+-- how many false parts are reported at most
+abbrev pub most_reported : ℕ
+most_reported = 20
 
 -- these are the first of some false parts, and whether there are more
-pub record AreFirst (all : List Part) (told : List part.Part) (more : Bool) : Type 0 where
-  pub first : map part_of told ≡ take most_told all
-  pub others : more ≡ nat_lt most_told (length all)
+pub record AreFirst (all : List Part) (reported : List part.Part) (more : Bool) : Type 0 where
+  pub first : map part_of reported ≡ take most_reported all
+  pub others : more ≡ nat_lt most_reported (length all)
 
 -- the history at each part's place is the part's
 abbrev pub AreHistories : task.Task → List task.Instance → List part.Part → List history.History → Type 0
@@ -45,11 +45,11 @@ IsFalseIn t state p = part_holds t state (part_of p) ≡ false
 
 -- the first of some parts are found, and each of these is false
 pub record AreFound (t : task.Task) (state : State) (all : List Part) (found : Found) : Type 0 where
-  pub told : AreFirst all found.parts.items found.more
+  pub reported : AreFirst all found.parts.items found.more
   pub fit : All (FitsPart t) found.parts.items
   pub are_false : All (IsFalseIn t state) found.parts.items
 
--- behind the parts that were found before, these are found
+-- after the parts that were found before, these are found
 abbrev pub Finds : task.Task → State → List Part → Found → Found → Type 0
 Finds t state parts old new = (before : List Part) → AreFound t state before old → AreFound t state (before ++ parts) new
 

@@ -1,4 +1,4 @@
--- Where the steps of a plan text stand.
+-- Where the steps of a plan text are.
 use Rattle.std.specs.Prelude.{◌≡◌, ℕ, ◌+◌, Bool, true, false, ◌&&◌, ◌==◌, if◌then◌else◌, List, [], ◌∷◌, ◌++◌, length, Option, None, Some}
 use Rattle.faults.specs.declared.refused.Span as code
 use Rattle.model.specs.Fault.{Span}
@@ -32,7 +32,7 @@ abbrev pub closes : Form → Bool
 closes closing = true
 closes _ = false
 
--- Where the n-th step of these words stands, behind so many opening parentheses of which the last is at this offset: what comes
+-- Where the n-th step of these words is, after so many opening parentheses of which the last is at this offset: what comes
 -- to the n-th one's closing parenthesis.
 abbrev pub place_from : ℕ → ℕ → ℕ → List Placed → Option Span
 place_from n opened last [] = None

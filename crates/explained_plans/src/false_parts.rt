@@ -4,7 +4,7 @@ ghost use Rattle.std.specs.List.{flat_map};
 ghost use Rattle.task.specs.Task.{task_of};
 ghost use Rattle.task.specs.TaskParts.{object_of, formula_of, union_of};
 ghost use Rattle.formulas.specs.State.{state_of, FitsFormula, FitsFormulas};
-ghost use Rattle.explained_plans.specs.FalseParts.{FalsePartsTell, false_parts, itself_if_false};
+ghost use Rattle.explained_plans.specs.FalseParts.{FalsePartsReport, false_parts, itself_if_false};
 ghost use Rattle.explained_plans.specs.Parts.{AreFound, Finds};
 ghost use Rattle.model.specs.Task.{forall};
 
@@ -13,8 +13,8 @@ use formulas::{Binding, State, copied, holds, objects_of, with_object};
 use std::alloc::Global;
 use task::{Formula, Task, TypeUnion};
 
-/// How many false parts of a formula are told at most.
-pub const MOST_TOLD: usize = 20;
+/// How many false parts of a formula are reported at most.
+pub const MOST_REPORTED: usize = 20;
 
 /// A part of a formula, where the variables in its scope have these objects.
 #[derive(Drop)]
@@ -54,7 +54,7 @@ pub(crate) fn first_false_parts<'t>(
     Ok(found)
 }
 
-/// Finds the false parts of the formula, behind those that were found before. Once there are more than are told, none is
+/// Finds the false parts of the formula, after those that were found before. Once there are more than are reported, none is
 /// looked for.
 #[cycle(find)]
 fn find<'t>(
@@ -136,7 +136,7 @@ impl<'t> Found<'t> {
         if holds(task, formula, objects, state) {
             return Ok(());
         }
-        if self.parts.len() == MOST_TOLD {
+        if self.parts.len() == MOST_REPORTED {
             self.more = true;
             return Ok(());
         }
@@ -150,6 +150,6 @@ impl<'t> Found<'t> {
 
 /// A formula holds where it has no false part, and each false part is false. It is stated of all formulas, and proved; the
 /// call does nothing.
-pub fn false_parts_tell()
-    ensures { FalsePartsTell }
+pub fn false_parts_report()
+    ensures { FalsePartsReport }
 {}

@@ -1,4 +1,4 @@
-//! Which forms stand in the formulas and effects of a task.
+//! Which forms are in the formulas and effects of a task.
 ghost use Rattle.std.specs.Prelude.{◌≡◌, Some, slice_get};
 ghost use Rattle.std.specs.List.{flat_map};
 ghost use Rattle.task.specs.Task.{task_of};
@@ -11,7 +11,7 @@ use faults::NoMemory;
 use std::alloc::Global;
 use task::{Effect, Formula, SchemaId, Task};
 
-/// Which forms stand in some formulas and effects.
+/// Which forms are in some formulas and effects.
 #[derive(Clone, Copy, Debug, Default, PartialEq, Eq)]
 pub struct Forms {
     /// An effect under a condition.

@@ -4,7 +4,7 @@ use std::alloc::Global;
 use task::{Formula, LiftedAtom, ObjectId, Task, Term, TypeId, TypeUnion};
 
 /// Adds the text of the formula, where the first variables in scope have these objects. A variable of a quantifier in it is
-/// told as `?1`, `?2` and so on, by its place in scope behind those; `inner` counts those that are in scope.
+/// reported as `?1`, `?2` and so on, by its place in scope after those; `inner` counts those that are in scope.
 #[cycle(formula)]
 pub(crate) fn add_formula(
     alloc: Global,
@@ -99,7 +99,7 @@ fn add_parts(
     Ok(())
 }
 
-/// Adds the beginning of a quantifier, up to its part: its variable, behind so many others, and what this has to be.
+/// Adds the beginning of a quantifier, up to its part: its variable, after so many others, and what this has to be.
 fn add_variable(
     alloc: Global,
     task: &Task,
@@ -116,7 +116,7 @@ fn add_variable(
     Ok(())
 }
 
-/// Adds the name of a quantifier's variable, behind so many others.
+/// Adds the name of a quantifier's variable, after so many others.
 fn add_inner(alloc: Global, before: usize, text: &mut Vec<u8>) -> Result<(), NoMemory> {
     let name = format!(in alloc; "?{}", before.saturating_add(1))?;
     text.extend_from_slice(name.as_bytes())?;

@@ -1,4 +1,4 @@
-//! What is said of a plan for people: why it fails, or what each of its steps costs; where its steps stand; what a task holds.
+//! What is said of a plan for people: why it fails, or what each of its steps costs; where its steps are; what a task holds.
 #![tactic(auto)]
 
 mod explanations;
@@ -8,12 +8,12 @@ mod formula_text;
 mod histories;
 mod step_places;
 mod summary;
-mod telling;
+mod printing;
 
 pub use explanations::{PlanExplanation, Reasons, explain_plan};
-pub use false_parts::{MOST_TOLD, Part, false_parts_tell};
+pub use false_parts::{MOST_REPORTED, Part, false_parts_report};
 pub use forms::Forms;
 pub use histories::History;
 pub use step_places::step_place;
 pub use summary::Summary;
-pub use telling::{tell_details, tell_verdict};
+pub use printing::{report_details, report_verdict};

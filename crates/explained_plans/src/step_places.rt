@@ -1,4 +1,4 @@
-//! Where the steps of a plan text stand.
+//! Where the steps of a plan text are.
 ghost use Rattle.std.specs.Prelude.{◌≡◌, ◌+◌, ◌<◌, ◌≤◌, ◌^◌, ◌&&◌, ◌==◌, List, IsSomeAnd, if◌then◌else◌, length};
 ghost use Rattle.std.specs.Option.{option_map};
 ghost use Rattle.tokens.specs.Cut.{cut};
@@ -10,10 +10,10 @@ ghost use Rattle.model.specs.Words.{AreParts, Part};
 use faults::Span;
 use tokens::{Form, part_end};
 
-/// Where the step of this number, counted from 1, stands in the text of a plan: from its `(` to its `)`.
+/// Where the step of this number, counted from 1, is in the text of a plan: from its `(` to its `)`.
 ///
 /// # Examples
-/// The second step of `(hop a b) ; there\n(hop b a)` stands at `18..27`.
+/// The second step of `(hop a b) ; there\n(hop b a)` is at `18..27`.
 pub fn step_place(text: &[u8], step: usize) -> Option<Span>
     // Where the text is a list of so many steps and more, the place is the step's.
     ensures { (parts : List Part) (steps : List Step) → AreParts text.now parts → AreSteps (placed_from 0 parts) steps

@@ -23,7 +23,7 @@ pub struct Summary {
     pub actions: usize,
     /// Whether the total cost is to be least.
     pub has_costs: bool,
-    /// What stands in the preconditions, the effects and the goal.
+    /// What is in the preconditions, the effects and the goal.
     pub forms: Forms,
 }
 
@@ -49,7 +49,7 @@ impl Summary {
         }
     }
 
-    /// The lines that tell it, each with LF at its end.
+    /// The lines that report it, each with LF at its end.
     ///
     /// # Errors
     /// Memory was refused.

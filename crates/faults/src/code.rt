@@ -23,7 +23,7 @@ pub enum Code {
     BadForm = 7,
     /// A keyword that is no section or part.
     UnknownSection = 8,
-    /// A section or part that stands a second time.
+    /// A section or part that is a second time.
     RepeatedSection = 9,
     /// A list that closes before a section or part that it needs.
     MissingSection = 10,
@@ -39,7 +39,7 @@ pub enum Code {
     TypeCycle = 15,
     /// A name that was declared before.
     Duplicate = 16,
-    /// A predicate, variable or object that is not known where it stands.
+    /// A predicate, variable or object that is not known where it is.
     UnknownName = 17,
     /// A predicate with a count of terms that differs from its declaration.
     WrongArity = 18,
@@ -51,7 +51,7 @@ pub enum Code {
     DomainMismatch = 21,
     /// A metric of the total cost, which the domain does not declare.
     BadMetric = 22,
-    /// A total cost that the domain does not declare, that does not begin at 0, or that stands a second time.
+    /// A total cost that the domain does not declare, that does not begin at 0, or that is a second time.
     BadCost = 23,
     /// A negated fact in the initial state.
     NegativeInit = 24,

@@ -1,4 +1,4 @@
-//! What the readers of texts tell: the refusals of a text, with their numbers and places, and want of memory.
+//! What the readers of texts report: the refusals of a text, with their numbers and places, and running out of memory.
 #![tactic(auto)]
 
 mod code;

@@ -1,4 +1,4 @@
-//! What a call tells that refuses a text, and want of memory beside it.
+//! What a call says that refuses a text, and running out of memory beside it.
 use crate::code::Code;
 use std::alloc::{AllocError, AllocFailed};
 use thiserror::Error;
@@ -12,12 +12,12 @@ pub struct Span {
     pub end: usize,
 }
 
-/// A text is refused by this code, for what stands at this place of it.
+/// A text is refused by this code, for what is at this place of it.
 #[derive(Clone, Copy, Debug, PartialEq, Eq)]
 pub struct TextRefusal {
     /// What is wrong.
     pub code: Code,
-    /// Where it stands.
+    /// Where it is.
     pub span: Span,
 }
 

@@ -2,7 +2,7 @@
 use Rattle.std.proofs.Common.{◌≡◌, ℕ, List, Option, Some, None, IfSome, sym, subst}
 use Rattle.std.specs.Prelude.{Result, Ok, Err, IfOk}
 use Rattle.faults.specs.declared.refused.NoMemory.{NoMemory}
-use Rattle.file_answers.specs.Files.{told_in}
+use Rattle.file_answers.specs.Files.{reported_in}
 use Rattle.file_answers.specs.Inputs.{IsInputFault}
 use Rattle.file_answers.specs.declared.files.FileFault.{FileFault}
 use Rattle.file_answers.specs.declared.files.FileFault.TheVariants as refused
@@ -21,16 +21,16 @@ use Rattle.model.specs.Files.{IsTaskOf}
 use Rattle.model.specs.PlanText.{IsPlanText}
 
 module _ (domain problem : List ℕ) (most : ℕ) where
-  fault_explained : (plan : Option (List ℕ)) (fault : FileFault) (subject : Subject) → IfSome (told_in fault) (IsInputFault domain problem plan)
+  fault_explained : (plan : Option (List ℕ)) (fault : FileFault) (subject : Subject) → IfSome (reported_in fault) (IsInputFault domain problem plan)
       → IsOfFault fault subject → IsTrueOf domain problem plan most subject
-  fault_explained plan (refused.At file code span) subject told is = subst (IsTrueOf domain problem plan most) (sym is) told
-  fault_explained plan refused.NoMemory subject told is = absurd is
+  fault_explained plan (refused.At file code span) subject reported is = subst (IsTrueOf domain problem plan most) (sym is) reported
+  fault_explained plan refused.NoMemory subject reported is = absurd is
 
   -- a fault
-  pub refused_explained : (plan : Option (List ℕ)) (fault : FileFault) (r : Result Explanation NoMemory) → IfSome (told_in fault) (IsInputFault domain problem plan)
+  pub refused_explained : (plan : Option (List ℕ)) (fault : FileFault) (r : Result Explanation NoMemory) → IfSome (reported_in fault) (IsInputFault domain problem plan)
       → IfOk r (λ e. IsOfFault fault e.subject) → IfOk r (λ e. IsTrueOf domain problem plan most e.subject)
-  refused_explained plan fault (Ok e) told is = fault_explained plan fault e.subject told is
-  refused_explained plan fault (Err failed) told is = tt
+  refused_explained plan fault (Ok e) reported is = fault_explained plan fault e.subject reported is
+  refused_explained plan fault (Err failed) reported is = tt
 
   module _ (task : model.Task) (is_task : IsTaskOf domain problem task) where
     verdict_explained : (text : List ℕ) (steps : List model.Instance) → IsPlanText task text steps → (subject : Subject)
@@ -51,13 +51,13 @@ module _ (domain problem : List ℕ) (most : ℕ) where
     grounded_explained (Plan verdict) is = absurd is
     grounded_explained (Task grounded) is = (task, is_task, is)
 
-    -- a task, where no plan is handed in
+    -- a task, where no plan is given
     pub task_explained : (plan : Option (List ℕ)) → plan ≡ None → (r : Result Explanation NoMemory)
         → IfOk r (λ e. IsOfGrounded task most e.subject) → IfOk r (λ e. IsTrueOf domain problem plan most e.subject)
     task_explained plan none (Ok e) is = subst (λ (plan : Option (List ℕ)). IsTrueOf domain problem plan most e.subject) (sym none) (grounded_explained e.subject is)
     task_explained plan none (Err failed) is = tt
 
--- The heading of a fault of these texts is that of the files that are handed in.
+-- The heading of a fault of these texts is that of the files that are given.
 module _ (texts : NamedTexts) (domain problem : NamedText) (plan : Option NamedText)
     (same_domain : texts.domain ≡ domain) (same_problem : texts.problem ≡ problem) (same_plan : IfSome plan (λ named. texts.plan ≡ named)) where
   plan_headed : (code : Code) (span : Span) (lines : List ℕ) (handed : Option NamedText) → IfSome handed (λ named. texts.plan ≡ named)

@@ -1,9 +1,9 @@
--- From texts to their task: what is told of two texts, and that nothing is told of two that are a task.
+-- From texts to their task: what is reported for two texts, and that nothing is reported for two that are a task.
 use Rattle.std.proofs.Common.{◌≡◌, ℕ, List, Option, Some, None, IfSome, sym, refl, ap, ◌∙◌, subst}
 use Rattle.std.specs.Prelude.{Result, Ok, Err, IfErr}
 use Rattle.std.specs.Option.{option_map}
 use Rattle.model.specs.Fault.{Fault}
-use Rattle.model.specs.Words.{Word, ReadsAs, IsTold}
+use Rattle.model.specs.Words.{Word, ReadsAs, IsReported}
 use Rattle.model.specs.Trees.{File, domain_file, problem_file, Domain, Problem}
 use Rattle.model.specs.Grammar.{IsDomain, IsProblem}
 use Rattle.model.specs.GrammarWords.{tokens_of}
@@ -12,38 +12,38 @@ use Rattle.model.specs.Grammar as tree
 use Rattle.model.specs.Task.{Task, Instance}
 use Rattle.model.specs.Typing.{task_of_trees}
 use Rattle.model.specs.TypingFaults.{IsWellTyped}
-use Rattle.model.proofs.TypingFaultsTold.{one_told}
+use Rattle.model.proofs.TypingFaultsReported.{one_reported}
 use Rattle.model.specs.PlanText.{IsPlanText, IsPlanFault}
 use Rattle.model.specs.Files.{of_task, the_plan, FileFault, IsDomainText, IsProblemText, IsTextFault, of_words, of_tree, IsTaskOf, IsTaskFault, in_the_domain, in_the_problem, in_the_pair, IsFileFault, in_the_task, in_the_plan, AreRead}
 use Rattle.model.proofs.GrammarMeaning.{one_domain, one_problem}
 use Rattle.model.proofs.GrammarOneRefusal.{whole_not_refused}
-use Rattle.tokens.specs.Told as code
-use Rattle.tokens.specs.Told.{told_by}
+use Rattle.tokens.specs.Reported as code
+use Rattle.tokens.specs.Reported.{reported_by}
 use Rattle.tokens.proofs.Words.{one_reading_lem}
-use Rattle.tokens.proofs.Order.{read_is_told_nothing}
+use Rattle.tokens.proofs.Order.{read_is_reported_nothing}
 use Rattle.faults.specs.declared.refused.Refused.TheVariants.{At, NoMemory}
-use Rattle.typing.specs.Task.{TaskFault, TellsFault, refusal_of}
+use Rattle.typing.specs.Task.{TaskFault, ReportsFault, refusal_of}
 use Rattle.file_answers.specs.declared.files.FileFault as file
-use Rattle.file_answers.specs.Files.{told_in, told_of_pair}
+use Rattle.file_answers.specs.Files.{reported_in, reported_of_pair}
 use Rattle.file_answers.specs.Inputs.{IsInputFault}
 use Rattle.plan_file.proofs.PlanSteps.{no_fault_of_plan}
 
--- what is told, where it is known
-pub told_more_in : (P Q : FileFault → Type 0) (o : Option FileFault) → ((fault : FileFault) → P fault → Q fault) → IfSome o P → IfSome o Q
-told_more_in P Q None f h = tt
-told_more_in P Q (Some fault) f h = f fault h
+-- what is reported, where it is known
+pub reported_more_in : (P Q : FileFault → Type 0) (o : Option FileFault) → ((fault : FileFault) → P fault → Q fault) → IfSome o P → IfSome o Q
+reported_more_in P Q None f h = tt
+reported_more_in P Q (Some fault) f h = f fault h
 
-told_none_in : (P : FileFault → Type 0) (o : Option FileFault) → IfSome o P → ((fault : FileFault) → P fault → ⊥) → o ≡ None
-told_none_in P None h never = refl
-told_none_in P (Some fault) h never = absurd (never fault h)
+reported_none_in : (P : FileFault → Type 0) (o : Option FileFault) → IfSome o P → ((fault : FileFault) → P fault → ⊥) → o ≡ None
+reported_none_in P None h never = refl
+reported_none_in P (Some fault) h never = absurd (never fault h)
 
--- want of memory is no refusal of a text
-pub none_refused : {T : Type 0} (P : FileFault → Type 0) (r : Result T file.FileFault) → IfErr r (λ fault. told_in fault ≡ None) → IfErr r (λ fault. IfSome (told_in fault) P)
+-- running out of memory is no refusal of a text
+pub none_refused : {T : Type 0} (P : FileFault → Type 0) (r : Result T file.FileFault) → IfErr r (λ fault. reported_in fault ≡ None) → IfErr r (λ fault. IfSome (reported_in fault) P)
 none_refused P (Ok found) h = tt
 none_refused P (Err fault) h = subst (λ o. IfSome o P) (sym h) tt
 
--- What is told of one text.
-pub words_refused : (kind : File) (text : List ℕ) (o : Option Fault) → IfSome o (IsTold text) → IfSome o (IsTextFault kind text)
+-- What is reported for one text.
+pub words_refused : (kind : File) (text : List ℕ) (o : Option Fault) → IfSome o (IsReported text) → IfSome o (IsTextFault kind text)
 words_refused kind text None h = tt
 words_refused kind text (Some fault) h = of_words h
 
@@ -51,12 +51,12 @@ pub tree_refused : (kind : File) (text : List ℕ) (words : List Word) → Reads
 tree_refused kind text words reads None h = tt
 tree_refused kind text words reads (Some fault) h = of_tree words reads h
 
-pub tree_refused_in : {T : Type 0} (kind : File) (text : List ℕ) (words : List Word) → ReadsAs text words → (r : Result T code.Fault) → IfErr r (λ fault. IfSome (told_by fault) (IsRefused kind words)) → IfErr r (λ fault. IfSome (told_by fault) (IsTextFault kind text))
+pub tree_refused_in : {T : Type 0} (kind : File) (text : List ℕ) (words : List Word) → ReadsAs text words → (r : Result T code.Fault) → IfErr r (λ fault. IfSome (reported_by fault) (IsRefused kind words)) → IfErr r (λ fault. IfSome (reported_by fault) (IsTextFault kind text))
 tree_refused_in kind text words reads (Ok tree) h = tt
-tree_refused_in kind text words reads (Err fault) h = tree_refused kind text words reads (told_by fault) h
+tree_refused_in kind text words reads (Err fault) h = tree_refused kind text words reads (reported_by fault) h
 
 text_not_refused : (kind : File) (text : List ℕ) (words : List Word) (fault : Fault) → ReadsAs text words → IsWhole kind (tokens_of words) → IsTextFault kind text fault → ⊥
-text_not_refused kind text words fault reads whole (of_words told) = read_is_told_nothing text words fault reads told
+text_not_refused kind text words fault reads whole (of_words reported) = read_is_reported_nothing text words fault reads reported
 text_not_refused kind text words fault reads whole (of_tree others other refused) =
     whole_not_refused kind others fault (subst (λ ws. IsWhole kind (tokens_of ws)) (one_reading_lem text words others reads other) whole) refused
 
@@ -69,7 +69,7 @@ problem_of_text : (text : List ℕ) (p q : Problem) → IsProblemText text p →
 problem_of_text text p q h g =
     one_problem (tokens_of g.words) p q (subst (λ ws. IsProblem (tokens_of ws) p) (one_reading_lem text h.words g.words h.reads g.reads) h.tree) g.tree
 
--- Two texts are at most one task, and nothing is told of two that are one.
+-- Two texts are at most one task, and nothing is reported for two that are one.
 module _ (domain problem : List ℕ) where
   pub one_task : (task other : Task) → IsTaskOf domain problem task → IsTaskOf domain problem other → task ≡ other
   one_task task other h g =
@@ -77,52 +77,52 @@ module _ (domain problem : List ℕ) where
       ∙ ap (task_of_trees g.domain_tree) (problem_of_text problem h.problem_tree g.problem_tree h.problem_reads g.problem_reads)
       ∙ sym g.resolved
 
-  pub no_task_fault : (task : Task) (told : FileFault) → IsTaskOf domain problem task → IsTaskFault domain problem told → ⊥
-  no_task_fault task told h (in_the_domain fault file) =
-      text_not_refused domain_file domain h.domain_reads.words told.fault h.domain_reads.reads (tree.domain_tree h.domain_tree, h.domain_reads.tree) fault
-  no_task_fault task told h (in_the_problem d reads fault file) =
-      text_not_refused problem_file problem h.problem_reads.words told.fault h.problem_reads.reads (tree.problem_tree h.problem_tree, h.problem_reads.tree) fault
-  no_task_fault task told h (in_the_pair d p typed d_reads p_reads least tells) =
+  pub no_task_fault : (task : Task) (reported : FileFault) → IsTaskOf domain problem task → IsTaskFault domain problem reported → ⊥
+  no_task_fault task reported h (in_the_domain fault file) =
+      text_not_refused domain_file domain h.domain_reads.words reported.fault h.domain_reads.reads (tree.domain_tree h.domain_tree, h.domain_reads.tree) fault
+  no_task_fault task reported h (in_the_problem d reads fault file) =
+      text_not_refused problem_file problem h.problem_reads.words reported.fault h.problem_reads.reads (tree.problem_tree h.problem_tree, h.problem_reads.tree) fault
+  no_task_fault task reported h (in_the_pair d p typed d_reads p_reads least reports) =
       let same_domain = domain_of_text domain d h.domain_tree d_reads h.domain_reads in
       let same_problem = problem_of_text problem p h.problem_tree p_reads h.problem_reads in
-      one_told d p typed (subst (λ e. IsWellTyped e p) (sym same_domain) (subst (IsWellTyped h.domain_tree) (sym same_problem) h.well_typed)) least
+      one_reported d p typed (subst (λ e. IsWellTyped e p) (sym same_domain) (subst (IsWellTyped h.domain_tree) (sym same_problem) h.well_typed)) least
 
-  no_file_fault : (plan : List ℕ) (task : Task) (steps : List Instance) (told : FileFault) → AreRead domain problem plan task steps → IsFileFault domain problem plan told → ⊥
-  no_file_fault plan task steps told h (in_the_task fault) = no_task_fault task told h.is_task fault
-  no_file_fault plan task steps told h (in_the_plan other is_other fault file) =
-      no_fault_of_plan other plan steps told.fault (subst (λ t. IsPlanText t plan steps) (one_task task other h.is_task is_other) h.is_plan) fault
+  no_file_fault : (plan : List ℕ) (task : Task) (steps : List Instance) (reported : FileFault) → AreRead domain problem plan task steps → IsFileFault domain problem plan reported → ⊥
+  no_file_fault plan task steps reported h (in_the_task fault) = no_task_fault task reported h.is_task fault
+  no_file_fault plan task steps reported h (in_the_plan other is_other fault file) =
+      no_fault_of_plan other plan steps reported.fault (subst (λ t. IsPlanText t plan steps) (one_task task other h.is_task is_other) h.is_plan) fault
 
   -- in the code's terms
-  pub none_told : (plan : List ℕ) (o : Option FileFault) → IfSome o (IsFileFault domain problem plan) → (task : Task) (steps : List Instance) → AreRead domain problem plan task steps → o ≡ None
-  none_told plan o h task steps are = told_none_in (IsFileFault domain problem plan) o h (λ told. no_file_fault plan task steps told are)
+  pub none_reported : (plan : List ℕ) (o : Option FileFault) → IfSome o (IsFileFault domain problem plan) → (task : Task) (steps : List Instance) → AreRead domain problem plan task steps → o ≡ None
+  none_reported plan o h task steps are = reported_none_in (IsFileFault domain problem plan) o h (λ reported. no_file_fault plan task steps reported are)
 
   -- the same of what a call answered
-  pub none_told_in : {T : Type 0} (plan : List ℕ) (r : Result T file.FileFault) → IfErr r (λ fault. IfSome (told_in fault) (IsFileFault domain problem plan)) → (task : Task) (steps : List Instance) → AreRead domain problem plan task steps → IfErr r (λ fault. told_in fault ≡ None)
-  none_told_in plan (Ok verdict) h task steps are = tt
-  none_told_in plan (Err fault) h task steps are = none_told plan (told_in fault) h task steps are
+  pub none_reported_in : {T : Type 0} (plan : List ℕ) (r : Result T file.FileFault) → IfErr r (λ fault. IfSome (reported_in fault) (IsFileFault domain problem plan)) → (task : Task) (steps : List Instance) → AreRead domain problem plan task steps → IfErr r (λ fault. reported_in fault ≡ None)
+  none_reported_in plan (Ok verdict) h task steps are = tt
+  none_reported_in plan (Err fault) h task steps are = none_reported plan (reported_in fault) h task steps are
 
-  pub none_told_of_task : (o : Option FileFault) → IfSome o (IsTaskFault domain problem) → (task : Task) → IsTaskOf domain problem task → o ≡ None
-  none_told_of_task o h task is = told_none_in (IsTaskFault domain problem) o h (λ told. no_task_fault task told is)
+  pub none_reported_of_task : (o : Option FileFault) → IfSome o (IsTaskFault domain problem) → (task : Task) → IsTaskOf domain problem task → o ≡ None
+  none_reported_of_task o h task is = reported_none_in (IsTaskFault domain problem) o h (λ reported. no_task_fault task reported is)
 
-  pub domain_told : (o : Option Fault) → IfSome o (IsTextFault domain_file domain) → IfSome (option_map (λ (f : Fault). let t : FileFault = record { file = of_task domain_file; fault = f } in t) o) (IsTaskFault domain problem)
-  domain_told None h = tt
-  domain_told (Some fault) h = in_the_domain h refl
+  pub domain_reported : (o : Option Fault) → IfSome o (IsTextFault domain_file domain) → IfSome (option_map (λ (f : Fault). let t : FileFault = record { file = of_task domain_file; fault = f } in t) o) (IsTaskFault domain problem)
+  domain_reported None h = tt
+  domain_reported (Some fault) h = in_the_domain h refl
 
-  pub problem_told : (d : Domain) → IsDomainText domain d → (o : Option Fault) → IfSome o (IsTextFault problem_file problem) → IfSome (option_map (λ (f : Fault). let t : FileFault = record { file = of_task problem_file; fault = f } in t) o) (IsTaskFault domain problem)
-  problem_told d reads None h = tt
-  problem_told d reads (Some fault) h = in_the_problem d reads h refl
+  pub problem_reported : (d : Domain) → IsDomainText domain d → (o : Option Fault) → IfSome o (IsTextFault problem_file problem) → IfSome (option_map (λ (f : Fault). let t : FileFault = record { file = of_task problem_file; fault = f } in t) o) (IsTaskFault domain problem)
+  problem_reported d reads None h = tt
+  problem_reported d reads (Some fault) h = in_the_problem d reads h refl
 
-  pub pair_told : (d : Domain) (p : Problem) → IsDomainText domain d → IsProblemText problem p → (fault : TaskFault) → TellsFault d p fault → IfSome (told_of_pair fault) (IsTaskFault domain problem)
-  pair_told d p d_reads p_reads (At r) least = in_the_pair d p (refusal_of r) d_reads p_reads least (record { file = refl; fault = refl })
-  pair_told d p d_reads p_reads NoMemory h = tt
+  pub pair_reported : (d : Domain) (p : Problem) → IsDomainText domain d → IsProblemText problem p → (fault : TaskFault) → ReportsFault d p fault → IfSome (reported_of_pair fault) (IsTaskFault domain problem)
+  pair_reported d p d_reads p_reads (At r) least = in_the_pair d p (refusal_of r) d_reads p_reads least (record { file = refl; fault = refl })
+  pair_reported d p d_reads p_reads NoMemory h = tt
 
-  pub plan_told : (plan : List ℕ) (task : Task) → IsTaskOf domain problem task → (o : Option Fault) → IfSome o (IsPlanFault task plan) → IfSome (option_map (λ (f : Fault). let t : FileFault = record { file = the_plan; fault = f } in t) o) (IsFileFault domain problem plan)
-  plan_told plan task is None h = tt
-  plan_told plan task is (Some fault) h = in_the_plan task is h refl
+  pub plan_reported : (plan : List ℕ) (task : Task) → IsTaskOf domain problem task → (o : Option Fault) → IfSome o (IsPlanFault task plan) → IfSome (option_map (λ (f : Fault). let t : FileFault = record { file = the_plan; fault = f } in t) o) (IsFileFault domain problem plan)
+  plan_reported plan task is None h = tt
+  plan_reported plan task is (Some fault) h = in_the_plan task is h refl
 
-  pub task_told : (plan : List ℕ) (o : Option FileFault) → IfSome o (IsTaskFault domain problem) → IfSome o (IsFileFault domain problem plan)
-  task_told plan o h = told_more_in (IsTaskFault domain problem) (IsFileFault domain problem plan) o (λ told fault. in_the_task fault) h
+  pub task_reported : (plan : List ℕ) (o : Option FileFault) → IfSome o (IsTaskFault domain problem) → IfSome o (IsFileFault domain problem plan)
+  task_reported plan o h = reported_more_in (IsTaskFault domain problem) (IsFileFault domain problem plan) o (λ reported fault. in_the_task fault) h
 
   pub task_input : (plan : Option (List ℕ)) (o : Option FileFault) → IfSome o (IsTaskFault domain problem) → IfSome o (IsInputFault domain problem plan)
   task_input None o h = h
-  task_input (Some plan) o h = task_told plan o h
+  task_input (Some plan) o h = task_reported plan o h

@@ -1,4 +1,4 @@
--- What is true of a certificate for the task of two texts, and for the plan of a third one if that is handed in: by what came
+-- What is true of a certificate for the task of two texts, and for the plan of a third one if that is given: by what came
 -- of the certificate to a reader, and by its whole text.
 use Rattle.std.specs.Prelude.{◌≡◌, ℕ, ◌⊎◌, List, Option, None, Some, Result, Ok, Err, IfOk, IfErr}
 use Rattle.certificate_definitions.specs.CertificateText.{TextLine, text_of}
@@ -14,14 +14,14 @@ use Rattle.cert_checker.specs.CertChecker.{Answers, IsFirstRefusal, IsNoFault, I
 use Rattle.cert_checker.specs.Checking.{Accepts, Refuses}
 use Rattle.model.specs.Task.{Task, Instance}
 use Rattle.model.specs.Limits.{max_numbered_atoms}
-use Rattle.model.specs.Grounding.{limit_told}
+use Rattle.model.specs.Grounding.{exceeded_limit}
 use Rattle.certificate_definitions.specs.Certificates.{Certificate}
-use Rattle.file_answers.specs.Inputs.{IsHandedIn}
+use Rattle.file_answers.specs.Inputs.{IsGiven}
 
--- The answer is true of what came to the reader, for this task and the plan that this text is, if one is handed in.
+-- The answer is true of what came to the reader, for this task and the plan that this text is, if one is given.
 pub record IsChecked {R : Type 0} (remaining : R → Option (List ℕ)) (task : Task) (first now : CertReader R) (text : Option (List ℕ)) (most : ℕ) (answer : Result Accepted Refusal) : Type 0 where
   pub plan : Option (List Instance)
-  pub handed_in : IsHandedIn task text plan
+  pub given : IsGiven task text plan
   pub shown : IfOk answer (IsShown task plan)
   pub accepted : IfOk answer (Accepts remaining task first now plan most)
   pub accepts : (cert : List ℕ) → remaining (source_of first) ≡ Some cert → IsAccepted task cert plan → IfErr answer IsNoFault
@@ -31,7 +31,7 @@ pub record IsChecked {R : Type 0} (remaining : R → Option (List ℕ)) (task : 
 -- claim, and what it shows is true.
 pub record IsAcceptedAs (task : Task) (text : List ℕ) (plan : Option (List Instance)) (most : ℕ) (answer : Accepted) : Type 0 where
   pub accepted : IsAccepted task text plan
-  pub within : limit_told most max_numbered_atoms task accepted.certificate.atoms ≡ None
+  pub within : exceeded_limit most max_numbered_atoms task accepted.certificate.atoms ≡ None
   pub answers : Answers accepted.certificate.claim plan answer
   pub shown : IsShown task plan answer
 

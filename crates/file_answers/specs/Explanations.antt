@@ -31,9 +31,9 @@ use Rattle.model.specs.Files.{IsTaskOf, IsVerdictOf}
 use Rattle.model.specs.Limits.{max_numbered_atoms}
 use Rattle.model.specs.ClosedOff.{kept_instances}
 use Rattle.model.specs.NumberedAtoms.{numbered_atoms}
-use Rattle.model.specs.Grounding.{limit_told}
+use Rattle.model.specs.Grounding.{exceeded_limit}
 
--- the bytes of a text, where one is handed in
+-- the bytes of a text, where one is given
 abbrev pub text_in : Option NamedText → Option (List ℕ)
 text_in = option_map (λ (named : NamedText). named.text.now)
 
@@ -42,10 +42,10 @@ text_in = option_map (λ (named : NamedText). named.text.now)
 abbrev pub IsGrounded : model.Task → (most : ℕ) → Grounded → Type 0
 IsGrounded task most (Within instances atoms) =
     (instances ≡ length (kept_instances task)) × (atoms ≡ length (numbered_atoms task []))
-    × (limit_told most max_numbered_atoms task [] ≡ None)
-IsGrounded task most (Beyond limit) = limit_told most max_numbered_atoms task [] ≡ Some (limit_of limit)
+    × (exceeded_limit most max_numbered_atoms task [] ≡ None)
+IsGrounded task most (Beyond limit) = exceeded_limit most max_numbered_atoms task [] ≡ Some (limit_of limit)
 
--- What is explained is true of the texts of a domain and a problem, and of a plan, where one is handed in: the first fault; or
+-- What is explained is true of the texts of a domain and a problem, and of a plan, where one is given: the first fault; or
 -- else the verdict on the plan; or else, with no plan, what grounding makes of the task.
 abbrev pub IsTrueOf : (domain problem : List ℕ) → (plan : Option (List ℕ)) → (most : ℕ) → Subject → Type 0
 IsTrueOf domain problem plan most (Fault file code span) = IsInputFault domain problem plan (fault_at file code span)
@@ -54,7 +54,7 @@ IsTrueOf domain problem None most (Plan verdict) = ⊥
 IsTrueOf domain problem (Some plan) most (Task grounded) = ⊥
 IsTrueOf domain problem None most (Task grounded) = (task : model.Task) × IsTaskOf domain problem task × IsGrounded task most grounded
 
--- the file of this kind with its text, where it is handed in
+-- the file of this kind with its text, where it is given
 abbrev pub named_in : (domain problem : NamedText) → (plan : Option NamedText) → File → Option NamedText
 named_in domain problem plan Domain = Some domain
 named_in domain problem plan Problem = Some problem
@@ -77,7 +77,7 @@ IsHeaded domain problem plan e = headed_as domain problem plan (string_bytes e.t
 
 -- ---- on the way
 
--- the same of texts that stand together
+-- the same of texts that are together
 abbrev pub headed_in : NamedTexts → (lines : List ℕ) → Subject → Type 0
 headed_in texts lines (Fault file code span) =
     (place : LineColumn) × IsPlace (text_of texts file) span.start place
@@ -88,7 +88,7 @@ headed_in texts lines (Task grounded) = Unit {0}
 abbrev pub IsHeadedIn : NamedTexts → Explanation → Type 0
 IsHeadedIn texts e = headed_in texts (string_bytes e.text) e.subject
 
--- the fault is what is explained; want of memory is not
+-- the fault is what is explained; running out of memory is not
 abbrev pub IsOfFault : FileFault → Subject → Type 0
 IsOfFault (refused.At file code span) subject = subject ≡ Fault file code span
 IsOfFault refused.NoMemory subject = ⊥

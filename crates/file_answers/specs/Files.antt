@@ -11,27 +11,27 @@ use Rattle.source_text.specs.declared.texts.File.{File}
 use Rattle.source_text.specs.Files.{file_view}
 use Rattle.file_answers.specs.declared.files.FileFault.{FileFault}
 use Rattle.file_answers.specs.declared.files.FileFault.TheVariants.{At, NoMemory}
-use Rattle.model.specs.Fault as told
+use Rattle.model.specs.Fault as reported
 use Rattle.model.specs.Files as model
 
--- this code, of what stands at this place of this file
+-- this code, of what is at this place of this file
 abbrev pub fault_at : File → Code → Span → model.FileFault
 fault_at file code span = record { file = file_view file; fault = record { code = number_of code; span = record { start = span.start; end = span.end } } }
 
--- the fault that is told of the files, and None where it is want of memory
-abbrev pub told_in : FileFault → Option model.FileFault
-told_in (At file code span) = Some (fault_at file code span)
-told_in NoMemory = None
+-- the fault that is reported for the files, and None where it is running out of memory
+abbrev pub reported_in : FileFault → Option model.FileFault
+reported_in (At file code span) = Some (fault_at file code span)
+reported_in NoMemory = None
 
--- what is told of this file
-abbrev pub in_file : File → Option told.Fault → Option model.FileFault
-in_file file = option_map (λ (fault : told.Fault). record { file = file_view file; fault = fault })
+-- what is reported for this file
+abbrev pub in_file : File → Option reported.Fault → Option model.FileFault
+in_file file = option_map (λ (fault : reported.Fault). record { file = file_view file; fault = fault })
 
--- what the fault of a pair tells of its files
-abbrev pub told_of_pair : TaskFault → Option model.FileFault
-told_of_pair (refused.At r) =
+-- what the fault of a pair says of its files
+abbrev pub reported_of_pair : TaskFault → Option model.FileFault
+reported_of_pair (refused.At r) =
     Some (record { file = model.of_task (file_of r.file); fault = record { code = number_of r.code; span = record { start = r.span.start; end = r.span.end } } })
-told_of_pair refused.NoMemory = None
+reported_of_pair refused.NoMemory = None
 
 -- the bytes of a text that is lent, where one is
 abbrev pub text_in : Option (Bor (List ℕ)) → Option (List ℕ)

@@ -4,8 +4,8 @@ ghost use Rattle.task.specs.Task.{task_of};
 ghost use Rattle.cert_checker.specs.Reading.{CountsRefusal, IsFresh};
 ghost use Rattle.certificate_reader.specs.Reader.{source_of};
 ghost use Rattle.file_answers.specs.Checked.{IsChecked};
-ghost use Rattle.file_answers.specs.Inputs.{IsHandedIn, IsInputFault};
-ghost use Rattle.file_answers.specs.Files.{text_in, told_in};
+ghost use Rattle.file_answers.specs.Inputs.{IsGiven, IsInputFault};
+ghost use Rattle.file_answers.specs.Files.{text_in, reported_in};
 ghost use Rattle.model.specs.Task as model;
 ghost use Rattle.model.specs.Files.{IsTaskOf};
 ghost use Rattle.model.specs.PlanWriting.{has_names};
@@ -17,7 +17,7 @@ use devices::Source;
 use std::alloc::Global;
 use task::Task;
 
-/// A task with what is told of a certificate for it.
+/// A task with what is reported for a certificate for it.
 #[derive(Drop)]
 pub struct Checked {
     /// The task of the two files.
@@ -26,7 +26,7 @@ pub struct Checked {
     pub answer: Result<Accepted, Refusal>,
 }
 
-/// What a certificate shows of the task of two files, and of the plan of a third one, if it is handed in. Nothing was read
+/// What a certificate shows of the task of two files, and of the plan of a third one, if it is given. Nothing was read
 /// of the reader.
 ///
 /// The domain is scanned and read, then the problem, then both are typed together, then the plan is read; the first fault
@@ -37,7 +37,7 @@ pub struct Checked {
 /// match check_files(alloc, domain, problem, &mut cert, None, 1_000_000)?.answer {
 ///     Ok(Accepted::AtLeast { cost }) => println!(rt; "no plan costs less than {cost}")?,
 ///     Ok(Accepted::Unsolvable) => println!(rt; "there is no plan")?,
-///     Ok(Accepted::Optimal { .. }) => println!(rt; "only where a plan is handed in")?,
+///     Ok(Accepted::Optimal { .. }) => println!(rt; "only where a plan is given")?,
 ///     Err(_) => println!(rt; "the certificate shows nothing")?,
 /// }
 /// ```
@@ -56,18 +56,18 @@ pub fn check_files<R: Source>(
     ensures answer { IfOk result (λ c. IsChecked R.remaining (task_of c.task) cert.old cert.new (text_in plan.entry) max_instances c.answer) }
     ensures names { IfOk result (λ c. IsTrue (has_names (task_of c.task))) }
     ensures failures { IfOk result (λ c. CountsRefusal (R.failures (source_of cert.old)) (R.failures (source_of cert.new)) c.answer) }
-    ensures refused { IfErr result (λ fault. IfSome (told_in fault) (IsInputFault domain.now problem.now (text_in plan.entry))) }
+    ensures refused { IfErr result (λ fault. IfSome (reported_in fault) (IsInputFault domain.now problem.now (text_in plan.entry))) }
     ensures unread { IsErr result → cert.new ≡ cert.old }
 
-    // Where the texts are a task, and a plan for it if one is handed in, there is an answer: the only error is want of memory.
+    // Where the texts are a task, and a plan for it if one is given, there is an answer: the only error is running out of memory.
     ensures taken { (task : model.Task) (steps : Option (List model.Instance)) → IsTaskOf domain.now problem.now task
-        → IsHandedIn task (text_in plan.entry) steps → IfErr result (λ fault. told_in fault ≡ None) }
+        → IsGiven task (text_in plan.entry) steps → IfErr result (λ fault. reported_in fault ≡ None) }
 {
     let task = task_of_files(alloc, domain, problem)?;
     check_task(alloc, task, cert, plan, max_instances)
 }
 
-/// The task with what is told of the certificate.
+/// The task with what is reported for the certificate.
 fn check_task<R: Source>(
     alloc: Global,
     task: Task,
@@ -80,7 +80,7 @@ fn check_task<R: Source>(
     ensures answer { IfOk result (λ c. IsChecked R.remaining (task_of c.task) cert.old cert.new (text_in plan.entry) max_instances c.answer) }
     ensures failures { IfOk result (λ c. CountsRefusal (R.failures (source_of cert.old)) (R.failures (source_of cert.new)) c.answer) }
     ensures refused { (domain problem : List ℕ) → IsTaskOf domain problem (task_of task)
-        → IfErr result (λ fault. IfSome (told_in fault) (IsInputFault domain problem (text_in plan.entry))) }
+        → IfErr result (λ fault. IfSome (reported_in fault) (IsInputFault domain problem (text_in plan.entry))) }
     ensures unread { IsErr result → cert.new ≡ cert.old }
 {
     match answer_on(alloc, &task, cert, plan, max_instances) {
@@ -89,7 +89,7 @@ fn check_task<R: Source>(
     }
 }
 
-/// What is told of the certificate for this task, and for the plan of this text, if one is handed in.
+/// What is reported for the certificate for this task, and for the plan of this text, if one is given.
 fn answer_on<R: Source>(
     alloc: Global,
     task: &Task,
@@ -101,7 +101,7 @@ fn answer_on<R: Source>(
     ensures answer { IfOk result (IsChecked R.remaining (task_of task.now) cert.old cert.new (text_in plan.entry) max_instances) }
     ensures failures { IfOk result (CountsRefusal (R.failures (source_of cert.old)) (R.failures (source_of cert.new))) }
     ensures refused { (domain problem : List ℕ) → IsTaskOf domain problem (task_of task.now)
-        → IfErr result (λ fault. IfSome (told_in fault) (IsInputFault domain problem (text_in plan.entry))) }
+        → IfErr result (λ fault. IfSome (reported_in fault) (IsInputFault domain problem (text_in plan.entry))) }
     ensures unread { IsErr result → cert.new ≡ cert.old }
 {
     let Some(text) = plan else {

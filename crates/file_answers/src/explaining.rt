@@ -15,10 +15,10 @@ use of_task::explain_task;
 use source_text::{NamedText, NamedTexts};
 use std::alloc::Global;
 
-/// What is said of a domain file and a problem file, and of a plan file, if one is handed in.
+/// What is said of a domain file and a problem file, and of a plan file, if one is given.
 ///
 /// The domain is scanned and read, then the problem, then both are typed together, then the plan is read; the first fault is
-/// what is explained. Else it is the plan, or, where none is handed in, the task, of which at most `max_instances` instances
+/// what is explained. Else it is the plan, or, where none is given, the task, of which at most `max_instances` instances
 /// may be kept.
 ///
 /// # Errors
@@ -53,7 +53,7 @@ pub fn explain_files(
     }
 }
 
-/// The texts that a fault is looked up in. Where no plan is handed in, its text has no bytes.
+/// The texts that a fault is looked up in. Where no plan is given, its text has no bytes.
 fn texts_of<'a>(
     domain: NamedText<'a>,
     problem: NamedText<'a>,

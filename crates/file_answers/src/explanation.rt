@@ -16,18 +16,18 @@ pub struct Explanation {
 /// What an explanation is about.
 #[derive(Clone, Copy, Debug, PartialEq, Eq)]
 pub enum Subject {
-    /// This file is refused by this code, for what stands at this place of it. It is the first fault.
+    /// This file is refused by this code, for what is at this place of it. It is the first fault.
     Fault {
         /// The file that the place is in.
         file: File,
         /// What is wrong.
         code: Code,
-        /// Where it stands, in bytes.
+        /// Where it is, in bytes.
         span: Span,
     },
     /// The plan, of which this is true.
     Plan(Verdict),
-    /// The task of two files, where no plan is handed in.
+    /// The task of two files, where no plan is given.
     Task(Grounded),
 }
 

@@ -1,13 +1,13 @@
 //! From the bytes of files to their task and their plan, and the faults of files.
 ghost use Rattle.std.specs.Prelude.{◌≡◌, ℕ, List, IfOk, IfErr, IfSome, IsTrue};
 ghost use Rattle.std.specs.List.{list_all};
-ghost use Rattle.tokens.specs.Told.{told_by};
+ghost use Rattle.tokens.specs.Reported.{reported_by};
 ghost use Rattle.syntax_tree.specs.Tree.{domain_of, problem_of};
 ghost use Rattle.task.specs.Task.{task_of};
 ghost use Rattle.formulas.specs.State.{plan_of};
-ghost use Rattle.file_answers.specs.Files.{told_in};
+ghost use Rattle.file_answers.specs.Files.{reported_in};
 ghost use Rattle.model.specs.Task as model;
-ghost use Rattle.model.specs.Files as told;
+ghost use Rattle.model.specs.Files as reported;
 ghost use Rattle.model.specs.Trees.{domain_file, problem_file};
 ghost use Rattle.model.specs.Files.{IsDomainText, IsProblemText, IsTextFault, IsTaskOf, IsTaskFault, IsFileFault};
 ghost use Rattle.model.specs.Meaning.{is_instance};
@@ -26,14 +26,14 @@ use typing::{FromTrees, TaskFault, TaskFile, TaskRefusal};
 /// Why there is no verdict.
 #[derive(Clone, Copy, Debug, PartialEq, Eq, Error)]
 pub enum FileFault {
-    /// This file is refused by this code, for what stands at this place of it.
+    /// This file is refused by this code, for what is at this place of it.
     #[error("{code} in {file} at {}..{}", .span.start, .span.end)]
     At {
         /// The file that the place is in.
         file: File,
         /// What is wrong.
         code: Code,
-        /// Where it stands.
+        /// Where it is.
         span: Span,
     },
     /// Memory that was asked for was refused.
@@ -43,12 +43,12 @@ pub enum FileFault {
 
 impl FileFault {
     ghost use Rattle.std.specs.Prelude.{◌≡◌};
-    ghost use Rattle.tokens.specs.Told.{told_by};
-    ghost use Rattle.file_answers.specs.Files.{told_in, in_file};
+    ghost use Rattle.tokens.specs.Reported.{reported_by};
+    ghost use Rattle.file_answers.specs.Files.{reported_in, in_file};
 
     /// The fault of a file's text.
     fn of(file: File, fault: Fault) -> FileFault
-        ensures { told_in result ≡ in_file file (told_by fault) }
+        ensures { reported_in result ≡ in_file file (reported_by fault) }
     {
         match fault {
             Refused::At(TextRefusal { code, span }) => FileFault::At { file, code, span },
@@ -59,9 +59,9 @@ impl FileFault {
 
 impl From<TaskFault> for FileFault {
     ghost use Rattle.std.specs.Prelude.{◌≡◌};
-    ghost use Rattle.file_answers.specs.Files.{told_in, told_of_pair};
+    ghost use Rattle.file_answers.specs.Files.{reported_in, reported_of_pair};
 
-    ghost from_gives = { λ fault e. told_in e ≡ told_of_pair fault };
+    ghost from_gives = { λ fault e. reported_in e ≡ reported_of_pair fault };
 
     fn from(fault: TaskFault) -> FileFault {
         match fault {
@@ -96,7 +96,7 @@ impl From<NoMemory> for FileFault {
 /// The first fault of the two texts, or memory was refused.
 pub fn task_of_files(alloc: Global, domain: &[u8], problem: &[u8]) -> Result<Task, FileFault>
     ensures task { IfOk result (λ task. IsTaskOf domain.now problem.now (task_of task)) }
-    ensures refused { IfErr result (λ fault. IfSome (told_in fault) (IsTaskFault domain.now problem.now)) }
+    ensures refused { IfErr result (λ fault. IfSome (reported_in fault) (IsTaskFault domain.now problem.now)) }
 {
     let domain = match read_domain(alloc, domain) {
         Ok(domain) => domain,
@@ -112,12 +112,12 @@ pub fn task_of_files(alloc: Global, domain: &[u8], problem: &[u8]) -> Result<Tas
 /// The plan of a plan file, for this task.
 ///
 /// # Errors
-/// The first fault of the text, which is told of the plan file, or memory was refused.
+/// The first fault of the text, which is reported for the plan file, or memory was refused.
 pub fn plan_of_file(alloc: Global, task: &Task, text: &[u8]) -> Result<Plan, FileFault>
     ensures plan { IfOk result (λ plan. IsPlanText (task_of task.now) text.now (plan_of plan)) }
     ensures instances { IfOk result (λ plan. IsTrue (list_all (is_instance (task_of task.now)) (plan_of plan))) }
     ensures refused { (domain problem : List ℕ) → IsTaskOf domain problem (task_of task.now)
-        → IfErr result (λ fault. IfSome (told_in fault) (IsFileFault domain problem text.now)) }
+        → IfErr result (λ fault. IfSome (reported_in fault) (IsFileFault domain problem text.now)) }
 {
     match read_plan(alloc, task, text) {
         Ok(plan) => Ok(plan),
@@ -127,7 +127,7 @@ pub fn plan_of_file(alloc: Global, task: &Task, text: &[u8]) -> Result<Plan, Fil
 
 fn read_domain(alloc: Global, text: &[u8]) -> Result<pddl_tree::Domain<'_>, Fault>
     ensures domain { IfOk result (λ domain. IsDomainText text.now (domain_of domain)) }
-    ensures refused { IfErr result (λ fault. IfSome (told_by fault) (IsTextFault domain_file text.now)) }
+    ensures refused { IfErr result (λ fault. IfSome (reported_by fault) (IsTextFault domain_file text.now)) }
 {
     let words = scan(alloc, text)?;
     pddl_tree::domain(alloc, &words)
@@ -135,17 +135,17 @@ fn read_domain(alloc: Global, text: &[u8]) -> Result<pddl_tree::Domain<'_>, Faul
 
 fn read_problem(alloc: Global, text: &[u8]) -> Result<pddl_tree::Problem<'_>, Fault>
     ensures problem { IfOk result (λ problem. IsProblemText text.now (problem_of problem)) }
-    ensures refused { IfErr result (λ fault. IfSome (told_by fault) (IsTextFault problem_file text.now)) }
+    ensures refused { IfErr result (λ fault. IfSome (reported_by fault) (IsTextFault problem_file text.now)) }
 {
     let words = scan(alloc, text)?;
     pddl_tree::problem(alloc, &words)
 }
 
-/// Says that two texts are at most one task, and that no fault is told of two that are one. It is stated of all texts,
+/// Says that two texts are at most one task, and that no fault is reported for two that are one. It is stated of all texts,
 /// and proved; the call does nothing.
 pub fn one_task()
     ensures one { (domain problem : List ℕ) (task other : model.Task)
         → IsTaskOf domain problem task → IsTaskOf domain problem other → task ≡ other }
-    ensures none { (domain problem : List ℕ) (task : model.Task) (fault : told.FileFault)
+    ensures none { (domain problem : List ℕ) (task : model.Task) (fault : reported.FileFault)
         → IsTaskOf domain problem task → IsTaskFault domain problem fault → ⊥ }
 {}

@@ -5,7 +5,7 @@ ghost use Rattle.model.specs.Task.{Task, Instance};
 ghost use Rattle.model.specs.Files.{IsTaskOf};
 ghost use Rattle.model.specs.Claims.{Claim};
 ghost use Rattle.model.specs.Limits.{max_numbered_atoms};
-ghost use Rattle.model.specs.Grounding.{limit_told};
+ghost use Rattle.model.specs.Grounding.{exceeded_limit};
 ghost use Rattle.model.specs.WellTyped.{is_task};
 ghost use Rattle.certificate_definitions.specs.Certificates.{Certificate};
 ghost use Rattle.certificate_definitions.specs.CertificateRefusals.{IsPlanWithin};
@@ -30,9 +30,9 @@ pub fn tasks_of_files_are_well_typed()
 pub fn solved_certificates_are_accepted()
     ensures accepted { (domain problem : List ℕ) (task : Task) (claim : Claim) (c : Certificate) (most_states most : ℕ) (plan : Option (List Instance))
         → IsTaskOf domain problem task → IsShownBy task claim most_states c
-        → limit_told most max_numbered_atoms task [] ≡ None → IsPlanWithin task claim plan
+        → exceeded_limit most max_numbered_atoms task [] ≡ None → IsPlanWithin task claim plan
         → IsTextOf task (certificate_text task c) c × IsAccepted task (certificate_text task c) plan
-        × (limit_told most max_numbered_atoms task c.atoms ≡ None) }
+        × (exceeded_limit most max_numbered_atoms task c.atoms ≡ None) }
     // That of the limit of states is accepted for what it claims, which is true: each list that solves costs at least this.
     ensures at_a_limit { (domain problem : List ℕ) (task : Task) (states instances least : ℕ) (cert : Cert)
         → IsTaskOf domain problem task → IsTrueAnswer task states instances (Unknown (States least cert))

@@ -2,7 +2,7 @@
 ghost use Rattle.std.specs.Prelude.{◌≡◌, ℕ, List, IfOk, IfErr, IfSome, IsTrue, None};
 ghost use Rattle.task.specs.Task.{task_of};
 ghost use Rattle.solver.specs.Solver.{IsTrueAnswer};
-ghost use Rattle.file_answers.specs.Files.{told_in};
+ghost use Rattle.file_answers.specs.Files.{reported_in};
 ghost use Rattle.model.specs.Task as model;
 ghost use Rattle.model.specs.Files.{IsTaskOf, IsTaskFault};
 ghost use Rattle.model.specs.PlanWriting.{has_names};
@@ -47,20 +47,20 @@ pub fn solve_files(
     ensures task { IfOk result (λ s. IsTaskOf domain.now problem.now (task_of s.task)) }
     ensures answer { IfOk result (λ s. IsTrueAnswer (task_of s.task) limits.states limits.instances s.answer) }
     ensures names { IfOk result (λ s. IsTrue (has_names (task_of s.task))) }
-    ensures refused { IfErr result (λ fault. IfSome (told_in fault) (IsTaskFault domain.now problem.now)) }
+    ensures refused { IfErr result (λ fault. IfSome (reported_in fault) (IsTaskFault domain.now problem.now)) }
 
-    // Where the two are a task, there is an answer: the only error is want of memory.
-    ensures taken { (task : model.Task) → IsTaskOf domain.now problem.now task → IfErr result (λ fault. told_in fault ≡ None) }
+    // Where the two are a task, there is an answer: the only error is running out of memory.
+    ensures taken { (task : model.Task) → IsTaskOf domain.now problem.now task → IfErr result (λ fault. reported_in fault ≡ None) }
 {
     let task = task_of_files(alloc, domain, problem)?;
     solve_task(alloc, task, limits)
 }
 
-/// The task with what is found out of it. The only error is want of memory.
+/// The task with what is found out of it. The only error is running out of memory.
 fn solve_task(alloc: Global, task: Task, limits: Limits) -> Result<Solved, FileFault>
     ensures task { (domain problem : List ℕ) → IsTaskOf domain problem (task_of task) → IfOk result (λ s. IsTaskOf domain problem (task_of s.task)) }
     ensures answer { IfOk result (λ s. IsTrueAnswer (task_of s.task) limits.states limits.instances s.answer) }
-    ensures memory { IfErr result (λ fault. told_in fault ≡ None) }
+    ensures memory { IfErr result (λ fault. reported_in fault ≡ None) }
 {
     match solve(alloc, &task, limits) {
         Ok(answer) => Ok(Solved { task, answer }),

@@ -2,7 +2,7 @@
 ghost use Rattle.std.specs.Prelude.{◌≡◌, ℕ, List, IfOk, IfErr, IfSome, None};
 ghost use Rattle.task.specs.Task.{task_of};
 ghost use Rattle.validator.specs.Verdict.{verdict_of};
-ghost use Rattle.file_answers.specs.Files.{told_in};
+ghost use Rattle.file_answers.specs.Files.{reported_in};
 ghost use Rattle.model.specs.Task as model;
 ghost use Rattle.model.specs.Files.{AreRead, IsTaskOf, IsVerdictOf, IsFileFault};
 
@@ -30,11 +30,11 @@ pub fn validate_files(
     plan: &[u8],
 ) -> Result<Verdict, FileFault>
     ensures verdict { IfOk result (λ verdict. IsVerdictOf domain.now problem.now plan.now (verdict_of verdict)) }
-    ensures refused { IfErr result (λ fault. IfSome (told_in fault) (IsFileFault domain.now problem.now plan.now)) }
+    ensures refused { IfErr result (λ fault. IfSome (reported_in fault) (IsFileFault domain.now problem.now plan.now)) }
 
-    // Where the three are a task and a plan for it, there is a verdict: the only error is want of memory.
+    // Where the three are a task and a plan for it, there is a verdict: the only error is running out of memory.
     ensures taken { (task : model.Task) (steps : List model.Instance)
-        → AreRead domain.now problem.now plan.now task steps → IfErr result (λ fault. told_in fault ≡ None) }
+        → AreRead domain.now problem.now plan.now task steps → IfErr result (λ fault. reported_in fault ≡ None) }
 {
     let task = task_of_files(alloc, domain, problem)?;
     verdict_on(alloc, &task, plan)
@@ -45,7 +45,7 @@ fn verdict_on(alloc: Global, task: &Task, plan: &[u8]) -> Result<Verdict, FileFa
     ensures verdict { (domain problem : List ℕ) → IsTaskOf domain problem (task_of task.now)
         → IfOk result (λ verdict. IsVerdictOf domain problem plan.now (verdict_of verdict)) }
     ensures refused { (domain problem : List ℕ) → IsTaskOf domain problem (task_of task.now)
-        → IfErr result (λ fault. IfSome (told_in fault) (IsFileFault domain problem plan.now)) }
+        → IfErr result (λ fault. IfSome (reported_in fault) (IsFileFault domain problem plan.now)) }
 {
     let plan = plan_of_file(alloc, task, plan)?;
     Ok(validate(alloc, task, &plan)?)

@@ -41,7 +41,7 @@ model_total = on_total atom_of atoms_total
 model_apart : CmpEqualImpliesEq model_cmp
 model_apart a b tie = one_atom a b (atoms_apart (atom_of a) (atom_of b) tie)
 
--- the atoms of a state stand in order, so one state has one list of them
+-- the atoms of a state are in order, so one state has one list of them
 pub one_list : (s t : code_state.State) → state_of s ≡ state_of t → s.atoms.keys ≡ t.atoms.keys
 one_list s t same =
     btree_set_from_contains model_total s.atoms t.atoms s.in_order t.in_order

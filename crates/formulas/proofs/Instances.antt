@@ -1,4 +1,4 @@
--- What it means that an instance is the task's, and when objects may stand in a formula.
+-- What it means that an instance is the task's, and when objects may occur in a formula.
 use Rattle.std.specs.Prelude.{◌≡◌, ℕ, ◌≤◌, true, false, List, [], length, slice_get, IsTrue, Some}
 use Rattle.std.proofs.Common.{sym, ◌∙◌, ap, subst}
 use Rattle.std.specs.Cmp.{first_so, second_so}

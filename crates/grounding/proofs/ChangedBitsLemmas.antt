@@ -10,10 +10,10 @@ use Rattle.std.proofs.lemmas.Option.{slice_get-get_or}
 use Rattle.model.specs.Task.{Atom, Task}
 use Rattle.model.specs.Meaning.{atom_cmp, GroundLiteral, adds, deletes, added_by, deleted_by, after_literals}
 use Rattle.model.specs.Fluents.{is_fluent}
-use Rattle.model.specs.NumberedAtoms.{stands_in, number_of, are_distinct}
+use Rattle.model.specs.NumberedAtoms.{occurs_in, number_of, are_distinct}
 use Rattle.model.specs.Grounding.{state_of_bits, bits_of_state}
 use Rattle.model.proofs.StaticLemmas.{same_atom, contains-after_literals}
-use Rattle.model.proofs.NumberingLemmas.{stands_in-got, same_itself, number_of-got, got-number_of}
+use Rattle.model.proofs.NumberingLemmas.{occurs_in-got, same_itself, number_of-got, got-number_of}
 use Rattle.model.proofs.PackedStates.{contains-numbered}
 use Rattle.grounding.specs.ChangedBits.{numbers_changed, with_bits}
 
@@ -73,20 +73,20 @@ module _ (atoms : List Atom) (distinct : are_distinct atoms ≡ true) (k : ℕ) 
   is_here numbers = list_any (λ n. n == k) numbers
 
   -- one atom more
-  one_more : (a : Atom) (rest : List Atom) (numbers : List ℕ) → stands_in rest q ≡ is_here numbers
-      → (eq_by_cmp atom_cmp q a || stands_in rest q) ≡ is_here (cons_option (number_of atoms a) numbers)
+  one_more : (a : Atom) (rest : List Atom) (numbers : List ℕ) → occurs_in rest q ≡ is_here numbers
+      → (eq_by_cmp atom_cmp q a || occurs_in rest q) ≡ is_here (cons_option (number_of atoms a) numbers)
   one_more a rest numbers later =
-      elim (number_of atoms a) as (λ o. number_of atoms a ≡ o → (eq_by_cmp atom_cmp q a || stands_in rest q) ≡ is_here (cons_option o numbers)) [
+      elim (number_of atoms a) as (λ o. number_of atoms a ≡ o → (eq_by_cmp atom_cmp q a || occurs_in rest q) ≡ is_here (cons_option o numbers)) [
         | None ↦ λ none. (λ i. no_number a none i || later i)
         | Some n ↦ λ is. (λ i. same_number a n is i || later i)
       ] refl
 
-  pub added-numbers : (literals : List GroundLiteral) → stands_in (added_by literals) q ≡ is_here (numbers_changed atoms true literals)
+  pub added-numbers : (literals : List GroundLiteral) → occurs_in (added_by literals) q ≡ is_here (numbers_changed atoms true literals)
   added-numbers [] = refl
   added-numbers (adds a ∷ literals) = one_more a (added_by literals) (numbers_changed atoms true literals) (added-numbers literals)
   added-numbers (deletes a ∷ literals) = added-numbers literals
 
-  pub deleted-numbers : (literals : List GroundLiteral) → stands_in (deleted_by literals) q ≡ is_here (numbers_changed atoms false literals)
+  pub deleted-numbers : (literals : List GroundLiteral) → occurs_in (deleted_by literals) q ≡ is_here (numbers_changed atoms false literals)
   deleted-numbers [] = refl
   deleted-numbers (adds a ∷ literals) = deleted-numbers literals
   deleted-numbers (deletes a ∷ literals) = one_more a (deleted_by literals) (numbers_changed atoms false literals) (deleted-numbers literals)
@@ -107,7 +107,7 @@ either false true false = refl
 either false false true = refl
 either false false false = refl
 
-pub after_literals-bits : (t : Task) (atoms : List Atom) → are_distinct atoms ≡ true → ((a : Atom) → stands_in atoms a ≡ true → is_fluent t a.predicate ≡ true)
+pub after_literals-bits : (t : Task) (atoms : List Atom) → are_distinct atoms ≡ true → ((a : Atom) → occurs_in atoms a ≡ true → is_fluent t a.predicate ≡ true)
     → (bits : List Bool) → length bits ≡ length atoms → (literals : List GroundLiteral)
     → bits_of_state atoms (after_literals (state_of_bits t atoms bits) literals) ≡ after_bits atoms bits literals
 after_literals-bits t atoms distinct fluent bits long literals =
@@ -130,7 +130,7 @@ after_literals-bits t atoms distinct fluent bits long literals =
         let added = numbers_changed atoms true literals in
         get_or-map (contains (after_literals s literals)) atoms k anything d below
         ∙ contains-after_literals s literals q
-        ∙ (λ i. (contains-numbered (is_fluent t) t.init atoms distinct bits k q (fluent q (stands_in-got atoms k q at)) at i && not (deleted-numbers atoms distinct k q at literals i)) || added-numbers atoms distinct k q at literals i)
+        ∙ (λ i. (contains-numbered (is_fluent t) t.init atoms distinct bits k q (fluent q (occurs_in-got atoms k q at)) at i && not (deleted-numbers atoms distinct k q at literals i)) || added-numbers atoms distinct k q at literals i)
         ∙ either (list_any (λ n. n == k) deleted) (list_any (λ n. n == k) added) (get_or bits k false)
         ∙ ap (cond (list_any (λ n. n == k) added) true) (sym (bit-with_bits false bits deleted k (omega (arith, below, long))))
         ∙ sym (bit-with_bits true (with_bits false bits deleted) added k (omega (arith, below, long, length-with_bits false bits deleted)))

@@ -8,7 +8,7 @@ use Rattle.model.specs.Task.{Task, Atom, Formula}
 use Rattle.model.specs.Meaning.{holds}
 use Rattle.model.specs.Fluents.{is_fluent}
 use Rattle.model.specs.SureLiterals.{Literal, is_true, is_false, are_same, are_different, literal_holds, sure}
-use Rattle.model.specs.NumberedAtoms.{stands_in, number_of, are_distinct}
+use Rattle.model.specs.NumberedAtoms.{occurs_in, number_of, are_distinct}
 use Rattle.model.specs.NumberedLiterals.{NumberedLiteral, numbered_literal, numbered_literals, agrees}
 use Rattle.model.specs.Grounding.{state_of_bits}
 use Rattle.model.proofs.NumberingLemmas.{got-number_of}
@@ -26,36 +26,36 @@ use Rattle.grounding.proofs.PackedTruth.{literals-packed}
 -- are true where those with numbers are and the others may be, what is decided is whether the formula holds.
 truly : (held all agreed may outright : Bool) → (held ≡ true → all ≡ true) → (outright ≡ true → held ≡ all) → all ≡ (agreed && may)
     → (answer : Bool) → decided_by (beyond_of may outright) agreed ≡ Some answer → held ≡ answer
-truly true all true true true sure says is answer told = cc
-truly true all true true false sure says is answer told = absurd (cc)
-truly true all true false outright sure says is answer told = absurd (true≢false (sym (sure refl) ∙ is))
-truly true all false may outright sure says is answer told = absurd (true≢false (sym (sure refl) ∙ is))
-truly false all true true true sure says is answer told = absurd (true≢false (sym is ∙ sym (says refl)))
-truly false all true true false sure says is answer told = absurd (cc)
-truly false all false true true sure says is answer told = cc
-truly false all false true false sure says is answer told = cc
-truly false all agreed false outright sure says is answer told = cc
+truly true all true true true sure says is answer reported = cc
+truly true all true true false sure says is answer reported = absurd (cc)
+truly true all true false outright sure says is answer reported = absurd (true≢false (sym (sure refl) ∙ is))
+truly true all false may outright sure says is answer reported = absurd (true≢false (sym (sure refl) ∙ is))
+truly false all true true true sure says is answer reported = absurd (true≢false (sym is ∙ sym (says refl)))
+truly false all true true false sure says is answer reported = absurd (cc)
+truly false all false true true sure says is answer reported = cc
+truly false all false true false sure says is answer reported = cc
+truly false all agreed false outright sure says is answer reported = cc
 
-module _ (t : Task) (atoms : List Atom) (distinct : are_distinct atoms ≡ true) (fluent : (q : Atom) → stands_in atoms q ≡ true → is_fluent t q.predicate ≡ true) (f : Formula) (binding : List ℕ) where
+module _ (t : Task) (atoms : List Atom) (distinct : are_distinct atoms ≡ true) (fluent : (q : Atom) → occurs_in atoms q ≡ true → is_fluent t q.predicate ≡ true) (f : Formula) (binding : List ℕ) where
   pub decided-truly : (bits : List Bool) (answer : Bool)
       → decided_by (beyond_of (list_all (may_hold t atoms) (sure t f binding)) (is_outright f)) (list_all (agrees bits) (numbered_literals t atoms f binding)) ≡ Some answer
       → holds t f binding (state_of_bits t atoms bits) ≡ answer
-  decided-truly bits answer told =
+  decided-truly bits answer reported =
       let state = state_of_bits t atoms bits in
       truly (holds t f binding state) (list_all (literal_holds state) (sure t f binding)) (list_all (agrees bits) (numbered_literals t atoms f binding))
       (list_all (may_hold t atoms) (sure t f binding)) (is_outright f)
       (λ held. sure_literals_hold t f binding state held)
       (λ outright. holds_outright t f binding state outright)
       (literals-packed t atoms distinct fluent bits (sure t f binding))
-      answer told
+      answer reported
 
   -- so is what a condition with these literals decides
   pub condition-of : (c : Condition) → literals_in c ≡ numbered_literals t atoms f binding → c.beyond ≡ beyond_of (list_all (may_hold t atoms) (sure t f binding)) (is_outright f)
       → IsConditionOf t atoms f binding c
   condition-of c literals beyond = record {
     literals = literals;
-    decided = λ bits answer long told.
-        decided-truly bits answer (sym (λ i. decided_by (beyond i) (list_all (agrees bits) (literals i))) ∙ told);
+    decided = λ bits answer long reported.
+        decided-truly bits answer (sym (λ i. decided_by (beyond i) (list_all (agrees bits) (literals i))) ∙ reported);
   }
 
 -- ---- numbers below the width

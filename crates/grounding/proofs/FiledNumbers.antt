@@ -1,4 +1,4 @@
--- How often a number stands in a list, lists that rise, and numbers filed in rows.
+-- How often a number is in a list, lists that rise, and numbers filed in rows.
 use Rattle.std.proofs.Common.{◌≡◌, ◌∙◌, ◌≤◌, ◌<◌, ℕ, zero, suc, ◌+◌, ◌==◌, inl, inr, Bool, true, false, List, [], ◌∷◌, ◌++◌, length, length-append, get_or, cond, refl, sym, ap, subst, arith}
 use Rattle.std.specs.Prelude.{filter, if◌then◌else◌}
 use Rattle.std.specs.List.{All, range_with_len}

@@ -75,7 +75,7 @@ module _ (t : Task) (atoms : List Atom) (number : ℕ) (i : Instance) (at : slic
       all-counting changes.items ∙ ap (map change_of_effect) are.effects ∙ changes-of_effects t atoms i
       ∙ sym (ap (λ o. option_map_or (counting_of_instance t atoms) o []) at)
 
--- ---- what stands in a ground task at the number of an instance
+-- ---- what is in a ground task at the number of an instance
 
 module _ (g : Ground) (number : ℕ) (i : Instance) (at : slice_get (kept_instances (task_in g)) number ≡ Some i) where
   kept-at : slice_get (instances_in g.numbering) number ≡ Some i

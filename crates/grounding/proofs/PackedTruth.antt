@@ -1,5 +1,5 @@
 -- What is true in the state that a packed state stands for, by the numbers of atoms, where the numbered atoms are of fluent
--- predicates and none stands twice.
+-- predicates and none is twice.
 use Rattle.std.proofs.Common.{◌≡◌, ◌∙◌, ℕ, Bool, true, false, not, ◌&&◌, ◌||◌, List, [], ◌∷◌, get_or, Option, None, Some, refl, sym, ap, true≢false}
 use Rattle.std.specs.Prelude.{is_some}
 use Rattle.std.specs.List.{list_all, filter_map, cons_option}
@@ -9,13 +9,13 @@ use Rattle.std.proofs.lemmas.Bool.{false_from_ne_true}
 use Rattle.model.specs.Task.{Atom, Task}
 use Rattle.model.specs.Fluents.{is_fluent}
 use Rattle.model.specs.SureLiterals.{Literal, is_true, is_false, are_same, are_different, literal_holds}
-use Rattle.model.specs.NumberedAtoms.{stands_in, number_of, are_distinct}
+use Rattle.model.specs.NumberedAtoms.{occurs_in, number_of, are_distinct}
 use Rattle.model.specs.NumberedLiterals.{NumberedLiteral, numbered_literal, agrees}
 use Rattle.model.specs.Grounding.{chosen, state_of_bits}
 use Rattle.model.proofs.Atoms.{atoms_total}
 use Rattle.model.proofs.ListLemmas.{Contains-place}
-use Rattle.model.proofs.NumberingLemmas.{stands_in-got, got-number_of, number_of-got, stands_in-Contains}
-use Rattle.model.proofs.PackedStates.{contains-numbered, contains-packed, chosen-stands_in}
+use Rattle.model.proofs.NumberingLemmas.{occurs_in-got, got-number_of, number_of-got, occurs_in-Contains}
+use Rattle.model.proofs.PackedStates.{contains-numbered, contains-packed, chosen-occurs_in}
 use Rattle.grounding.specs.Unnumbered.{is_initial_static, may_hold}
 
 and_true : (b : Bool) → b ≡ (b && true)
@@ -28,24 +28,24 @@ and_four true false true n = refl
 and_four true false false n = refl
 and_four false m y n = refl
 
-module _ (t : Task) (atoms : List Atom) (distinct : are_distinct atoms ≡ true) (fluent : (q : Atom) → stands_in atoms q ≡ true → is_fluent t q.predicate ≡ true) where
+module _ (t : Task) (atoms : List Atom) (distinct : are_distinct atoms ≡ true) (fluent : (q : Atom) → occurs_in atoms q ≡ true → is_fluent t q.predicate ≡ true) where
   -- a numbered atom is true where its bit is set
   pub contains-bit : (bits : List Bool) (a : Atom) (n : ℕ) → number_of atoms a ≡ Some n → contains (state_of_bits t atoms bits) a ≡ get_or bits n false
   contains-bit bits a n is =
       let at = got-number_of atoms a n is in
-      contains-numbered (is_fluent t) t.init atoms distinct bits n a (fluent a (stands_in-got atoms n a at)) at
+      contains-numbered (is_fluent t) t.init atoms distinct bits n a (fluent a (occurs_in-got atoms n a at)) at
 
-  unnumbered-apart : (a : Atom) → number_of atoms a ≡ None → stands_in atoms a ≡ false
+  unnumbered-apart : (a : Atom) → number_of atoms a ≡ None → occurs_in atoms a ≡ false
   unnumbered-apart a none =
-      false_from_ne_true (stands_in atoms a) (λ there.
-      let place = Contains-place atoms a (stands_in-Contains atoms a there) in
+      false_from_ne_true (occurs_in atoms a) (λ there.
+      let place = Contains-place atoms a (occurs_in-Contains atoms a there) in
       let some = number_of-got atoms place.0 a distinct place.1 in absurd (cc))
 
   -- and one without a number where it is a static atom that is true at the start
   pub contains-static : (bits : List Bool) (a : Atom) → number_of atoms a ≡ None → contains (state_of_bits t atoms bits) a ≡ is_initial_static t a
   contains-static bits a none =
-      let unchosen : stands_in (chosen atoms bits) a ≡ false = false_from_ne_true (stands_in (chosen atoms bits) a) (λ there.
-      true≢false (sym (chosen-stands_in atoms bits a there) ∙ unnumbered-apart a none)) in
+      let unchosen : occurs_in (chosen atoms bits) a ≡ false = false_from_ne_true (occurs_in (chosen atoms bits) a) (λ there.
+      true≢false (sym (chosen-occurs_in atoms bits a there) ∙ unnumbered-apart a none)) in
       contains-packed (is_fluent t) t.init atoms bits a
       ∙ (λ i. unchosen i || (not (is_fluent t a.predicate) && sym (contains-from_list atoms_total t.init a) i))
 

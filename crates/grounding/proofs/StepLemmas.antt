@@ -12,7 +12,7 @@ use Rattle.model.specs.Task.{Atom, Schema, Task, Instance}
 use Rattle.model.specs.Meaning.{State, holds, has_amount, can_apply, fits, is_instance, literals_in, after_changes, changes_of, step}
 use Rattle.model.specs.Fluents.{is_fluent, HasInitialStatics}
 use Rattle.model.specs.ClosedOff.{is_closed_off, kept_instances, counting_changes}
-use Rattle.model.specs.NumberedAtoms.{stands_in, are_distinct}
+use Rattle.model.specs.NumberedAtoms.{occurs_in, are_distinct}
 use Rattle.model.specs.Grounding.{state_of_bits, bits_of_state, ground_step}
 use Rattle.formulas.proofs.Quantifiers.{among}
 use Rattle.model.proofs.Atoms.{atoms_total}
@@ -27,7 +27,7 @@ pub kept-is_instance : (t : Task) (number : ℕ) (i : Instance) → slice_get (k
 kept-is_instance t number i named = (kept-Contains t i (Contains-got (kept_instances t) number i named)).0
 
 -- packed states of fluent atoms have the initial static atoms
-pub bits-statics : (t : Task) (atoms : List Atom) → ((a : Atom) → stands_in atoms a ≡ true → is_fluent t a.predicate ≡ true) → (bits : List Bool)
+pub bits-statics : (t : Task) (atoms : List Atom) → ((a : Atom) → occurs_in atoms a ≡ true → is_fluent t a.predicate ≡ true) → (bits : List Bool)
     → HasInitialStatics t (state_of_bits t atoms bits)
 bits-statics t atoms fluent bits q static =
     contains-static (is_fluent t) t.init atoms fluent bits q static ∙ sym (contains-from_list atoms_total t.init q)
@@ -68,7 +68,7 @@ module _ (t : Task) (atoms : List Atom) (bits : List Bool) (number : ℕ) (i : I
       (and_parts (has_amount t schema i.objects) (not (is_closed_off t schema.precondition i.objects)) kept).0
 
   -- and then its changes that count set bits
-  pub leads-bits : are_distinct atoms ≡ true → ((a : Atom) → stands_in atoms a ≡ true → is_fluent t a.predicate ≡ true) → length bits ≡ length atoms
+  pub leads-bits : are_distinct atoms ≡ true → ((a : Atom) → occurs_in atoms a ≡ true → is_fluent t a.predicate ≡ true) → length bits ≡ length atoms
       → IsTrue (is_some (ground_step t atoms bits number))
       → ground_step t atoms bits number ≡ Some (after_bits atoms bits (literals_in t before (counting_changes t i)))
   leads-bits distinct fluent long leads =

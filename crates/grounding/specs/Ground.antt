@@ -7,7 +7,7 @@ use Rattle.grounding.specs.declared.ground.Ground.{Ground}
 use Rattle.model.specs.Task.{Task, Atom}
 use Rattle.model.specs.Limits.{max_numbered_atoms}
 use Rattle.model.specs.NumberedAtoms.{numbered_atoms}
-use Rattle.model.specs.Grounding.{limit_told}
+use Rattle.model.specs.Grounding.{exceeded_limit}
 
 abbrev pub numbering_in : Ground → Numbering
 numbering_in g = g.numbering
@@ -23,8 +23,8 @@ atoms_in g = numbering.atoms_in g.numbering
 pub record IsGroundOf (t : Task) (more : List Atom) (max_instances : ℕ) (g : Ground) : Type 0 where
   pub task : task_in g ≡ t
   pub atoms : atoms_in g ≡ numbered_atoms t more
-  pub within : limit_told max_instances max_numbered_atoms t more ≡ None
+  pub within : exceeded_limit max_instances max_numbered_atoms t more ≡ None
 
--- the limit that is told is the model's; want of memory says nothing
-abbrev pub TellsLimit : Task → List Atom → ℕ → GroundFault → Type 0
-TellsLimit = numbering.TellsLimit
+-- the limit that is reported is the model's; running out of memory says nothing
+abbrev pub ReportsLimit : Task → List Atom → ℕ → GroundFault → Type 0
+ReportsLimit = numbering.ReportsLimit

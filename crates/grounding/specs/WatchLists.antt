@@ -8,7 +8,7 @@ use Rattle.grounding.specs.declared.watch_lists.WatchLists.{WatchLists}
 use Rattle.grounding.specs.Conditions.{literals_in}
 use Rattle.grounding.specs.Watched.{IsWanted}
 
--- how often a number stands in a list
+-- how often a number is in a list
 abbrev pub once : Bool → ℕ
 once true = 1
 once false = 0

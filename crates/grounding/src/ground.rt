@@ -53,9 +53,9 @@ impl<'t> Ground<'t> {
     ghost use Rattle.model.specs.Grounding.{ground_system};
     ghost use Rattle.grounding_kept.specs.Numbers.{numbered_of};
     ghost use Rattle.grounding.specs.Changes.{counting_of};
-    ghost use Rattle.grounding.specs.Ground.{numbering_in, task_in, atoms_in, IsGroundOf, TellsLimit};
+    ghost use Rattle.grounding.specs.Ground.{numbering_in, task_in, atoms_in, IsGroundOf, ReportsLimit};
 
-    /// That of the task, in which `more` have the first numbers, if none of them stands there twice.
+    /// That of the task, in which `more` have the first numbers, if none of them is there twice.
     ///
     /// # Errors
     /// [`GroundLimit::Instances`](crate::GroundLimit::Instances) exactly where more than `max_instances` are kept;
@@ -69,7 +69,7 @@ impl<'t> Ground<'t> {
     ) -> Result<Ground<'t>, GroundFault>
         requires fluent { All (λ a. IsTrue (is_fluent_atom (task_of task.now) a)) (map atom_of more.now) }
         ensures ground_task { IfOk result (IsGroundOf (task_of task.now) (map atom_of more.now) max_instances) }
-        ensures told { IfErr result (TellsLimit (task_of task.now) (map atom_of more.now) max_instances) }
+        ensures reported { IfErr result (ReportsLimit (task_of task.now) (map atom_of more.now) max_instances) }
     {
         let numbering = Numbering::new(alloc, task, more, max_instances)?;
         let ground = Ground::of_numbering(alloc, numbering)?;

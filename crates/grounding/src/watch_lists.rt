@@ -1,6 +1,6 @@
 //! Lists of instances by an atom that they want, so that a look at a state need not pass over all instances.
 //!
-//! An instance stands in the list of one atom that its precondition wants to be true, of these the one that the fewest
+//! An instance is in the list of one atom that its precondition wants to be true, of these the one that the fewest
 //! instances want, and is looked at only where that atom is true. So do solvers of propositional formulas with watched
 //! literals (Moskewicz et al., 2001); it is a match tree of one level.
 ghost use Rattle.std.specs.Prelude.{◌≡◌, ◌<◌, ℕ, [], Some, None, All, IfOk, IfSome, OnOk, length, map, slice_get};

@@ -26,7 +26,7 @@ use Rattle.faults.specs.declared.refused.Refused.TheVariants.{At, NoMemory}
 use Rattle.grounding_kept.specs.Literals.{decided_literals}
 use Rattle.grounding_kept.specs.Parameters.{Choice, choices_from, ranges_of}
 use Rattle.grounding_kept.specs.Joins.{AreCandidates}
-use Rattle.grounding_kept.specs.Kept.{IsBegun, GroundFault, TellsInstances, instances_of_number}
+use Rattle.grounding_kept.specs.Kept.{IsBegun, GroundFault, ReportsInstances, instances_of_number}
 use Rattle.grounding_kept.proofs.DecidedLiterals.{literals-close, literals-typed}
 
 -- ---- lists
@@ -117,19 +117,19 @@ one-left schema objects left none = sym (ap (λ l. begun schema objects (ranges_
 -- ---- one object after another
 
 -- more instances are no fewer
-pub tells-more : (max : ℕ) (e : GroundFault) (xs ys : List Instance) → length xs ≤ length ys → TellsInstances max xs e → TellsInstances max ys e
-tells-more max (At Instances) xs ys fewer told = omega (arith, fewer, told)
-tells-more max (At Atoms) xs ys fewer told = told
-tells-more max NoMemory xs ys fewer told = tt
+pub reports-more : (max : ℕ) (e : GroundFault) (xs ys : List Instance) → length xs ≤ length ys → ReportsInstances max xs e → ReportsInstances max ys e
+reports-more max (At Instances) xs ys fewer reported = omega (arith, fewer, reported)
+reports-more max (At Atoms) xs ys fewer reported = reported
+reports-more max NoMemory xs ys fewer reported = tt
 
 module _ (keep : Instance → Bool) (now here later left whole : List Instance) (split : left ≡ here ++ later) (all : now ++ filter keep left ≡ whole) where
   pub part-more : (next : List Instance) → next ≡ now ++ filter keep here → next ++ filter keep later ≡ whole
   part-more next is = ap (λ l. l ++ filter keep later) is ∙ found-more keep now left here later whole split all
 
-  pub part-told : (max : ℕ) (e : GroundFault) → TellsInstances max (now ++ filter keep here) e → TellsInstances max whole e
-  part-told max e told =
-      tells-more max e (now ++ filter keep here) whole
-      (omega (arith, length-append (now ++ filter keep here) (filter keep later), ap length (found-more keep now left here later whole split all))) told
+  pub part-reported : (max : ℕ) (e : GroundFault) → ReportsInstances max (now ++ filter keep here) e → ReportsInstances max whole e
+  part-reported max e reported =
+      reports-more max e (now ++ filter keep here) whole
+      (omega (arith, length-append (now ++ filter keep here) (filter keep later), ap length (found-more keep now left here later whole split all))) reported
 
 -- the instances whose next object is one of these
 abbrev pub begun_from : ℕ → List ℕ → List (List ℕ) → List ℕ → List Instance

@@ -26,7 +26,7 @@ use Rattle.model.specs.Meaning.{initial_state, ground_atom}
 use Rattle.model.specs.ClosedOff.{is_closed_off}
 use Rattle.model.proofs.Atoms.{atoms_total}
 use Rattle.model.proofs.ListLemmas.{Contains-place}
-use Rattle.model.proofs.NumberingLemmas.{stands_in-Contains}
+use Rattle.model.proofs.NumberingLemmas.{occurs_in-Contains}
 use Rattle.model.proofs.StaticLemmas.{or_false}
 use Rattle.model.proofs.EnumerationLemmas.{is_bound, object_of-more}
 
@@ -106,7 +106,7 @@ module _ (t : Task) (number : ℕ) (j : Joint) (joint : IsJoint t number j) (obj
       elim (contains (initial_state t) ground) as (λ b. contains (initial_state t) ground ≡ b → b ≡ false) [
         | false ↦ λ _. refl
         | true ↦ λ there.
-            let place = Contains-place t.init ground (stands_in-Contains t.init ground (sym (contains-from_list atoms_total t.init ground) ∙ there)) in
+            let place = Contains-place t.init ground (occurs_in-Contains t.init ground (sym (contains-from_list atoms_total t.init ground) ∙ there)) in
             absurd (true≢false (sym (placed place.0 ground (slice_get_within t.init place.0 ground place.1) place.1 refl one (key_number j objects) own key set at) ∙ none))
       ] refl in
       or_false _ ∙ (λ i. not (joint.static i) && not (absent i))

@@ -7,6 +7,6 @@ pub mod JoinGroups
 pub mod ChangesFit
 pub mod NumberLists
 pub mod HashedAtoms
-pub mod LimitsTold
+pub mod LimitsReported
 pub mod NumberedParts
 pub mod NumberedFacts

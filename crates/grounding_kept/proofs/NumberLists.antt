@@ -22,16 +22,16 @@ use Rattle.model.specs.ClosedOff.{kept_instances, counts}
 use Rattle.formulas.specs.Effects.{change_of}
 use Rattle.formulas.specs.declared.effects.Change.{Change}
 use Rattle.model.specs.Meaning as meaning
-use Rattle.model.specs.NumberedAtoms.{stands_in, with_atom, with_atoms, initial_fluent_atoms, atom_of_literal}
+use Rattle.model.specs.NumberedAtoms.{occurs_in, with_atom, with_atoms, initial_fluent_atoms, atom_of_literal}
 use Rattle.model.proofs.ListLemmas.{Contains-here, Contains-there}
 use Rattle.model.proofs.ClosedOffLemmas.{kept-Contains}
 use Rattle.model.proofs.NumberingLemmas.{length-with_atoms, with_atoms-append, numbered-more, numbered-too_many}
 use Rattle.grounding_kept.specs.Kept.{GroundFault}
-use Rattle.grounding_kept.specs.Atoms.{TellsAtoms, atoms_changed}
+use Rattle.grounding_kept.specs.Atoms.{ReportsAtoms, atoms_changed}
 
 -- ---- the code's test of equality is the model's
 
-pub among-alike : (a : Atom) (keys : List Atom) → list_any (atom_eq a) keys ≡ stands_in (map atom_of keys) (atom_of a)
+pub among-alike : (a : Atom) (keys : List Atom) → list_any (atom_eq a) keys ≡ occurs_in (map atom_of keys) (atom_of a)
 among-alike a [] = refl
 among-alike a (k ∷ keys) = λ i. eq-alike a k i || among-alike a keys i
 
@@ -61,16 +61,16 @@ module _ (a : Atom) (keys : List Atom) where
 -- ---- one item of a list after another
 
 -- where atoms are too many, more are
-pub tells-longer : (e : GroundFault) (xs ys : List task.Atom) → length xs ≤ length ys → TellsAtoms xs e → TellsAtoms ys e
-tells-longer (At Instances) xs ys fewer told = told
-tells-longer (At Atoms) xs ys fewer told = omega (arith, fewer, told)
-tells-longer NoMemory xs ys fewer told = tt
+pub reports-longer : (e : GroundFault) (xs ys : List task.Atom) → length xs ≤ length ys → ReportsAtoms xs e → ReportsAtoms ys e
+reports-longer (At Instances) xs ys fewer reported = reported
+reports-longer (At Atoms) xs ys fewer reported = omega (arith, fewer, reported)
+reports-longer NoMemory xs ys fewer reported = tt
 
-pub item-told : {X : Type 0} (f : X → List task.Atom) (xs : List X) (i : ℕ) (x : X) → slice_get xs i ≡ Some x → (now whole : List task.Atom)
-    → with_atoms now (flat_map f (drop i xs)) ≡ whole → (e : GroundFault) → TellsAtoms (with_atoms now (f x)) e → TellsAtoms whole e
-item-told f xs i x at now whole all (At Instances) told = told
-item-told f xs i x at now whole all (At Atoms) told = numbered-too_many f xs i x at now whole all max_numbered_atoms told
-item-told f xs i x at now whole all NoMemory told = tt
+pub item-reported : {X : Type 0} (f : X → List task.Atom) (xs : List X) (i : ℕ) (x : X) → slice_get xs i ≡ Some x → (now whole : List task.Atom)
+    → with_atoms now (flat_map f (drop i xs)) ≡ whole → (e : GroundFault) → ReportsAtoms (with_atoms now (f x)) e → ReportsAtoms whole e
+item-reported f xs i x at now whole all (At Instances) reported = reported
+item-reported f xs i x at now whole all (At Atoms) reported = numbered-too_many f xs i x at now whole all max_numbered_atoms reported
+item-reported f xs i x at now whole all NoMemory reported = tt
 
 -- the atoms of one item more
 pub next-numbered : {X : Type 0} (f : X → List task.Atom) (xs : List X) (i : ℕ) (x : X) → slice_get xs i ≡ Some x → (now whole : List task.Atom)
@@ -134,15 +134,15 @@ module _ (more start touched : List task.Atom) where
   first-two : with_atoms (with_atoms [] more) start ≡ with_atoms [] (more ++ start)
   first-two = sym (with_atoms-append [] more start)
 
-  pub told-first : (e : GroundFault) → TellsAtoms (with_atoms [] more) e → TellsAtoms (with_atoms [] (more ++ start ++ touched)) e
-  told-first e told =
-      tells-longer e (with_atoms [] more) (with_atoms [] (more ++ start ++ touched))
-      (omega (arith, length-with_atoms (with_atoms [] more) start, length-with_atoms (with_atoms (with_atoms [] more) start) touched, ap length three-parts)) told
+  pub reported-first : (e : GroundFault) → ReportsAtoms (with_atoms [] more) e → ReportsAtoms (with_atoms [] (more ++ start ++ touched)) e
+  reported-first e reported =
+      reports-longer e (with_atoms [] more) (with_atoms [] (more ++ start ++ touched))
+      (omega (arith, length-with_atoms (with_atoms [] more) start, length-with_atoms (with_atoms (with_atoms [] more) start) touched, ap length three-parts)) reported
 
-  pub told-second : (e : GroundFault) → TellsAtoms (with_atoms (with_atoms [] more) start) e → TellsAtoms (with_atoms [] (more ++ start ++ touched)) e
-  told-second e told =
-      tells-longer e (with_atoms (with_atoms [] more) start) (with_atoms [] (more ++ start ++ touched))
-      (omega (arith, length-with_atoms (with_atoms (with_atoms [] more) start) touched, ap length three-parts)) told
+  pub reported-second : (e : GroundFault) → ReportsAtoms (with_atoms (with_atoms [] more) start) e → ReportsAtoms (with_atoms [] (more ++ start ++ touched)) e
+  reported-second e reported =
+      reports-longer e (with_atoms (with_atoms [] more) start) (with_atoms [] (more ++ start ++ touched))
+      (omega (arith, length-with_atoms (with_atoms (with_atoms [] more) start) touched, ap length three-parts)) reported
 
-  pub told-third : (e : GroundFault) → TellsAtoms (with_atoms (with_atoms (with_atoms [] more) start) touched) e → TellsAtoms (with_atoms [] (more ++ start ++ touched)) e
-  told-third e told = subst (λ l. TellsAtoms l e) three-parts told
+  pub reported-third : (e : GroundFault) → ReportsAtoms (with_atoms (with_atoms (with_atoms [] more) start) touched) e → ReportsAtoms (with_atoms [] (more ++ start ++ touched)) e
+  reported-third e reported = subst (λ l. ReportsAtoms l e) three-parts reported

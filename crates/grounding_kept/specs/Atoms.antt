@@ -1,4 +1,4 @@
--- Atoms that are numbered one after another, and when a limit is told.
+-- Atoms that are numbered one after another, and when a limit is reported.
 use Rattle.std.specs.Prelude.{◌≡◌, ℕ, ◌<◌, List, map, length, slice_get, Some}
 use Rattle.faults.specs.declared.refused.Refused.TheVariants.{At, NoMemory}
 use Rattle.grounding_kept.specs.declared.fault.GroundLimit.TheVariants.{Instances, Atoms}
@@ -9,11 +9,11 @@ use Rattle.model.specs.Meaning.{Change}
 use Rattle.model.specs.Limits.{max_numbered_atoms}
 use Rattle.model.specs.NumberedAtoms.{atom_of_literal}
 
--- the limit of atoms is told, where these are more; want of memory says nothing
-abbrev pub TellsAtoms : List Atom → GroundFault → Type 0
-TellsAtoms atoms (At Instances) = ⊥
-TellsAtoms atoms (At Atoms) = max_numbered_atoms < length atoms
-TellsAtoms atoms NoMemory = Unit {0}
+-- the limit of atoms is reported, where these are more; running out of memory says nothing
+abbrev pub ReportsAtoms : List Atom → GroundFault → Type 0
+ReportsAtoms atoms (At Instances) = ⊥
+ReportsAtoms atoms (At Atoms) = max_numbered_atoms < length atoms
+ReportsAtoms atoms NoMemory = Unit {0}
 
 -- the atoms that the changes add or delete
 abbrev pub atoms_changed : List Change → List Atom

@@ -1,4 +1,4 @@
--- Which objects the static atoms of the start let stand at a parameter.
+-- Which objects the static atoms of the start let occur at a parameter.
 use Rattle.std.specs.Prelude.{◌≡◌, ℕ, ◌+◌, ◌<◌, Bool, true, false, List, [], ◌∷◌, ◌++◌, map, filter, slice_get, length, Option, None, Some, IfSome}
 use Rattle.std.specs.Option.{option_map_or}
 use Rattle.std.specs.List.{list_any}
@@ -23,7 +23,7 @@ use Rattle.model.proofs.EnumerationLemmas.{is_bound}
 abbrev pub has : BTreeSet ObjectId → ℕ → Bool
 has set number = sorted.contains (object_ord.ghosts).cmp set (record { 0 = number })
 
--- The joint's atom is of a static predicate, the parameter of this number stands in it, and at the key's place, if there is
+-- The joint's atom is of a static predicate, the parameter of this number is in it, and at the key's place, if there is
 -- one, an object or an earlier parameter.
 pub record IsJoint (t : task.Task) (number : ℕ) (j : Joint) : Type 0 where
   pub static : is_fluent t j.atom.now.predicate.0 ≡ false

@@ -1,4 +1,4 @@
--- Instances of which some objects are chosen, and when a limit is told.
+-- Instances of which some objects are chosen, and when a limit is reported.
 use Rattle.std.specs.Prelude.{◌≡◌, ℕ, ◌<◌, true, List, [], ◌++◌, length, slice_get, Some}
 use Rattle.std.specs.Option.{option_map_or}
 use Rattle.std.specs.Cmp.Lexicographic.{pointwise}
@@ -27,11 +27,11 @@ pub record IsBegun (t : task.Task) (schema : ℕ) (objects : List ℕ) (literals
   pub decided : literals ≡ decided_literals (length objects) found.precondition
   pub choices : left ≡ choices_from t found.precondition (length objects) rest
 
--- the limit of instances is told, where these are more; want of memory says nothing
-abbrev pub TellsInstances : ℕ → List task.Instance → GroundFault → Type 0
-TellsInstances max instances (At Instances) = max < length instances
-TellsInstances max instances (At Atoms) = ⊥
-TellsInstances max instances NoMemory = Unit {0}
+-- the limit of instances is reported, where these are more; running out of memory says nothing
+abbrev pub ReportsInstances : ℕ → List task.Instance → GroundFault → Type 0
+ReportsInstances max instances (At Instances) = max < length instances
+ReportsInstances max instances (At Atoms) = ⊥
+ReportsInstances max instances NoMemory = Unit {0}
 
 -- the instances of the schema of this number
 abbrev pub instances_of_number : task.Task → ℕ → List task.Instance

@@ -29,13 +29,13 @@ pub record IsNumberingOf (t : Task) (more : List Atom) (max_instances : ℕ) (n 
   pub task : task_in n ≡ t
   pub instances : instances_in n ≡ kept_instances t
   pub atoms : atoms_in n ≡ numbered_atoms t more
-  pub within : model.limit_told max_instances max_numbered_atoms t more ≡ None
+  pub within : model.exceeded_limit max_instances max_numbered_atoms t more ≡ None
 
 abbrev pub limit_of : GroundLimit → model.GroundLimit
 limit_of Instances = model.of_instances
 limit_of Atoms = model.of_atoms
 
--- the limit that is told is the model's; want of memory says nothing
-abbrev pub TellsLimit : Task → List Atom → ℕ → GroundFault → Type 0
-TellsLimit t more max_instances (At limit) = model.limit_told max_instances max_numbered_atoms t more ≡ Some (limit_of limit)
-TellsLimit t more max_instances NoMemory = Unit {0}
+-- the limit that is reported is the model's; running out of memory says nothing
+abbrev pub ReportsLimit : Task → List Atom → ℕ → GroundFault → Type 0
+ReportsLimit t more max_instances (At limit) = model.exceeded_limit max_instances max_numbered_atoms t more ≡ Some (limit_of limit)
+ReportsLimit t more max_instances NoMemory = Unit {0}

@@ -9,7 +9,7 @@ ghost use Rattle.model.specs.Meaning.{is_instance};
 ghost use Rattle.model.specs.Fluents as model_fluents;
 ghost use Rattle.model.specs.ClosedOff as closed_off;
 ghost use Rattle.model.specs.NumberedAtoms as numbered;
-ghost use Rattle.grounding_kept.specs.Atoms.{AllFit, TellsAtoms, atoms_changed};
+ghost use Rattle.grounding_kept.specs.Atoms.{AllFit, ReportsAtoms, atoms_changed};
 
 use crate::fault::{GroundFault, GroundLimit};
 use crate::statics::Statics;
@@ -35,7 +35,7 @@ pub(crate) fn numbered_atoms(
     requires { map instance_of kept.now ≡ closed_off.kept_instances (task_of statics.now.task.now) }
     ensures numbered { IfOk result (λ atoms. map atom_of atoms.keys ≡ numbered.numbered_atoms (task_of statics.now.task.now) (map atom_of more.now)) }
     ensures few { IfOk result (λ atoms. length atoms.keys ≤ MAX_ATOMS) }
-    ensures told { IfErr result (TellsAtoms (numbered.numbered_atoms (task_of statics.now.task.now) (map atom_of more.now))) }
+    ensures reported { IfErr result (ReportsAtoms (numbered.numbered_atoms (task_of statics.now.task.now) (map atom_of more.now))) }
 {
     let mut atoms = IndexSet::new(alloc);
     number_all(&mut atoms, more)?;
@@ -49,7 +49,7 @@ fn number_all(atoms: &mut IndexSet<Atom>, list: &[Atom]) -> Result<(), GroundFau
     requires { length atoms.old.keys ≤ MAX_ATOMS }
     ensures numbered { OnOk result (map atom_of atoms.new.keys ≡ numbered.with_atoms (map atom_of atoms.old.keys) (map atom_of list.now)) }
     ensures few { OnOk result (length atoms.new.keys ≤ MAX_ATOMS) }
-    ensures told { IfErr result (TellsAtoms (numbered.with_atoms (map atom_of atoms.old.keys) (map atom_of list.now))) }
+    ensures reported { IfErr result (ReportsAtoms (numbered.with_atoms (map atom_of atoms.old.keys) (map atom_of list.now))) }
 {
     for atom in list {
         number(atoms, atom)?;
@@ -62,7 +62,7 @@ fn number_initial(statics: &Statics<'_>, atoms: &mut IndexSet<Atom>) -> Result<(
     requires { length atoms.old.keys ≤ MAX_ATOMS }
     ensures numbered { OnOk result (map atom_of atoms.new.keys ≡ numbered.with_atoms (map atom_of atoms.old.keys) (numbered.initial_fluent_atoms (task_of statics.now.task.now))) }
     ensures few { OnOk result (length atoms.new.keys ≤ MAX_ATOMS) }
-    ensures told { IfErr result (TellsAtoms (numbered.with_atoms (map atom_of atoms.old.keys) (numbered.initial_fluent_atoms (task_of statics.now.task.now)))) }
+    ensures reported { IfErr result (ReportsAtoms (numbered.with_atoms (map atom_of atoms.old.keys) (numbered.initial_fluent_atoms (task_of statics.now.task.now)))) }
 {
     for atom in statics.task.init() {
         number_if_fluent(statics, atom, atoms)?;
@@ -80,7 +80,7 @@ fn number_if_fluent(
     ensures numbered { OnOk result (map atom_of atoms.new.keys ≡ numbered.with_atoms (map atom_of atoms.old.keys)
         (if model_fluents.is_fluent (task_of statics.now.task.now) (atom_of atom.now).predicate then atom_of atom.now ∷ [] else [])) }
     ensures few { OnOk result (length atoms.new.keys ≤ MAX_ATOMS) }
-    ensures told { IfErr result (TellsAtoms (numbered.with_atoms (map atom_of atoms.old.keys)
+    ensures reported { IfErr result (ReportsAtoms (numbered.with_atoms (map atom_of atoms.old.keys)
         (if model_fluents.is_fluent (task_of statics.now.task.now) (atom_of atom.now).predicate then atom_of atom.now ∷ [] else []))) }
 {
     if !statics.is_fluent(atom.predicate) {
@@ -100,7 +100,7 @@ fn number_touched(
     requires instances { IsTrue (list_all (is_instance (task_of statics.now.task.now)) (map instance_of instances.now)) }
     ensures numbered { OnOk result (map atom_of atoms.new.keys ≡ numbered.with_atoms (map atom_of atoms.old.keys) (flat_map (numbered.touched_by (task_of statics.now.task.now)) (map instance_of instances.now))) }
     ensures few { OnOk result (length atoms.new.keys ≤ MAX_ATOMS) }
-    ensures told { IfErr result (TellsAtoms (numbered.with_atoms (map atom_of atoms.old.keys) (flat_map (numbered.touched_by (task_of statics.now.task.now)) (map instance_of instances.now)))) }
+    ensures reported { IfErr result (ReportsAtoms (numbered.with_atoms (map atom_of atoms.old.keys) (flat_map (numbered.touched_by (task_of statics.now.task.now)) (map instance_of instances.now)))) }
 {
     for instance in instances {
         number_instance(alloc, statics, instance, atoms)?;
@@ -119,7 +119,7 @@ fn number_instance(
     requires instance { IsTrue (is_instance (task_of statics.now.task.now) (instance_of instance.now)) }
     ensures numbered { OnOk result (map atom_of atoms.new.keys ≡ numbered.with_atoms (map atom_of atoms.old.keys) (numbered.touched_by (task_of statics.now.task.now) (instance_of instance.now))) }
     ensures few { OnOk result (length atoms.new.keys ≤ MAX_ATOMS) }
-    ensures told { IfErr result (TellsAtoms (numbered.with_atoms (map atom_of atoms.old.keys) (numbered.touched_by (task_of statics.now.task.now) (instance_of instance.now)))) }
+    ensures reported { IfErr result (ReportsAtoms (numbered.with_atoms (map atom_of atoms.old.keys) (numbered.touched_by (task_of statics.now.task.now) (instance_of instance.now)))) }
 {
     let changes = changes(alloc, statics.task, instance)?;
     number_counting(statics, changes.as_slice(), atoms)
@@ -135,7 +135,7 @@ fn number_counting(
     requires fit { AllFit (task_of statics.now.task.now) (map change_of changes.now) }
     ensures numbered { OnOk result (map atom_of atoms.new.keys ≡ numbered.with_atoms (map atom_of atoms.old.keys) (atoms_changed (filter (closed_off.counts (task_of statics.now.task.now)) (map change_of changes.now)))) }
     ensures few { OnOk result (length atoms.new.keys ≤ MAX_ATOMS) }
-    ensures told { IfErr result (TellsAtoms (numbered.with_atoms (map atom_of atoms.old.keys) (atoms_changed (filter (closed_off.counts (task_of statics.now.task.now)) (map change_of changes.now))))) }
+    ensures reported { IfErr result (ReportsAtoms (numbered.with_atoms (map atom_of atoms.old.keys) (atoms_changed (filter (closed_off.counts (task_of statics.now.task.now)) (map change_of changes.now))))) }
 {
     for change in changes {
         number_if_counting(statics, change, atoms)?;
@@ -154,7 +154,7 @@ fn number_if_counting(
     ensures numbered { OnOk result (map atom_of atoms.new.keys ≡ numbered.with_atoms (map atom_of atoms.old.keys)
         (if closed_off.counts (task_of statics.now.task.now) (change_of change.now) then numbered.atom_of_literal (change_of change.now).literal ∷ [] else [])) }
     ensures few { OnOk result (length atoms.new.keys ≤ MAX_ATOMS) }
-    ensures told { IfErr result (TellsAtoms (numbered.with_atoms (map atom_of atoms.old.keys)
+    ensures reported { IfErr result (ReportsAtoms (numbered.with_atoms (map atom_of atoms.old.keys)
         (if closed_off.counts (task_of statics.now.task.now) (change_of change.now) then numbered.atom_of_literal (change_of change.now).literal ∷ [] else []))) }
 {
     if !statics.counts(change) {
@@ -178,7 +178,7 @@ fn number(atoms: &mut IndexSet<Atom>, atom: &Atom) -> Result<(), GroundFault>
     requires { length atoms.old.keys ≤ MAX_ATOMS }
     ensures numbered { OnOk result (map atom_of atoms.new.keys ≡ numbered.with_atom (map atom_of atoms.old.keys) (atom_of atom.now)) }
     ensures few { OnOk result (length atoms.new.keys ≤ MAX_ATOMS) }
-    ensures told { IfErr result (TellsAtoms (numbered.with_atom (map atom_of atoms.old.keys) (atom_of atom.now))) }
+    ensures reported { IfErr result (ReportsAtoms (numbered.with_atom (map atom_of atoms.old.keys) (atom_of atom.now))) }
 {
     if atoms.contains(atom) {
         return Ok(());

@@ -1,4 +1,4 @@
-//! Which objects the static atoms of the start let stand at a parameter.
+//! Which objects the static atoms of the start let occur at a parameter.
 //!
 //! The instances of a schema are a join of relations: each static atom of its precondition is one, which has the atoms of
 //! its predicate at the start. An index of it groups the objects at a parameter's place by the object at another place. One
@@ -26,7 +26,7 @@ use std::alloc::Global;
 use std::collections::BTreeSet;
 use task::{Atom, Formula, LiftedAtom, ObjectId, Task, Term, TypeUnion};
 
-/// An atom of a static predicate, where a parameter stands in it, and where a term that is known before it.
+/// An atom of a static predicate, where a parameter is in it, and where a term that is known before it.
 #[derive(Drop)]
 pub(crate) struct Joint<'t> {
     atom: &'t LiftedAtom,
@@ -34,7 +34,7 @@ pub(crate) struct Joint<'t> {
     key: Option<usize>,
 }
 
-/// The objects that stand at a parameter's place in the atoms of the start, by the object at the key's place. Without a
+/// The objects that are at a parameter's place in the atoms of the start, by the object at the key's place. Without a
 /// key they are one group.
 #[derive(Drop)]
 pub(crate) struct Index<'t> {
@@ -43,7 +43,7 @@ pub(crate) struct Index<'t> {
 }
 
 /// The indexes that say which objects of its types a parameter may have: one for each known term of each static atom that
-/// it stands in.
+/// it is in.
 #[derive(Drop)]
 pub(crate) struct Join<'t> {
     types: &'t TypeUnion,
@@ -176,7 +176,7 @@ fn objects_in(
 }
 
 /// Adds the literal's indexes for the parameter of this number, if the literal is an atom of a static predicate that the
-/// parameter stands in: one for each place of an object or an earlier parameter, and without a key where there is none.
+/// parameter is in: one for each place of an object or an earlier parameter, and without a key where there is none.
 fn add_indexes<'t>(
     alloc: Global,
     statics: &Statics<'_>,
@@ -200,7 +200,7 @@ fn add_indexes<'t>(
     Ok(())
 }
 
-/// Adds the index of the joint with this place as the key, if an object or an earlier parameter stands there.
+/// Adds the index of the joint with this place as the key, if an object or an earlier parameter is there.
 fn add_keyed<'t>(
     alloc: Global,
     task: &Task,
@@ -239,7 +239,7 @@ fn add_index<'t>(
     Ok(())
 }
 
-/// Whether an object stands at this place, or a variable before the one of this number.
+/// Whether an object is at this place, or a variable before the one of this number.
 fn is_known(terms: &[Term], place: usize, number: usize) -> bool
     ensures { result ≡ option_map_or (enumeration.is_bound number) (slice_get (map term_of terms.now) place) false }
 {
@@ -250,7 +250,7 @@ fn is_known(terms: &[Term], place: usize, number: usize) -> bool
 }
 
 /// The literal with the place of the parameter of this number, if it is an atom of a static predicate that the parameter
-/// stands in; no term is its key.
+/// is in; no term is its key.
 fn joint_in<'t>(statics: &Statics<'_>, literal: &'t Formula, number: usize) -> Option<Joint<'t>>
     ensures literal { IfSome result (λ j. formula_of literal.now ≡ model_task.atom (lifted_atom_of j.atom.now)) }
     ensures joint { IfSome result (IsJoint (task_of statics.now.task.now) number) }
@@ -283,7 +283,7 @@ fn place_of(terms: &[Term], number: usize) -> Option<usize>
     None
 }
 
-/// A group for each object, as the key: those that stand at the joint's place in the atoms of the start.
+/// A group for each object, as the key: those that are at the joint's place in the atoms of the start.
 fn groups_of(
     alloc: Global,
     task: &Task,

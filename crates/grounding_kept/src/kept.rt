@@ -12,7 +12,7 @@ ghost use Rattle.model.specs.ClosedOff as closed_off;
 ghost use Rattle.model.proofs.EnumerationLemmas.{begun};
 ghost use Rattle.grounding_kept.specs.Parameters.{choice_of, lent_formula, ranges_of};
 ghost use Rattle.grounding_kept.specs.Joins.{AreJoined};
-ghost use Rattle.grounding_kept.specs.Kept.{IsBegun, TellsInstances, instances_of_number};
+ghost use Rattle.grounding_kept.specs.Kept.{IsBegun, ReportsInstances, instances_of_number};
 
 use crate::fault::{GroundFault, GroundLimit};
 use crate::parameters::{Parameter, decided_literals, parameters_of};
@@ -32,7 +32,7 @@ pub(crate) fn kept_instances(
 ) -> Result<Vec<Instance>, GroundFault>
     ensures kept { IfOk result (λ found. map instance_of found.items ≡ closed_off.kept_instances (task_of statics.now.task.now)) }
     ensures few { IfOk result (λ found. length found.items ≤ max) }
-    ensures told { IfErr result (TellsInstances max (closed_off.kept_instances (task_of statics.now.task.now))) }
+    ensures reported { IfErr result (ReportsInstances max (closed_off.kept_instances (task_of statics.now.task.now))) }
 {
     let mut found = Vec::new(alloc);
     for number in 0..statics.task.schema_count() {
@@ -61,7 +61,7 @@ impl Enumeration<'_, '_> {
         ensures kept { OnOk result (map instance_of found.new.items ≡ map instance_of found.old.items
             ++ filter (closed_off.is_kept (task_of self.now.statics.now.task.now)) (instances_of_number (task_of self.now.statics.now.task.now) self.now.schema.0)) }
         ensures few { OnOk result (length found.new.items ≤ self.now.max) }
-        ensures told { IfErr result (TellsInstances self.now.max (map instance_of found.old.items
+        ensures reported { IfErr result (ReportsInstances self.now.max (map instance_of found.old.items
             ++ filter (closed_off.is_kept (task_of self.now.statics.now.task.now)) (instances_of_number (task_of self.now.statics.now.task.now) self.now.schema.0))) }
     {
         let Some(schema) = self.statics.task.schema(self.schema) else {
@@ -96,7 +96,7 @@ impl Enumeration<'_, '_> {
         ensures kept { OnOk result (map instance_of found.new.items ≡ map instance_of found.old.items
             ++ filter (closed_off.is_kept (task_of self.now.statics.now.task.now)) (begun self.now.schema.0 (map object_of objects.items) (ranges_of (map choice_of left.now)))) }
         ensures few { OnOk result (length found.new.items ≤ self.now.max) }
-        ensures told { IfErr result (TellsInstances self.now.max (map instance_of found.old.items
+        ensures reported { IfErr result (ReportsInstances self.now.max (map instance_of found.old.items
             ++ filter (closed_off.is_kept (task_of self.now.statics.now.task.now)) (begun self.now.schema.0 (map object_of objects.items) (ranges_of (map choice_of left.now))))) }
     {
         if self.statics.closes_off_literal(literals, &objects) {
@@ -124,7 +124,7 @@ impl Enumeration<'_, '_> {
         ensures kept { OnOk result (map instance_of found.new.items ≡ map instance_of found.old.items
             ++ filter (closed_off.is_kept (task_of self.now.statics.now.task.now)) (instance_of instance ∷ [])) }
         ensures few { OnOk result (length found.new.items ≤ self.now.max) }
-        ensures told { IfErr result (TellsInstances self.now.max (map instance_of found.old.items
+        ensures reported { IfErr result (ReportsInstances self.now.max (map instance_of found.old.items
             ++ filter (closed_off.is_kept (task_of self.now.statics.now.task.now)) (instance_of instance ∷ []))) }
     {
         if !self.statics.is_kept(&instance) {

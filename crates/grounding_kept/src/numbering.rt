@@ -7,7 +7,7 @@ ghost use Rattle.formulas.specs.State.{instance_of};
 ghost use Rattle.model.specs.Task as model_task;
 ghost use Rattle.model.specs.Fluents.{is_fluent};
 ghost use Rattle.model.specs.ClosedOff.{kept_instances};
-ghost use Rattle.model.specs.NumberedAtoms.{stands_in, are_distinct};
+ghost use Rattle.model.specs.NumberedAtoms.{occurs_in, are_distinct};
 ghost use Rattle.grounding_kept.specs.declared.atoms.TheConstants.{MAX_ATOMS};
 
 use crate::atoms::{MAX_ATOMS, numbered_atoms};
@@ -30,7 +30,7 @@ pub struct Numbering<'t> {
     instances: Vec<Instance>,
     ghost few_atoms: { length atoms.keys ≤ MAX_ATOMS },
     ghost kept: { map instance_of instances.items ≡ kept_instances (task_of statics.task.now) } by { Prim.hlevel props },
-    ghost fluent: { (a : model_task.Atom) → stands_in (map atom_of atoms.keys) a ≡ true → is_fluent (task_of statics.task.now) a.predicate ≡ true } by { Prim.hlevel props },
+    ghost fluent: { (a : model_task.Atom) → occurs_in (map atom_of atoms.keys) a ≡ true → is_fluent (task_of statics.task.now) a.predicate ≡ true } by { Prim.hlevel props },
     ghost distinct: { are_distinct (map atom_of atoms.keys) ≡ true } by { Prim.hlevel props },
 }
 
@@ -48,9 +48,9 @@ impl<'t> Numbering<'t> {
     ghost use Rattle.model.specs.NumberedAtoms as model_atoms;
     ghost use Rattle.model.specs.NumberedLiterals as model_literals;
     ghost use Rattle.grounding_kept.specs.Numbers.{numbered_of};
-    ghost use Rattle.grounding_kept.specs.Numbering.{task_in, atoms_in, instances_in, IsNumberingOf, TellsLimit};
+    ghost use Rattle.grounding_kept.specs.Numbering.{task_in, atoms_in, instances_in, IsNumberingOf, ReportsLimit};
 
-    /// That of the task, in which `more` have the first numbers, if none of them stands there twice.
+    /// That of the task, in which `more` have the first numbers, if none of them is there twice.
     ///
     /// # Errors
     /// [`GroundLimit::Instances`](crate::GroundLimit::Instances) exactly where more than `max_instances` are kept;
@@ -64,7 +64,7 @@ impl<'t> Numbering<'t> {
     ) -> Result<Numbering<'t>, GroundFault>
         requires fluent { All (λ a. IsTrue (is_fluent_atom (task_of task.now) a)) (map atom_of more.now) }
         ensures numbering { IfOk result (IsNumberingOf (task_of task.now) (map atom_of more.now) max_instances) }
-        ensures told { IfErr result (TellsLimit (task_of task.now) (map atom_of more.now) max_instances) }
+        ensures reported { IfErr result (ReportsLimit (task_of task.now) (map atom_of more.now) max_instances) }
     {
         let statics = Statics::new(alloc, task)?;
         Numbering::of_statics(alloc, statics, more, max_instances)
@@ -79,7 +79,7 @@ impl<'t> Numbering<'t> {
     ) -> Result<Numbering<'t>, GroundFault>
         requires fluent { All (λ a. IsTrue (is_fluent_atom (task_of statics.task.now) a)) (map atom_of more.now) }
         ensures numbering { IfOk result (IsNumberingOf (task_of statics.entry.task.now) (map atom_of more.now) max_instances) }
-        ensures told { IfErr result (TellsLimit (task_of statics.entry.task.now) (map atom_of more.now) max_instances) }
+        ensures reported { IfErr result (ReportsLimit (task_of statics.entry.task.now) (map atom_of more.now) max_instances) }
     {
         let instances = kept_instances(alloc, &statics, max_instances)?;
         let atoms = numbered_atoms(alloc, &statics, more, instances.as_slice())?;

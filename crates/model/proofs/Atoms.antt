@@ -1,4 +1,4 @@
--- The order of atoms is total and tells all atoms apart, so two states with the same atoms are equal.
+-- The order of atoms is total and reports all atoms apart, so two states with the same atoms are equal.
 use Rattle.std.specs.Prelude.{◌≡◌, ℕ, Bool, true, false, not, ◌&&◌, ◌||◌, List, [], ◌∷◌, ◌++◌, refl}
 use Rattle.std.proofs.Common.{sym, ◌∙◌, ap}
 use Rattle.std.specs.Cmp.{IsTotalOrder, on_total}
@@ -8,7 +8,7 @@ use Rattle.std.proofs.lemmas.List.Folds.{list_any-append}
 use Rattle.std.specs.FinSet.{contains, from_list, insert, remove, union, difference, contains-from_list, contains-insert, contains-remove, contains-difference, contains-union, same_set, IsAntisymmetric, nat_cmp-IsAntisymmetric, slice_cmp-IsAntisymmetric}
 use Rattle.model.specs.Task.{Atom}
 use Rattle.model.specs.Meaning.{State, atom_cmp, GroundLiteral, adds, deletes, added_by, deleted_by}
-pub use Rattle.model.specs.NumberedAtoms.{stands_in}
+pub use Rattle.model.specs.NumberedAtoms.{occurs_in}
 
 abbrev numbers_of : Atom → List ℕ
 numbers_of a = a.predicate ∷ a.objects
@@ -65,17 +65,17 @@ set_of atoms = from_list atoms
 abbrev has : State → Atom → Bool
 has s a = contains s a
 
-has-set_of : (atoms : List Atom) (q : Atom) → has (set_of atoms) q ≡ stands_in atoms q
+has-set_of : (atoms : List Atom) (q : Atom) → has (set_of atoms) q ≡ occurs_in atoms q
 has-set_of atoms q = contains-from_list atoms_total atoms q
 
-has-difference : (s : State) (atoms : List Atom) (q : Atom) → has (difference s (set_of atoms)) q ≡ (has s q && not (stands_in atoms q))
+has-difference : (s : State) (atoms : List Atom) (q : Atom) → has (difference s (set_of atoms)) q ≡ (has s q && not (occurs_in atoms q))
 has-difference s atoms q = contains-difference atoms_total s (set_of atoms) q ∙ ap (λ b. has s q && not b) (has-set_of atoms q)
 
-has-union : (s : State) (atoms : List Atom) (q : Atom) → has (union s (set_of atoms)) q ≡ (has s q || stands_in atoms q)
+has-union : (s : State) (atoms : List Atom) (q : Atom) → has (union s (set_of atoms)) q ≡ (has s q || occurs_in atoms q)
 has-union s atoms q = contains-union atoms_total s (set_of atoms) q ∙ ap (λ b. has s q || b) (has-set_of atoms q)
 
-pub stands_in-append : (xs ys : List Atom) (q : Atom) → stands_in (xs ++ ys) q ≡ (stands_in xs q || stands_in ys q)
-stands_in-append xs ys q = list_any-append (eq_by_cmp atom_cmp q) xs ys
+pub occurs_in-append : (xs ys : List Atom) (q : Atom) → occurs_in (xs ++ ys) q ≡ (occurs_in xs q || occurs_in ys q)
+occurs_in-append xs ys q = list_any-append (eq_by_cmp atom_cmp q) xs ys
 
 pub difference-none : (s : State) → difference s (set_of []) ≡ s
 difference-none s = same_state _ s (λ q. has-difference s [] q ∙ cond_nothing (has s q))
@@ -86,8 +86,8 @@ difference-one s a = same_state _ _ (λ q. has-difference s (a ∷ []) q ∙ and
 pub difference-append : (s : State) (xs ys : List Atom) → difference s (set_of (xs ++ ys)) ≡ difference (difference s (set_of xs)) (set_of ys)
 difference-append s xs ys =
     same_state _ _ (λ q.
-    has-difference s (xs ++ ys) q ∙ ap (λ b. has s q && not b) (stands_in-append xs ys q) ∙ sym (and_twice (has s q) (stands_in xs q) (stands_in ys q))
-    ∙ sym (has-difference (difference s (set_of xs)) ys q ∙ ap (λ b. b && not (stands_in ys q)) (has-difference s xs q)))
+    has-difference s (xs ++ ys) q ∙ ap (λ b. has s q && not b) (occurs_in-append xs ys q) ∙ sym (and_twice (has s q) (occurs_in xs q) (occurs_in ys q))
+    ∙ sym (has-difference (difference s (set_of xs)) ys q ∙ ap (λ b. b && not (occurs_in ys q)) (has-difference s xs q)))
 
 pub union-none : (s : State) → union s (set_of []) ≡ s
 union-none s = same_state _ s (λ q. has-union s [] q ∙ or_nothing (has s q))
@@ -98,8 +98,8 @@ union-one s a = same_state _ _ (λ q. has-union s (a ∷ []) q ∙ or_swap (has 
 pub union-append : (s : State) (xs ys : List Atom) → union s (set_of (xs ++ ys)) ≡ union (union s (set_of xs)) (set_of ys)
 union-append s xs ys =
     same_state _ _ (λ q.
-    has-union s (xs ++ ys) q ∙ ap (λ b. has s q || b) (stands_in-append xs ys q) ∙ sym (or_twice (has s q) (stands_in xs q) (stands_in ys q))
-    ∙ sym (has-union (union s (set_of xs)) ys q ∙ ap (λ b. b || stands_in ys q) (has-union s xs q)))
+    has-union s (xs ++ ys) q ∙ ap (λ b. has s q || b) (occurs_in-append xs ys q) ∙ sym (or_twice (has s q) (occurs_in xs q) (occurs_in ys q))
+    ∙ sym (has-union (union s (set_of xs)) ys q ∙ ap (λ b. b || occurs_in ys q) (has-union s xs q)))
 
 -- ---- the literals of one effect after another
 

@@ -16,7 +16,7 @@ module _ {S A T B : Type 0} (t : System S A) (u : System T B) (view : S → T) (
   listed : (lines : List (Line S)) (s : S) (s' : T) (cost : ℕ) → view s ≡ s' → IsListedWithin lines s cost → IsListedWithin (map line_of lines) s' cost
   listed lines s s' cost now (line, among, is, within) = (line_of line, Contains-map line_of lines line among, ap view is ∙ now, within)
 
-  -- where the values of the other are no lower, and what is told a dead end is told so there too
+  -- where the values of the other are no lower, and what is reported as a dead end is reported so there too
   pub closed_forth : (value : S → ℕ) (value' : T → ℕ) → ((s : S) → value s ≤ value' (view s))
       → (is_dead : S → Bool) (is_dead' : T → Bool) → ((s : S) → IsTrue (is_dead s) → IsTrue (is_dead' (view s)))
       → (claim : Claim) (lines : List (Line S)) → IsClosed t value is_dead claim lines → IsClosed u value' is_dead' claim (map line_of lines)
@@ -56,10 +56,10 @@ module _ {S A T B : Type 0} (t : System S A) (u : System T B) (view : S → T) (
       let other = run_forth t u (λ s s'. view s ≡ s') names both plan s (view s) end refl runs in
       omega (arith, values s, lower (view s) other.1 other.0 (subst (IsReachable u) (sym there.1) there.2) other.3 (sym (both.goals end other.1 other.4) ∙ goal), same_cost t u (λ s s'. view s ≡ s') names both plan other.0 other.2)
 
-  -- what is told a dead end in the other system, and is one there, is one here
+  -- what is reported as a dead end in the other system, and is one there, is one here
   pub dead_ends_back : (is_dead : S → Bool) (is_dead' : T → Bool) → ((s : S) → IsTrue (is_dead s) → IsTrue (is_dead' (view s))) → AreDeadEnds u is_dead' → AreDeadEnds t is_dead
-  dead_ends_back is_dead is_dead' deaths dead_ends s end plan reached told runs =
+  dead_ends_back is_dead is_dead' deaths dead_ends s end plan reached reported runs =
       let there = reachable_forth t u (λ s s'. view s ≡ s') names both s reached in
       let other = run_forth t u (λ s s'. view s ≡ s') names both plan s (view s) end refl runs in
       both.goals end other.1 other.4
-      ∙ dead_ends (view s) other.1 other.0 (subst (IsReachable u) (sym there.1) there.2) (deaths s told) other.3
+      ∙ dead_ends (view s) other.1 other.0 (subst (IsReachable u) (sym there.1) there.2) (deaths s reported) other.3

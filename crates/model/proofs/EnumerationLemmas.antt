@@ -125,7 +125,7 @@ are_bound count (atom a) = list_all (is_bound count) a.terms
 are_bound count (equal t u) = is_bound count t && is_bound count u
 are_bound count _ = false
 
--- A sure literal all of whose variables have objects, and which stands under no `forall`, closes the formula off.
+-- A sure literal all of whose variables have objects, and which is under no `forall`, closes the formula off.
 abbrev mutual
   pub closed_within : Task → Formula → List ℕ → Bool
   closed_within task (atom a) objects = are_bound (length objects) (atom a) && is_closed_off task (atom a) objects

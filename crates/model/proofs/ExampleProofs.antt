@@ -212,7 +212,7 @@ worked_examples = record {
     before = state_after (walk_to 0) start [];
     next = b_to_c;
     runs = refl;
-    stands_there = refl;
+    found_there = refl;
     is_not_applicable = stays_at_a 2;
   };
   later_step_not_applicable = record {
@@ -220,7 +220,7 @@ worked_examples = record {
     before = state_after (walk_to 0) start at_b;
     next = a_to_b;
     runs = one (system_of (walk_to 1)) (state_after (walk_to 0) start []) (state_after (walk_to 0) start at_b) a_to_b (moves_a_to_b 1);
-    stands_there = refl;
+    found_there = refl;
     is_not_applicable = stays_at_b 1;
   };
   empty_plan_solves = ((state_after (walk_to 0) start [], refl, contains-state_after (walk_to 0) start [] (ground 0 (0 ∷ []))), refl);
@@ -229,7 +229,7 @@ worked_examples = record {
     refl,
     λ i. contains-state_after go_task go_task.init [] (ground 0 []) i && (contains-state_after go_task go_task.init [] (ground 1 []) i && true),
   );
-  goal_left_behind = (
+  goal_left_after = (
     state_after (walk_to 0) start at_c,
     two (system_of (walk_to 1)) (state_after (walk_to 0) start []) (state_after (walk_to 0) start at_b) (state_after (walk_to 0) start at_c) a_to_b b_to_c (moves_a_to_b 1) (moves_b_to_c 1),
     contains-state_after (walk_to 0) start at_c (ground 0 (1 ∷ [])),
@@ -301,7 +301,7 @@ worked_examples = record {
     before = along has_metric (go_to_b has_metric);
     next = b_to_b;
     runs = one (system_of (by_length has_metric)) (along has_metric []) (along has_metric (go_to_b has_metric)) a_to_b (goes_to_b has_metric);
-    stands_there = refl;
+    found_there = refl;
     is_not_applicable = leads_nowhere (by_length has_metric) (along has_metric (go_to_b has_metric)) b_to_b go_along refl refl refl;
   };
 }

@@ -76,7 +76,7 @@ is_left k (j ∷ all) seen e n = by_first (is_section k j) refl (has_section see
     by_first false is true was rest e = rest e n
     by_first false is false was rest e = ap (λ b. b || has_section (left_of all seen) k) is ∙ rest e n
 
--- the words of a section after its keyword, whichever others might stand in its place
+-- the words of a section after its keyword, whichever others might occur in its place
 abbrev IsRest : File → SectionKeyword → List Token → Section → Type 0
 IsRest f k u x = (j : SectionKeyword) (others : List SectionKeyword) (r : List Token) → Follows (section f j others) (section_after k) (u ++ r) x r
 

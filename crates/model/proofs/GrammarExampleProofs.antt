@@ -5,12 +5,12 @@ use Rattle.model.specs.GrammarWords.{tokens_of}
 use Rattle.model.specs.Grammar.{domain_tree, problem_tree}
 use Rattle.model.specs.Trees.{domain_file, problem_file, formulas, effects}
 use Rattle.model.specs.Trees as tree
-use Rattle.model.specs.GrammarExamples.{AreAsTold, empty_list, no_kind, no_predicates, shortest_domain, word_too_many, repeated_section, section_of_the_other_file, section_left_out, no_parameters, full_problem, typed_list, typed_groups, named, type_of_nothing, either_of_a_constant, not_of_two, imply_of_one, bare_variable, three_terms, form_of_an_effect, empty_goal, empty_precondition, domain_with, quantified, quantified_formula, when_under_when, forall_under_when, when_under_not, when_as_condition, and_under_and, left_out_under_when, when_of_two, not_of_a_not, increase_in_and, increase_under_when, increase_in_forall, other_function, bare_function, large_increase, increase_by_the_total_cost, increase_by_a_bare_name, large_term, decreased, total_cost_as_predicate, empty_effect, only_increase, two_increases, effects_among_increases, both_increases, each_when, functions_of_a_reserved_word, total_cost_of_a_variable, functions_of_a_type, maximized, minimized_another, minimized_bare, metric_again, start_of_a_reserved_word, value_of_a_variable, start_too_large, value_too_large, two_functions, functions_and_an_increase, domain_of_functions, costs_in_a_problem, problem_of_costs, values_in_a_problem, problem_of_values, domain_of_effect, each_when_effect}
+use Rattle.model.specs.GrammarExamples.{AreAsReported, empty_list, no_kind, no_predicates, shortest_domain, word_too_many, repeated_section, section_of_the_other_file, section_left_out, no_parameters, full_problem, typed_list, typed_groups, named, type_of_nothing, either_of_a_constant, not_of_two, imply_of_one, bare_variable, three_terms, form_of_an_effect, empty_goal, empty_precondition, domain_with, quantified, quantified_formula, when_under_when, forall_under_when, when_under_not, when_as_condition, and_under_and, left_out_under_when, when_of_two, not_of_a_not, increase_in_and, increase_under_when, increase_in_forall, other_function, bare_function, large_increase, increase_by_the_total_cost, increase_by_a_bare_name, large_term, decreased, total_cost_as_predicate, empty_effect, only_increase, two_increases, effects_among_increases, both_increases, each_when, functions_of_a_reserved_word, total_cost_of_a_variable, functions_of_a_type, maximized, minimized_another, minimized_bare, metric_again, start_of_a_reserved_word, value_of_a_variable, start_too_large, value_too_large, two_functions, functions_and_an_increase, domain_of_functions, costs_in_a_problem, problem_of_costs, values_in_a_problem, problem_of_values, domain_of_effect, each_when_effect}
 use Rattle.model.proofs.GrammarMeaning.{run_file}
 use Rattle.model.proofs.GrammarRefusals.{refused_at}
 
-pub as_told : AreAsTold
-as_told = record {
+pub as_reported : AreAsReported
+as_reported = record {
   no_word = refused_at domain_file [] 7 0 refl;
   empty = refused_at domain_file empty_list 10 1 refl;
   unkind = refused_at domain_file no_kind 10 2 refl;

@@ -1,4 +1,4 @@
--- The names that stand in a file's tree are names among its words: where each name among the words passes a test, so do
+-- The names that are in a file's tree are names among its words: where each name among the words passes a test, so do
 -- those of the tree's predicates, actions, constants and objects.
 use Rattle.std.proofs.Common.{◌≡◌, Bool, true, false, ◌&&◌, cond, List, [], ◌∷◌, fold, Option, None, Some, refl, ◌∙◌, ap, subst}
 use Rattle.std.specs.Prelude.{⊤}
@@ -140,7 +140,7 @@ module _ (passes : Name → Bool) where
   sections_keep f seen [] = tt
   sections_keep f seen (k ∷ others) = λ x here xs later. (here, later)
 
-  -- what stands in a file with one section more, and with all
+  -- what is in a file with one section more, and with all
   with_section_passes : (c : Contents) (x : Section) → ContentsPass c → SectionPasses x → ContentsPass (with_section c x)
   with_section_passes c requirements pass here = pass
   with_section_passes c (types gs) pass here = pass

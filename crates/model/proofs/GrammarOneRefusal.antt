@@ -1,14 +1,14 @@
--- At most one fault is told of words, and none of a file: the first word with which no file goes on is one, and one
--- number is told of it.
+-- At most one fault is reported for words, and none of a file: the first word with which no file goes on is one, and one
+-- number is reported for it.
 use Rattle.std.proofs.Common.{◌≡◌, ℕ, List, [], ◌∷◌, ◌++◌, sym, ◌∙◌, ap, subst}
 use Rattle.std.proofs.lemmas.List.{map-append, append_assoc, append-nil}
 use Rattle.model.specs.Fault.{Fault}
 use Rattle.model.specs.Words.{Word, end_of}
 use Rattle.model.specs.Trees.{File}
 use Rattle.model.specs.GrammarWords.{Token, token_of, tokens_of}
-use Rattle.model.specs.Refusals.{IsWhole, Begins, IsToldOf, IsRefused, at_word, at_end, number_after}
+use Rattle.model.specs.Refusals.{IsWhole, Begins, IsReportedOf, IsRefused, at_word, at_end, number_after}
 use Rattle.model.proofs.GrammarBegins.{fewer}
-use Rattle.model.proofs.Places.{Places, at_one, stands_before, stands_after, places}
+use Rattle.model.proofs.Places.{Places, at_one, comes_before, comes_after, places}
 
 -- words with which a file begins have no word before their end with which none goes on
 goes_on : (file : File) (all before after : List Word) (word : Word) → all ≡ before ++ word ∷ after → Begins file (tokens_of all) → Begins file (tokens_of before ++ token_of word ∷ [])
@@ -17,8 +17,8 @@ goes_on file all before after word split begins =
     ap tokens_of split ∙ map-append token_of before (word ∷ after) ∙ sym (append_assoc (tokens_of before) (token_of word ∷ []) (tokens_of after)) in
     fewer file (tokens_of before ++ token_of word ∷ []) (tokens_of after) (subst (Begins file) tokens begins)
 
--- one number is told of a word where these stand before it
-one_number : (file : File) (b : List Token) (t : Token) (c d : ℕ) → IsToldOf file b t c → IsToldOf file b t d → c ≡ d
+-- one number is reported for a word where these come before it
+one_number : (file : File) (b : List Token) (t : Token) (c d : ℕ) → IsReportedOf file b t c → IsReportedOf file b t d → c ≡ d
 one_number file b t c d l m = let same : l.0 ≡ m.0 = cc in l.2 ∙ ap (λ p. number_after p t) same ∙ sym m.2
 
 same_fault : (f g : Fault) → f.code ≡ g.code → f.span ≡ g.span → f ≡ g
@@ -29,10 +29,10 @@ one_refusal file words f g (at_word b r w split begins dead line span) (at_word 
   where
     by_places : Places b c w x → f ≡ g
     by_places (at_one p q) =
-        let numbers : f.code ≡ g.code = one_number file (tokens_of b) (token_of w) f.code g.code line (subst (λ y. IsToldOf file (tokens_of y) (token_of w) g.code) (sym p) (subst (λ y. IsToldOf file (tokens_of c) (token_of y) g.code) (sym q) rule)) in
+        let numbers : f.code ≡ g.code = one_number file (tokens_of b) (token_of w) f.code g.code line (subst (λ y. IsReportedOf file (tokens_of y) (token_of w) g.code) (sym p) (subst (λ y. IsReportedOf file (tokens_of c) (token_of y) g.code) (sym q) rule)) in
         same_fault f g numbers (span ∙ ap (λ y. record { start = y.start; end = end_of y }) q ∙ sym place)
-    by_places (stands_before rest p) = absurd (dead (goes_on file c b rest w p begin))
-    by_places (stands_after rest p) = absurd (die (goes_on file b c rest x p begins))
+    by_places (comes_before rest p) = absurd (dead (goes_on file c b rest w p begin))
+    by_places (comes_after rest p) = absurd (die (goes_on file b c rest x p begins))
 one_refusal file words f g (at_word b r w split begins dead line span) (at_end all whole code place) = absurd (dead (goes_on file words b r w split all))
 one_refusal file words f g (at_end all whole code place) (at_word c s x other begin die rule span) = absurd (die (goes_on file words c s x other all))
 one_refusal file words f g (at_end all whole code span) (at_end other none number place) = same_fault f g (code ∙ sym number) (span ∙ sym place)

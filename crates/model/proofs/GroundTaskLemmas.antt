@@ -14,15 +14,15 @@ use Rattle.model.specs.Task.{Atom, Schema, Task, Instance}
 use Rattle.model.specs.Meaning.{State, atom_cmp, initial_state, holds, fits, can_apply, GroundLiteral, adds, deletes, Change, changes_of, changes_of_instance, literals_in, added_by, deleted_by, after_literals, after_changes, step, meets_goal, cost_of, system_of}
 use Rattle.model.specs.Fluents.{touches, is_fluent, HasInitialStatics}
 use Rattle.model.specs.ClosedOff.{kept_instances, counts, counting_changes}
-use Rattle.model.specs.NumberedAtoms.{stands_in, with_atoms, atom_of_literal, touched_by, initial_fluent_atoms, numbered_atoms, are_distinct, AreNumbered, HasNumberedFluents}
-use Rattle.model.specs.Grounding.{state_of_bits, bits_of_state, ground_step, ground_system, applicable_numbers, GroundLimit, of_instances, of_atoms, limit_told, StandsFor, NamesKept, GroundTaskIsBisimilar, GroundTaskSolvesAlike, PacksStates}
-use Rattle.model.proofs.Atoms.{atoms_total, stands_in-append}
+use Rattle.model.specs.NumberedAtoms.{occurs_in, with_atoms, atom_of_literal, touched_by, initial_fluent_atoms, numbered_atoms, are_distinct, AreNumbered, HasNumberedFluents}
+use Rattle.model.specs.Grounding.{state_of_bits, bits_of_state, ground_step, ground_system, applicable_numbers, GroundLimit, of_instances, of_atoms, exceeded_limit, StandsFor, NamesKept, GroundTaskIsBisimilar, GroundTaskSolvesAlike, PacksStates}
+use Rattle.model.proofs.Atoms.{atoms_total, occurs_in-append}
 use Rattle.model.proofs.BisimulationLemmas.{solve_alike}
 use Rattle.model.proofs.ListLemmas.{Contains-place, Contains-filter, filter-Contains, Contains-range}
-use Rattle.model.proofs.StaticLemmas.{contains-after_literals, is_changed, untouched, none_of_all, contains-step, stands_in-filter}
+use Rattle.model.proofs.StaticLemmas.{contains-after_literals, is_changed, untouched, none_of_all, contains-step, occurs_in-filter}
 use Rattle.model.proofs.ClosedOffLemmas.{only_counting_changes_are_made, Contains-kept}
-use Rattle.model.proofs.NumberingLemmas.{stands_in-Contains, stands_in-flat_map, stands_in-flat_map_any, flat_map-stands_in, stands_in-with_atoms, distinct-with_atoms, numbered-first}
-use Rattle.model.proofs.PackedStates.{contains-static, contains-fluent, chosen-stands_in, packed-bits_of_state, bits_of-packed_state}
+use Rattle.model.proofs.NumberingLemmas.{occurs_in-Contains, occurs_in-flat_map, occurs_in-flat_map_any, flat_map-occurs_in, occurs_in-with_atoms, distinct-with_atoms, numbered-first}
+use Rattle.model.proofs.PackedStates.{contains-static, contains-fluent, chosen-occurs_in, packed-bits_of_state, bits_of-packed_state}
 
 -- ---- what a step changes
 
@@ -69,34 +69,34 @@ step-counting task s next i statics leads =
 abbrev pub atoms_of : List Change → List Atom
 atoms_of changes = map (λ (c : Change). atom_of_literal c.literal) changes
 
-added-among : (task : Task) (s : State) (changes : List Change) (q : Atom) → stands_in (added_by (literals_in task s changes)) q ≡ true → stands_in (atoms_of changes) q ≡ true
+added-among : (task : Task) (s : State) (changes : List Change) (q : Atom) → occurs_in (added_by (literals_in task s changes)) q ≡ true → occurs_in (atoms_of changes) q ≡ true
 added-among task s [] q at = at
 added-among task s (c ∷ changes) q at =
-    elim (holds task c.condition c.binding s) as (λ b. stands_in (added_by (map (λ (d : Change). d.literal) (cond b (c ∷ met) met))) q ≡ true → (eq_by_cmp atom_cmp q (atom_of_literal c.literal) || stands_in (atoms_of changes) q) ≡ true) [
+    elim (holds task c.condition c.binding s) as (λ b. occurs_in (added_by (map (λ (d : Change). d.literal) (cond b (c ∷ met) met))) q ≡ true → (eq_by_cmp atom_cmp q (atom_of_literal c.literal) || occurs_in (atoms_of changes) q) ≡ true) [
       | true ↦ λ some. first c.literal (added-among task s changes q) some
-      | false ↦ λ later. or_right (eq_by_cmp atom_cmp q (atom_of_literal c.literal)) (stands_in (atoms_of changes) q) (added-among task s changes q later)
+      | false ↦ λ later. or_right (eq_by_cmp atom_cmp q (atom_of_literal c.literal)) (occurs_in (atoms_of changes) q) (added-among task s changes q later)
     ] at
   where
     met : List Change
     met = filter (λ (d : Change). holds task d.condition d.binding s) changes
 
-    first : (l : GroundLiteral) → (stands_in (added_by (literals_in task s changes)) q ≡ true → stands_in (atoms_of changes) q ≡ true)
-        → stands_in (added_by (l ∷ literals_in task s changes)) q ≡ true → (eq_by_cmp atom_cmp q (atom_of_literal l) || stands_in (atoms_of changes) q) ≡ true
+    first : (l : GroundLiteral) → (occurs_in (added_by (literals_in task s changes)) q ≡ true → occurs_in (atoms_of changes) q ≡ true)
+        → occurs_in (added_by (l ∷ literals_in task s changes)) q ≡ true → (eq_by_cmp atom_cmp q (atom_of_literal l) || occurs_in (atoms_of changes) q) ≡ true
     first (adds a) rest some =
-        elim (or_cases (eq_by_cmp atom_cmp q a) (stands_in (added_by (literals_in task s changes)) q) some) [
-          | inl here ↦ or_left (eq_by_cmp atom_cmp q a) (stands_in (atoms_of changes) q) here
-          | inr later ↦ or_right (eq_by_cmp atom_cmp q a) (stands_in (atoms_of changes) q) (rest later)
+        elim (or_cases (eq_by_cmp atom_cmp q a) (occurs_in (added_by (literals_in task s changes)) q) some) [
+          | inl here ↦ or_left (eq_by_cmp atom_cmp q a) (occurs_in (atoms_of changes) q) here
+          | inr later ↦ or_right (eq_by_cmp atom_cmp q a) (occurs_in (atoms_of changes) q) (rest later)
         ]
-    first (deletes a) rest some = or_right (eq_by_cmp atom_cmp q a) (stands_in (atoms_of changes) q) (rest some)
+    first (deletes a) rest some = or_right (eq_by_cmp atom_cmp q a) (occurs_in (atoms_of changes) q) (rest some)
 
 -- an atom that is true after a step was so before, or a change that counts touches it
 pub step-touched : (task : Task) (s next : State) (i : Instance) (q : Atom) → HasInitialStatics task s → step task s i ≡ Some next → contains next q ≡ true
-    → (contains s q ≡ true) ⊎ (stands_in (touched_by task i) q ≡ true)
+    → (contains s q ≡ true) ⊎ (occurs_in (touched_by task i) q ≡ true)
 step-touched task s next i q statics leads has =
     let literals = literals_in task s (counting_changes task i) in
     let now : contains (after_literals s literals) q ≡ true = ap (λ (t : State). contains t q) (step-counting task s next i statics leads) ∙ has in
-    elim (or_cases (contains s q && not (stands_in (deleted_by literals) q)) (stands_in (added_by literals) q) (sym (contains-after_literals s literals q) ∙ now)) [
-      | inl before ↦ inl (and_parts (contains s q) (not (stands_in (deleted_by literals) q)) before).0
+    elim (or_cases (contains s q && not (occurs_in (deleted_by literals) q)) (occurs_in (added_by literals) q) (sym (contains-after_literals s literals q) ∙ now)) [
+      | inl before ↦ inl (and_parts (contains s q) (not (occurs_in (deleted_by literals) q)) before).0
       | inr added ↦ inr (added-among task s (counting_changes task i) q added)
     ]
 
@@ -106,11 +106,11 @@ step-HasInitialStatics task s next i statics leads q static = contains-step task
 
 -- ---- only fluent atoms are touched
 
-filtered-changed : (p : Change → Bool) (changes : List Change) (q : Atom) → stands_in (atoms_of (filter p changes)) q ≡ true → is_changed q changes ≡ true
+filtered-changed : (p : Change → Bool) (changes : List Change) (q : Atom) → occurs_in (atoms_of (filter p changes)) q ≡ true → is_changed q changes ≡ true
 filtered-changed p [] q at = absurd (true≢false (sym at))
 filtered-changed p (c ∷ changes) q at =
-    elim (p c) as (λ b. stands_in (atoms_of (cond b (c ∷ filter p changes) (filter p changes))) q ≡ true → (eq_by_cmp atom_cmp q (atom_of_literal c.literal) || is_changed q changes) ≡ true) [
-      | true ↦ λ some. elim (or_cases (eq_by_cmp atom_cmp q (atom_of_literal c.literal)) (stands_in (atoms_of (filter p changes)) q) some) [
+    elim (p c) as (λ b. occurs_in (atoms_of (cond b (c ∷ filter p changes) (filter p changes))) q ≡ true → (eq_by_cmp atom_cmp q (atom_of_literal c.literal) || is_changed q changes) ≡ true) [
+      | true ↦ λ some. elim (or_cases (eq_by_cmp atom_cmp q (atom_of_literal c.literal)) (occurs_in (atoms_of (filter p changes)) q) some) [
         | inl here ↦ or_left (eq_by_cmp atom_cmp q (atom_of_literal c.literal)) (is_changed q changes) here
         | inr later ↦ or_right (eq_by_cmp atom_cmp q (atom_of_literal c.literal)) (is_changed q changes) (filtered-changed p changes q later)
       ]
@@ -128,7 +128,7 @@ changed-fluent task i q changed =
       ] refl changed
     ] refl
 
-pub touched-fluent : (task : Task) (i : Instance) (q : Atom) → stands_in (touched_by task i) q ≡ true → is_fluent task q.predicate ≡ true
+pub touched-fluent : (task : Task) (i : Instance) (q : Atom) → occurs_in (touched_by task i) q ≡ true → is_fluent task q.predicate ≡ true
 touched-fluent task i q at = changed-fluent task i q (filtered-changed (counts task) (changes_of_instance task i) q at)
 
 -- ---- the numbered atoms
@@ -141,22 +141,22 @@ module _ (task : Task) (more : List Atom) where
   touched_atoms = flat_map (touched_by task) (kept_instances task)
 
   -- which they are
-  pub stands_in-numbered : (q : Atom) → stands_in (numbered_atoms task more) q ≡ ((stands_in more q || stands_in initial_atoms q) || stands_in touched_atoms q)
-  stands_in-numbered q =
-      stands_in-with_atoms [] (more ++ initial_atoms ++ touched_atoms) q
-      ∙ stands_in-append (more ++ initial_atoms) touched_atoms q
-      ∙ ap (λ b. b || stands_in touched_atoms q) (stands_in-append more initial_atoms q)
+  pub occurs_in-numbered : (q : Atom) → occurs_in (numbered_atoms task more) q ≡ ((occurs_in more q || occurs_in initial_atoms q) || occurs_in touched_atoms q)
+  occurs_in-numbered q =
+      occurs_in-with_atoms [] (more ++ initial_atoms ++ touched_atoms) q
+      ∙ occurs_in-append (more ++ initial_atoms) touched_atoms q
+      ∙ ap (λ b. b || occurs_in touched_atoms q) (occurs_in-append more initial_atoms q)
 
-  stands_in-initial : (q : Atom) → stands_in initial_atoms q ≡ (is_fluent task q.predicate && contains (initial_state task) q)
-  stands_in-initial q =
-      stands_in-filter (λ (a : Atom). is_fluent task a.predicate) task.init q
+  occurs_in-initial : (q : Atom) → occurs_in initial_atoms q ≡ (is_fluent task q.predicate && contains (initial_state task) q)
+  occurs_in-initial q =
+      occurs_in-filter (λ (a : Atom). is_fluent task a.predicate) task.init q
       ∙ ap (λ b. is_fluent task q.predicate && b) (sym (contains-from_list atoms_total task.init q))
 
-  -- none stands there twice
+  -- none is there twice
   pub numbered-distinct : are_distinct (numbered_atoms task more) ≡ true
   numbered-distinct = distinct-with_atoms [] (more ++ initial_atoms ++ touched_atoms) refl
 
-  -- each of `more` has its place as its number, if none of them stands there twice
+  -- each of `more` has its place as its number, if none of them is there twice
   pub numbered-more_first : are_distinct more ≡ true → (others : List Atom) × (numbered_atoms task more ≡ more ++ others)
   numbered-more_first distinct =
       let begun = numbered-first more (initial_atoms ++ touched_atoms) distinct in
@@ -171,16 +171,16 @@ module _ (task : Task) (more : List Atom) where
     once = numbered-distinct;
     more_first = numbered-more_first;
     which = λ a.
-        stands_in-numbered a
-        ∙ (λ i. (stands_in more a || stands_in-initial a i) || stands_in-flat_map_any (touched_by task) (kept_instances task) a i);
+        occurs_in-numbered a
+        ∙ (λ i. (occurs_in more a || occurs_in-initial a i) || occurs_in-flat_map_any (touched_by task) (kept_instances task) a i);
   }
 
   -- the fluent atoms that are true at the start have numbers
   pub initial-numbered : HasNumberedFluents task (numbered_atoms task more) (initial_state task)
   initial-numbered q is has =
-      stands_in-numbered q
-      ∙ or_left (stands_in more q || stands_in initial_atoms q) (stands_in touched_atoms q)
-      (or_right (stands_in more q) (stands_in initial_atoms q) (stands_in-initial q ∙ and_from (is_fluent task q.predicate) (contains (initial_state task) q) is has))
+      occurs_in-numbered q
+      ∙ or_left (occurs_in more q || occurs_in initial_atoms q) (occurs_in touched_atoms q)
+      (or_right (occurs_in more q) (occurs_in initial_atoms q) (occurs_in-initial q ∙ and_from (is_fluent task q.predicate) (contains (initial_state task) q) is has))
 
   -- and those that become true
   pub step-numbered : (s next : State) (i : Instance) → HasInitialStatics task s → HasNumberedFluents task (numbered_atoms task more) s → step task s i ≡ Some next
@@ -189,29 +189,29 @@ module _ (task : Task) (more : List Atom) where
       elim (step-touched task s next i q statics leads has) [
         | inl before ↦ numbered q is before
         | inr touched ↦
-            stands_in-numbered q
-            ∙ or_right (stands_in more q || stands_in initial_atoms q) (stands_in touched_atoms q) (stands_in-flat_map (touched_by task) (kept_instances task) i q (Contains-kept task s next i statics leads) touched)
+            occurs_in-numbered q
+            ∙ or_right (occurs_in more q || occurs_in initial_atoms q) (occurs_in touched_atoms q) (occurs_in-flat_map (touched_by task) (kept_instances task) i q (Contains-kept task s next i statics leads) touched)
       ]
 
   module _ (fluent : All (λ (a : Atom). IsTrue (is_fluent task a.predicate)) more) where
     -- only fluent atoms have numbers
-    pub numbered-fluent : (q : Atom) → stands_in (numbered_atoms task more) q ≡ true → is_fluent task q.predicate ≡ true
+    pub numbered-fluent : (q : Atom) → occurs_in (numbered_atoms task more) q ≡ true → is_fluent task q.predicate ≡ true
     numbered-fluent q at =
-        elim (or_cases (stands_in more q || stands_in initial_atoms q) (stands_in touched_atoms q) (sym (stands_in-numbered q) ∙ at)) [
-          | inl before ↦ elim (or_cases (stands_in more q) (stands_in initial_atoms q) before) [
-            | inl given ↦ All-contains (λ (a : Atom). IsTrue (is_fluent task a.predicate)) more q fluent (stands_in-Contains more q given)
-            | inr start ↦ (and_parts (is_fluent task q.predicate) (contains (initial_state task) q) (sym (stands_in-initial q) ∙ start)).0
+        elim (or_cases (occurs_in more q || occurs_in initial_atoms q) (occurs_in touched_atoms q) (sym (occurs_in-numbered q) ∙ at)) [
+          | inl before ↦ elim (or_cases (occurs_in more q) (occurs_in initial_atoms q) before) [
+            | inl given ↦ All-contains (λ (a : Atom). IsTrue (is_fluent task a.predicate)) more q fluent (occurs_in-Contains more q given)
+            | inr start ↦ (and_parts (is_fluent task q.predicate) (contains (initial_state task) q) (sym (occurs_in-initial q) ∙ start)).0
           ]
-          | inr touched ↦ let there = flat_map-stands_in (touched_by task) (kept_instances task) q touched in touched-fluent task there.0 q there.2
+          | inr touched ↦ let there = flat_map-occurs_in (touched_by task) (kept_instances task) q touched in touched-fluent task there.0 q there.2
         ]
 
-    in_init : (q : Atom) → contains (initial_state task) q ≡ stands_in task.init q
+    in_init : (q : Atom) → contains (initial_state task) q ≡ occurs_in task.init q
     in_init q = contains-from_list atoms_total task.init q
 
     pub packs_states : PacksStates task (numbered_atoms task more)
     packs_states = record {
       statics = λ bits q static. contains-static (is_fluent task) task.init (numbered_atoms task more) numbered-fluent bits q static ∙ sym (in_init q);
-      fluents = λ bits q is has. chosen-stands_in (numbered_atoms task more) bits q (sym (contains-fluent (is_fluent task) task.init (numbered_atoms task more) bits q is) ∙ has);
+      fluents = λ bits q is has. chosen-occurs_in (numbered_atoms task more) bits q (sym (contains-fluent (is_fluent task) task.init (numbered_atoms task more) bits q is) ∙ has);
       packed = λ s statics numbered. packed-bits_of_state (is_fluent task) task.init (numbered_atoms task more) numbered-fluent s (λ q static. statics q static ∙ in_init q) numbered;
       one_packed = bits_of-packed_state (is_fluent task) task.init (numbered_atoms task more) numbered-fluent numbered-distinct;
     }
@@ -225,8 +225,8 @@ module _ (task : Task) (more : List Atom) (fluent : All (λ (a : Atom). IsTrue (
   abbrev packs : PacksStates task atoms
   packs = packs_states task more fluent
 
-  stands_after : (bits : List Bool) (next : State) (i : Instance) → step task (state_of_bits task atoms bits) i ≡ Some next → StandsFor task atoms (bits_of_state atoms next) next
-  stands_after bits next i leads =
+  comes_after : (bits : List Bool) (next : State) (i : Instance) → step task (state_of_bits task atoms bits) i ≡ Some next → StandsFor task atoms (bits_of_state atoms next) next
+  comes_after bits next i leads =
       packs.packed next (step-HasInitialStatics task (state_of_bits task atoms bits) next i (packs.statics bits) leads)
       (step-numbered task more (state_of_bits task atoms bits) next i (packs.statics bits) (packs.fluents bits) leads)
 
@@ -253,24 +253,24 @@ module _ (task : Task) (more : List Atom) (fluent : All (λ (a : Atom). IsTrue (
 pub ground_task_is_bisimilar : GroundTaskIsBisimilar
 ground_task_is_bisimilar task more fluent = record {
   initial = (packs task more fluent).packed (initial_state task) (λ q static. refl) (initial-numbered task more);
-  forth = λ bits s number next stands leads.
+  forth = λ bits s number next occurs leads.
       let there = ground_led task more fluent bits next number leads in (
         there.0,
         there.1,
         there.2,
-        ap (λ (t : State). step task t there.0) (sym stands) ∙ there.3,
-        ap (state_of_bits task (numbered_atoms task more)) (sym there.4) ∙ stands_after task more fluent bits there.1 there.0 there.3,
+        ap (λ (t : State). step task t there.0) (sym occurs) ∙ there.3,
+        ap (state_of_bits task (numbered_atoms task more)) (sym there.4) ∙ comes_after task more fluent bits there.1 there.0 there.3,
       );
-  back = λ bits s i next stands leads.
-      let here : step task (state_of_bits task (numbered_atoms task more) bits) i ≡ Some next = ap (λ (t : State). step task t i) stands ∙ leads in
+  back = λ bits s i next occurs leads.
+      let here : step task (state_of_bits task (numbered_atoms task more) bits) i ≡ Some next = ap (λ (t : State). step task t i) occurs ∙ leads in
       let place = Contains-place (kept_instances task) i (Contains-kept task (state_of_bits task (numbered_atoms task more) bits) next i ((packs task more fluent).statics bits) here) in (
         place.0,
         bits_of_state (numbered_atoms task more) next,
         place.1,
         ground_leads task more fluent bits place.0 i next place.1 here,
-        stands_after task more fluent bits next i here,
+        comes_after task more fluent bits next i here,
       );
-  goals = λ bits s stands. ap (meets_goal task) stands;
+  goals = λ bits s occurs. ap (meets_goal task) occurs;
   costs = λ number i named. ap (λ o. option_map_or (cost_of task) o 0) named;
 }
 
@@ -318,18 +318,18 @@ length-step task atoms bits next number leads =
 -- ---- the limits
 
 module _ (task : Task) (more : List Atom) (max_instances max_atoms : ℕ) where
-  abbrev told_at : Bool → Bool → Option GroundLimit
-  told_at instances atoms = if instances then Some of_instances else if atoms then Some of_atoms else None
+  abbrev reported_at : Bool → Bool → Option GroundLimit
+  reported_at instances atoms = if instances then Some of_instances else if atoms then Some of_atoms else None
 
-  pub told_instances : max_instances < length (kept_instances task) → limit_told max_instances max_atoms task more ≡ Some of_instances
-  told_instances many = ap (λ b. told_at b (nat_lt max_atoms (length (numbered_atoms task more)))) (lt-ltb max_instances (length (kept_instances task)) many)
+  pub reported_instances : max_instances < length (kept_instances task) → exceeded_limit max_instances max_atoms task more ≡ Some of_instances
+  reported_instances many = ap (λ b. reported_at b (nat_lt max_atoms (length (numbered_atoms task more)))) (lt-ltb max_instances (length (kept_instances task)) many)
 
-  pub told_atoms : length (kept_instances task) ≤ max_instances → max_atoms < length (numbered_atoms task more) → limit_told max_instances max_atoms task more ≡ Some of_atoms
-  told_atoms few many =
-      ap (λ b. told_at b (nat_lt max_atoms (length (numbered_atoms task more)))) (le-ltb max_instances (length (kept_instances task)) few)
-      ∙ ap (told_at false) (lt-ltb max_atoms (length (numbered_atoms task more)) many)
+  pub reported_atoms : length (kept_instances task) ≤ max_instances → max_atoms < length (numbered_atoms task more) → exceeded_limit max_instances max_atoms task more ≡ Some of_atoms
+  reported_atoms few many =
+      ap (λ b. reported_at b (nat_lt max_atoms (length (numbered_atoms task more)))) (le-ltb max_instances (length (kept_instances task)) few)
+      ∙ ap (reported_at false) (lt-ltb max_atoms (length (numbered_atoms task more)) many)
 
-  pub told_none : length (kept_instances task) ≤ max_instances → length (numbered_atoms task more) ≤ max_atoms → limit_told max_instances max_atoms task more ≡ None
-  told_none few small =
-      ap (λ b. told_at b (nat_lt max_atoms (length (numbered_atoms task more)))) (le-ltb max_instances (length (kept_instances task)) few)
-      ∙ ap (told_at false) (le-ltb max_atoms (length (numbered_atoms task more)) small)
+  pub reported_none : length (kept_instances task) ≤ max_instances → length (numbered_atoms task more) ≤ max_atoms → exceeded_limit max_instances max_atoms task more ≡ None
+  reported_none few small =
+      ap (λ b. reported_at b (nat_lt max_atoms (length (numbered_atoms task more)))) (le-ltb max_instances (length (kept_instances task)) few)
+      ∙ ap (reported_at false) (le-ltb max_atoms (length (numbered_atoms task more)) small)

@@ -10,17 +10,17 @@ use Rattle.model.specs.Fluents.{static_atoms}
 use Rattle.model.specs.Instances.{all_instances}
 use Rattle.model.specs.SureLiterals.{Literal, is_true, is_false, are_same, are_different, literal_holds, sure}
 use Rattle.model.specs.ClosedOff.{is_fixed, is_closed_off, kept_instances, counting_changes}
-use Rattle.model.specs.NumberedAtoms.{stands_in, with_atoms, atom_of_literal, initial_fluent_atoms, numbered_atoms}
+use Rattle.model.specs.NumberedAtoms.{occurs_in, with_atoms, atom_of_literal, initial_fluent_atoms, numbered_atoms}
 use Rattle.model.specs.NumberedLiterals.{numbered_change, counting_of_instance}
-use Rattle.model.specs.Grounding.{chosen, state_of_bits, bits_of_state, ground_step, ground_system, applicable_numbers, of_instances, of_atoms, limit_told}
+use Rattle.model.specs.Grounding.{chosen, state_of_bits, bits_of_state, ground_step, ground_system, applicable_numbers, of_instances, of_atoms, exceeded_limit}
 use Rattle.model.proofs.Atoms.{atoms_total}
 use Rattle.model.proofs.Steps.{holds_where, true_after, contains-state_after, holds-after}
 
 -- ---- what is closed off
 
 abbrev holds_among : List Atom → Literal → Bool
-holds_among init (is_true a) = stands_in init a
-holds_among init (is_false a) = not (stands_in init a)
+holds_among init (is_true a) = occurs_in init a
+holds_among init (is_false a) = not (occurs_in init a)
 holds_among init (are_same a b) = nat_eq a b
 holds_among init (are_different a b) = not (nat_eq a b)
 
@@ -62,15 +62,15 @@ numbered task more = with_atoms [] (more ++ initial_fluent_atoms task ++ flat_ma
 pub numbered-is : (task : Task) (more : List Atom) → numbered_atoms task more ≡ numbered task more
 numbered-is task more = λ i. with_atoms [] (more ++ initial_fluent_atoms task ++ flat_map (λ j. atoms_of (counting-is task j i)) (kept-is task i))
 
-pub limit_told-is : (max_instances max_atoms : ℕ) (task : Task) (more : List Atom)
-    → limit_told max_instances max_atoms task more ≡ (if nat_lt max_instances (length (kept task)) then Some of_instances else if nat_lt max_atoms (length (numbered task more)) then Some of_atoms else None)
-limit_told-is max_instances max_atoms task more =
+pub exceeded_limit-is : (max_instances max_atoms : ℕ) (task : Task) (more : List Atom)
+    → exceeded_limit max_instances max_atoms task more ≡ (if nat_lt max_instances (length (kept task)) then Some of_instances else if nat_lt max_atoms (length (numbered task more)) then Some of_atoms else None)
+exceeded_limit-is max_instances max_atoms task more =
     λ i. if nat_lt max_instances (length (kept-is task i)) then Some of_instances else if nat_lt max_atoms (length (numbered-is task more i)) then Some of_atoms else None
 
 -- ---- what packed states mean
 
 module _ (task : Task) (atoms : List Atom) where
-  pub initial-is : (ground_system task atoms).initial ≡ map (stands_in task.init) atoms
+  pub initial-is : (ground_system task atoms).initial ≡ map (occurs_in task.init) atoms
   initial-is = λ i. map (λ a. contains-from_list atoms_total task.init a i) atoms
 
   pub cost-is : (number : ℕ) → (ground_system task atoms).cost number ≡ option_map_or (cost_of task) (slice_get (kept task) number) 0

@@ -7,10 +7,10 @@ use Rattle.model.specs.Meaning.{step}
 use Rattle.model.specs.Fluents.{is_fluent}
 use Rattle.model.specs.Grounding.{state_of_bits, bits_of_state, ground_step, ground_system, GroundLimit, of_instances, of_atoms}
 use Rattle.model.specs.Examples.{ground, instance, priced, by_length, p, q, doer, trucks, seen, adds, walk_to}
-use Rattle.model.specs.GroundingExamples.{adding_q, deleting_q, acting, Closes, Keeps, Numbers, Leads, Meets, Tells, unreached, conditional_task, at_places, at_a, AreGrounded}
+use Rattle.model.specs.GroundingExamples.{adding_q, deleting_q, acting, Closes, Keeps, Numbers, Leads, Meets, Reports, unreached, conditional_task, at_places, at_a, AreGrounded}
 use Rattle.model.proofs.PackedStates.{contains-unnumbered}
 use Rattle.model.proofs.Steps.{leads_nowhere}
-use Rattle.model.proofs.GroundingComputes.{closed_off, closed_off-is, kept, kept-is, counting_numbers-is, numbered, numbered-is, limit_told-is, initial-is, cost-is, holds_packed, meets_goal-is, leads_packed, ground_step-is, applicable-is}
+use Rattle.model.proofs.GroundingComputes.{closed_off, closed_off-is, kept, kept-is, counting_numbers-is, numbered, numbered-is, exceeded_limit-is, initial-is, cost-is, holds_packed, meets_goal-is, leads_packed, ground_step-is, applicable-is}
 
 -- where this computes, the definition says so
 
@@ -29,10 +29,10 @@ leads {task} {atoms} {bits} {number} is = record { leads = ground_step-is task a
 meets : {task : Task} {atoms : List Atom} {bits : List Bool} {answer : Bool} → holds_packed task atoms bits task.goal [] ≡ answer → Meets task atoms bits answer
 meets {task} {atoms} {bits} is = record { is_met = meets_goal-is task atoms bits ∙ is }
 
-tells : {max_instances max_atoms : ℕ} {task : Task} {more : List Atom} {limit : Option GroundLimit}
+reports : {max_instances max_atoms : ℕ} {task : Task} {more : List Atom} {limit : Option GroundLimit}
     → (if nat_lt max_instances (length (kept task)) then Some of_instances else if nat_lt max_atoms (length (numbered task more)) then Some of_atoms else None) ≡ limit
-    → Tells max_instances max_atoms task more limit
-tells {max_instances} {max_atoms} {task} {more} is = record { is_told = limit_told-is max_instances max_atoms task more ∙ is }
+    → Reports max_instances max_atoms task more limit
+reports {max_instances} {max_atoms} {task} {more} is = record { is_reported = exceeded_limit-is max_instances max_atoms task more ∙ is }
 
 -- ---- an atom that no action makes true
 
@@ -115,10 +115,10 @@ are_grounded = record {
   a_value_without_the_metric = cost-is (by_length false) at_places 0 ∙ refl;
   leads_by_its_number = λ has_metric. leads refl;
   value_and_closed_off = keeps refl;
-  too_many_instances = tells refl;
-  both_too_many = tells refl;
-  too_many_atoms = tells refl;
-  neither = tells refl;
-  closed_off_does_not_count = tells refl;
-  more_counts = tells refl;
+  too_many_instances = reports refl;
+  both_too_many = reports refl;
+  too_many_atoms = reports refl;
+  neither = reports refl;
+  closed_off_does_not_count = reports refl;
+  more_counts = reports refl;
 }

@@ -36,7 +36,7 @@ pub mod TypingFaultsRepeats
 pub mod TypingFaultsVariables
 pub mod TypingFaultsUses
 pub mod TypingFaultsPhases
-pub mod TypingFaultsTold
+pub mod TypingFaultsReported
 pub mod PlanExampleProofs
 pub mod PlanWritingLemmas
 pub mod PlanWritingExampleProofs

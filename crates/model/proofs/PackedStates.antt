@@ -9,34 +9,34 @@ use Rattle.std.proofs.lemmas.List.{length-map, same_lists, get_or-map, get_or_de
 use Rattle.std.proofs.lemmas.Option.{slice_get-get_or}
 use Rattle.model.specs.Task.{Atom}
 use Rattle.model.specs.Meaning.{State, atom_cmp}
-use Rattle.model.specs.NumberedAtoms.{stands_in, are_distinct}
+use Rattle.model.specs.NumberedAtoms.{occurs_in, are_distinct}
 use Rattle.model.specs.Grounding.{chosen, bits_of_state}
-use Rattle.model.proofs.Atoms.{atoms_total, stands_in-append, same_state}
-use Rattle.model.proofs.StaticLemmas.{same_atom, stands_in-filter, and_false, or_false}
-use Rattle.model.proofs.NumberingLemmas.{stands_in-got, same_itself}
+use Rattle.model.proofs.Atoms.{atoms_total, occurs_in-append, same_state}
+use Rattle.model.proofs.StaticLemmas.{same_atom, occurs_in-filter, and_false, or_false}
+use Rattle.model.proofs.NumberingLemmas.{occurs_in-got, same_itself}
 
 -- ---- the chosen atoms
 
 -- they are among the atoms
-pub chosen-stands_in : (atoms : List Atom) (bits : List Bool) (q : Atom) → stands_in (chosen atoms bits) q ≡ true → stands_in atoms q ≡ true
-chosen-stands_in [] bits q at = absurd (true≢false (sym at))
-chosen-stands_in (a ∷ atoms) [] q at = absurd (true≢false (sym at))
-chosen-stands_in (a ∷ atoms) (true ∷ bits) q at =
-    elim (or_cases (eq_by_cmp atom_cmp q a) (stands_in (chosen atoms bits) q) at) [
-      | inl here ↦ or_left (eq_by_cmp atom_cmp q a) (stands_in atoms q) here
-      | inr later ↦ or_right (eq_by_cmp atom_cmp q a) (stands_in atoms q) (chosen-stands_in atoms bits q later)
+pub chosen-occurs_in : (atoms : List Atom) (bits : List Bool) (q : Atom) → occurs_in (chosen atoms bits) q ≡ true → occurs_in atoms q ≡ true
+chosen-occurs_in [] bits q at = absurd (true≢false (sym at))
+chosen-occurs_in (a ∷ atoms) [] q at = absurd (true≢false (sym at))
+chosen-occurs_in (a ∷ atoms) (true ∷ bits) q at =
+    elim (or_cases (eq_by_cmp atom_cmp q a) (occurs_in (chosen atoms bits) q) at) [
+      | inl here ↦ or_left (eq_by_cmp atom_cmp q a) (occurs_in atoms q) here
+      | inr later ↦ or_right (eq_by_cmp atom_cmp q a) (occurs_in atoms q) (chosen-occurs_in atoms bits q later)
     ]
-chosen-stands_in (a ∷ atoms) (false ∷ bits) q at = or_right (eq_by_cmp atom_cmp q a) (stands_in atoms q) (chosen-stands_in atoms bits q at)
+chosen-occurs_in (a ∷ atoms) (false ∷ bits) q at = or_right (eq_by_cmp atom_cmp q a) (occurs_in atoms q) (chosen-occurs_in atoms bits q at)
 
 -- those that a state chooses are those of the list that are true in it
-pub chosen-state : (atoms : List Atom) (s : State) (q : Atom) → stands_in (chosen atoms (bits_of_state atoms s)) q ≡ (stands_in atoms q && contains s q)
+pub chosen-state : (atoms : List Atom) (s : State) (q : Atom) → occurs_in (chosen atoms (bits_of_state atoms s)) q ≡ (occurs_in atoms q && contains s q)
 chosen-state [] s q = refl
 chosen-state (a ∷ atoms) s q =
-    elim (contains s a) as (λ b. contains s a ≡ b → stands_in (if b then a ∷ chosen atoms (bits_of_state atoms s) else chosen atoms (bits_of_state atoms s)) q ≡ ((eq_by_cmp atom_cmp q a || stands_in atoms q) && contains s q)) [
+    elim (contains s a) as (λ b. contains s a ≡ b → occurs_in (if b then a ∷ chosen atoms (bits_of_state atoms s) else chosen atoms (bits_of_state atoms s)) q ≡ ((eq_by_cmp atom_cmp q a || occurs_in atoms q) && contains s q)) [
       | true ↦ λ has. ap (λ b. eq_by_cmp atom_cmp q a || b) (chosen-state atoms s q)
-          ∙ there (eq_by_cmp atom_cmp q a) (stands_in atoms q) (contains s q) (λ same. ap (contains s) (same_atom q a same) ∙ has)
+          ∙ there (eq_by_cmp atom_cmp q a) (occurs_in atoms q) (contains s q) (λ same. ap (contains s) (same_atom q a same) ∙ has)
       | false ↦ λ misses. chosen-state atoms s q
-          ∙ absent (eq_by_cmp atom_cmp q a) (stands_in atoms q) (contains s q) (λ same. ap (contains s) (same_atom q a same) ∙ misses)
+          ∙ absent (eq_by_cmp atom_cmp q a) (occurs_in atoms q) (contains s q) (λ same. ap (contains s) (same_atom q a same) ∙ misses)
     ] refl
   where
     there : (e r h : Bool) → (e ≡ true → h ≡ true) → (e || (r && h)) ≡ ((e || r) && h)
@@ -47,8 +47,8 @@ chosen-state (a ∷ atoms) s q =
     absent true r h known = ap (λ b. r && b) (known refl) ∙ and_false r ∙ sym (known refl)
     absent false r h known = refl
 
--- where none stands twice, the atom of a number is chosen where its bit is set
-pub chosen-number : (atoms : List Atom) (bits : List Bool) (n : ℕ) (a : Atom) → are_distinct atoms ≡ true → slice_get atoms n ≡ Some a → stands_in (chosen atoms bits) a ≡ get_or bits n false
+-- where none is twice, the atom of a number is chosen where its bit is set
+pub chosen-number : (atoms : List Atom) (bits : List Bool) (n : ℕ) (a : Atom) → are_distinct atoms ≡ true → slice_get atoms n ≡ Some a → occurs_in (chosen atoms bits) a ≡ get_or bits n false
 chosen-number [] bits n a distinct at = absurd (cc)
 chosen-number (x ∷ atoms) [] n a distinct at = nothing n
   where
@@ -57,18 +57,18 @@ chosen-number (x ∷ atoms) [] n a distinct at = nothing n
     nothing (suc n) = refl
 chosen-number (x ∷ atoms) (b ∷ bits) zero a distinct at =
     let same : x ≡ a = cc in
-    let parts = and_parts (not (stands_in atoms x)) (are_distinct atoms) distinct in
-    elim b as (λ b. stands_in (if b then x ∷ chosen atoms bits else chosen atoms bits) a ≡ b) [
-      | true ↦ or_left (eq_by_cmp atom_cmp a x) (stands_in (chosen atoms bits) a) (ap (eq_by_cmp atom_cmp a) same ∙ same_itself a)
-      | false ↦ false_from_ne_true (stands_in (chosen atoms bits) a) (λ among.
-          true≢false (sym (chosen-stands_in atoms bits a among) ∙ ap (stands_in atoms) (sym same) ∙ not-true (stands_in atoms x) parts.0))
+    let parts = and_parts (not (occurs_in atoms x)) (are_distinct atoms) distinct in
+    elim b as (λ b. occurs_in (if b then x ∷ chosen atoms bits else chosen atoms bits) a ≡ b) [
+      | true ↦ or_left (eq_by_cmp atom_cmp a x) (occurs_in (chosen atoms bits) a) (ap (eq_by_cmp atom_cmp a) same ∙ same_itself a)
+      | false ↦ false_from_ne_true (occurs_in (chosen atoms bits) a) (λ among.
+          true≢false (sym (chosen-occurs_in atoms bits a among) ∙ ap (occurs_in atoms) (sym same) ∙ not-true (occurs_in atoms x) parts.0))
     ]
 chosen-number (x ∷ atoms) (b ∷ bits) (suc n) a distinct at =
-    let parts = and_parts (not (stands_in atoms x)) (are_distinct atoms) distinct in
+    let parts = and_parts (not (occurs_in atoms x)) (are_distinct atoms) distinct in
     let other : eq_by_cmp atom_cmp a x ≡ false = false_from_ne_true (eq_by_cmp atom_cmp a x) (λ same.
-    true≢false (sym (stands_in-got atoms n a at) ∙ ap (stands_in atoms) (same_atom a x same) ∙ not-true (stands_in atoms x) parts.0)) in
-    elim b as (λ b. stands_in (if b then x ∷ chosen atoms bits else chosen atoms bits) a ≡ get_or bits n false) [
-      | true ↦ ap (λ v. v || stands_in (chosen atoms bits) a) other ∙ chosen-number atoms bits n a parts.1 at
+    true≢false (sym (occurs_in-got atoms n a at) ∙ ap (occurs_in atoms) (same_atom a x same) ∙ not-true (occurs_in atoms x) parts.0)) in
+    elim b as (λ b. occurs_in (if b then x ∷ chosen atoms bits else chosen atoms bits) a ≡ get_or bits n false) [
+      | true ↦ ap (λ v. v || occurs_in (chosen atoms bits) a) other ∙ chosen-number atoms bits n a parts.1 at
       | false ↦ chosen-number atoms bits n a parts.1 at
     ]
 
@@ -82,16 +82,16 @@ module _ (fluent : ℕ → Bool) (init : List Atom) (atoms : List Atom) where
   abbrev pub packed_state : List Bool → State
   packed_state bits = from_list (chosen atoms bits ++ statics)
 
-  pub contains-packed : (bits : List Bool) (q : Atom) → contains (packed_state bits) q ≡ (stands_in (chosen atoms bits) q || (not (fluent q.predicate) && stands_in init q))
+  pub contains-packed : (bits : List Bool) (q : Atom) → contains (packed_state bits) q ≡ (occurs_in (chosen atoms bits) q || (not (fluent q.predicate) && occurs_in init q))
   contains-packed bits q =
       contains-from_list atoms_total (chosen atoms bits ++ statics) q
-      ∙ stands_in-append (chosen atoms bits) statics q
-      ∙ ap (λ b. stands_in (chosen atoms bits) q || b) (stands_in-filter (λ (a : Atom). not (fluent a.predicate)) init q)
+      ∙ occurs_in-append (chosen atoms bits) statics q
+      ∙ ap (λ b. occurs_in (chosen atoms bits) q || b) (occurs_in-filter (λ (a : Atom). not (fluent a.predicate)) init q)
 
   -- a fluent atom is true where it is chosen
-  pub contains-fluent : (bits : List Bool) (q : Atom) → fluent q.predicate ≡ true → contains (packed_state bits) q ≡ stands_in (chosen atoms bits) q
+  pub contains-fluent : (bits : List Bool) (q : Atom) → fluent q.predicate ≡ true → contains (packed_state bits) q ≡ occurs_in (chosen atoms bits) q
   contains-fluent bits q is =
-      contains-packed bits q ∙ (λ i. stands_in (chosen atoms bits) q || (not (is i) && stands_in init q)) ∙ or_false (stands_in (chosen atoms bits) q)
+      contains-packed bits q ∙ (λ i. occurs_in (chosen atoms bits) q || (not (is i) && occurs_in init q)) ∙ or_false (occurs_in (chosen atoms bits) q)
 
   -- so where its bit is set
   pub contains-numbered : are_distinct atoms ≡ true → (bits : List Bool) (n : ℕ) (a : Atom) → fluent a.predicate ≡ true → slice_get atoms n ≡ Some a
@@ -99,26 +99,26 @@ module _ (fluent : ℕ → Bool) (init : List Atom) (atoms : List Atom) where
   contains-numbered distinct bits n a is at = contains-fluent bits a is ∙ chosen-number atoms bits n a distinct at
 
   -- and nowhere without a number
-  pub contains-unnumbered : (bits : List Bool) (a : Atom) → fluent a.predicate ≡ true → stands_in atoms a ≡ false → contains (packed_state bits) a ≡ false
+  pub contains-unnumbered : (bits : List Bool) (a : Atom) → fluent a.predicate ≡ true → occurs_in atoms a ≡ false → contains (packed_state bits) a ≡ false
   contains-unnumbered bits a is none =
-      contains-fluent bits a is ∙ false_from_ne_true (stands_in (chosen atoms bits) a) (λ among. true≢false (sym (chosen-stands_in atoms bits a among) ∙ none))
+      contains-fluent bits a is ∙ false_from_ne_true (occurs_in (chosen atoms bits) a) (λ among. true≢false (sym (chosen-occurs_in atoms bits a among) ∙ none))
 
-  module _ (numbered_are_fluent : (q : Atom) → stands_in atoms q ≡ true → fluent q.predicate ≡ true) where
+  module _ (numbered_are_fluent : (q : Atom) → occurs_in atoms q ≡ true → fluent q.predicate ≡ true) where
     -- a static atom is true where it is at the start
-    pub contains-static : (bits : List Bool) (q : Atom) → fluent q.predicate ≡ false → contains (packed_state bits) q ≡ stands_in init q
+    pub contains-static : (bits : List Bool) (q : Atom) → fluent q.predicate ≡ false → contains (packed_state bits) q ≡ occurs_in init q
     contains-static bits q is =
-        contains-packed bits q ∙ (λ i. unchosen i || (not (is i) && stands_in init q))
+        contains-packed bits q ∙ (λ i. unchosen i || (not (is i) && occurs_in init q))
       where
-        unchosen : stands_in (chosen atoms bits) q ≡ false
-        unchosen = false_from_ne_true (stands_in (chosen atoms bits) q) (λ at. true≢false (sym (numbered_are_fluent q (chosen-stands_in atoms bits q at)) ∙ is))
+        unchosen : occurs_in (chosen atoms bits) q ≡ false
+        unchosen = false_from_ne_true (occurs_in (chosen atoms bits) q) (λ at. true≢false (sym (numbered_are_fluent q (chosen-occurs_in atoms bits q at)) ∙ is))
 
     -- a state with the initial static atoms, whose fluent atoms have numbers, is that of its bits
-    pub packed-bits_of_state : (s : State) → ((q : Atom) → fluent q.predicate ≡ false → contains s q ≡ stands_in init q)
-        → ((q : Atom) → fluent q.predicate ≡ true → contains s q ≡ true → stands_in atoms q ≡ true) → packed_state (bits_of_state atoms s) ≡ s
+    pub packed-bits_of_state : (s : State) → ((q : Atom) → fluent q.predicate ≡ false → contains s q ≡ occurs_in init q)
+        → ((q : Atom) → fluent q.predicate ≡ true → contains s q ≡ true → occurs_in atoms q ≡ true) → packed_state (bits_of_state atoms s) ≡ s
     packed-bits_of_state s static numbered =
         same_state _ s (λ q.
         elim (fluent q.predicate) as (λ f. fluent q.predicate ≡ f → contains (packed_state (bits_of_state atoms s)) q ≡ contains s q) [
-          | true ↦ λ is. contains-fluent (bits_of_state atoms s) q is ∙ chosen-state atoms s q ∙ among (stands_in atoms q) (contains s q) (numbered q is)
+          | true ↦ λ is. contains-fluent (bits_of_state atoms s) q is ∙ chosen-state atoms s q ∙ among (occurs_in atoms q) (contains s q) (numbered q is)
           | false ↦ λ is. contains-static (bits_of_state atoms s) q is ∙ sym (static q is)
         ] refl)
       where
@@ -140,5 +140,5 @@ module _ (fluent : ℕ → Bool) (init : List Atom) (atoms : List Atom) where
             let a = get_or atoms k anything in
             let at : slice_get atoms k ≡ Some a = slice_get-get_or atoms k anything below in
             get_or-map (contains (packed_state bits)) atoms k anything d below
-            ∙ contains-numbered distinct bits k a (numbered_are_fluent a (stands_in-got atoms k a at)) at
+            ∙ contains-numbered distinct bits k a (numbered_are_fluent a (occurs_in-got atoms k a at)) at
             ∙ get_or_default bits k false d (omega (arith, below, long))

@@ -12,12 +12,12 @@ use Rattle.model.specs.Meaning.{State, literals_in, added_by, deleted_by, step}
 use Rattle.model.specs.Fluents.{is_fluent}
 use Rattle.model.specs.SureLiterals.{Literal, is_true, is_false, are_same, are_different, literal_holds, sure}
 use Rattle.model.specs.ClosedOff.{counting_changes}
-use Rattle.model.specs.NumberedAtoms.{stands_in, numbered_atoms, number_of}
+use Rattle.model.specs.NumberedAtoms.{occurs_in, numbered_atoms, number_of}
 use Rattle.model.specs.NumberedLiterals.{NumberedLiteral, numbered_literal, agrees}
 use Rattle.model.specs.Grounding.{state_of_bits, bits_of_state, NumberedLiteralsHold}
 use Rattle.model.proofs.SureLiteralsHold.{sure_literals_hold}
 use Rattle.model.proofs.StaticLemmas.{contains-after_literals}
-use Rattle.model.proofs.NumberingLemmas.{stands_in-got, got-number_of}
+use Rattle.model.proofs.NumberingLemmas.{occurs_in-got, got-number_of}
 use Rattle.model.proofs.PackedStates.{contains-numbered}
 use Rattle.model.proofs.GroundTaskLemmas.{numbered-distinct, numbered-fluent, packs_states, step-counting}
 
@@ -40,7 +40,7 @@ module _ (task : Task) (more : List Atom) (fluent : All (λ (a : Atom). IsTrue (
   -- a numbered atom is true where its bit is set
   pub contains-bit : (bits : List Bool) (n : ℕ) (a : Atom) → slice_get atoms n ≡ Some a → contains (state_of_bits task atoms bits) a ≡ get_or bits n false
   contains-bit bits n a at =
-      contains-numbered (is_fluent task) task.init atoms (numbered-distinct task more) bits n a (numbered-fluent task more fluent a (stands_in-got atoms n a at)) at
+      contains-numbered (is_fluent task) task.init atoms (numbered-distinct task more) bits n a (numbered-fluent task more fluent a (occurs_in-got atoms n a at)) at
 
   literal_agrees : (bits : List Bool) (l : Literal) (n : NumberedLiteral) → numbered_literal atoms l ≡ Some n → literal_holds (state_of_bits task atoms bits) l ≡ true → agrees bits n ≡ true
   literal_agrees bits (is_true a) n is holding =
@@ -64,8 +64,8 @@ module _ (task : Task) (more : List Atom) (fluent : All (λ (a : Atom). IsTrue (
   -- deletes it.
   pub bit-after : (bits : List Bool) (i : Instance) (next : State) (n : ℕ) (a : Atom) → slice_get atoms n ≡ Some a → step task (state_of_bits task atoms bits) i ≡ Some next
       → get_or (bits_of_state atoms next) n false
-      ≡ ((get_or bits n false && not (stands_in (deleted_by (literals_in task (state_of_bits task atoms bits) (counting_changes task i))) a))
-      || stands_in (added_by (literals_in task (state_of_bits task atoms bits) (counting_changes task i))) a)
+      ≡ ((get_or bits n false && not (occurs_in (deleted_by (literals_in task (state_of_bits task atoms bits) (counting_changes task i))) a))
+      || occurs_in (added_by (literals_in task (state_of_bits task atoms bits) (counting_changes task i))) a)
   bit-after bits i next n a at leads =
       let s = state_of_bits task atoms bits in
       let literals = literals_in task s (counting_changes task i) in
@@ -73,7 +73,7 @@ module _ (task : Task) (more : List Atom) (fluent : All (λ (a : Atom). IsTrue (
       ∙ ap (contains next) (get_or_from_slice_get atoms n a a at)
       ∙ ap (λ (t : State). contains t a) (sym (step-counting task s next i ((packs_states task more fluent).statics bits) leads))
       ∙ contains-after_literals s literals a
-      ∙ ap (λ b. (b && not (stands_in (deleted_by literals) a)) || stands_in (added_by literals) a) (contains-bit bits n a at)
+      ∙ ap (λ b. (b && not (occurs_in (deleted_by literals) a)) || occurs_in (added_by literals) a) (contains-bit bits n a at)
 
 pub numbered_literals_hold : NumberedLiteralsHold
 numbered_literals_hold task more fluent formula binding bits holding =

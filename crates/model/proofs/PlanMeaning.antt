@@ -13,7 +13,7 @@ use Rattle.model.specs.Task.{Union, Task, Schema, Instance}
 use Rattle.model.specs.Meaning.{is_of, is_instance, fits}
 use Rattle.model.specs.PlanText.{Placed, placed_from, Step, AreSteps, HasSteps, BeginsSteps, IsNumberOfWord, timed, untimed, IsFormFault, too_long, refused, open_at_end, IsNumberOf, AreNumbersOf, schema_names, object_names, Means, AllMean, IsPlanText, NamesObject, NameObjects, IsStepFault, unknown_action, wrong_count, wrong_object, IsPlanFault, of_form, of_step}
 use Rattle.model.proofs.PlanReading.{one_list}
-use Rattle.model.proofs.Places.{Places, at_one, stands_before, stands_after, places}
+use Rattle.model.proofs.Places.{Places, at_one, comes_before, comes_after, places}
 
 -- A name has one number.
 one_number : (declared : List (List ℕ)) (name : Name) (a b : ℕ) → IsNumberOf declared name a → IsNumberOf declared name b → a ≡ b
@@ -155,7 +155,7 @@ few_steps text steps h =
     let c = h.short in
     omega (arith, a, b, c)
 
--- What is told of a step, and of the form of a text, is one fault.
+-- What is reported for a step, and of the form of a text, is one fault.
 same_fault : (f g : Fault) → f.code ≡ g.code → f.span ≡ g.span → f ≡ g
 same_fault f g code span = ap (λ c. let k : Fault = record { code = c; span = f.span } in k) code ∙ ap (λ s. let k : Fault = record { code = g.code; span = s } in k) span
 
@@ -172,8 +172,8 @@ one_name task b c r s w x us vs more others u v e types are be unknown not_known
   where
     by_places : Places b c w x → w ≡ x
     by_places (at_one p q) = q
-    by_places (stands_before rest p) = absurd (unknown (named_before task b rest w us vs more (v ∷ others) u are (subst (NameObjects task vs) p be) types))
-    by_places (stands_after rest p) = absurd (not_known (named_before task c rest x vs us others (u ∷ more) v be (subst (NameObjects task us) p are) (sym types)))
+    by_places (comes_before rest p) = absurd (unknown (named_before task b rest w us vs more (v ∷ others) u are (subst (NameObjects task vs) p be) types))
+    by_places (comes_after rest p) = absurd (not_known (named_before task c rest x vs us others (u ∷ more) v be (subst (NameObjects task us) p are) (sym types)))
 
 one_step_fault : (task : Task) (step : Step) (f g : Fault) → IsStepFault task step f → IsStepFault task step g → f ≡ g
 one_step_fault task step f g (unknown_action none code span) (unknown_action never number place) = same_fault f g (code ∙ sym number) (span ∙ sym place)
@@ -205,8 +205,8 @@ one_first_fault task b c r s w x m n f g e mean meant wrong bad = by_places (pla
   where
     by_places : Places b c w x → f ≡ g
     by_places (at_one p q) = one_step_fault task w f g wrong (subst (λ y. IsStepFault task y g) (sym q) bad)
-    by_places (stands_before rest p) = absurd (all_mean task c b rest w n f meant p wrong)
-    by_places (stands_after rest p) = absurd (all_mean task b c rest x m g mean p bad)
+    by_places (comes_before rest p) = absurd (all_mean task c b rest w n f meant p wrong)
+    by_places (comes_after rest p) = absurd (all_mean task b c rest x m g mean p bad)
 
 -- words with which a plan text begins have no word before their end with which none goes on
 goes_on : (all before after : List Placed) (word : Placed) → all ≡ before ++ word ∷ after → BeginsSteps all → BeginsSteps (before ++ word ∷ [])
@@ -215,7 +215,7 @@ goes_on all before after word split (more, steps, are) =
     ap (λ ws. ws ++ more) (split ∙ sym (append_assoc before (word ∷ []) after)) ∙ append_assoc (before ++ word ∷ []) after more in
     (after ++ more, steps, subst (λ ws. AreSteps ws steps) shorter are)
 
--- one number is told of a refused word
+-- one number is reported for a refused word
 one_number_of_word : (before : List Placed) (word : Placed) (m n : ℕ) → IsNumberOfWord before word m → IsNumberOfWord before word n → m ≡ n
 one_number_of_word before word m n (timed t is) (timed u be) = is ∙ sym be
 one_number_of_word before word m n (timed t is) (untimed never be) = absurd (never t)
@@ -243,7 +243,7 @@ module _ (text : List ℕ) (one_cut : (a b : List Part) → AreParts text a → 
   no_form_fault steps fault h (open_at_end short parts cut begins none _ _ _) =
       none steps (subst (λ ps. AreSteps (placed_from 0 ps) steps) (one_cut h.parts parts h.cut cut) h.steps_of_parts)
 
-  -- no fault is told of a plan text
+  -- no fault is reported for a plan text
   pub no_fault : (task : Task) (plan : List Instance) (fault : Fault) → IsPlanText task text plan → IsPlanFault task text fault → ⊥
   no_fault task plan fault (steps, has, mean) (of_form wrong) = no_form_fault steps fault has wrong
   no_fault task plan fault (steps, has, mean) (of_step others before after step partial had are meant wrong) =
@@ -251,7 +251,7 @@ module _ (text : List ℕ) (one_cut : (a b : List Part) → AreParts text a → 
       let here = each_means task before after step plan (subst (λ ss. AllMean task ss plan) same mean) in
       means_no_fault task step here.0 fault here.1 wrong
 
-  -- of the form one fault is told
+  -- of the form one fault is reported
   one_form_fault : (a b : Fault) → IsFormFault text a → IsFormFault text b → a ≡ b
   one_form_fault a b (too_long long code start end) (too_long over number from to) = same_fault a b (code ∙ sym number) (same_span a.span b.span (start ∙ sym from) (end ∙ sym to))
   one_form_fault a b (too_long long code start end) (refused short parts cut before after word split begins dead number from to) = absurd (omega arith)
@@ -264,8 +264,8 @@ module _ (text : List ℕ) (one_cut : (a b : List Part) → AreParts text a → 
       by_places (at_one p q) =
           same_fault a b (one_number_of_word earlier other a.code b.code (subst (λ w. IsNumberOfWord earlier w a.code) q (subst (λ ws. IsNumberOfWord ws word a.code) p code)) number)
           (same_span a.span b.span (start ∙ ap (λ (w : Placed). w.start) q ∙ sym from) (end ∙ ap (λ (w : Placed). w.start + size w.part) q ∙ sym to))
-      by_places (stands_before rest p) = absurd (dead (goes_on earlier before rest word p begin))
-      by_places (stands_after rest p) = absurd (die (goes_on before earlier rest other p begins))
+      by_places (comes_before rest p) = absurd (dead (goes_on earlier before rest word p begin))
+      by_places (comes_after rest p) = absurd (die (goes_on before earlier rest other p begins))
   one_form_fault a b (refused short parts cut before after word split begins dead code start end) (open_at_end brief others cuts begin none number from to) =
       absurd (dead (goes_on (placed_from 0 others) before after word (ap (placed_from 0) (one_cut others parts cuts cut) ∙ split) begin))
   one_form_fault a b (open_at_end short parts cut begins none code start end) (too_long over number from to) = absurd (omega arith)
@@ -274,7 +274,7 @@ module _ (text : List ℕ) (one_cut : (a b : List Part) → AreParts text a → 
   one_form_fault a b (open_at_end short parts cut begins none code start end) (open_at_end brief others cuts begin never number from to) =
       same_fault a b (code ∙ sym number) (same_span a.span b.span (start ∙ sym from) (end ∙ sym to))
 
-  -- at most one fault is told of a text
+  -- at most one fault is reported for a text
   pub one_fault : (task : Task) (fault other : Fault) → IsPlanFault task text fault → IsPlanFault task text other → fault ≡ other
   one_fault task fault other (of_form wrong) (of_form bad) = one_form_fault fault other wrong bad
   one_fault task fault other (of_form wrong) (of_step steps b r step plan has are mean bad) = absurd (no_form_fault steps fault has wrong)

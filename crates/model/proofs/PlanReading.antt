@@ -131,10 +131,10 @@ name_is word name h =
 -- What the machine reads are steps.
 
 -- the words read so far of a step
-abbrev Stands : Place → List Placed → Type 0
-Stands outside so_far = so_far ≡ []
-Stands opened so_far = (first : Placed) × (so_far ≡ first ∷ []) × (form first.part ≡ opening)
-Stands (inside action objects) so_far =
+abbrev IsListedAs : Place → List Placed → Type 0
+IsListedAs outside so_far = so_far ≡ []
+IsListedAs opened so_far = (first : Placed) × (so_far ≡ first ∷ []) × (form first.part ≡ opening)
+IsListedAs (inside action objects) so_far =
     (first : Placed) × (names : List Placed) × (so_far ≡ first ∷ names) × (form first.part ≡ opening)
     × AreNames names (action ∷ objects)
 
@@ -147,7 +147,7 @@ names_push (w ∷ ws) (n ∷ ns) word h is = (h.0, names_push ws ns word h.1 is)
 -- what is read of the words after this one
 abbrev Reads : ℕ → List Placed → Type 0
 Reads end words =
-    (so_far : List Placed) (place : Place) (steps : List Step) → Stands place so_far → outcome end words place ≡ reads steps → AreSteps (so_far ++ words) steps
+    (so_far : List Placed) (place : Place) (steps : List Step) → IsListedAs place so_far → outcome end words place ≡ reads steps → AreSteps (so_far ++ words) steps
 
 ended_step : (end : ℕ) (word : Placed) (words so_far : List Placed) (step : Step) (steps : List Step) (o : Outcome) → IsStep (so_far ++ word ∷ []) step → outcome end words outside ≡ o → with_step step o ≡ reads steps → Reads end words → AreSteps (so_far ++ word ∷ words) steps
 ended_step end word words so_far step steps (reads rest) is o_is e inner =
@@ -155,22 +155,22 @@ ended_step end word words so_far step steps (reads rest) is o_is e inner =
     subst (AreSteps (so_far ++ word ∷ words)) here (so_far ++ word ∷ [], words, sym (append_assoc so_far (word ∷ []) words), is, inner [] outside rest refl o_is)
 ended_step end word words so_far step steps (refuses fault) is o_is e inner = absurd (cc)
 
-word_reads : (end : ℕ) (word : Placed) (words so_far : List Placed) (place : Place) (s : Sort) (steps : List Step) → sort_of word.part ≡ s → Stands place so_far
+word_reads : (end : ℕ) (word : Placed) (words so_far : List Placed) (place : Place) (s : Sort) (steps : List Step) → sort_of word.part ≡ s → IsListedAs place so_far
     → after_turn (span_at word) (turn place s (name_at word)) (outcome end words) ≡ reads steps → Reads end words → AreSteps (so_far ++ word ∷ words) steps
-word_reads end word words so_far outside an_opening steps is stands e inner =
-    subst (λ ws. AreSteps (ws ++ word ∷ words) steps) (sym stands) (inner (word ∷ []) opened steps (word, refl, opens_by (form word.part) (is_name (bytes word.part)) (is_stamp (bytes word.part)) is) e)
-word_reads end word words so_far outside a_closing steps is stands e inner = absurd (cc)
-word_reads end word words so_far outside a_name steps is stands e inner = absurd (cc)
-word_reads end word words so_far outside a_stamp steps is stands e inner = absurd (cc)
-word_reads end word words so_far outside strange steps is stands e inner = absurd (cc)
-word_reads end word words so_far opened an_opening steps is stands e inner = absurd (cc)
-word_reads end word words so_far opened a_closing steps is stands e inner = absurd (cc)
+word_reads end word words so_far outside an_opening steps is occurs e inner =
+    subst (λ ws. AreSteps (ws ++ word ∷ words) steps) (sym occurs) (inner (word ∷ []) opened steps (word, refl, opens_by (form word.part) (is_name (bytes word.part)) (is_stamp (bytes word.part)) is) e)
+word_reads end word words so_far outside a_closing steps is occurs e inner = absurd (cc)
+word_reads end word words so_far outside a_name steps is occurs e inner = absurd (cc)
+word_reads end word words so_far outside a_stamp steps is occurs e inner = absurd (cc)
+word_reads end word words so_far outside strange steps is occurs e inner = absurd (cc)
+word_reads end word words so_far opened an_opening steps is occurs e inner = absurd (cc)
+word_reads end word words so_far opened a_closing steps is occurs e inner = absurd (cc)
 word_reads end word words so_far opened a_name steps is (first, so_far_is, opens) e inner =
     subst (λ ws. AreSteps (ws ++ word ∷ words) steps) (sym so_far_is)
     (inner (first ∷ word ∷ []) (inside (name_at word) []) steps (first, word ∷ [], refl, opens, (is_name_at word is, tt)) e)
-word_reads end word words so_far opened a_stamp steps is stands e inner = absurd (cc)
-word_reads end word words so_far opened strange steps is stands e inner = absurd (cc)
-word_reads end word words so_far (inside action objects) an_opening steps is stands e inner = absurd (cc)
+word_reads end word words so_far opened a_stamp steps is occurs e inner = absurd (cc)
+word_reads end word words so_far opened strange steps is occurs e inner = absurd (cc)
+word_reads end word words so_far (inside action objects) an_opening steps is occurs e inner = absurd (cc)
 word_reads end word words so_far (inside action objects) a_closing steps is (first, names, so_far_is, opens, are) e inner =
     ended_step end word words so_far _ steps (outcome end words outside)
     (record { first = first; names = names; last = word; in_order = ap (λ ws. ws ++ word ∷ []) so_far_is; opens = opens; closes = closes_by (form word.part) (is_name (bytes word.part)) (is_stamp (bytes word.part)) is; named = are })
@@ -179,16 +179,16 @@ word_reads end word words so_far (inside action objects) a_name steps is (first,
     subst (λ ws. AreSteps (ws ++ word ∷ words) steps) (sym so_far_is)
     (subst (λ ws. AreSteps ws steps) (append_assoc (first ∷ names) (word ∷ []) words)
     (inner (first ∷ names ++ word ∷ []) (inside action (objects ++ name_at word ∷ [])) steps (first, names ++ word ∷ [], refl, opens, names_push names (action ∷ objects) word are (is_name_at word is)) e))
-word_reads end word words so_far (inside action objects) a_stamp steps is stands e inner = absurd (cc)
-word_reads end word words so_far (inside action objects) strange steps is stands e inner = absurd (cc)
+word_reads end word words so_far (inside action objects) a_stamp steps is occurs e inner = absurd (cc)
+word_reads end word words so_far (inside action objects) strange steps is occurs e inner = absurd (cc)
 
-sound : (end : ℕ) (words so_far : List Placed) (place : Place) (steps : List Step) → Stands place so_far → outcome end words place ≡ reads steps → AreSteps (so_far ++ words) steps
-sound end [] so_far outside steps stands e =
+sound : (end : ℕ) (words so_far : List Placed) (place : Place) (steps : List Step) → IsListedAs place so_far → outcome end words place ≡ reads steps → AreSteps (so_far ++ words) steps
+sound end [] so_far outside steps occurs e =
     let none : [] ≡ steps = cc in
-    subst (AreSteps (so_far ++ [])) none (append-nil so_far ∙ stands)
-sound end [] so_far opened steps stands e = absurd (cc)
-sound end [] so_far (inside action objects) steps stands e = absurd (cc)
-sound end (word ∷ words) so_far place steps stands e = word_reads end word words so_far place (sort_of word.part) steps refl stands e (sound end words)
+    subst (AreSteps (so_far ++ [])) none (append-nil so_far ∙ occurs)
+sound end [] so_far opened steps occurs e = absurd (cc)
+sound end [] so_far (inside action objects) steps occurs e = absurd (cc)
+sound end (word ∷ words) so_far place steps occurs e = word_reads end word words so_far place (sort_of word.part) steps refl occurs e (sound end words)
 
 pub steps_of_reads : (end : ℕ) (words : List Placed) (steps : List Step) → outcome end words outside ≡ reads steps → AreSteps words steps
 steps_of_reads end words steps e = sound end words [] outside steps refl e
@@ -346,8 +346,8 @@ word_found : (end : ℕ) (word : Placed) (words : List Placed) (place : Place) (
     → ((next : Place) → outcome end words next ≡ refuses fault → StopsAt end words next fault ⊎ IsOpen end words next fault)
     → StopsAt end (word ∷ words) place fault ⊎ IsOpen end (word ∷ words) place fault
 word_found end word words place (stops code) fault is e inner =
-    let told : Fault = record { code = code; span = span_at word } in
-    let same : told ≡ fault = cc in
+    let reported : Fault = record { code = code; span = span_at word } in
+    let same : reported ≡ fault = cc in
     inl (record {
       before = [];
       after = words;
@@ -373,11 +373,11 @@ found end (word ∷ words) place fault e = word_found end word words place (turn
 begins : (end : ℕ) (words : List Placed) → GoesOn end words outside → BeginsSteps words
 begins end words (more, steps, e) = (more, steps, steps_of_reads end (words ++ more) steps e)
 
-number_told : (end : ℕ) (before : List Placed) (word : Placed) (code : ℕ) → StopsWith end before outside word code → IsNumberOfWord before word code
-number_told end before word code (at_stamp (steps, e) sort is) =
+number_reported : (end : ℕ) (before : List Placed) (word : Placed) (code : ℕ) → StopsWith end before outside word code → IsNumberOfWord before word code
+number_reported end before word code (at_stamp (steps, e) sort is) =
     let both = stamps_by (form word.part) (is_name (bytes word.part)) (is_stamp (bytes word.part)) sort in
     timed (record { steps = steps; outside = steps_of_reads end before steps e; is_run = both.0; stamp = both.1 }) is
-number_told end before word code (elsewhere never is) =
+number_reported end before word code (elsewhere never is) =
     untimed (λ (t : IsTimed before word). never (t.steps, reads_steps end before t.steps t.outside) (stamp_sort word.part t.is_run t.stamp)) is
 
 -- what it stops at is the fault of the form
@@ -397,7 +397,7 @@ form_fault text parts fault short are e = by_place (found (length text) (placed_
         let read = reads_steps n ((s.before ++ s.word ∷ []) ++ more) steps all in
         let impossible : reads steps ≡ refuses fault = sym read ∙ stopped in
         cc)
-        (number_told n s.before s.word fault.code s.number)
+        (number_reported n s.before s.word fault.code s.number)
         (ap (λ (x : Span). x.start) s.span_is) (ap (λ (x : Span). x.end) s.span_is)
     by_place (inr o) = open_at_end short parts are (begins n words o.goes_on)
         (λ steps all. let impossible : reads steps ≡ refuses fault = sym (reads_steps n words steps all) ∙ e in cc)

@@ -12,7 +12,7 @@ use Rattle.model.specs.Task.{Atom, LiftedAtom, Formula, EffectLiteral, add, dele
 use Rattle.model.specs.Meaning.{State, atom_cmp, objects_of, ground_atom, GroundLiteral, adds, deletes, Change, ground_literal, change_under, changes_of, changes_of_all, literals_in, added_by, deleted_by, after_literals, after_changes, step, holds, can_apply, fits, system_of, initial_state}
 use Rattle.model.specs.Runs.{run, IsReachable}
 use Rattle.model.specs.Fluents.{is_literal_of, touches, any_touches, is_fluent, static_atoms}
-use Rattle.model.specs.NumberedAtoms.{stands_in, atom_of_literal}
+use Rattle.model.specs.NumberedAtoms.{occurs_in, atom_of_literal}
 use Rattle.model.proofs.Atoms.{atoms_total, atoms_apart, same_state}
 
 -- a ground atom of another predicate is another atom
@@ -80,12 +80,12 @@ not_among task s q (c ∷ changes) none =
     by_condition true first rest = or_from _ _ first rest
     by_condition false first rest = rest
 
-not_added : (q : Atom) (literals : List GroundLiteral) → is_among q literals ≡ false → stands_in (added_by literals) q ≡ false
+not_added : (q : Atom) (literals : List GroundLiteral) → is_among q literals ≡ false → occurs_in (added_by literals) q ≡ false
 not_added q [] none = refl
 not_added q (adds a ∷ rest) none = let parts = or_parts (eq_by_cmp atom_cmp q a) (is_among q rest) none in or_from _ _ parts.0 (not_added q rest parts.1)
 not_added q (deletes a ∷ rest) none = not_added q rest (or_parts (eq_by_cmp atom_cmp q a) (is_among q rest) none).1
 
-not_deleted : (q : Atom) (literals : List GroundLiteral) → is_among q literals ≡ false → stands_in (deleted_by literals) q ≡ false
+not_deleted : (q : Atom) (literals : List GroundLiteral) → is_among q literals ≡ false → occurs_in (deleted_by literals) q ≡ false
 not_deleted q [] none = refl
 not_deleted q (adds a ∷ rest) none = not_deleted q rest (or_parts (eq_by_cmp atom_cmp q a) (is_among q rest) none).1
 not_deleted q (deletes a ∷ rest) none = let parts = or_parts (eq_by_cmp atom_cmp q a) (is_among q rest) none in or_from _ _ parts.0 (not_deleted q rest parts.1)
@@ -99,19 +99,19 @@ kept x y z ey ez = ap (λ v. (x && not v) || z) ey ∙ ap (λ v. (x && not false
 
 -- what is true after some literals
 pub contains-after_literals : (s : State) (literals : List GroundLiteral) (q : Atom)
-    → contains (after_literals s literals) q ≡ ((contains s q && not (stands_in (deleted_by literals) q)) || stands_in (added_by literals) q)
+    → contains (after_literals s literals) q ≡ ((contains s q && not (occurs_in (deleted_by literals) q)) || occurs_in (added_by literals) q)
 contains-after_literals s literals q =
     let gone : State = from_list (deleted_by literals) in
     let new : State = from_list (added_by literals) in
     contains-union atoms_total (difference s gone) new q
     ∙ (λ i. contains-difference atoms_total s gone q i || contains-from_list atoms_total (added_by literals) q i)
-    ∙ ap (λ b. (contains s q && not b) || stands_in (added_by literals) q) (contains-from_list atoms_total (deleted_by literals) q)
+    ∙ ap (λ b. (contains s q && not b) || occurs_in (added_by literals) q) (contains-from_list atoms_total (deleted_by literals) q)
 
 -- literals that are not of an atom leave it as it is
 left_by_literals : (s : State) (q : Atom) (literals : List GroundLiteral) → is_among q literals ≡ false → contains (after_literals s literals) q ≡ contains s q
 left_by_literals s q literals none =
     contains-after_literals s literals q
-    ∙ kept (contains s q) (stands_in (deleted_by literals) q) (stands_in (added_by literals) q) (not_deleted q literals none) (not_added q literals none)
+    ∙ kept (contains s q) (occurs_in (deleted_by literals) q) (occurs_in (added_by literals) q) (not_deleted q literals none) (not_added q literals none)
 
 -- so do the changes of an effect that does not touch the atom's predicate
 contains-after : (task : Task) (s : State) (q : Atom) (e : Effect) (b : List ℕ) → touches q.predicate e ≡ false → contains (after_changes task s (changes_of task e b)) q ≡ contains s q
@@ -167,12 +167,12 @@ or_false false = refl
 pub same_atom : (q a : Atom) → eq_by_cmp atom_cmp q a ≡ true → q ≡ a
 same_atom q a same = atoms_apart q a ((Equal-is (atom_cmp q a)).0 same)
 
-pub stands_in-filter : (p : Atom → Bool) (atoms : List Atom) (q : Atom) → stands_in (filter p atoms) q ≡ (p q && stands_in atoms q)
-stands_in-filter p [] q = sym (and_false (p q))
-stands_in-filter p (a ∷ atoms) q =
-    elim (p a) as (λ t. p a ≡ t → stands_in (if t then a ∷ filter p atoms else filter p atoms) q ≡ (p q && (eq_by_cmp atom_cmp q a || stands_in atoms q))) [
-      | true ↦ λ passes. ap (λ v. eq_by_cmp atom_cmp q a || v) (stands_in-filter p atoms q) ∙ first_passes (eq_by_cmp atom_cmp q a) (p q) (stands_in atoms q) (λ same. ap p (same_atom q a same) ∙ passes)
-      | false ↦ λ fails. stands_in-filter p atoms q ∙ first_fails (eq_by_cmp atom_cmp q a) (p q) (stands_in atoms q) (λ same. ap p (same_atom q a same) ∙ fails)
+pub occurs_in-filter : (p : Atom → Bool) (atoms : List Atom) (q : Atom) → occurs_in (filter p atoms) q ≡ (p q && occurs_in atoms q)
+occurs_in-filter p [] q = sym (and_false (p q))
+occurs_in-filter p (a ∷ atoms) q =
+    elim (p a) as (λ t. p a ≡ t → occurs_in (if t then a ∷ filter p atoms else filter p atoms) q ≡ (p q && (eq_by_cmp atom_cmp q a || occurs_in atoms q))) [
+      | true ↦ λ passes. ap (λ v. eq_by_cmp atom_cmp q a || v) (occurs_in-filter p atoms q) ∙ first_passes (eq_by_cmp atom_cmp q a) (p q) (occurs_in atoms q) (λ same. ap p (same_atom q a same) ∙ passes)
+      | false ↦ λ fails. occurs_in-filter p atoms q ∙ first_fails (eq_by_cmp atom_cmp q a) (p q) (occurs_in atoms q) (λ same. ap p (same_atom q a same) ∙ fails)
     ] refl
   where
     first_passes : (e t r : Bool) → (e ≡ true → t ≡ true) → (e || (t && r)) ≡ (t && (e || r))
@@ -192,15 +192,15 @@ pub state_of_fluent : (task : Task) (s : State) (atoms : List Atom) → IsReacha
     → from_list (atoms ++ static_atoms task) ≡ s
 state_of_fluent task s atoms reached fluent = same_state (from_list (atoms ++ static_atoms task)) s each
   where
-    static_there : (q : Atom) → stands_in (static_atoms task) q ≡ (not (is_fluent task q.predicate) && stands_in task.init q)
-    static_there q = stands_in-filter (λ (a : Atom). not (is_fluent task a.predicate)) task.init q
+    static_there : (q : Atom) → occurs_in (static_atoms task) q ≡ (not (is_fluent task q.predicate) && occurs_in task.init q)
+    static_there q = occurs_in-filter (λ (a : Atom). not (is_fluent task a.predicate)) task.init q
 
     each : (q : Atom) → contains (from_list {R = atom_cmp} (atoms ++ static_atoms task)) q ≡ contains s q
     each q =
         contains-from_list atoms_total (atoms ++ static_atoms task) q
         ∙ list_any-append (eq_by_cmp atom_cmp q) atoms (static_atoms task)
-        ∙ ap (λ v. stands_in atoms q || v) (static_there q)
-        ∙ elim (is_fluent task q.predicate) as (λ f. is_fluent task q.predicate ≡ f → (stands_in atoms q || (not f && stands_in task.init q)) ≡ contains s q) [
-          | true ↦ λ is. or_false (stands_in atoms q) ∙ sym (fluent.same q is)
-          | false ↦ λ is. ap (λ v. v || stands_in task.init q) (fluent.none_static q is) ∙ sym (contains-from_list atoms_total task.init q) ∙ sym (contains-reachable task s q is reached)
+        ∙ ap (λ v. occurs_in atoms q || v) (static_there q)
+        ∙ elim (is_fluent task q.predicate) as (λ f. is_fluent task q.predicate ≡ f → (occurs_in atoms q || (not f && occurs_in task.init q)) ≡ contains s q) [
+          | true ↦ λ is. or_false (occurs_in atoms q) ∙ sym (fluent.same q is)
+          | false ↦ λ is. ap (λ v. v || occurs_in task.init q) (fluent.none_static q is) ∙ sym (contains-from_list atoms_total task.init q) ∙ sym (contains-reachable task s q is reached)
         ] refl

@@ -1,4 +1,4 @@
--- A type descends from those on its chain of parents, and from no others: a chain of as many types as there are tells
+-- A type descends from those on its chain of parents, and from no others: a chain of as many types as there are reports
 -- whether it does.
 use Rattle.std.proofs.Common.{◌≡◌, ℕ, ◌<◌, ◌≤◌, Bool, true, false, ◌||◌, List, [], ◌∷◌, length, slice_get, slice_index, nat_eq, Some, refl, ap, sym, subst, ◌∙◌, arith, zero, suc, true≢false, ◌⊎◌, inl, inr}
 use Rattle.std.specs.List.{list_any, AllByRecursion, IsDistinct}
@@ -53,7 +53,7 @@ low_or_not (suc a) (suc b) = elim (low_or_not a b) [
   | inr l ↦ inr (omega (arith, l))
 ]
 
--- only `object` stands above `object`
+-- only `object` is above `object`
 above_object : (parents : List ℕ) (steps x : ℕ) → among x (chain parents steps zero) ≡ true → x ≡ 0
 above_object parents zero x on = absurd (true≢false (sym on))
 above_object parents (suc steps) x on = elim (or_cases (nat_eq x 0) false on) [
@@ -67,7 +67,7 @@ module _ (parents : List ℕ) where
   own steps zero = refl
   own steps (suc type) = ap (λ b. b || among (suc type) (chain parents steps (slice_index parents (suc type)))) (same_true (suc type))
 
-  -- where `object` is its own parent, what a type descends from stands on its chain
+  -- where `object` is its own parent, what a type descends from is on its chain
   pub on_chain : slice_get parents 0 ≡ Some 0 → (type above : ℕ) → Descends parents type above → (steps : ℕ) × (among above (chain parents steps type) ≡ true)
   on_chain root type above (itself same) = (1, own 0 same)
   on_chain root type above (by_parent lower parent higher is up) = by lower is (on_chain root parent higher up)
@@ -97,9 +97,9 @@ module _ (parents : List ℕ) where
       by (inl same) up = subst (λ t. Descends parents t above) (eqb-true above (suc type) same) (itself above)
       by (inr later) up = beyond (low_or_not (suc type) (length parents)) later (up later)
 
-  -- ---- a chain of as many types as there are has all that stand above
+  -- ---- a chain of as many types as there are has all that are above
 
-  -- Where a type stands on the chain of its parent, another that stands on a chain stands on a part of it that does not come
+  -- Where a type is on the chain of its parent, another that is on a chain is on a part of it that does not come
   -- back, or on a shorter chain of the parent.
   shorter : (type x most steps lower : ℕ) → among (suc type) (chain parents most lower) ≡ true → among x (chain parents steps lower) ≡ true
       → (among x (chain parents most lower) ≡ true) ⊎ ((fewer : ℕ) × (fewer < steps) × (among x (chain parents fewer (slice_index parents (suc type))) ≡ true))
@@ -125,7 +125,7 @@ module _ (parents : List ℕ) where
         | inr far ↦ inr (far.0, omega (arith, far.1), far.2)
       ]
 
-  -- so the chain of the parent has all that stand above it
+  -- so the chain of the parent has all that are above it
   comes_round : (type x most bound steps : ℕ) → steps ≤ bound → among (suc type) (chain parents most (slice_index parents (suc type))) ≡ true
       → among x (chain parents steps (slice_index parents (suc type))) ≡ true → among x (chain parents most (slice_index parents (suc type))) ≡ true
   comes_round type x most zero steps l back on =
@@ -136,7 +136,7 @@ module _ (parents : List ℕ) where
     | inr far ↦ comes_round type x most bound far.0 (omega (arith, l, far.1)) back far.2
   ]
 
-  -- the chain has all that stand above the type
+  -- the chain has all that are above the type
   abbrev IsWhole : ℕ → ℕ → Type 0
   IsWhole most type = (steps x : ℕ) → among x (chain parents steps type) ≡ true → among x (chain parents most type) ≡ true
 
@@ -171,7 +171,7 @@ module _ (parents : List ℕ) where
     pub no_object : among 0 xs ≡ false
     pub low : (x : ℕ) → among x xs ≡ true → x < length parents
 
-  -- a chain on which a type above does not stand has as many types as steps, and is not at its end
+  -- a chain on which a type above does not occur has as many types as steps, and is not at its end
   goes_on : (above most steps type : ℕ) → 0 < above → among above (chain parents steps type) ≡ true → among above (chain parents most type) ≡ false → AreTypes most (chain parents most type)
   goes_on above zero steps type positive on off = record { count = refl; no_object = refl; low = λ x none. absurd (true≢false (sym none)) }
   goes_on above (suc most) zero type positive on off = absurd (true≢false (sym on))
@@ -202,7 +202,7 @@ module _ (parents : List ℕ) where
         | inr high ↦ absurd (omega (arith, positive, above_object parents steps above (subst (λ t. among above (chain parents steps t) ≡ true) (past parents (suc type) high) later)))
       ]
 
-  -- so what stands above a type, and is not `object`, stands on its chain of as many types as there are
+  -- so what is above a type, and is not `object`, is on its chain of as many types as there are
   on_whole_chain : (above steps type : ℕ) → 0 < above → 0 < length parents → among above (chain parents steps type) ≡ true → among above (chain parents (length parents) type) ≡ true
   on_whole_chain above steps type positive some on = by (among above (chain parents (length parents) type)) refl
     where

@@ -6,12 +6,12 @@ use Rattle.std.proofs.lemmas.Bool.{and_parts}
 use Rattle.model.specs.Meaning.{holds}
 use Rattle.model.specs.Trees.{Domain, Problem}
 use Rattle.model.specs.Typing.{TypingFault, is_before, faults_of}
-use Rattle.model.specs.TypingFaults.{Phase, IsFaultIn, IsWellTyped, IsTold}
+use Rattle.model.specs.TypingFaults.{Phase, IsFaultIn, IsWellTyped, IsReported}
 use Rattle.model.specs.TypingExamples.{fleet_task, IsOneOf, HasFaults, AreTyped}
 use Rattle.model.proofs.ListLemmas.{Contains-here, Contains-there}
-use Rattle.model.proofs.TypingFaultsLemmas.{fault_at, Tells}
-use Rattle.model.proofs.TypingFaultsPhases.{phase_tells, phase_listed}
-use Rattle.model.proofs.TypingFaultsTold.{well_typed, told, listed}
+use Rattle.model.proofs.TypingFaultsLemmas.{fault_at, Reports}
+use Rattle.model.proofs.TypingFaultsPhases.{phase_reports, phase_listed}
+use Rattle.model.proofs.TypingFaultsReported.{well_typed, reported, listed}
 
 or_false : (b : Bool) → (b || false) ≡ b
 or_false true = refl
@@ -38,21 +38,21 @@ without_faults {d} {p} none = well_typed d p none
 
 refused : {d : Domain} {p : Problem} {first : TypingFault} {others : List TypingFault} → faults_of d p ≡ first ∷ others → list_all (λ g. not (is_before g first)) (first ∷ others) ≡ true
     → HasFaults d p first others
-refused {d} {p} {first} {others} is least = by (told d p first (record {
+refused {d} {p} {first} {others} is least = by (reported d p first (record {
   is_fault = subst (λ l. Contains l first) (sym is) (Contains-here first others);
   is_least = subst (All (λ g. is_before g first ≡ false)) (sym is) (none_before first (first ∷ others) least);
 }))
   where
-    one : (phase : Phase) (f : TypingFault) → Tells (IsFaultIn d p phase) f → IsOneOf d p phase f
-    one phase f tells = record { code = tells.code; word = tells.word; is_fault = tells.is_fault; is = tells.is }
+    one : (phase : Phase) (f : TypingFault) → Reports (IsFaultIn d p phase) f → IsOneOf d p phase f
+    one phase f reports = record { code = reports.code; word = reports.word; is_fault = reports.is_fault; is = reports.is }
 
-    by : IsTold d p first → HasFaults d p first others
-    by is_told =
-        let same = sym is ∙ listed d p first is_told in
+    by : IsReported d p first → HasFaults d p first others
+    by is_reported =
+        let same = sym is ∙ listed d p first is_reported in
         record {
-          told = is_told;
-          each = λ f at. one is_told.phase f ((phase_tells d p is_told.phase).tells f (subst (λ l. Contains l f) same (Contains-there first others f at)));
-          no_more = λ code w fault. subst (λ l. Contains l (fault_at code w)) (sym same) (phase_listed d p is_told.phase code w fault);
+          reported = is_reported;
+          each = λ f at. one is_reported.phase f ((phase_reports d p is_reported.phase).reports f (subst (λ l. Contains l f) same (Contains-there first others f at)));
+          no_more = λ code w fault. subst (λ l. Contains l (fault_at code w)) (sym same) (phase_listed d p is_reported.phase code w fault);
         }
 
 pub are_typed : AreTyped

@@ -17,67 +17,67 @@ fault_at code w = record { file = w.file; fault = record { code = code; span = w
 -- ---- each fault of a list is of the table
 
 -- a number and a word of the table, and the fault is theirs
-pub record Tells (table : ℕ → Placed → Type 0) (f : TypingFault) : Type 0 where
+pub record Reports (table : ℕ → Placed → Type 0) (f : TypingFault) : Type 0 where
   pub code : ℕ
   pub word : Placed
   pub is_fault : table code word
   pub is : fault_at code word ≡ f
 
 -- each fault of the list is one of the table
-pub record AllTell (table : ℕ → Placed → Type 0) (faults : List TypingFault) : Type 0 where
-  pub tells : (f : TypingFault) → Contains faults f → Tells table f
+pub record AllReport (table : ℕ → Placed → Type 0) (faults : List TypingFault) : Type 0 where
+  pub reports : (f : TypingFault) → Contains faults f → Reports table f
 
 -- no fault
-pub none_tells : {table : ℕ → Placed → Type 0} → AllTell table []
-none_tells = record { tells = λ f at. absurd (Contains-none f at) }
+pub none_detects : {table : ℕ → Placed → Type 0} → AllReport table []
+none_detects = record { reports = λ f at. absurd (Contains-none f at) }
 
 -- the faults of two lists in turn
-pub both_tell : {table : ℕ → Placed → Type 0} {first rest : List TypingFault} → AllTell table first → AllTell table rest → AllTell table (first ++ rest)
-both_tell {table} {first} {rest} left right = record {
-  tells = λ f at. elim (Contains-append_cases first rest f at) [
-    | inl here ↦ left.tells f here
-    | inr later ↦ right.tells f later
+pub both_report : {table : ℕ → Placed → Type 0} {first rest : List TypingFault} → AllReport table first → AllReport table rest → AllReport table (first ++ rest)
+both_report {table} {first} {rest} left right = record {
+  reports = λ f at. elim (Contains-append_cases first rest f at) [
+    | inl here ↦ left.reports f here
+    | inr later ↦ right.reports f later
   ];
 }
 
 -- one fault
-pub one_tells : {table : ℕ → Placed → Type 0} (code : ℕ) (w : Placed) → table code w → AllTell table (fault_at code w ∷ [])
-one_tells {table} code w is = record {
-  tells = λ f at. elim (Contains-cases (fault_at code w) [] f at) [
+pub one_reports : {table : ℕ → Placed → Type 0} (code : ℕ) (w : Placed) → table code w → AllReport table (fault_at code w ∷ [])
+one_reports {table} code w is = record {
+  reports = λ f at. elim (Contains-cases (fault_at code w) [] f at) [
     | inl same ↦ record { code = code; word = w; is_fault = is; is = same }
     | inr none ↦ absurd (Contains-none f none)
   ];
 }
 
 -- the faults of each element
-pub flat_map_tell : {X : Type 0} {table : ℕ → Placed → Type 0} (of : X → List TypingFault) (xs : List X) → ((x : X) → Contains xs x → AllTell table (of x)) → AllTell table (flat_map of xs)
-flat_map_tell {X} {table} of xs each = record {
-  tells = λ f at. let there = flat_map-Contains of xs f at in (each there.0 there.1).tells f there.2;
+pub flat_map_report : {X : Type 0} {table : ℕ → Placed → Type 0} (of : X → List TypingFault) (xs : List X) → ((x : X) → Contains xs x → AllReport table (of x)) → AllReport table (flat_map of xs)
+flat_map_report {X} {table} of xs each = record {
+  reports = λ f at. let there = flat_map-Contains of xs f at in (each there.0 there.1).reports f there.2;
 }
 
 -- words that are refused by one number
-pub refused_tell : {table : ℕ → Placed → Type 0} (code : ℕ) (words : List Placed) → ((w : Placed) → Contains words w → table code w) → AllTell table (refused code words)
-refused_tell {table} code words each = record {
-  tells = λ f at. let there = map-Contains (fault_at code) words f at in record { code = code; word = there.0; is_fault = each there.0 there.1; is = there.2 };
+pub refused_report : {table : ℕ → Placed → Type 0} (code : ℕ) (words : List Placed) → ((w : Placed) → Contains words w → table code w) → AllReport table (refused code words)
+refused_report {table} code words each = record {
+  reports = λ f at. let there = map-Contains (fault_at code) words f at in record { code = code; word = there.0; is_fault = each there.0 there.1; is = there.2 };
 }
 
 -- a word that is refused where a test fails
-pub unless_tells : {table : ℕ → Placed → Type 0} (test : Bool) (code : ℕ) (w : Placed) → (test ≡ false → table code w)
-    → AllTell table (if test then [] else fault_at code w ∷ [])
-unless_tells true code w fault = none_tells
-unless_tells false code w fault = one_tells code w (fault refl)
+pub unless_reports : {table : ℕ → Placed → Type 0} (test : Bool) (code : ℕ) (w : Placed) → (test ≡ false → table code w)
+    → AllReport table (if test then [] else fault_at code w ∷ [])
+unless_reports true code w fault = none_detects
+unless_reports false code w fault = one_reports code w (fault refl)
 
 -- and where it passes
-pub when_tells : {table : ℕ → Placed → Type 0} (test : Bool) (code : ℕ) (w : Placed) → (test ≡ true → table code w)
-    → AllTell table (if test then fault_at code w ∷ [] else [])
-when_tells true code w fault = one_tells code w (fault refl)
-when_tells false code w fault = none_tells
+pub when_reports : {table : ℕ → Placed → Type 0} (test : Bool) (code : ℕ) (w : Placed) → (test ≡ true → table code w)
+    → AllReport table (if test then fault_at code w ∷ [] else [])
+when_reports true code w fault = one_reports code w (fault refl)
+when_reports false code w fault = none_detects
 
 -- types that are neither `object` nor declared
-pub types_tell : {table : ℕ → Placed → Type 0} (types : List task.Name) (xs : List Declared)
-    → ((w : Placed) → HasType xs w → is_known types w.word ≡ false → table 14 w) → AllTell table (type_faults types xs)
-types_tell types xs fault =
-    flat_map_tell _ _ (λ x among. flat_map_tell _ _ (λ word at. unless_tells (is_known types word) 14 (placed x.file word) (fault (placed x.file word) (x, among, Contains-map (placed x.file) x.types word at))))
+pub types_report : {table : ℕ → Placed → Type 0} (types : List task.Name) (xs : List Declared)
+    → ((w : Placed) → HasType xs w → is_known types w.word ≡ false → table 14 w) → AllReport table (type_faults types xs)
+types_report types xs fault =
+    flat_map_report _ _ (λ x among. flat_map_report _ _ (λ word at. unless_reports (is_known types word) 14 (placed x.file word) (fault (placed x.file word) (x, among, Contains-map (placed x.file) x.types word at))))
 
 -- ---- each fault of the table is in the list
 
@@ -142,7 +142,7 @@ group-HasType file groups w g name among named at =
     let x : Declared = record { file = file; name = name; types = g.types } in
     (x, Contains-flat_map (declared_in_group file) groups g x among (Contains-map (λ (name : Name). let y : Declared = record { file = file; name = name; types = g.types } in y) g.names name named), at)
 
--- the word that stands after so many
+-- the word that comes after so many
 pub Contains-one_after : (count : ℕ) (words : List Placed) (w : Placed) → slice_get words count ≡ Some w → Contains (one_after count words) w
 Contains-one_after zero [] w at = absurd (cc)
 Contains-one_after (suc count) [] w at = absurd (cc)

@@ -17,10 +17,10 @@ use Rattle.model.specs.Typing.{Known, Declared, Placed, placed, words_of, folded
 use Rattle.model.specs.TypingFaults.{Phase, of_names, of_cycles, of_objects, of_predicates, of_functions, of_actions, of_init, of_goal, action_words, arguments_of, parameters_of, known_in, as_atom, HasType, IsRepeated, IsOtherValue, IsFaultIn, other_domain, type_again, object_declared, unknown_parent, many_types, type_cycle, type_of_object, object_again, many_objects, predicate_again, type_of_argument, many_arguments, function_again, type_of_function_argument, many_function_arguments, metric_undeclared, action_again, of_parameters, in_precondition, in_effect, increase_undeclared, increase_again, in_increase, in_init, cost_undeclared, cost_not_zero, cost_again, in_value, other_value, negated, in_goal}
 use Rattle.model.proofs.ListLemmas.{Contains-here, Contains-there, Contains-cases, Contains-none, Contains-got, Contains-place, Contains-map, map-Contains, Contains-flat_map}
 use Rattle.model.proofs.TypeDescent.{comes_back_from, descends_from_itself}
-use Rattle.model.proofs.TypingFaultsLemmas.{fault_at, Tells, AllTell, none_tells, both_tell, one_tells, flat_map_tell, refused_tell, unless_tells, when_tells, types_tell, on_left, on_right, unless_listed, when_listed, refused_listed, type_listed, Contains-one_after, one_after-Contains}
+use Rattle.model.proofs.TypingFaultsLemmas.{fault_at, Reports, AllReport, none_detects, both_report, one_reports, flat_map_report, refused_report, unless_reports, when_reports, types_report, on_left, on_right, unless_listed, when_listed, refused_listed, type_listed, Contains-one_after, one_after-Contains}
 use Rattle.model.proofs.TypingFaultsRepeats.{repeated_after-Contains, repeated-Contains, repeated_listed, known_listed}
-use Rattle.model.proofs.TypingFaultsVariables.{variables_tell, variable_listed}
-use Rattle.model.proofs.TypingFaultsUses.{atom_tells, atom_listed, formula_tells, formula_listed, effect_tells, effect_listed, ground_atom_as_atom}
+use Rattle.model.proofs.TypingFaultsVariables.{variables_report, variable_listed}
+use Rattle.model.proofs.TypingFaultsUses.{atom_reports, atom_listed, formula_reports, formula_listed, effect_reports, effect_listed, ground_atom_as_atom}
 
 -- the faults that are listed of the phase
 abbrev pub phase_faults : Domain → Problem → Phase → List TypingFault
@@ -80,14 +80,14 @@ types_numbered : (d : Domain) → AreNumbered (parents_of d) 1 (declared_types d
 types_numbered d = record { count = omega (arith, length-map (declared_types d) (λ (x : Declared). type_in (type_names d) x.types)); positive = omega arith; root = refl }
 
 -- a type that descends from itself, where the first of the declarations has this number
-cycles_tell : {table : ℕ → Placed → Type 0} (parents : List ℕ) (number : ℕ) (xs : List Declared) → AreNumbered parents number xs
+cycles_report : {table : ℕ → Placed → Type 0} (parents : List ℕ) (number : ℕ) (xs : List Declared) → AreNumbered parents number xs
     → ((place : ℕ) (w : Placed) → slice_get (words_of xs) place ≡ Some w → DescendsFromItself parents (place + number) → table 15 w)
-    → AllTell table (cycle_faults_from parents number xs)
-cycles_tell parents number [] are fault = none_tells
-cycles_tell {table} parents number (x ∷ xs) are fault =
-    both_tell (when_tells (comes_back parents number) 15 (placed x.file x.name) (λ back. fault 0 (placed x.file x.name) refl
+    → AllReport table (cycle_faults_from parents number xs)
+cycles_report parents number [] are fault = none_detects
+cycles_report {table} parents number (x ∷ xs) are fault =
+    both_report (when_reports (comes_back parents number) 15 (placed x.file x.name) (λ back. fault 0 (placed x.file x.name) refl
     (subst (DescendsFromItself parents) first (descends_from_itself parents number are.positive (omega (arith, are.count)) back))))
-    (cycles_tell parents (number + 1) xs (after_first parents number x xs are) (λ place w at back. fault (suc place) w at (subst (DescendsFromItself parents) (next place) back)))
+    (cycles_report parents (number + 1) xs (after_first parents number x xs are) (λ place w at back. fault (suc place) w at (subst (DescendsFromItself parents) (next place) back)))
   where
     first : number ≡ 0 + number
     first = omega arith
@@ -152,7 +152,7 @@ other_value_given known facts before v after is other = by_named (is_named (in_f
         record {
           before = before;
           after = after;
-          stands = is;
+          occurs = is;
           given = value_of known v;
           gives = ap (λ b. if b then value_of known v ∷ [] else []) named;
           value = d.value;
@@ -178,51 +178,51 @@ again_or_object d p w at =
         ]
 
 -- 1: the name in `:domain`, the types
-names_tell : (d : Domain) (p : Problem) → AllTell (IsFaultIn d p of_names) (phase_faults d p of_names)
-names_tell d p =
-    both_tell (unless_tells (is_same (folded p.domain) (folded d.name)) 21 (placed problem_file p.domain) other_domain)
-    (both_tell (both_tell (refused_tell _ _ (again_or_object d p)) (types_tell (type_names d) (declared_types d) unknown_parent))
-    (refused_tell _ _ (λ w at. many_types w (one_after-Contains 4095 (words_of (declared_types d)) w at))))
+names_report : (d : Domain) (p : Problem) → AllReport (IsFaultIn d p of_names) (phase_faults d p of_names)
+names_report d p =
+    both_report (unless_reports (is_same (folded p.domain) (folded d.name)) 21 (placed problem_file p.domain) other_domain)
+    (both_report (both_report (refused_report _ _ (again_or_object d p)) (types_report (type_names d) (declared_types d) unknown_parent))
+    (refused_report _ _ (λ w at. many_types w (one_after-Contains 4095 (words_of (declared_types d)) w at))))
 
 -- 3: constants and objects
-objects_tell : (d : Domain) (p : Problem) → AllTell (IsFaultIn d p of_objects) (phase_faults d p of_objects)
-objects_tell d p =
-    both_tell (both_tell (types_tell (type_names d) (declared_objects d p) type_of_object)
-    (refused_tell _ _ (λ w at. object_again w (repeated-Contains (words_of (declared_objects d p)) w at))))
-    (refused_tell _ _ (λ w at. many_objects w (one_after-Contains 65535 (words_of (declared_objects d p)) w at)))
+objects_report : (d : Domain) (p : Problem) → AllReport (IsFaultIn d p of_objects) (phase_faults d p of_objects)
+objects_report d p =
+    both_report (both_report (types_report (type_names d) (declared_objects d p) type_of_object)
+    (refused_report _ _ (λ w at. object_again w (repeated-Contains (words_of (declared_objects d p)) w at))))
+    (refused_report _ _ (λ w at. many_objects w (one_after-Contains 65535 (words_of (declared_objects d p)) w at)))
 
 -- the words that these declare
 abbrev declaration_words : List tree.Predicate → List Placed
 declaration_words qs = map (λ (q : tree.Predicate). placed domain_file q.name) qs
 
 -- declarations of predicates, or of functions
-declarations_tell : {table : ℕ → Placed → Type 0} (types : List task.Name) (qs : List tree.Predicate)
+declarations_report : {table : ℕ → Placed → Type 0} (types : List task.Name) (qs : List tree.Predicate)
     → ((w : Placed) → IsRepeated (declaration_words qs) w → table 16 w)
     → ((q : tree.Predicate) (w : Placed) → Contains qs q → HasType (arguments_of q) w → is_known types w.word ≡ false → table 14 w)
     → ((q : tree.Predicate) (w : Placed) → Contains qs q → slice_get (words_of (arguments_of q)) 8 ≡ Some w → table 25 w)
-    → AllTell table (declaration_faults types qs)
-declarations_tell types qs again unknown many =
-    both_tell (refused_tell _ _ (λ w at. again w (repeated-Contains (declaration_words qs) w at)))
-    (flat_map_tell _ _ (λ q among. both_tell (types_tell types (arguments_of q) (λ w has is. unknown q w among has is))
-    (refused_tell _ _ (λ w at. many q w among (one_after-Contains 8 (words_of (arguments_of q)) w at)))))
+    → AllReport table (declaration_faults types qs)
+declarations_report types qs again unknown many =
+    both_report (refused_report _ _ (λ w at. again w (repeated-Contains (declaration_words qs) w at)))
+    (flat_map_report _ _ (λ q among. both_report (types_report types (arguments_of q) (λ w has is. unknown q w among has is))
+    (refused_report _ _ (λ w at. many q w among (one_after-Contains 8 (words_of (arguments_of q)) w at)))))
 
 -- 4: predicates
-predicates_tell : (d : Domain) (p : Problem) → AllTell (IsFaultIn d p of_predicates) (phase_faults d p of_predicates)
-predicates_tell d p = declarations_tell (type_names d) d.predicates predicate_again type_of_argument many_arguments
+predicates_report : (d : Domain) (p : Problem) → AllReport (IsFaultIn d p of_predicates) (phase_faults d p of_predicates)
+predicates_report d p = declarations_report (type_names d) d.predicates predicate_again type_of_argument many_arguments
 
 -- 5: functions, and the metric
-functions_tell : (d : Domain) (p : Problem) → AllTell (IsFaultIn d p of_functions) (phase_faults d p of_functions)
-functions_tell d p =
-    both_tell (declarations_tell (type_names d) d.functions function_again type_of_function_argument many_function_arguments) (by_metric p.metric refl)
+functions_report : (d : Domain) (p : Problem) → AllReport (IsFaultIn d p of_functions) (phase_faults d p of_functions)
+functions_report d p =
+    both_report (declarations_report (type_names d) d.functions function_again type_of_function_argument many_function_arguments) (by_metric p.metric refl)
   where
-    by_metric : (metric : Option Name) → p.metric ≡ metric → AllTell (IsFaultIn d p of_functions) (option_map_or (λ n. if declares_cost d then [] else refused_word problem_file 22 n) metric [])
-    by_metric None is = none_tells
-    by_metric (Some n) is = unless_tells (declares_cost d) 22 (placed problem_file n) (λ none. metric_undeclared n is none)
+    by_metric : (metric : Option Name) → p.metric ≡ metric → AllReport (IsFaultIn d p of_functions) (option_map_or (λ n. if declares_cost d then [] else refused_word problem_file 22 n) metric [])
+    by_metric None is = none_detects
+    by_metric (Some n) is = unless_reports (declares_cost d) 22 (placed problem_file n) (λ none. metric_undeclared n is none)
 
 -- the words `increase` of one action
-increase_tells : (d : Domain) (p : Problem) (a : tree.Action) → Contains d.actions a → (w : Placed)
+increase_reports : (d : Domain) (p : Problem) (a : tree.Action) → Contains d.actions a → (w : Placed)
     → Contains (drop (if declares_cost d then 1 else 0) (increase_words domain_file a)) w → IsFaultIn d p of_actions 23 w
-increase_tells d p a among w at = by_declared (declares_cost d) refl at
+increase_reports d p a among w at = by_declared (declares_cost d) refl at
   where
     by_declared : (is : Bool) → declares_cost d ≡ is → Contains (drop (if is then 1 else 0) (increase_words domain_file a)) w → IsFaultIn d p of_actions 23 w
     by_declared true is at =
@@ -233,75 +233,75 @@ increase_tells d p a among w at = by_declared (declares_cost d) refl at
         subst (IsFaultIn d p of_actions 23) there.2 (increase_undeclared a there.0 among there.1 is)
 
 -- the faults of what an increase of it is by
-amount_tells : (d : Domain) (p : Problem) (a : tree.Action) (i : tree.Increase) → Contains d.actions a → Contains a.increases i → (amount : tree.Amount) → i.amount ≡ amount
-    → AllTell (IsFaultIn d p of_actions) (amount_faults domain_file (known_in d a) amount)
-amount_tells d p a i among at (tree.by_number n) is = none_tells
-amount_tells d p a i among at (tree.by_function f) is = atom_tells domain_file (in_function (known_in d a)) f (λ code w fault. in_increase a i f code w among at is fault)
+amount_reports : (d : Domain) (p : Problem) (a : tree.Action) (i : tree.Increase) → Contains d.actions a → Contains a.increases i → (amount : tree.Amount) → i.amount ≡ amount
+    → AllReport (IsFaultIn d p of_actions) (amount_faults domain_file (known_in d a) amount)
+amount_reports d p a i among at (tree.by_number n) is = none_detects
+amount_reports d p a i among at (tree.by_function f) is = atom_reports domain_file (in_function (known_in d a)) f (λ code w fault. in_increase a i f code w among at is fault)
 
 -- the faults of one action
-schema_tells : (d : Domain) (p : Problem) (a : tree.Action) → Contains d.actions a → AllTell (IsFaultIn d p of_actions) (schema_faults (known_in_domain d) a)
-schema_tells d p a among =
-    both_tell (variables_tell (known_in_domain d) (parameters_of a) (λ code w fault. of_parameters a code w among fault))
-    (both_tell (both_tell (both_tell (formula_tells domain_file (known_in d a) a.precondition (λ code w fault. in_precondition a code w among fault))
-    (effect_tells domain_file (known_in d a) a.effect (λ code w fault. in_effect a code w among fault)))
-    (refused_tell _ _ (increase_tells d p a among)))
-    (flat_map_tell _ _ (λ i at. amount_tells d p a i among at i.amount refl)))
+schema_reports : (d : Domain) (p : Problem) (a : tree.Action) → Contains d.actions a → AllReport (IsFaultIn d p of_actions) (schema_faults (known_in_domain d) a)
+schema_reports d p a among =
+    both_report (variables_report (known_in_domain d) (parameters_of a) (λ code w fault. of_parameters a code w among fault))
+    (both_report (both_report (both_report (formula_reports domain_file (known_in d a) a.precondition (λ code w fault. in_precondition a code w among fault))
+    (effect_reports domain_file (known_in d a) a.effect (λ code w fault. in_effect a code w among fault)))
+    (refused_report _ _ (increase_reports d p a among)))
+    (flat_map_report _ _ (λ i at. amount_reports d p a i among at i.amount refl)))
 
 -- 6: actions
-actions_tell : (d : Domain) (p : Problem) → AllTell (IsFaultIn d p of_actions) (phase_faults d p of_actions)
-actions_tell d p =
-    both_tell (refused_tell _ _ (λ w at. action_again w (repeated-Contains (action_words d) w at)))
-    (flat_map_tell _ _ (schema_tells d p))
+actions_report : (d : Domain) (p : Problem) → AllReport (IsFaultIn d p of_actions) (phase_faults d p of_actions)
+actions_report d p =
+    both_report (refused_report _ _ (λ w at. action_again w (repeated-Contains (action_words d) w at)))
+    (flat_map_report _ _ (schema_reports d p))
 
--- 7: what stands in `:init`
-fact_tells : (d : Domain) (p : Problem) (f : tree.Fact) → Contains p.init f → AllTell (IsFaultIn d p of_init) (fact_faults problem_file (known_in_problem d p) f)
-fact_tells d p (tree.fact a) among =
-    subst (AllTell (IsFaultIn d p of_init)) (sym (ground_atom_as_atom problem_file (known_in_problem d p) a))
-    (atom_tells problem_file (known_in_problem d p) (as_atom a) (λ code w fault. in_init a code w among fault))
-fact_tells d p (tree.negated word a) among = one_tells 24 (placed problem_file word) (negated word a among)
-fact_tells d p (tree.initial_cost c) among =
-    both_tell (unless_tells (declares_cost d) 23 (placed problem_file c.function) (λ none. cost_undeclared c among none))
-    (unless_tells (c.amount == 0) 23 (placed problem_file c.number) (λ other. cost_not_zero c among (eqb-false c.amount 0 other)))
-fact_tells d p (tree.initial_value v) among =
-    subst (AllTell (IsFaultIn d p of_init)) (sym (ground_atom_as_atom problem_file (in_function (known_in_problem d p)) v.function))
-    (atom_tells problem_file (in_function (known_in_problem d p)) (as_atom v.function) (λ code w fault. in_value v code w among fault))
+-- 7: what is in `:init`
+fact_reports : (d : Domain) (p : Problem) (f : tree.Fact) → Contains p.init f → AllReport (IsFaultIn d p of_init) (fact_faults problem_file (known_in_problem d p) f)
+fact_reports d p (tree.fact a) among =
+    subst (AllReport (IsFaultIn d p of_init)) (sym (ground_atom_as_atom problem_file (known_in_problem d p) a))
+    (atom_reports problem_file (known_in_problem d p) (as_atom a) (λ code w fault. in_init a code w among fault))
+fact_reports d p (tree.negated word a) among = one_reports 24 (placed problem_file word) (negated word a among)
+fact_reports d p (tree.initial_cost c) among =
+    both_report (unless_reports (declares_cost d) 23 (placed problem_file c.function) (λ none. cost_undeclared c among none))
+    (unless_reports (c.amount == 0) 23 (placed problem_file c.number) (λ other. cost_not_zero c among (eqb-false c.amount 0 other)))
+fact_reports d p (tree.initial_value v) among =
+    subst (AllReport (IsFaultIn d p of_init)) (sym (ground_atom_as_atom problem_file (in_function (known_in_problem d p)) v.function))
+    (atom_reports problem_file (in_function (known_in_problem d p)) (as_atom v.function) (λ code w fault. in_value v code w among fault))
 
 -- the value that is given there is another one than was given before
-value_tells : (d : Domain) (p : Problem) (before : List tree.Fact) (f : tree.Fact) (rest : List tree.Fact) → p.init ≡ before ++ f ∷ rest
-    → AllTell (IsFaultIn d p of_init) (value_faults problem_file (known_in_problem d p) (values_after (known_in_problem d p) [] before) f)
-value_tells d p before (tree.fact a) rest is = none_tells
-value_tells d p before (tree.negated word a) rest is = none_tells
-value_tells d p before (tree.initial_cost c) rest is = none_tells
-value_tells d p before (tree.initial_value v) rest is =
+value_reports : (d : Domain) (p : Problem) (before : List tree.Fact) (f : tree.Fact) (rest : List tree.Fact) → p.init ≡ before ++ f ∷ rest
+    → AllReport (IsFaultIn d p of_init) (value_faults problem_file (known_in_problem d p) (values_after (known_in_problem d p) [] before) f)
+value_reports d p before (tree.fact a) rest is = none_detects
+value_reports d p before (tree.negated word a) rest is = none_detects
+value_reports d p before (tree.initial_cost c) rest is = none_detects
+value_reports d p before (tree.initial_value v) rest is =
     let known = known_in_problem d p in
-    when_tells (list_any (differing (values_after known [] before)) (values_in known (tree.initial_value v))) 16 (placed problem_file v.function.predicate)
+    when_reports (list_any (differing (values_after known [] before)) (values_in known (tree.initial_value v))) 16 (placed problem_file v.function.predicate)
     (λ other. other_value v (other_value_given known p.init before v rest is other))
 
 -- the facts after some others
-facts_tell : (d : Domain) (p : Problem) (before rest : List tree.Fact) → p.init ≡ before ++ rest
-    → AllTell (IsFaultIn d p of_init) (facts_faults problem_file (known_in_problem d p) (values_after (known_in_problem d p) [] before) rest)
-facts_tell d p before [] is = none_tells
-facts_tell d p before (f ∷ rest) is =
-    both_tell (both_tell (fact_tells d p f (subst (λ facts. Contains facts f) (sym is) (Contains-append_right before (f ∷ rest) f (Contains-here f rest))))
-    (value_tells d p before f rest is))
-    (subst (λ given. AllTell (IsFaultIn d p of_init) (facts_faults problem_file (known_in_problem d p) given rest)) (values_after-append (known_in_problem d p) [] before (f ∷ []))
-    (facts_tell d p (before ++ f ∷ []) rest (is ∙ sym (append_assoc before (f ∷ []) rest))))
+facts_report : (d : Domain) (p : Problem) (before rest : List tree.Fact) → p.init ≡ before ++ rest
+    → AllReport (IsFaultIn d p of_init) (facts_faults problem_file (known_in_problem d p) (values_after (known_in_problem d p) [] before) rest)
+facts_report d p before [] is = none_detects
+facts_report d p before (f ∷ rest) is =
+    both_report (both_report (fact_reports d p f (subst (λ facts. Contains facts f) (sym is) (Contains-append_right before (f ∷ rest) f (Contains-here f rest))))
+    (value_reports d p before f rest is))
+    (subst (λ given. AllReport (IsFaultIn d p of_init) (facts_faults problem_file (known_in_problem d p) given rest)) (values_after-append (known_in_problem d p) [] before (f ∷ []))
+    (facts_report d p (before ++ f ∷ []) rest (is ∙ sym (append_assoc before (f ∷ []) rest))))
 
-init_tells : (d : Domain) (p : Problem) → AllTell (IsFaultIn d p of_init) (phase_faults d p of_init)
-init_tells d p =
-    both_tell (facts_tell d p [] p.init refl)
-    (refused_tell _ _ (λ w at. let there = later-Contains (equals_in problem_file p.init) w at in cost_again there.0 w there.1))
+init_reports : (d : Domain) (p : Problem) → AllReport (IsFaultIn d p of_init) (phase_faults d p of_init)
+init_reports d p =
+    both_report (facts_report d p [] p.init refl)
+    (refused_report _ _ (λ w at. let there = later-Contains (equals_in problem_file p.init) w at in cost_again there.0 w there.1))
 
 -- each phase; 2, the cycles of types, and 8, the goal, at once
-pub phase_tells : (d : Domain) (p : Problem) (phase : Phase) → AllTell (IsFaultIn d p phase) (phase_faults d p phase)
-phase_tells d p of_names = names_tell d p
-phase_tells d p of_cycles = cycles_tell (parents_of d) 1 (declared_types d) (types_numbered d) type_cycle
-phase_tells d p of_objects = objects_tell d p
-phase_tells d p of_predicates = predicates_tell d p
-phase_tells d p of_functions = functions_tell d p
-phase_tells d p of_actions = actions_tell d p
-phase_tells d p of_init = init_tells d p
-phase_tells d p of_goal = formula_tells problem_file (known_in_problem d p) p.goal in_goal
+pub phase_reports : (d : Domain) (p : Problem) (phase : Phase) → AllReport (IsFaultIn d p phase) (phase_faults d p phase)
+phase_reports d p of_names = names_report d p
+phase_reports d p of_cycles = cycles_report (parents_of d) 1 (declared_types d) (types_numbered d) type_cycle
+phase_reports d p of_objects = objects_report d p
+phase_reports d p of_predicates = predicates_report d p
+phase_reports d p of_functions = functions_report d p
+phase_reports d p of_actions = actions_report d p
+phase_reports d p of_init = init_reports d p
+phase_reports d p of_goal = formula_reports problem_file (known_in_problem d p) p.goal in_goal
 
 -- ---- each fault of the table is in its phase's list
 
@@ -383,27 +383,27 @@ later_refused d a w at = by_declared (declares_cost d)
     by_declared false = past_first (increase_words domain_file a) at
 
 -- the faults of a fact are among those of all facts
-fact_listed : (known : Known) (given : List task.FunctionValue) (facts : List tree.Fact) (stands : tree.Fact) {f : TypingFault} → Contains facts stands
-    → Contains (fact_faults problem_file known stands) f → Contains (facts_faults problem_file known given facts) f
-fact_listed known given [] stands {f} among at = absurd (Contains-none stands among)
-fact_listed known given (first ∷ rest) stands {f} among at =
-    elim (Contains-cases first rest stands among) [
+fact_listed : (known : Known) (given : List task.FunctionValue) (facts : List tree.Fact) (occurs : tree.Fact) {f : TypingFault} → Contains facts occurs
+    → Contains (fact_faults problem_file known occurs) f → Contains (facts_faults problem_file known given facts) f
+fact_listed known given [] occurs {f} among at = absurd (Contains-none occurs among)
+fact_listed known given (first ∷ rest) occurs {f} among at =
+    elim (Contains-cases first rest occurs among) [
       | inl here ↦ on_left _ _ (on_left _ _ (subst (λ fact. Contains (fact_faults problem_file known fact) f) (sym here) at))
       | inr later ↦ on_right (fact_faults problem_file known first ++ value_faults problem_file known given first) _
-          (fact_listed known (values_after known given (first ∷ [])) rest stands later at)
+          (fact_listed known (values_after known given (first ∷ [])) rest occurs later at)
     ]
 
-in_facts : (d : Domain) (p : Problem) (stands : tree.Fact) {f : TypingFault} → Contains p.init stands → Contains (fact_faults problem_file (known_in_problem d p) stands) f → Contains (phase_faults d p of_init) f
-in_facts d p stands {f} among at = on_left _ _ (fact_listed (known_in_problem d p) [] p.init stands among at)
+in_facts : (d : Domain) (p : Problem) (occurs : tree.Fact) {f : TypingFault} → Contains p.init occurs → Contains (fact_faults problem_file (known_in_problem d p) occurs) f → Contains (phase_faults d p of_init) f
+in_facts d p occurs {f} among at = on_left _ _ (fact_listed (known_in_problem d p) [] p.init occurs among at)
 
--- another value of a function is among them, where it stands after facts that give it one
-value_listed : (known : Known) (given : List task.FunctionValue) (before : List tree.Fact) (f : tree.Fact) (after : List tree.Fact) {told : TypingFault}
-    → Contains (value_faults problem_file known (values_after known given before) f) told → Contains (facts_faults problem_file known given (before ++ f ∷ after)) told
+-- another value of a function is among them, where it comes after facts that give it one
+value_listed : (known : Known) (given : List task.FunctionValue) (before : List tree.Fact) (f : tree.Fact) (after : List tree.Fact) {reported : TypingFault}
+    → Contains (value_faults problem_file known (values_after known given before) f) reported → Contains (facts_faults problem_file known given (before ++ f ∷ after)) reported
 value_listed known given [] f after at = on_left _ _ (on_right (fact_faults problem_file known f) _ at)
-value_listed known given (first ∷ before) f after {told} at =
+value_listed known given (first ∷ before) f after {reported} at =
     on_right (fact_faults problem_file known first ++ value_faults problem_file known given first) _
     (value_listed known (values_after known given (first ∷ [])) before f after
-    (subst (λ values. Contains (value_faults problem_file known values f) told) (values_after-append known given (first ∷ []) before) at))
+    (subst (λ values. Contains (value_faults problem_file known values f) reported) (values_after-append known given (first ∷ []) before) at))
 
 -- a value that is not the one that was given
 other_listed : (known : Known) (facts : List tree.Fact) (v : tree.InitialValue) → IsOtherValue known facts v
@@ -414,7 +414,7 @@ other_listed known facts v other =
     let differs : differing given other.given ≡ true =
     ap (λ o. option_map_or (λ value. not (value == other.given.value)) o false) other.is_value
     ∙ ap not (ne_eqb other.value other.given.value (λ same. other.differs (sym same))) in
-    subst (λ all. Contains (facts_faults problem_file known [] all) f) (sym other.stands)
+    subst (λ all. Contains (facts_faults problem_file known [] all) f) (sym other.occurs)
     (value_listed known [] other.before (tree.initial_value v) other.after
     (subst (λ values. Contains (if list_any (differing given) values then f ∷ [] else []) f) (sym other.gives)
     (when_listed (differing given other.given || false) f (or_left (differing given other.given) false differs))))
@@ -485,10 +485,10 @@ phase_listed d p phase code w (negated word a among) =
     in_facts d p (tree.negated word a) among (Contains-here (fault_at 24 (placed problem_file word)) [])
 phase_listed d p phase code w (in_goal number v fault) = formula_listed problem_file (known_in_problem d p) p.goal number v fault
 
--- the faults that are listed of a phase are those that the table tells of it
-pub told_listed : (d : Domain) (p : Problem) (phase : Phase) (f : TypingFault) → Tells (IsFaultIn d p phase) f → Contains (phase_faults d p phase) f
-told_listed d p phase f told = subst (Contains (phase_faults d p phase)) told.is (phase_listed d p phase told.code told.word told.is_fault)
+-- the faults that are listed of a phase are those that the table says of it
+pub reported_listed : (d : Domain) (p : Problem) (phase : Phase) (f : TypingFault) → Reports (IsFaultIn d p phase) f → Contains (phase_faults d p phase) f
+reported_listed d p phase f reported = subst (Contains (phase_faults d p phase)) reported.is (phase_listed d p phase reported.code reported.word reported.is_fault)
 
 -- and the other way
-pub listed_told : (d : Domain) (p : Problem) (phase : Phase) (f : TypingFault) → Contains (phase_faults d p phase) f → Tells (IsFaultIn d p phase) f
-listed_told d p phase f at = (phase_tells d p phase).tells f at
+pub listed_reported : (d : Domain) (p : Problem) (phase : Phase) (f : TypingFault) → Contains (phase_faults d p phase) f → Reports (IsFaultIn d p phase) f
+listed_reported d p phase f at = (phase_reports d p phase).reports f at

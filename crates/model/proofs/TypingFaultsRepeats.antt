@@ -1,4 +1,4 @@
--- The words that are listed as repeated are those that stand after one that is the same.
+-- The words that are listed as repeated are those that come after one that is the same.
 use Rattle.std.proofs.Common.{◌≡◌, ◌⊎◌, inl, inr, true, false, ◌||◌, true≢false, List, [], ◌∷◌, ◌++◌, refl, sym, ap, ◌∙◌, subst}
 use Rattle.std.specs.Prelude.{Contains, if◌then◌else◌}
 use Rattle.std.specs.Cmp.Lexicographic.{same_text}
@@ -12,19 +12,19 @@ use Rattle.model.specs.Typing.{Placed, folded, is_same, is_known, with_name, rep
 use Rattle.model.specs.TypingFaults.{IsRepeated}
 use Rattle.model.proofs.ListLemmas.{Contains-here, Contains-there, Contains-cases, Contains-none}
 
--- where an element stands
+-- where an element is
 record Split {X : Type 0} (xs : List X) (x : X) : Type 0 where
   pub before : List X
   pub after : List X
-  pub stands : xs ≡ before ++ x ∷ after
+  pub occurs : xs ≡ before ++ x ∷ after
 
--- an element stands somewhere
+-- an element is somewhere
 split : {X : Type 0} (xs : List X) (x : X) → Contains xs x → Split xs x
 split [] x at = absurd (Contains-none x at)
 split (y ∷ xs) x at =
     elim (Contains-cases y xs x at) [
-      | inl is ↦ record { before = []; after = xs; stands = ap (λ z. z ∷ xs) is }
-      | inr later ↦ let s = split xs x later in record { before = y ∷ s.before; after = s.after; stands = ap (λ zs. y ∷ zs) s.stands }
+      | inl is ↦ record { before = []; after = xs; occurs = ap (λ z. z ∷ xs) is }
+      | inr later ↦ let s = split xs x later in record { before = y ∷ s.before; after = s.after; occurs = ap (λ zs. y ∷ zs) s.occurs }
     ]
 
 -- ---- names and one more
@@ -72,7 +72,7 @@ repeated_first v rest w at same =
     record {
       before = v ∷ s.before;
       after = s.after;
-      stands = ap (λ ws. v ∷ ws) s.stands;
+      occurs = ap (λ ws. v ∷ ws) s.occurs;
       earlier = v;
       is_before = Contains-here v s.before;
       is_same = same;
@@ -83,7 +83,7 @@ pub repeated_later : (v : Placed) (rest : List Placed) (w : Placed) → IsRepeat
 repeated_later v rest w r = record {
   before = v ∷ r.before;
   after = r.after;
-  stands = ap (λ ws. v ∷ ws) r.stands;
+  occurs = ap (λ ws. v ∷ ws) r.occurs;
   earlier = r.earlier;
   is_before = Contains-there v r.before r.earlier r.is_before;
   is_same = r.is_same;
@@ -109,7 +109,7 @@ first_again before v w at =
       ]
     ] refl at
 
--- a word that is listed is the same as one of the names, or stands after one that is
+-- a word that is listed is the same as one of the names, or comes after one that is
 pub repeated_after-Contains : (before : List task.Name) (words : List Placed) (w : Placed) → Contains (repeated_after before words) w
     → (Contains words w × (is_known before w.word ≡ true)) ⊎ IsRepeated words w
 repeated_after-Contains before [] w at = absurd (Contains-none w at)
@@ -120,7 +120,7 @@ repeated_after-Contains before (v ∷ rest) w at =
       | inr later ↦ again_there before v rest w (repeated_after-Contains (with_name before v.word) rest w later)
     ]
 
--- with no names before the list, it stands after one that is
+-- with no names before the list, it comes after one that is
 pub repeated-Contains : (words : List Placed) (w : Placed) → Contains (repeated words) w → IsRepeated words w
 repeated-Contains words w at =
     elim (repeated_after-Contains [] words w at) [
@@ -130,7 +130,7 @@ repeated-Contains words w at =
 
 -- ---- to the list
 
--- the name is one of these, or that of a word that stands before
+-- the name is one of these, or that of a word that comes before
 abbrev IsEarlier : List task.Name → List Placed → Placed → Type 0
 IsEarlier before words w = (is_known before w.word ≡ true) ⊎ ((earlier : Placed) × Contains words earlier × (is_same (folded w.word) (folded earlier.word) ≡ true))
 
@@ -155,13 +155,13 @@ split_listed before (v ∷ first) w after is =
     Contains-append_right (if is_known before v.word then v ∷ [] else []) (repeated_after (with_name before v.word) (first ++ w ∷ after)) w
     (split_listed (with_name before v.word) first w after (earlier_there before v first w is))
 
--- a word that stands after one that is the same
+-- a word that comes after one that is the same
 pub repeated_listed : (before : List task.Name) (words : List Placed) (w : Placed) → IsRepeated words w → Contains (repeated_after before words) w
 repeated_listed before words w r =
-    subst (λ ws. Contains (repeated_after before ws) w) (sym r.stands) (split_listed before r.before w r.after (inr (r.earlier, r.is_before, r.is_same)))
+    subst (λ ws. Contains (repeated_after before ws) w) (sym r.occurs) (split_listed before r.before w r.after (inr (r.earlier, r.is_before, r.is_same)))
 
 -- a word that is the same as one of the names before the list
 pub known_listed : (before : List task.Name) (words : List Placed) (w : Placed) → Contains words w → is_known before w.word ≡ true → Contains (repeated_after before words) w
 known_listed before words w at known =
     let s = split words w at in
-    subst (λ ws. Contains (repeated_after before ws) w) (sym s.stands) (split_listed before s.before w s.after (inl known))
+    subst (λ ws. Contains (repeated_after before ws) w) (sym s.occurs) (split_listed before s.before w s.after (inl known))

@@ -11,8 +11,8 @@ use Rattle.model.specs.Trees as tree
 use Rattle.model.specs.Typing.{Known, Placed, placed, declared, known_with, variable_faults, folded, is_same, is_known, names_of_predicates, names_of_variables, names_of_objects, faults_against, predicate_in_known, predicate_faults, arguments_in, fits_in, fits_wanted, term_in, term_faults, word_of, misfit_faults, terms_faults, atom_faults, formula_faults, formulas_faults, effect_literal_faults, effect_faults, effects_faults, ground_atom_faults}
 use Rattle.model.specs.TypingFaults.{IsUnknown, IsTermFault, IsAtomFault, IsFormulaFault, IsSomeFault, IsLiteralFault, IsEffectFault, IsSomeEffectFault, unknown_predicate, unknown_term, wrong_count, wrong_type, as_atom}
 use Rattle.model.proofs.ListLemmas.{Contains-here, Contains-there, Contains-cases, Contains-none, Contains-flat_map}
-use Rattle.model.proofs.TypingFaultsLemmas.{fault_at, AllTell, none_tells, both_tell, one_tells, flat_map_tell, unless_tells, on_left, on_right, unless_listed}
-use Rattle.model.proofs.TypingFaultsVariables.{variables_tell, variable_listed}
+use Rattle.model.proofs.TypingFaultsLemmas.{fault_at, AllReport, none_detects, both_report, one_reports, flat_map_report, unless_reports, on_left, on_right, unless_listed}
+use Rattle.model.proofs.TypingFaultsVariables.{variables_report, variable_listed}
 
 -- ---- the predicate
 
@@ -41,14 +41,14 @@ not_found test (p ∷ rest) none =
     ] none
 
 -- 17 and 18, of the predicate
-predicate_tells : {table : ℕ → Placed → Type 0} (file : File) (known : Known) (a : tree.Atom) → ((code : ℕ) (w : Placed) → IsAtomFault file known a code w → table code w)
-    → AllTell table (predicate_faults file known a.predicate (length a.terms))
-predicate_tells {table} file known a fault = by_found (predicate_in_known known a.predicate) refl
+predicate_reports : {table : ℕ → Placed → Type 0} (file : File) (known : Known) (a : tree.Atom) → ((code : ℕ) (w : Placed) → IsAtomFault file known a code w → table code w)
+    → AllReport table (predicate_faults file known a.predicate (length a.terms))
+predicate_reports {table} file known a fault = by_found (predicate_in_known known a.predicate) refl
   where
-    by_found : (found : Option task.Predicate) → predicate_in_known known a.predicate ≡ found → AllTell table (faults_against file found a.predicate (length a.terms))
-    by_found None at = one_tells 17 (placed file a.predicate)
+    by_found : (found : Option task.Predicate) → predicate_in_known known a.predicate ≡ found → AllReport table (faults_against file found a.predicate (length a.terms))
+    by_found None at = one_reports 17 (placed file a.predicate)
         (fault 17 (placed file a.predicate) (unknown_predicate (none_found (is_same (folded a.predicate)) known.predicates at)))
-    by_found (Some p) at = unless_tells (length a.terms == length p.arguments) 18 (placed file a.predicate)
+    by_found (Some p) at = unless_reports (length a.terms == length p.arguments) 18 (placed file a.predicate)
         (λ other. fault 18 (placed file a.predicate) (wrong_count p at (eqb-false (length a.terms) (length p.arguments) other)))
 
 -- a predicate that is not declared
@@ -69,9 +69,9 @@ count_listed file known a p at other =
 -- ---- the terms
 
 -- 17, of a term
-term_tells : {table : ℕ → Placed → Type 0} (file : File) (known : Known) (t : tree.Term) → (IsUnknown known t → table 17 (placed file (word_of t))) → AllTell table (term_faults file known t)
-term_tells file known (tree.variable name) fault = unless_tells (is_known (names_of_variables known.variables) name) 17 (placed file name) fault
-term_tells file known (tree.object name) fault = unless_tells (is_known (names_of_objects known.objects) name) 17 (placed file name) fault
+term_reports : {table : ℕ → Placed → Type 0} (file : File) (known : Known) (t : tree.Term) → (IsUnknown known t → table 17 (placed file (word_of t))) → AllReport table (term_faults file known t)
+term_reports file known (tree.variable name) fault = unless_reports (is_known (names_of_variables known.variables) name) 17 (placed file name) fault
+term_reports file known (tree.object name) fault = unless_reports (is_known (names_of_objects known.objects) name) 17 (placed file name) fault
 
 -- and the other way
 term_listed : (file : File) (known : Known) (t : tree.Term) → IsUnknown known t → Contains (term_faults file known t) (fault_at 17 (placed file (word_of t)))
@@ -79,9 +79,9 @@ term_listed file known (tree.variable name) unknown = unless_listed (is_known (n
 term_listed file known (tree.object name) unknown = unless_listed (is_known (names_of_objects known.objects) name) (fault_at 17 (placed file name)) unknown
 
 -- of a term of an equality
-equal_tells : {table : ℕ → Placed → Type 0} (file : File) (known : Known) (t : tree.Term) → ((code : ℕ) (w : Placed) → IsTermFault file known t code w → table code w)
-    → AllTell table (term_faults file known t)
-equal_tells file known t fault = term_tells file known t (λ unknown. fault 17 (placed file (word_of t)) (record { is_unknown = unknown; number = refl; word = refl }))
+equal_reports : {table : ℕ → Placed → Type 0} (file : File) (known : Known) (t : tree.Term) → ((code : ℕ) (w : Placed) → IsTermFault file known t code w → table code w)
+    → AllReport table (term_faults file known t)
+equal_reports file known t fault = term_reports file known t (λ unknown. fault 17 (placed file (word_of t)) (record { is_unknown = unknown; number = refl; word = refl }))
 
 -- and the other way
 equal_listed : (file : File) (known : Known) (t : tree.Term) (code : ℕ) (w : Placed) → IsTermFault file known t code w → Contains (term_faults file known t) (fault_at code w)
@@ -95,15 +95,15 @@ got_later [] (suc place) = refl
 got_later (union ∷ unions) place = refl
 
 -- 17 and 19, of the terms
-terms_tell : {table : ℕ → Placed → Type 0} (file : File) (known : Known) (arguments : List task.Union) (terms : List tree.Term)
+terms_report : {table : ℕ → Placed → Type 0} (file : File) (known : Known) (arguments : List task.Union) (terms : List tree.Term)
     → ((t : tree.Term) → Contains terms t → IsUnknown known t → table 17 (placed file (word_of t)))
     → ((place : ℕ) (wanted : task.Union) (t : tree.Term) → slice_get arguments place ≡ Some wanted → slice_get terms place ≡ Some t → fits_in known wanted (term_in known t) ≡ false → table 19 (placed file (word_of t)))
-    → AllTell table (terms_faults file known arguments terms)
-terms_tell file known arguments [] unknown misfit = none_tells
-terms_tell {table} file known arguments (t ∷ terms) unknown misfit =
-    both_tell (both_tell (term_tells file known t (unknown t (Contains-here t terms)))
-    (unless_tells (fits_wanted known (slice_get arguments 0) (term_in known t)) 19 (placed file (word_of t)) (λ other. wanted_misfit (slice_get arguments 0) refl other)))
-    (terms_tell file known (drop 1 arguments) terms (λ s at. unknown s (Contains-there t terms s at)) (λ place wanted s of. misfit (suc place) wanted s (sym (got_later arguments place) ∙ of)))
+    → AllReport table (terms_faults file known arguments terms)
+terms_report file known arguments [] unknown misfit = none_detects
+terms_report {table} file known arguments (t ∷ terms) unknown misfit =
+    both_report (both_report (term_reports file known t (unknown t (Contains-here t terms)))
+    (unless_reports (fits_wanted known (slice_get arguments 0) (term_in known t)) 19 (placed file (word_of t)) (λ other. wanted_misfit (slice_get arguments 0) refl other)))
+    (terms_report file known (drop 1 arguments) terms (λ s at. unknown s (Contains-there t terms s at)) (λ place wanted s of. misfit (suc place) wanted s (sym (got_later arguments place) ∙ of)))
   where
     wanted_misfit : (found : Option task.Union) → slice_get arguments 0 ≡ found → fits_wanted known found (term_in known t) ≡ false → table 19 (placed file (word_of t))
     wanted_misfit None of other = absurd (cc)
@@ -141,11 +141,11 @@ argument_declared None place wanted at = absurd (cc)
 argument_declared (Some p) place wanted at = (p, refl, at)
 
 -- each fault that is listed of an atom is one that the table has of it
-pub atom_tells : {table : ℕ → Placed → Type 0} (file : File) (known : Known) (a : tree.Atom) → ((code : ℕ) (w : Placed) → IsAtomFault file known a code w → table code w)
-    → AllTell table (atom_faults file known a)
-atom_tells file known a fault =
-    both_tell (predicate_tells file known a fault)
-    (terms_tell file known (arguments_in known a.predicate) a.terms
+pub atom_reports : {table : ℕ → Placed → Type 0} (file : File) (known : Known) (a : tree.Atom) → ((code : ℕ) (w : Placed) → IsAtomFault file known a code w → table code w)
+    → AllReport table (atom_faults file known a)
+atom_reports file known a fault =
+    both_report (predicate_reports file known a fault)
+    (terms_report file known (arguments_in known a.predicate) a.terms
     (λ t at unknown. fault 17 (placed file (word_of t)) (unknown_term t at unknown))
     (λ place wanted t of at misfit.
     let declared = argument_declared (predicate_in_known known a.predicate) place wanted of in
@@ -165,29 +165,29 @@ atom_listed file known a code w (wrong_type p place wanted t found of at misfit)
 
 mutual
   -- of a formula
-  pub formula_tells : {table : ℕ → Placed → Type 0} (file : File) (known : Known) (formula : tree.Formula)
-      → ((code : ℕ) (w : Placed) → IsFormulaFault file known formula code w → table code w) → AllTell table (formula_faults file known formula)
-  formula_tells file known (tree.atom a) fault = atom_tells file known a fault
-  formula_tells file known (tree.equal t u) fault =
-      both_tell (equal_tells file known t (λ code w here. fault code w (inl here))) (equal_tells file known u (λ code w here. fault code w (inr here)))
-  formula_tells file known (tree.and parts) fault = formulas_tell file known parts fault
-  formula_tells file known (tree.or parts) fault = formulas_tell file known parts fault
-  formula_tells file known (tree.not part) fault = formula_tells file known part fault
-  formula_tells file known (tree.imply premise conclusion) fault =
-      both_tell (formula_tells file known premise (λ code w here. fault code w (inl here))) (formula_tells file known conclusion (λ code w here. fault code w (inr here)))
-  formula_tells file known (tree.exists groups part) fault =
-      both_tell (variables_tell known (declared file groups) (λ code w here. fault code w (inl here)))
-      (formula_tells file (known_with known (declared file groups)) part (λ code w here. fault code w (inr here)))
-  formula_tells file known (tree.forall groups part) fault =
-      both_tell (variables_tell known (declared file groups) (λ code w here. fault code w (inl here)))
-      (formula_tells file (known_with known (declared file groups)) part (λ code w here. fault code w (inr here)))
+  pub formula_reports : {table : ℕ → Placed → Type 0} (file : File) (known : Known) (formula : tree.Formula)
+      → ((code : ℕ) (w : Placed) → IsFormulaFault file known formula code w → table code w) → AllReport table (formula_faults file known formula)
+  formula_reports file known (tree.atom a) fault = atom_reports file known a fault
+  formula_reports file known (tree.equal t u) fault =
+      both_report (equal_reports file known t (λ code w here. fault code w (inl here))) (equal_reports file known u (λ code w here. fault code w (inr here)))
+  formula_reports file known (tree.and parts) fault = formulas_report file known parts fault
+  formula_reports file known (tree.or parts) fault = formulas_report file known parts fault
+  formula_reports file known (tree.not part) fault = formula_reports file known part fault
+  formula_reports file known (tree.imply premise conclusion) fault =
+      both_report (formula_reports file known premise (λ code w here. fault code w (inl here))) (formula_reports file known conclusion (λ code w here. fault code w (inr here)))
+  formula_reports file known (tree.exists groups part) fault =
+      both_report (variables_report known (declared file groups) (λ code w here. fault code w (inl here)))
+      (formula_reports file (known_with known (declared file groups)) part (λ code w here. fault code w (inr here)))
+  formula_reports file known (tree.forall groups part) fault =
+      both_report (variables_report known (declared file groups) (λ code w here. fault code w (inl here)))
+      (formula_reports file (known_with known (declared file groups)) part (λ code w here. fault code w (inr here)))
 
   -- of its parts
-  formulas_tell : {table : ℕ → Placed → Type 0} (file : File) (known : Known) (parts : tree.Formulas)
-      → ((code : ℕ) (w : Placed) → IsSomeFault file known parts code w → table code w) → AllTell table (formulas_faults file known parts)
-  formulas_tell file known tree.no_formula fault = none_tells
-  formulas_tell file known (tree.more_formulas first rest) fault =
-      both_tell (formula_tells file known first (λ code w here. fault code w (inl here))) (formulas_tell file known rest (λ code w here. fault code w (inr here)))
+  formulas_report : {table : ℕ → Placed → Type 0} (file : File) (known : Known) (parts : tree.Formulas)
+      → ((code : ℕ) (w : Placed) → IsSomeFault file known parts code w → table code w) → AllReport table (formulas_faults file known parts)
+  formulas_report file known tree.no_formula fault = none_detects
+  formulas_report file known (tree.more_formulas first rest) fault =
+      both_report (formula_reports file known first (λ code w here. fault code w (inl here))) (formulas_report file known rest (λ code w here. fault code w (inr here)))
 
 mutual
   -- and the other way
@@ -218,10 +218,10 @@ mutual
       on_right (formula_faults file known first) _ (formulas_listed file known rest code w fault)
 
 -- of a literal of an effect
-effect_literal_tells : {table : ℕ → Placed → Type 0} (file : File) (known : Known) (l : tree.EffectLiteral)
-    → ((code : ℕ) (w : Placed) → IsLiteralFault file known l code w → table code w) → AllTell table (effect_literal_faults file known l)
-effect_literal_tells file known (tree.add a) fault = atom_tells file known a fault
-effect_literal_tells file known (tree.delete a) fault = atom_tells file known a fault
+effect_literal_reports : {table : ℕ → Placed → Type 0} (file : File) (known : Known) (l : tree.EffectLiteral)
+    → ((code : ℕ) (w : Placed) → IsLiteralFault file known l code w → table code w) → AllReport table (effect_literal_faults file known l)
+effect_literal_reports file known (tree.add a) fault = atom_reports file known a fault
+effect_literal_reports file known (tree.delete a) fault = atom_reports file known a fault
 
 -- and the other way
 effect_literal_listed : (file : File) (known : Known) (l : tree.EffectLiteral) (code : ℕ) (w : Placed) → IsLiteralFault file known l code w
@@ -231,23 +231,23 @@ effect_literal_listed file known (tree.delete a) code w fault = atom_listed file
 
 mutual
   -- of an effect
-  pub effect_tells : {table : ℕ → Placed → Type 0} (file : File) (known : Known) (effect : tree.Effect)
-      → ((code : ℕ) (w : Placed) → IsEffectFault file known effect code w → table code w) → AllTell table (effect_faults file known effect)
-  effect_tells file known (tree.literal l) fault = effect_literal_tells file known l fault
-  effect_tells file known (tree.both parts) fault = effects_tell file known parts fault
-  effect_tells file known (tree.each groups part) fault =
-      both_tell (variables_tell known (declared file groups) (λ code w here. fault code w (inl here)))
-      (effect_tells file (known_with known (declared file groups)) part (λ code w here. fault code w (inr here)))
-  effect_tells file known (tree.when condition literals) fault =
-      both_tell (formula_tells file known condition (λ code w here. fault code w (inl here)))
-      (flat_map_tell _ _ (λ l among. effect_literal_tells file known l (λ code w here. fault code w (inr (l, among, here)))))
+  pub effect_reports : {table : ℕ → Placed → Type 0} (file : File) (known : Known) (effect : tree.Effect)
+      → ((code : ℕ) (w : Placed) → IsEffectFault file known effect code w → table code w) → AllReport table (effect_faults file known effect)
+  effect_reports file known (tree.literal l) fault = effect_literal_reports file known l fault
+  effect_reports file known (tree.both parts) fault = effects_report file known parts fault
+  effect_reports file known (tree.each groups part) fault =
+      both_report (variables_report known (declared file groups) (λ code w here. fault code w (inl here)))
+      (effect_reports file (known_with known (declared file groups)) part (λ code w here. fault code w (inr here)))
+  effect_reports file known (tree.when condition literals) fault =
+      both_report (formula_reports file known condition (λ code w here. fault code w (inl here)))
+      (flat_map_report _ _ (λ l among. effect_literal_reports file known l (λ code w here. fault code w (inr (l, among, here)))))
 
   -- of its parts
-  effects_tell : {table : ℕ → Placed → Type 0} (file : File) (known : Known) (parts : tree.Effects)
-      → ((code : ℕ) (w : Placed) → IsSomeEffectFault file known parts code w → table code w) → AllTell table (effects_faults file known parts)
-  effects_tell file known tree.no_effect fault = none_tells
-  effects_tell file known (tree.more_effects first rest) fault =
-      both_tell (effect_tells file known first (λ code w here. fault code w (inl here))) (effects_tell file known rest (λ code w here. fault code w (inr here)))
+  effects_report : {table : ℕ → Placed → Type 0} (file : File) (known : Known) (parts : tree.Effects)
+      → ((code : ℕ) (w : Placed) → IsSomeEffectFault file known parts code w → table code w) → AllReport table (effects_faults file known parts)
+  effects_report file known tree.no_effect fault = none_detects
+  effects_report file known (tree.more_effects first rest) fault =
+      both_report (effect_reports file known first (λ code w here. fault code w (inl here))) (effects_report file known rest (λ code w here. fault code w (inr here)))
 
 mutual
   -- and the other way

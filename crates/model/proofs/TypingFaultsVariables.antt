@@ -5,7 +5,7 @@ use Rattle.std.proofs.lemmas.Bool.{leb-true, le-leb}
 use Rattle.model.specs.Typing.{Known, Declared, Placed, words_of, is_known, names_of_variables, refused, repeated, one_after, known_among, one_too_many, type_faults, variable_faults}
 use Rattle.model.specs.TypingFaults.{IsVariableFault, type_of_variable, variable_again, in_scope_already, many_variables}
 use Rattle.model.proofs.ListLemmas.{Contains-none, Contains-filter, filter-Contains}
-use Rattle.model.proofs.TypingFaultsLemmas.{fault_at, AllTell, both_tell, refused_tell, types_tell, on_left, on_right, refused_listed, type_listed, Contains-one_after, one_after-Contains}
+use Rattle.model.proofs.TypingFaultsLemmas.{fault_at, AllReport, both_report, refused_report, types_report, on_left, on_right, refused_listed, type_listed, Contains-one_after, one_after-Contains}
 use Rattle.model.proofs.TypingFaultsRepeats.{repeated-Contains, repeated_listed}
 
 -- the variable that makes 17 in scope, where so many are in scope already
@@ -24,15 +24,15 @@ Contains-one_too_many count words w place at sum =
     subst (λ b. Contains (if b then one_after (16 - count) words else []) w) (sym few) (Contains-one_after (16 - count) words w (subst (λ n. slice_get words n ≡ Some w) here at))
 
 -- each fault that is listed of some variables is one that the table has of them
-pub variables_tell : {table : ℕ → Placed → Type 0} (known : Known) (xs : List Declared) → ((code : ℕ) (w : Placed) → IsVariableFault known xs code w → table code w)
-    → AllTell table (variable_faults known.type_names known.variables xs)
-variables_tell known xs fault =
-    both_tell (both_tell (both_tell (types_tell known.type_names xs (λ w has unknown. fault 14 w (type_of_variable w has unknown)))
-    (refused_tell _ _ (λ w at. fault 16 w (variable_again w (repeated-Contains (words_of xs) w at)))))
-    (refused_tell _ _ (λ w at.
+pub variables_report : {table : ℕ → Placed → Type 0} (known : Known) (xs : List Declared) → ((code : ℕ) (w : Placed) → IsVariableFault known xs code w → table code w)
+    → AllReport table (variable_faults known.type_names known.variables xs)
+variables_report known xs fault =
+    both_report (both_report (both_report (types_report known.type_names xs (λ w has unknown. fault 14 w (type_of_variable w has unknown)))
+    (refused_report _ _ (λ w at. fault 16 w (variable_again w (repeated-Contains (words_of xs) w at)))))
+    (refused_report _ _ (λ w at.
     let among = filter-Contains (λ (v : Placed). is_known (names_of_variables known.variables) v.word) (words_of xs) w at in
     fault 20 w (in_scope_already w among.0 among.1))))
-    (refused_tell _ _ (λ w at.
+    (refused_report _ _ (λ w at.
     let there = one_too_many-Contains (length known.variables) (words_of xs) w at in
     fault 25 w (many_variables w there.0 there.1 there.2)))
 

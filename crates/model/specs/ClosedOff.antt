@@ -1,4 +1,4 @@
--- What no reachable state allows, as the initial state already tells: formulas that are closed off, the instances that are
+-- What no reachable state allows, as the initial state already reports: formulas that are closed off, the instances that are
 -- not, and the changes that count (a planner's own notions; the meaning of a task does not rest on them).
 use Rattle.std.specs.Prelude.{◌≡◌, ℕ, Bool, true, false, not, ◌&&◌, List, filter, slice_get, None}
 use Rattle.std.specs.List.{list_any}

@@ -310,11 +310,11 @@ b_to_b = instance 0 (1 ∷ 1 ∷ [])
 -- ---- what is true of them
 
 pub record WorkedExamples : Type 0 where
-  -- An atom that one effect deletes and adds is true afterwards, in whatever order the literals stand.
+  -- An atom that one effect deletes and adds is true afterwards, in whatever order the literals are.
   pub add_wins_over_delete : IsVerdict (system_of go_task) (instance 0 [] ∷ []) (valid 1)
   -- The same where two different literals name one atom: (move a a) deletes (at ?x) and adds (at ?y).
   pub add_wins_over_another_literal : IsVerdict (system_of (walk_to 0)) (a_to_a ∷ []) (valid 1)
-  -- Each instance costs 1, one that stands twice in a list twice.
+  -- Each instance costs 1, one that is twice in a list twice.
   pub each_instance_costs : IsVerdict (system_of go_task) (instance 0 [] ∷ instance 0 [] ∷ []) (valid 2)
   -- Two parameters may have the same object.
   pub one_object_for_two_parameters : IsVerdict (system_of tie_task) (instance 0 (0 ∷ 0 ∷ []) ∷ []) (valid 1)
@@ -323,18 +323,18 @@ pub record WorkedExamples : Type 0 where
   pub too_few_objects : is_instance tie_task (instance 0 (0 ∷ [])) ≡ false
   pub unknown_object : is_instance tie_task (instance 0 (0 ∷ 1 ∷ [])) ≡ false
   pub unknown_schema : is_instance tie_task (instance 1 (0 ∷ 0 ∷ [])) ≡ false
-  -- An atom that stands twice in `:init` counts once: of five that stand there, four are true.
+  -- An atom that is twice in `:init` counts once: of five that are there, four are true.
   pub atom_twice_in_init : len (initial_state (walk_to 1)) ≡ 4
   -- Steps count from 1: the first step is not applicable.
   pub first_step_not_applicable : IsVerdict (system_of (walk_to 2)) (b_to_c ∷ a_to_b ∷ []) (not_applicable 1)
-  -- A later step is not applicable where those before it lead; the steps behind it do not matter.
+  -- A later step is not applicable where those before it lead; the steps after it do not matter.
   pub later_step_not_applicable : IsVerdict (system_of (walk_to 1)) (a_to_b ∷ a_to_b ∷ b_to_c ∷ []) (not_applicable 2)
   -- The empty list solves a task whose goal holds at once, at no cost.
   pub empty_plan_solves : IsVerdict (system_of (walk_to 0)) [] (valid 0)
   -- Of another task it misses the goal.
   pub empty_plan_misses : IsVerdict (system_of go_task) [] goal_missed
   -- A goal that holds on the way and not at the end is missed.
-  pub goal_left_behind : IsVerdict (system_of (walk_to 1)) (a_to_b ∷ b_to_c ∷ []) goal_missed
+  pub goal_left_after : IsVerdict (system_of (walk_to 1)) (a_to_b ∷ b_to_c ∷ []) goal_missed
   -- What is not deleted stays, and conditions are read before the change.
   pub two_steps : IsVerdict (system_of (walk_to 2)) (a_to_b ∷ b_to_c ∷ []) (valid 2)
   -- An object is of its type and of all above it, and of no other.
@@ -381,7 +381,7 @@ pub record WorkedExamples : Type 0 where
   pub variables_around : LeadsWith (vehicles ∷ []) (0 ∷ []) (seen the_truck ∷ []) (all (adds q ∷ each vehicles (when (not (equal (variable 1) (variable 0))) (add (seen (variable 1)) ∷ delete (seen (variable 0)) ∷ [])) ∷ []))
       (atom q ∷ atom (seen the_vehicle) ∷ not (atom (seen the_truck)) ∷ [])
   pub one_in_another : Leads [] (each vehicles (each (0 ∷ []) (when (and (formulas (equal (variable 0) the_vehicle ∷ equal (variable 1) (object 2) ∷ []))) (add (seen (variable 1)) ∷ [])))) (atom (seen (object 2)) ∷ not (atom (seen the_vehicle)) ∷ [])
-  -- The changes are those for each object, in order; the condition of one that stands under no `when` is `(and)`.
+  -- The changes are those for each object, in order; the condition of one that is under no `when` is `(and)`.
   pub its_changes : changes_of (doing [] of_each_kind [] []) of_each_kind []
       ≡ change (and no_formula) [] (meaning.adds (ground 1 []))
       ∷ change (atom (seen (variable 0))) (0 ∷ []) (meaning.deletes (ground 0 (0 ∷ []))) ∷ change (atom (seen (variable 0))) (0 ∷ []) (meaning.adds (ground 2 []))

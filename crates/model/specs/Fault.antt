@@ -1,4 +1,4 @@
--- What a refusal tells of a text: its number, and where in the text it stands.
+-- What a refusal says of a text: its number, and where in the text it is.
 use Rattle.std.specs.Prelude.{ℕ}
 
 -- byte offsets from 0, the end not included

@@ -1,9 +1,9 @@
--- From the bytes of files to their task, to the fault that is told where they are not read, and to the verdict on a
+-- From the bytes of files to their task, to the fault that is reported where they are not read, and to the verdict on a
 -- plan: the definitions of words, trees, typing and plan texts one after another. Files are looked at in their order,
 -- the domain, the problem and then the plan; the pair is typed between the problem and the plan.
 use Rattle.std.specs.Prelude.{◌≡◌, ℕ, List}
 use Rattle.model.specs.Fault.{Fault}
-use Rattle.model.specs.Words.{Word, ReadsAs, IsTold}
+use Rattle.model.specs.Words.{Word, ReadsAs, IsReported}
 use Rattle.model.specs.Trees.{domain_file, problem_file, Domain, Problem}
 use Rattle.model.specs.Trees as tree
 use Rattle.model.specs.Grammar.{IsDomain, IsProblem}
@@ -17,12 +17,12 @@ use Rattle.model.specs.Runs.{Verdict, IsVerdict}
 use Rattle.model.specs.Meaning.{system_of}
 use Rattle.model.specs.PlanText.{IsPlanText, IsPlanFault}
 
--- a file that is handed in: one of the task's two, or the plan
+-- a file that is given: one of the task's two, or the plan
 pub data File : Type 0 where
   of_task : tree.File → File
   the_plan : File
 
--- a fault, and the file that it is told of
+-- a fault, and the file that it is reported for
 pub record FileFault : Type 0 where
   pub file : File
   pub fault : Fault
@@ -39,10 +39,10 @@ pub record IsProblemText (text : List ℕ) (problem : Problem) : Type 0 where
   pub reads : ReadsAs text words
   pub tree : IsProblem (tokens_of words) problem
 
--- what is told of a text that is no file of this kind: what keeps it from reading as words, or else what keeps its
+-- what is reported for a text that is no file of this kind: what keeps it from reading as words, or else what keeps its
 -- words from having a tree
 pub data IsTextFault (kind : tree.File) (text : List ℕ) (fault : Fault) : Type 0 where
-  of_words : IsTold text fault → IsTextFault kind text fault
+  of_words : IsReported text fault → IsTextFault kind text fault
   of_tree : (words : List Word) → ReadsAs text words → IsRefused kind words fault → IsTextFault kind text fault
 
 -- The two texts are this task: they are a domain and a problem, the pair is well-typed, and each name is its number.
@@ -54,24 +54,24 @@ pub record IsTaskOf (domain problem : List ℕ) (task : Task) : Type 0 where
   pub well_typed : IsWellTyped domain_tree problem_tree
   pub resolved : task ≡ task_of_trees domain_tree problem_tree
 
--- a fault of typing is told of its file, with its number and span
-pub record IsToldTyping (typed : TypingFault) (told : FileFault) : Type 0 where
-  pub file : told.file ≡ of_task typed.file
-  pub fault : told.fault ≡ typed.fault
+-- a fault of typing is reported for its file, with its number and span
+pub record IsReportedTyping (typed : TypingFault) (reported : FileFault) : Type 0 where
+  pub file : reported.file ≡ of_task typed.file
+  pub fault : reported.fault ≡ typed.fault
 
--- what is told of two texts that are no task: the first fault in the order of files
-pub data IsTaskFault (domain problem : List ℕ) (told : FileFault) : Type 0 where
-  in_the_domain : IsTextFault domain_file domain told.fault → told.file ≡ of_task domain_file → IsTaskFault domain problem told
-  in_the_problem : (d : Domain) → IsDomainText domain d → IsTextFault problem_file problem told.fault → told.file ≡ of_task problem_file
-      → IsTaskFault domain problem told
+-- what is reported for two texts that are no task: the first fault in the order of files
+pub data IsTaskFault (domain problem : List ℕ) (reported : FileFault) : Type 0 where
+  in_the_domain : IsTextFault domain_file domain reported.fault → reported.file ≡ of_task domain_file → IsTaskFault domain problem reported
+  in_the_problem : (d : Domain) → IsDomainText domain d → IsTextFault problem_file problem reported.fault → reported.file ≡ of_task problem_file
+      → IsTaskFault domain problem reported
   in_the_pair : (d : Domain) (p : Problem) (typed : TypingFault) → IsDomainText domain d → IsProblemText problem p
-      → typing_faults.IsTold d p typed → IsToldTyping typed told → IsTaskFault domain problem told
+      → typing_faults.IsReported d p typed → IsReportedTyping typed reported → IsTaskFault domain problem reported
 
--- what is told of three texts that are not a task and a plan for it: the first fault in the order of files
-pub data IsFileFault (domain problem plan : List ℕ) (told : FileFault) : Type 0 where
-  in_the_task : IsTaskFault domain problem told → IsFileFault domain problem plan told
-  in_the_plan : (task : Task) → IsTaskOf domain problem task → IsPlanFault task plan told.fault → told.file ≡ the_plan
-      → IsFileFault domain problem plan told
+-- what is reported for three texts that are not a task and a plan for it: the first fault in the order of files
+pub data IsFileFault (domain problem plan : List ℕ) (reported : FileFault) : Type 0 where
+  in_the_task : IsTaskFault domain problem reported → IsFileFault domain problem plan reported
+  in_the_plan : (task : Task) → IsTaskOf domain problem task → IsPlanFault task plan reported.fault → reported.file ≡ the_plan
+      → IsFileFault domain problem plan reported
 
 -- the three texts are this task and these steps
 pub record AreRead (domain problem plan : List ℕ) (task : Task) (steps : List Instance) : Type 0 where

@@ -13,7 +13,7 @@ use Rattle.model.specs.GrammarWords as words
 
 infixr 20 ◌>>=◌
 infixr 20 ◌>>◌
--- ---- what stands in a file and in an action
+-- ---- what is in a file and in an action
 
 pub data Section : Type 0 where
   requirements : Section
@@ -28,7 +28,7 @@ pub data Section : Type 0 where
   goal : Formula → Section
   metric : Name → Section
 
--- what stands in the value of an `:effect`: an effect, or an increase of the total cost
+-- what is in the value of an `:effect`: an effect, or an increase of the total cost
 pub data Item : Type 0 where
   change : Effect → Item
   increase : Increase → Item
@@ -78,7 +78,7 @@ value_of (increase i) = record { effect = tree.both (effects []); increases = i 
 abbrev pub value_of_all : List Item → EffectValue
 value_of_all items = record { effect = tree.both (effects (changes_in items)); increases = increases_in items }
 
--- what stands in a file's sections, and with one section more
+-- what is in a file's sections, and with one section more
 pub record Contents : Type 0 where
   pub types : List Group
   pub constants : List Group
@@ -131,7 +131,7 @@ keyword_in (init fs) = words.init
 keyword_in (goal f) = words.goal
 keyword_in (metric n) = words.metric
 
--- ---- which sections and parts may stand, and which have to
+-- ---- which sections and parts may occur, and which have to
 
 abbrev pub is_section : SectionKeyword → SectionKeyword → Bool
 is_section words.requirements words.requirements = true
@@ -168,7 +168,7 @@ abbrev pub required_of : File → List SectionKeyword
 required_of domain_file = words.predicates ∷ []
 required_of problem_file = words.domain_keyword ∷ words.init ∷ words.goal ∷ []
 
--- what may stand no more once it was seen: each section but an action
+-- what may occur no more once it was seen: each section but an action
 abbrev pub seen_with : List SectionKeyword → SectionKeyword → List SectionKeyword
 seen_with seen words.action = seen
 seen_with seen k = seen ++ k ∷ []
@@ -212,10 +212,10 @@ pub data Sort : Type 0 where
   formula : Sort
   precondition_list : Sort
   effect_list : Sort
-  -- the value of an `:effect`, and what may stand in its `and`
+  -- the value of an `:effect`, and what may occur in its `and`
   effect_value : Sort
   item : Sort
-  -- what stands under a `when`, one of it, and the atom of a `not` there
+  -- what is under a `when`, one of it, and the atom of a `not` there
   conditional : Sort
   conditional_literal : Sort
   conditional_atom : Sort
@@ -257,7 +257,7 @@ pub data Valued : Type 0 where
   the_total_cost : Name → Valued
   a_function : GroundAtom → Valued
 
--- such a value, where it stands after this `=`, with its number and the number's word
+-- such a value, where it comes after this `=`, with its number and the number's word
 abbrev pub initial_fact : Name → Valued → ℕ × Name → Fact
 initial_fact n (the_total_cost f) v = tree.initial_cost (record { equals = n; function = f; amount = v.0; number = v.1 })
 initial_fact n (a_function f) v = tree.initial_value (record { function = f; value = v.0 })
@@ -321,7 +321,7 @@ and_then (s >>= h) k = s >>= λ x. and_then (h x) k
 
 -- ---- the productions
 
--- after `:parameters`, `:precondition` or `:effect`, where these parts stand with it
+-- after `:parameters`, `:precondition` or `:effect`, where these parts are with it
 abbrev pub part_after : List PartKeyword → PartKeyword → Phrase Part
 part_after seen words.parameters = do value seen; gs ← typed variables; gives (parameters gs)
 part_after seen words.precondition = do value seen; f ← precondition_list; gives (precondition f)
@@ -341,7 +341,7 @@ section_after words.init = do fs ← many (listed fact); gives (init fs)
 section_after words.goal = do f ← listed formula; close; gives (goal f)
 section_after words.metric = do minimize_word; n ← listed total_cost; close; gives (metric n)
 
--- after the `(` of a file's section, where these may stand: none, or one of them
+-- after the `(` of a file's section, where these may occur: none, or one of them
 abbrev pub section_of : File → List SectionKeyword → List SectionKeyword → Option (Phrase (List Section))
 section_of f seen [] = None
 section_of f seen (k ∷ others) = Some do x ← section f k others; xs ← sections f (seen_with seen (keyword_in x)); gives (x ∷ xs)
@@ -369,7 +369,7 @@ abbrev pub listed_in : Listed → Token → Option Name
 listed_in names t = name_in t
 listed_in variables t = variable_in t
 
--- it stands at the head of a group
+-- it is at the head of a group
 abbrev pub group_after : Listed → Name → Phrase (List Group)
 group_after l n = do gs ← group l; gives (with_name n gs)
 
@@ -412,7 +412,7 @@ functions_after closes = Some (gives [])
 functions_after opens = Some do f ← function_declaration; fs ← function_type; gives (f ∷ fs)
 functions_after _ = None
 
--- where s is wanted and this word comes: what has to follow the word, or none where it may not stand there
+-- where s is wanted and this word comes: what has to follow the word, or none where it may not occur there
 abbrev pub after : (s : Sort) → Token → Option (Phrase (Value s))
 after close closes = Some (gives tt)
 -- NAME, which may be any; NAME | VARIABLE; KEY

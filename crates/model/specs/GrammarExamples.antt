@@ -517,7 +517,7 @@ problem_of_values = record {
 }
 
 -- what they are
-pub record AreAsTold : Type 0 where
+pub record AreAsReported : Type 0 where
   pub no_word : IsRefused domain_file [] (fault 7 0 0)
   pub empty : IsRefused domain_file empty_list (fault 10 1 2)
   pub unkind : IsRefused domain_file no_kind (fault 10 7 8)

@@ -1,6 +1,6 @@
 -- The grammar as a machine that takes the words one by one, which the reader of trees is compared with: a deterministic
 -- pushdown automaton, whose state is what has to follow. It stops at the first word with which no file goes on, by the
--- number that is told of it there.
+-- number that is reported for it there.
 use Rattle.std.specs.Prelude.{ℕ, List, [], ◌∷◌, Option, None, Some}
 use Rattle.model.specs.GrammarWords.{Token}
 use Rattle.model.specs.Grammar.{Phrase, gives, ◌>>=◌}

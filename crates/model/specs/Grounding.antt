@@ -15,7 +15,7 @@ use Rattle.model.specs.Bisimulation.{IsBisimulation, SolveAlike}
 
 -- ---- states
 
--- the atoms whose bit is set; atom and bit stand at one place
+-- the atoms whose bit is set; atom and bit are at one place
 abbrev pub chosen : List Atom → List Bool → List Atom
 chosen [] bits = []
 chosen (a ∷ atoms) [] = []
@@ -56,9 +56,9 @@ pub data GroundLimit : Type 0 where
   of_instances : GroundLimit
   of_atoms : GroundLimit
 
--- The limit that is told: that of instances where more are kept, and else that of atoms where more have numbers.
-abbrev pub limit_told : ℕ → ℕ → Task → List Atom → Option GroundLimit
-limit_told max_instances max_atoms task more =
+-- The limit that is reported: that of instances where more are kept, and else that of atoms where more have numbers.
+abbrev pub exceeded_limit : ℕ → ℕ → Task → List Atom → Option GroundLimit
+exceeded_limit max_instances max_atoms task more =
     if nat_lt max_instances (length (kept_instances task)) then Some of_instances
     else if nat_lt max_atoms (length (numbered_atoms task more)) then Some of_atoms
     else None

@@ -6,7 +6,7 @@ use Rattle.model.specs.Examples.{formulas, ground, instance, walk_to, a_to_b, b_
 use Rattle.model.specs.ClosedOff.{is_closed_off, kept_instances}
 use Rattle.model.specs.NumberedAtoms.{numbered_atoms, number_of}
 use Rattle.model.specs.NumberedLiterals.{NumberedLiteral, literals_of_instance, literals_of_goal, NumberedChange, counting_of_instance}
-use Rattle.model.specs.Grounding.{ground_step, ground_system, applicable_numbers, GroundLimit, of_instances, of_atoms, limit_told}
+use Rattle.model.specs.Grounding.{ground_step, ground_system, applicable_numbers, GroundLimit, of_instances, of_atoms, exceeded_limit}
 
 -- The objects t and v are vehicles, and t is a truck; there is no boat. Of (:predicates (seen ?x) (p) (q) (r)) the one
 -- action adds q, or deletes it: q is fluent, the others are static. These atoms are true at the start.
@@ -34,9 +34,9 @@ pub record Leads (task : Task) (atoms : List Atom) (bits : List Bool) (number : 
 pub record Meets (task : Task) (atoms : List Atom) (bits : List Bool) (answer : Bool) : Type 0 where
   pub is_met : (ground_system task atoms).meets_goal bits ≡ answer
 
--- which of these limits is told
-pub record Tells (max_instances max_atoms : ℕ) (task : Task) (more : List Atom) (limit : Option GroundLimit) : Type 0 where
-  pub is_told : limit_told max_instances max_atoms task more ≡ limit
+-- which of these limits is reported
+pub record Reports (max_instances max_atoms : ℕ) (task : Task) (more : List Atom) (limit : Option GroundLimit) : Type 0 where
+  pub is_reported : exceeded_limit max_instances max_atoms task more ≡ limit
 
 abbrev pub both_same : Formula
 both_same = equal (variable 0) (variable 1)
@@ -107,7 +107,7 @@ pub record AreGrounded : Type 0 where
   pub are_same : Closes [] both_same (0 ∷ 0 ∷ []) false
   pub do_not_differ : Closes [] (not both_same) (0 ∷ 0 ∷ []) true
   pub do_differ : Closes [] (not both_same) (0 ∷ 1 ∷ []) false
-  -- What stands under `and` and `forall` is sure, for each object of the variable's types; over none, nothing is.
+  -- What is under `and` and `forall` is sure, for each object of the variable's types; over none, nothing is.
   pub under_and : Closes [] (and (formulas (atom q ∷ atom p ∷ []))) [] true
   pub under_forall : Closes (seen the_truck ∷ []) (forall vehicles (atom (seen (variable 0)))) [] true
   pub under_forall_of_trucks : Closes (seen the_truck ∷ []) (forall trucks (atom (seen (variable 0)))) [] false
@@ -181,11 +181,11 @@ pub record AreGrounded : Type 0 where
   pub leads_by_its_number : (has_metric : Bool) → Leads (by_length has_metric) at_places at_b 2 (Some at_c)
   -- Nor is one that has a value and is closed off.
   pub value_and_closed_off : Keeps closed_by_length (b_to_a ∷ [])
-  -- A limit is told where there are more, and not where there are just as many; that of instances first.
-  pub too_many_instances : Tells 3 2 (of_two (and (formulas []))) [] (Some of_instances)
-  pub both_too_many : Tells 3 1 (of_two (and (formulas []))) [] (Some of_instances)
-  pub too_many_atoms : Tells 4 1 (of_two (and (formulas []))) [] (Some of_atoms)
-  pub neither : Tells 4 2 (of_two (and (formulas []))) [] None
+  -- A limit is reported where there are more, and not where there are just as many; that of instances first.
+  pub too_many_instances : Reports 3 2 (of_two (and (formulas []))) [] (Some of_instances)
+  pub both_too_many : Reports 3 1 (of_two (and (formulas []))) [] (Some of_instances)
+  pub too_many_atoms : Reports 4 1 (of_two (and (formulas []))) [] (Some of_atoms)
+  pub neither : Reports 4 2 (of_two (and (formulas []))) [] None
   -- What is closed off does not count, and `more` does.
-  pub closed_off_does_not_count : Tells 2 2 (of_two (not both_same)) [] None
-  pub more_counts : Tells 2 2 (of_two (not both_same)) (ground 0 (2 ∷ []) ∷ []) (Some of_atoms)
+  pub closed_off_does_not_count : Reports 2 2 (of_two (not both_same)) [] None
+  pub more_counts : Reports 2 2 (of_two (not both_same)) (ground 0 (2 ∷ []) ∷ []) (Some of_atoms)

@@ -5,7 +5,7 @@ use Rattle.std.specs.Option.{option_map}
 use Rattle.model.specs.Task.{Schema, Task, Instance}
 use Rattle.model.specs.Meaning.{State, objects_of, step}
 
--- every list of one of the first, one of the second, and so on, in the order in which they stand, compared from the left
+-- every list of one of the first, one of the second, and so on, in the order in which they are, compared from the left
 abbrev pub product : List (List ℕ) → List (List ℕ)
 product [] = [] ∷ []
 product (firsts ∷ others) = flat_map (λ first. map (λ rest. first ∷ rest) (product others)) firsts

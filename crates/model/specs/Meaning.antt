@@ -20,7 +20,7 @@ atom_cmp a b = slice_cmp nat_cmp (a.predicate ∷ a.objects) (b.predicate ∷ b.
 abbrev pub State : Type 0
 State = FinSet atom_cmp
 
--- the set of the atoms in `:init`: one that stands there twice counts once
+-- the set of the atoms in `:init`: one that is there twice counts once
 abbrev pub initial_state : Task → State
 initial_state task = from_list task.init
 
@@ -30,7 +30,7 @@ initial_state task = from_list task.init
 abbrev pub supertypes_in : List ObjectType → ℕ → List ℕ
 supertypes_in all number = option_map_or (λ (t : ObjectType). t.supertypes) (slice_get all number) []
 
--- of these types, one is one of some or stands below one of them
+-- of these types, one is one of some or is below one of them
 abbrev pub is_below_in : List ObjectType → Union → ℕ → Bool
 is_below_in all types number = list_any (λ above. list_any (nat_eq above) types) (supertypes_in all number)
 
@@ -38,11 +38,11 @@ is_below_in all types number = list_any (λ above. list_any (nat_eq above) types
 abbrev pub supertypes_of : Task → ℕ → List ℕ
 supertypes_of task = supertypes_in task.types
 
--- the type is one of these or stands below one of them
+-- the type is one of these or is below one of them
 abbrev pub is_below : Task → Union → ℕ → Bool
 is_below task = is_below_in task.types
 
--- the object is of one of these types: the type that it is declared with is one of them or stands below one
+-- the object is of one of these types: the type that it is declared with is one of them or is below one
 abbrev pub is_of : Task → Union → ℕ → Bool
 is_of task types number = option_map_or (λ (o : Object). is_below task types o.type) (slice_get task.objects number) false
 
@@ -105,7 +105,7 @@ abbrev pub change_under : Formula → List ℕ → EffectLiteral → Change
 change_under condition binding l = record { condition = condition; binding = binding; literal = ground_literal binding l }
 
 -- The changes of an effect, where the variables have these objects (PDDL 1.2 manual, "Effects"): those of a
--- `forall` for each object of its variable's types. The condition of one that stands under no `when` is `(and)`.
+-- `forall` for each object of its variable's types. The condition of one that is under no `when` is `(and)`.
 abbrev mutual
   pub changes_of : Task → Effect → List ℕ → List Change
   changes_of task (literal l) binding = change_under (and no_formula) binding l ∷ []

@@ -8,13 +8,13 @@ use Rattle.model.specs.Meaning.{State, initial_state, atom_cmp, GroundLiteral, a
 use Rattle.model.specs.Fluents.{is_fluent}
 use Rattle.model.specs.ClosedOff.{kept_instances, counting_changes}
 
--- the atom stands in the list
-abbrev pub stands_in : List Atom → Atom → Bool
-stands_in atoms a = list_any (eq_by_cmp atom_cmp a) atoms
+-- the atom is in the list
+abbrev pub occurs_in : List Atom → Atom → Bool
+occurs_in atoms a = list_any (eq_by_cmp atom_cmp a) atoms
 
--- the list with the atom at its end, unless it stands there already
+-- the list with the atom at its end, unless it is there already
 abbrev pub with_atom : List Atom → Atom → List Atom
-with_atom atoms a = if stands_in atoms a then atoms else atoms ++ a ∷ []
+with_atom atoms a = if occurs_in atoms a then atoms else atoms ++ a ∷ []
 
 -- the list with each of these in turn
 abbrev pub with_atoms : List Atom → List Atom → List Atom
@@ -43,20 +43,20 @@ numbered_atoms task more =
 abbrev pub number_of : List Atom → Atom → Option ℕ
 number_of atoms a = position (eq_by_cmp atom_cmp a) atoms
 
--- no atom stands there twice
+-- no atom is there twice
 abbrev pub are_distinct : List Atom → Bool
 are_distinct [] = true
-are_distinct (a ∷ rest) = not (stands_in rest a) && are_distinct rest
+are_distinct (a ∷ rest) = not (occurs_in rest a) && are_distinct rest
 
 -- the fluent atoms that are true in the state have numbers
 abbrev pub HasNumberedFluents : Task → List Atom → State → Type 0
-HasNumberedFluents task atoms state = (a : Atom) → is_fluent task a.predicate ≡ true → contains state a ≡ true → stands_in atoms a ≡ true
+HasNumberedFluents task atoms state = (a : Atom) → is_fluent task a.predicate ≡ true → contains state a ≡ true → occurs_in atoms a ≡ true
 
--- What numbering gives: no atom has two numbers; those of `more` are numbered as they stand, if none stands there twice;
+-- What numbering gives: no atom has two numbers; those of `more` are numbered as they are, if none is there twice;
 -- and the numbered atoms are those of `more`, the fluent ones that are true at the start, and those that a change that
 -- counts of a kept instance adds or deletes.
 pub record AreNumbered (task : Task) (more atoms : List Atom) : Type 0 where
   pub once : are_distinct atoms ≡ true
   pub more_first : are_distinct more ≡ true → (others : List Atom) × (atoms ≡ more ++ others)
-  pub which : (a : Atom) → stands_in atoms a
-      ≡ ((stands_in more a || (is_fluent task a.predicate && contains (initial_state task) a)) || list_any (λ i. stands_in (touched_by task i) a) (kept_instances task))
+  pub which : (a : Atom) → occurs_in atoms a
+      ≡ ((occurs_in more a || (is_fluent task a.predicate && contains (initial_state task) a)) || list_any (λ i. occurs_in (touched_by task i) a) (kept_instances task))

@@ -1,5 +1,5 @@
 -- Literals and changes by the numbers of their atoms: the sure literals of an instance's precondition and of the goal, and
--- the changes that count. Static atoms and equalities have no number, and stand in none of these lists.
+-- the changes that count. Static atoms and equalities have no number, and are in none of these lists.
 use Rattle.std.specs.Prelude.{ℕ, Bool, true, false, not, List, [], slice_get, get_or, if◌then◌else◌, Option, None}
 use Rattle.std.specs.List.{filter_map}
 use Rattle.std.specs.Option.{option_map, option_map_or}

@@ -27,7 +27,7 @@ pub record ArePlans : Type 0 where
   pub time_stamp : IsPlanFault fleet_task (codes "0: (see p)") (fault 31 0 2)
   pub after_a_step : IsPlanFault fleet_task (codes "(see p) [1]") (fault 31 8 11)
   pub from_a_dot : IsPlanFault fleet_task (codes ".5(see p)") (fault 31 0 2)
-  -- none is told in a step, of a run whose digit is not its first byte, and behind a stray byte
+  -- none is reported in a step, of a run whose digit is not its first byte, and after a stray byte
   pub in_a_step : IsPlanFault fleet_task (codes "(see 0)") (fault 30 5 6)
   pub before_the_action : IsPlanFault fleet_task (codes "(0 p)") (fault 30 1 2)
   pub from_a_letter : IsPlanFault fleet_task (codes "t0: (see p)") (fault 30 0 3)

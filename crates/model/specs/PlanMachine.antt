@@ -31,7 +31,7 @@ pub data Place : Type 0 where
   opened : Place
   inside : Name → List Name → Place
 
--- what a word does: nothing goes on with it, and it is told by this number, or the step goes on, or it ends
+-- what a word does: nothing goes on with it, and it is reported by this number, or the step goes on, or it ends
 pub data Turn : Type 0 where
   stops : ℕ → Turn
   goes : Place → Turn

@@ -25,7 +25,7 @@ placed_from start (part ∷ parts) =
 
 -- The form of a plan text
 
--- a step as it stands: the names of its action and of its objects
+-- a step as it is: the names of its action and of its objects
 pub record Step : Type 0 where
   pub action : Name
   pub objects : List Name
@@ -117,21 +117,21 @@ abbrev pub is_stamp : List ℕ → Bool
 is_stamp [] = false
 is_stamp (byte ∷ others) = is_ascii_digit byte || byte == 46 || byte == 91
 
--- a run that is a time stamp stands outside of steps: the words before it are whole steps
+-- a run that is a time stamp is outside of steps: the words before it are whole steps
 pub record IsTimed (before : List Placed) (word : Placed) : Type 0 where
   pub steps : List Step
   pub outside : AreSteps before steps
   pub is_run : form word.part ≡ run
   pub stamp : IsTrue (is_stamp (bytes word.part))
 
--- the number that is told of a word that is refused after these
+-- the number that is reported for a word that is refused after these
 pub data IsNumberOfWord (before : List Placed) (word : Placed) (number : ℕ) : Type 0 where
   -- of a time stamp outside of steps
   timed : IsTimed before word → number ≡ 31 → IsNumberOfWord before word number
   -- of every other
   untimed : (IsTimed before word → ⊥) → number ≡ 30 → IsNumberOfWord before word number
 
--- the form of the text is at fault, and this is told
+-- the form of the text is at fault, and this is reported
 pub data IsFormFault (text : List ℕ) (fault : Fault) : Type 0 where
   -- a text that is too long, at what is over
   too_long : longest_text < length text → fault.code ≡ 30 → fault.span.start ≡ longest_text → fault.span.end ≡ length text
@@ -172,7 +172,7 @@ pub data IsStepFault (task : Task) (step : Step) (fault : Fault) : Type 0 where
       → NameObjects task theirs before → (NamesObject task types name → ⊥)
       → fault.code ≡ 34 → fault.span ≡ name.span → IsStepFault task step fault
 
--- the fault that is told of the text: its form before all else, and then the first step at fault
+-- the fault that is reported for the text: its form before all else, and then the first step at fault
 pub data IsPlanFault (task : Task) (text : List ℕ) (fault : Fault) : Type 0 where
   of_form : IsFormFault text fault → IsPlanFault task text fault
   of_step : (steps before after : List Step) → (step : Step) → (plan : List Instance) → HasSteps text steps

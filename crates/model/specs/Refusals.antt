@@ -1,5 +1,5 @@
--- What is told of words that are no domain, or no problem: the first word with which no file goes on, and the number
--- that the table of refusals has for it where it stands (docs/language.md, "Refusals", 7 to 13).
+-- What is reported for words that are no domain, or no problem: the first word with which no file goes on, and the number
+-- that the table of refusals has for it where it is (docs/language.md, "Refusals", 7 to 13).
 use Rattle.std.specs.Prelude.{◌≡◌, ℕ, List, [], ◌∷◌, ◌++◌, Option, None, Some, cond, slice_get}
 use Rattle.std.specs.Option.{option_map, option_and_then}
 use Rattle.model.specs.Fault.{Fault, Span}
@@ -27,14 +27,14 @@ start f = Grammar.file f >>= gives
 
 -- ---- the table of refusals
 
--- The number of a word that may not stand where this is wanted (docs/language.md, "Refusals", 7 to 13).
+-- The number of a word that may not occur where this is wanted (docs/language.md, "Refusals", 7 to 13).
 
--- wherever it stands: the name of a form that is left out, or any other word
+-- wherever it is: the name of a form that is left out, or any other word
 abbrev pub by_word : Token → ℕ
 by_word (reserved left_out_name n) = 12
 by_word _ = 7
 
--- and under a `when`, where neither `when` nor `forall` may stand
+-- and under a `when`, where neither `when` nor `forall` may occur
 abbrev pub by_word_under_when : Token → ℕ
 by_word_under_when (reserved when n) = 12
 by_word_under_when (reserved forall n) = 12
@@ -45,17 +45,17 @@ abbrev pub number_of_keyword : Keyword → ℕ
 number_of_keyword left_out_keyword = 12
 number_of_keyword _ = 8
 
--- a keyword where that of a section is wanted: one that stands in the file already, or that is no section of it
+-- a keyword where that of a section is wanted: one that is in the file already, or that is no section of it
 abbrev pub number_in_file : File → Keyword → ℕ
 number_in_file f (of_section k) = cond (has_section (sections_of f) k) 9 8
 number_in_file f k = number_of_keyword k
 
--- a keyword where that of a part is wanted: one that stands in the action already, or that is no part
+-- a keyword where that of a part is wanted: one that is in the action already, or that is no part
 abbrev pub number_in_action : Keyword → ℕ
 number_in_action (of_part k) = 9
 number_in_action k = number_of_keyword k
 
--- a keyword where the value of a part is wanted, and these parts stand already: 9 is told there too
+-- a keyword where the value of a part is wanted, and these parts are already: 9 is reported there too
 abbrev pub number_at_value : List PartKeyword → Keyword → ℕ
 number_at_value seen (of_part k) = cond (has_part seen k) 9 7
 number_at_value seen _ = 7
@@ -64,7 +64,7 @@ number_at_value seen _ = 7
 abbrev pub number_at : Sort → Token → ℕ
 -- a list's words are those of what is listed
 number_at (many s) t = number_at s t
--- the parenthesis that closes the file's list or an action, before what is required stands in it
+-- the parenthesis that closes the file's list or an action, before what is required is in it
 number_at define_word closes = 10
 number_at kind_list closes = 10
 number_at (sections f seen) closes = 10
@@ -78,7 +78,7 @@ number_at (value seen) (keyword k) = number_at_value seen k
 number_at key (keyword k) = 11
 -- `(either ..)` as the type of a name that is no variable
 number_at (type names) opens = 12
--- `when` and `forall` under a `when`; another function where the total cost alone may stand; another metric; a number over
+-- `when` and `forall` under a `when`; another function where the total cost alone may occur; another metric; a number over
 -- the greatest
 number_at conditional t = by_word_under_when t
 number_at conditional_literal t = by_word_under_when t
@@ -96,7 +96,7 @@ abbrev pub number_after : {T : Type 0} → Phrase T → Token → ℕ
 number_after (gives x) t = by_word t
 number_after (s >>= k) t = number_at s t
 
--- ---- what is told
+-- ---- what is reported
 
 -- the words are a whole file of this kind
 abbrev pub IsWhole : File → List Token → Type 0
@@ -106,9 +106,9 @@ IsWhole file w = (t : Tree) × IsFile file w t
 abbrev pub Begins : File → List Token → Type 0
 Begins file w = (rest : List Token) × IsWhole file (w ++ rest)
 
--- the number that is told of a word where these stand before it: that of what has to follow there
-abbrev pub IsToldOf : File → List Token → Token → ℕ → Type 0
-IsToldOf file before token number =
+-- the number that is reported for a word where these come before it: that of what has to follow there
+abbrev pub IsReportedOf : File → List Token → Token → ℕ → Type 0
+IsReportedOf file before token number =
     (p : Phrase Tree) × (after_all before (start file) ≡ Some p) × (number ≡ number_after p token)
 
 -- the offset after the last word
@@ -117,7 +117,7 @@ end_of_all [] = 0
 end_of_all (word ∷ []) = end_of word
 end_of_all (word ∷ next ∷ words) = end_of_all (next ∷ words)
 
--- where a word stands; past the last, the end of the words
+-- where a word is; past the last, the end of the words
 abbrev pub span_by : List Word → Option Word → Span
 span_by words (Some word) = record { start = word.start; end = end_of word }
 span_by words None = record { start = end_of_all words; end = end_of_all words }
@@ -125,12 +125,12 @@ span_by words None = record { start = end_of_all words; end = end_of_all words }
 abbrev pub span_of_place : List Word → ℕ → Span
 span_of_place words place = span_by words (slice_get words place)
 
--- what is told of words that are no file of this kind
+-- what is reported for words that are no file of this kind
 pub data IsRefused (file : File) (words : List Word) (fault : Fault) : Type 0 where
   -- of the first word with which no file goes on: one begins with the words before it, and none with these and it
   at_word : (before after : List Word) (word : Word) → words ≡ before ++ word ∷ after
       → Begins file (tokens_of before) → (Begins file (tokens_of before ++ token_of word ∷ []) → ⊥)
-      → IsToldOf file (tokens_of before) (token_of word) fault.code
+      → IsReportedOf file (tokens_of before) (token_of word) fault.code
       → fault.span ≡ record { start = word.start; end = end_of word } → IsRefused file words fault
   -- of the end of the last word: the words run out, a file begins with them, and they are none
   at_end : Begins file (tokens_of words) → (IsWhole file (tokens_of words) → ⊥) → fault.code ≡ 7

@@ -96,7 +96,7 @@ pub data Descends (parents : List ℕ) : ℕ → ℕ → Type 0 where
   itself : (type : ℕ) → Descends parents type type
   by_parent : (type parent above : ℕ) → slice_get parents type ≡ Some parent → Descends parents parent above → Descends parents type above
 
--- the type stands below itself: its parent descends from it
+-- the type is below itself: its parent descends from it
 pub record DescendsFromItself (parents : List ℕ) (type : ℕ) : Type 0 where
   pub parent : ℕ
   pub is_parent : slice_get parents type ≡ Some parent
@@ -128,7 +128,7 @@ pub record Variable : Type 0 where
   pub name : task.Name
   pub types : task.Union
 
--- what may be named where a formula, an effect or an atom stands
+-- what may be named where a formula, an effect or an atom is
 pub record Known : Type 0 where
   pub type_names : List task.Name
   pub types : List task.ObjectType
@@ -389,7 +389,7 @@ placed file word = record { file = file; word = word }
 abbrev pub words_of : List Declared → List Placed
 words_of xs = map (λ (x : Declared). placed x.file x.name) xs
 
--- the words `=` that stand in the initial state
+-- the words `=` that are in the initial state
 abbrev pub equals_in : File → List tree.Fact → List Placed
 equals_in file [] = []
 equals_in file (tree.initial_cost c ∷ facts) = placed file c.equals ∷ equals_in file facts
@@ -406,7 +406,7 @@ rank_of problem_file = 1
 abbrev pub predicate_in_known : Known → Name → Option task.Predicate
 predicate_in_known known name = slice_get known.predicates (number_in (names_of_predicates known.predicates) name)
 
--- A term fits an argument of these types: a variable each of whose types is one of them or stands below one, an object
+-- A term fits an argument of these types: a variable each of whose types is one of them or is below one, an object
 -- whose type does. What is not known is no misfit.
 abbrev pub fits_in : Known → task.Union → task.Term → Bool
 fits_in known wanted (task.variable number) =
@@ -419,6 +419,6 @@ abbrev pub word_of : tree.Term → Name
 word_of (tree.variable name) = name
 word_of (tree.object name) = name
 
--- the type of this number stands on the chain of its own parent, and so descends from itself
+-- the type of this number is on the chain of its own parent, and so descends from itself
 abbrev pub comes_back : List ℕ → ℕ → Bool
 comes_back parents number = list_any (nat_eq number) (whole_chain parents (slice_index parents number))

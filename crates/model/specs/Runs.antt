@@ -56,7 +56,7 @@ pub record StopsAt {S A : Type 0} (t : System S A) (plan : List A) (n : ℕ) : T
   pub before : S
   pub next : A
   pub runs : run t t.initial (take (n - 1) plan) ≡ Some before
-  pub stands_there : slice_get plan (n - 1) ≡ Some next
+  pub found_there : slice_get plan (n - 1) ≡ Some next
   pub is_not_applicable : t.step before next ≡ None
 
 -- the verdict is true of the list; of each list exactly one is

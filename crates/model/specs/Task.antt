@@ -106,9 +106,9 @@ pub record Task : Type 0 where
   -- which have a name space of their own, and `total-cost` among them where it is declared
   pub functions : List Predicate
   pub schemas : List Schema
-  -- the atoms that stand in `:init`
+  -- the atoms that are in `:init`
   pub init : List Atom
-  -- the values of functions that stand there, each function of the same objects once
+  -- the values of functions that are there, each function of the same objects once
   pub values : List FunctionValue
   pub goal : Formula
   -- the metric is the total cost, which is to be least

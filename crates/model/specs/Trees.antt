@@ -1,4 +1,4 @@
--- The trees of a domain file and of a problem file: what stands in them, name by name, before names are resolved.
+-- The trees of a domain file and of a problem file: what is in them, name by name, before names are resolved.
 use Rattle.std.specs.Prelude.{ℕ, List, [], ◌∷◌, Option}
 use Rattle.std.specs.List.{flat_map}
 use Rattle.model.specs.Fault.{Span}
@@ -8,12 +8,12 @@ pub data File : Type 0 where
   domain_file : File
   problem_file : File
 
--- a name or a variable: its bytes as they stand in its file, and where they stand
+-- a name or a variable: its bytes as they are in its file, and where they are
 pub record Name : Type 0 where
   pub text : List ℕ
   pub span : Span
 
--- the name that stands nowhere
+-- the name that is nowhere
 abbrev pub no_name : Name
 no_name = record { text = []; span = record { start = 0; end = 0 } }
 
@@ -28,7 +28,7 @@ pub record Atom : Type 0 where
   pub terms : List Term
 
 -- Names or variables of one type, as `a b - place` or `?x ?y - (either t u)`: the types after their `-`, and none where
--- no type stands after them (PDDL 1.2 manual, "Domains"). A typed list is a list of such groups.
+-- no type comes after them (PDDL 1.2 manual, "Domains"). A typed list is a list of such groups.
 pub record Group : Type 0 where
   pub names : List Name
   pub types : List Name
@@ -86,7 +86,7 @@ pub record Predicate : Type 0 where
   pub parameters : List Group
 
 -- What an increase of the total cost is by (action costs, 2008): a number, or the value of a function of some terms, which
--- stands there as an atom does, with the function's name in the place of the predicate's.
+-- is there as an atom does, with the function's name in the place of the predicate's.
 pub data Amount : Type 0 where
   by_number : ℕ → Amount
   by_function : Atom → Amount
@@ -102,7 +102,7 @@ pub record Action : Type 0 where
   pub parameters : List Group
   pub precondition : Formula
   pub effect : Effect
-  -- what stands in its effect besides; more than one is a fault
+  -- what is in its effect besides; more than one is a fault
   pub increases : List Increase
 
 -- a domain file (PDDL 1.2 manual, "Domains")
@@ -129,12 +129,12 @@ pub record InitialCost : Type 0 where
   pub number : Name
 
 -- What `(= (f o ..) N)` in `:init` says (Fox & Long 2003, "Numeric Expressions"): the function of these objects, which
--- stands there as an atom does, and its value.
+-- is there as an atom does, and its value.
 pub record InitialValue : Type 0 where
   pub function : GroundAtom
   pub value : ℕ
 
--- what stands in `:init`: an atom, or a negated one, with its word `not`, or the total cost at the start, or the value of a
+-- what is in `:init`: an atom, or a negated one, with its word `not`, or the total cost at the start, or the value of a
 -- function of objects
 pub data Fact : Type 0 where
   fact : GroundAtom → Fact

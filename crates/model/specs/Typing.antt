@@ -1,7 +1,7 @@
 -- The faults of a domain and a problem as lists: of each phase whole, in the order in which a walk over the trees meets
 -- them, and the least of them. They are what the walks of the code are compared with. No clause of what `typing` gives its
--- callers cites them, nor do the worked examples: which faults a pair has is told by the table, `TypingFaults`, and
--- `proofs/TypingFaultsTold` proves that the lists say the same.
+-- callers cites them, nor do the worked examples: which faults a pair has is reported by the table, `TypingFaults`, and
+-- `proofs/TypingFaultsReported` proves that the lists say the same.
 use Rattle.std.specs.Prelude.{◌≡◌, ℕ, ◌+◌, ◌-◌, Bool, true, false, not, ◌==◌, nat_le, List, [], ◌∷◌, ◌++◌, codes, length, map, filter, take, drop, slice_get, if◌then◌else◌, Option, None, Some, All, Contains}
 use Rattle.std.specs.Cmp.Lexicographic.{slice_cmp}
 use Rattle.std.specs.List.{flat_map, list_any}
@@ -24,7 +24,7 @@ refused code words = map (λ (w : Placed). record { file = w.file; fault = recor
 abbrev pub refused_word : File → ℕ → Name → List TypingFault
 refused_word file code word = record { file = file; fault = record { code = code; span = word.span } } ∷ []
 
--- the words that are the same as one that stands before them, in the list or among these
+-- the words that are the same as one that comes before them, in the list or among these
 abbrev pub repeated_after : List task.Name → List Placed → List Placed
 repeated_after before [] = []
 repeated_after before (w ∷ rest) = (if is_known before w.word then w ∷ [] else []) ++ repeated_after (with_name before w.word) rest
@@ -32,7 +32,7 @@ repeated_after before (w ∷ rest) = (if is_known before w.word then w ∷ [] el
 abbrev pub repeated : List Placed → List Placed
 repeated words = repeated_after [] words
 
--- the one that stands after this many, if there are so many
+-- the one that comes after this many, if there are so many
 abbrev pub one_after : ℕ → List Placed → List Placed
 one_after count words = take 1 (drop count words)
 
@@ -73,7 +73,7 @@ fits_wanted known wanted term = option_map_or (λ types. fits_in known types ter
 abbrev pub misfit_faults : File → Known → Option task.Union → tree.Term → List TypingFault
 misfit_faults file known wanted term = if fits_wanted known wanted (term_in known term) then [] else refused_word file 19 (word_of term)
 
--- of terms that stand at the places of these arguments
+-- of terms that are at the places of these arguments
 abbrev pub terms_faults : File → Known → List task.Union → List tree.Term → List TypingFault
 terms_faults file known arguments [] = []
 terms_faults file known arguments (term ∷ terms) =
@@ -266,7 +266,7 @@ first_filled [] = []
 first_filled ([] ∷ later) = first_filled later
 first_filled ((f ∷ more) ∷ later) = f ∷ more
 
--- The faults of the pair: those of the first phase that has any. A later phase has none to tell then, as what it
+-- The faults of the pair: those of the first phase that has any. A later phase has none to report then, as what it
 -- would say rests on the declarations before it.
 abbrev pub faults_of : Domain → Problem → List TypingFault
 faults_of d p = first_filled (phases d p)
@@ -275,7 +275,7 @@ faults_of d p = first_filled (phases d p)
 abbrev pub ListsNoFault : Domain → Problem → Type 0
 ListsNoFault d p = faults_of d p ≡ []
 
--- ---- which fault is told
+-- ---- which fault is reported
 
 abbrev pub key_of : TypingFault → List ℕ
 key_of f = rank_of f.file ∷ f.fault.span.start ∷ f.fault.code ∷ []

@@ -9,9 +9,9 @@ use Rattle.model.specs.Meaning.{State, holds, changes_of_instance}
 use Rattle.model.specs.SureLiterals.{Literal, is_true, sure}
 use Rattle.model.specs.ClosedOff.{is_unconditional}
 use Rattle.model.specs.Resolution.{TypingFault, Placed, exists_over, forall_over, task_of_trees}
-use Rattle.model.specs.TypingFaults.{Phase, IsFaultIn, IsWellTyped, IsTold}
+use Rattle.model.specs.TypingFaults.{Phase, IsFaultIn, IsWellTyped, IsReported}
 
--- a name that stands at this offset
+-- a name that is at this offset
 abbrev pub at : ℕ → List ℕ → Name
 at start text = record { text = text; span = record { start = start; end = start + 1 } }
 
@@ -107,7 +107,7 @@ with_goal goal = record parked { goal = goal }
 abbrev pub variable : ℕ → List ℕ → Term
 variable start text = tree.variable (at start text)
 
--- (p ?x), where ?x stands at the offset after it
+-- (p ?x), where ?x is at the offset after it
 abbrev pub p_of_x : ℕ → Formula
 p_of_x start = tree.atom (atom (at start (codes "p")) (variable (start + 1) (codes "?x") ∷ []))
 
@@ -142,7 +142,7 @@ with_effect effect = record fleet { actions = record park { effect = effect } �
 abbrev pub with_increases : List Predicate → List Increase → Domain
 with_increases functions increases = record fleet { functions = functions; actions = record park { increases = increases } ∷ [] }
 
--- `total-cost` at this offset, its declaration, and (increase (total-cost) ..), whose word stands at this one
+-- `total-cost` at this offset, its declaration, and (increase (total-cost) ..), whose word is at this one
 abbrev pub total_cost_at : ℕ → Name
 total_cost_at start = at start (codes "total-cost")
 
@@ -152,7 +152,7 @@ total_cost start = record { name = total_cost_at start; parameters = [] }
 abbrev pub increase : ℕ → ℕ → Increase
 increase start amount = record { word = at start (codes "increase"); amount = tree.by_number amount }
 
--- the declaration (f ?x - v) of this name, whose words stand one after another
+-- the declaration (f ?x - v) of this name, whose words are one after another
 abbrev pub function : ℕ → List ℕ → Predicate
 function start name = record { name = at start name; parameters = group (at (start + 1) (codes "?x") ∷ []) (at (start + 2) (codes "v") ∷ []) ∷ [] }
 
@@ -160,7 +160,7 @@ function start name = record { name = at start name; parameters = group (at (sta
 abbrev pub of_length : List Predicate
 of_length = total_cost 35 ∷ function 36 (codes "length") ∷ []
 
--- (increase (total-cost) (f ..)) of this function and these terms, whose word stands at 45 and whose function at 46
+-- (increase (total-cost) (f ..)) of this function and these terms, whose word is at 45 and whose function at 46
 abbrev pub increase_by : List ℕ → List Term → Increase
 increase_by name terms = record { word = at 45 (codes "increase"); amount = tree.by_function (atom (at 46 name) terms) }
 
@@ -172,15 +172,15 @@ costs name terms = with_increases of_length (increase_by name terms ∷ [])
 abbrev pub lengths : Domain
 lengths = with_increases of_length []
 
--- (= (f ..) ..) of this function, which stands at the offset, these objects, which stand after it, and this number
+-- (= (f ..) ..) of this function, which is at the offset, these objects, which come after it, and this number
 abbrev pub value_of : ℕ → List ℕ → List Name → ℕ → Fact
 value_of start name objects value = tree.initial_value (record { function = record { predicate = at start name; objects = objects }; value = value })
 
--- (= (length k) ..), where `length` stands at the offset and k at the one after it
+-- (= (length k) ..), where `length` is at the offset and k at the one after it
 abbrev pub length_of_k : ℕ → ℕ → Fact
 length_of_k start value = value_of start (codes "length") (at (start + 1) (codes "k") ∷ []) value
 
--- (= (total-cost) ..), whose words stand one after another
+-- (= (total-cost) ..), whose words are one after another
 abbrev pub starts_at : ℕ → ℕ → Fact
 starts_at start amount = tree.initial_cost (record { equals = at start (codes "="); function = total_cost_at (start + 1); amount = amount; number = at (start + 2) (codes "1") })
 
@@ -188,11 +188,11 @@ starts_at start amount = tree.initial_cost (record { equals = at start (codes "=
 abbrev pub with_start : List Fact → Problem
 with_start stated = record parked { init = parked.init ++ stated }
 
--- and with the metric, whose word `total-cost` stands at 40
+-- and with the metric, whose word `total-cost` is at 40
 abbrev pub with_metric : Problem
 with_metric = record parked { metric = Some (total_cost_at 40) }
 
--- (p t) as an effect, where t stands at the offset after it
+-- (p t) as an effect, where t is at the offset after it
 abbrev pub p_of : ℕ → Term → Effect
 p_of start t = tree.literal (tree.add (atom (at start (codes "p")) (t ∷ [])))
 
@@ -223,11 +223,11 @@ pub record IsOneOf (d : Domain) (p : Problem) (phase : Phase) (f : TypingFault) 
   pub is_fault : IsFaultIn d p phase code word
   pub is : refusal code word ≡ f
 
--- the first fault is told of the pair; its phase has the others too, and no more
+-- the first fault is reported for the pair; its phase has the others too, and no more
 pub record HasFaults (d : Domain) (p : Problem) (first : TypingFault) (others : List TypingFault) : Type 0 where
-  pub told : IsTold d p first
-  pub each : (f : TypingFault) → Contains others f → IsOneOf d p told.phase f
-  pub no_more : (code : ℕ) (w : Placed) → IsFaultIn d p told.phase code w → Contains (first ∷ others) (refusal code w)
+  pub reported : IsReported d p first
+  pub each : (f : TypingFault) → Contains others f → IsOneOf d p reported.phase f
+  pub no_more : (code : ℕ) (w : Placed) → IsFaultIn d p reported.phase code w → Contains (first ∷ others) (refusal code w)
 
 pub record AreTyped : Type 0 where
   -- Each name is its number, in letters of either case.
@@ -239,7 +239,7 @@ pub record AreTyped : Type 0 where
   -- A parent is `object` or declared, wherever in the list.
   pub unknown_parent : HasFaults (with_types (group (at 10 (codes "t") ∷ []) (at 11 (codes "u") ∷ []) ∷ group (at 12 (codes "v") ∷ []) (at 13 (codes "object") ∷ []) ∷ [])) parked
       (fault domain_file 14 11) []
-  -- On a cycle stand v and w, and t below them does not; what comes in a later phase is not told.
+  -- On a cycle are v and w, and t below them does not; what comes in a later phase is not reported.
   pub cycle : HasFaults (with_types (group (at 10 (codes "t") ∷ []) (at 11 (codes "v") ∷ []) ∷ group (at 12 (codes "v") ∷ []) (at 13 (codes "w") ∷ []) ∷ group (at 14 (codes "w") ∷ []) (at 15 (codes "v") ∷ []) ∷ []))
       (record parked { objects = untyped (at 10 (codes "o") ∷ at 11 (codes "o") ∷ []) })
       (fault domain_file 15 12) (fault domain_file 15 14 ∷ [])
@@ -258,7 +258,7 @@ pub record AreTyped : Type 0 where
   -- An untyped object is of the type `object` alone, and no fact is negated.
   pub wrong_fact : HasFaults fleet (record parked { objects = untyped (at 10 (codes "o") ∷ []); init = tree.fact (record { predicate = at 20 (codes "p"); objects = at 21 (codes "o") ∷ [] }) ∷ tree.negated (at 22 (codes "not")) (record { predicate = at 23 (codes "p"); objects = at 24 (codes "k") ∷ [] }) ∷ [] })
       (fault problem_file 19 21) (fault problem_file 24 22 ∷ [])
-  -- Another name of the domain is told with the faults of types.
+  -- Another name of the domain is reported with the faults of types.
   pub other_domain : HasFaults fleet (record parked { domain = at 2 (codes "e") }) (fault problem_file 21 2) []
   -- A quantifier of two variables is two quantifiers, and its variables come after those in scope: in
   -- (exists (?x - v ?z) (forall (?w - t) (= ?w ?z))) the variables are 0, 1 and 2.
@@ -274,14 +274,14 @@ pub record AreTyped : Type 0 where
   pub exists_says_nothing : said_by (tree.exists [] p_of_o) ≡ []
   pub not_forall_says_nothing : said_by (tree.not (tree.forall [] p_of_o)) ≡ []
   pub forall_says : said_by (tree.forall [] p_of_o) ≡ is_true (record { predicate = 0; objects = 1 ∷ [] }) ∷ []
-  -- What stands under `(when (forall () (and)) ..)` is conditional, unlike what stands under `(when (and) ..)`.
+  -- What is under `(when (forall () (and)) ..)` is conditional, unlike what is under `(when (and) ..)`.
   pub under_forall : unconditional_under (tree.forall [] nothing) ≡ false ∷ []
   pub under_and : unconditional_under nothing ≡ true ∷ []
   -- Its variable is known in it, with its types, and not after it.
   pub in_scope : IsWellTyped fleet (with_goal (some_x (at 32 (codes "v") ∷ []) (p_of_x 33)))
   pub of_the_root : HasFaults fleet (with_goal (some_x [] (p_of_x 33))) (fault problem_file 19 34) []
   pub out_of_scope : HasFaults fleet (with_goal (tree.and (formulas (some_x (at 32 (codes "v") ∷ []) (p_of_x 33) ∷ p_of_x 35 ∷ [])))) (fault problem_file 17 36) []
-  -- Its types are known, and no variable stands twice in its list.
+  -- Its types are known, and no variable is twice in its list.
   pub of_unknown_type : HasFaults fleet (with_goal (tree.forall (group (at 31 (codes "?x") ∷ []) (at 32 (codes "u") ∷ []) ∷ []) nothing)) (fault problem_file 14 32) []
   pub twice_in_a_list : HasFaults fleet (with_goal (tree.exists (untyped (at 31 (codes "?x") ∷ at 32 (codes "?X") ∷ [])) nothing)) (fault problem_file 16 32) []
   -- None has the name of one in scope, of a parameter or of a quantifier around it; one after it may.
@@ -378,7 +378,7 @@ pub record AreTyped : Type 0 where
   -- What is not known has no value: two numbers of it are no other fault.
   pub given_to_an_unknown : HasFaults lengths (with_start (value_of 22 (codes "length") (at 23 (codes "n") ∷ []) 5 ∷ value_of 24 (codes "length") (at 25 (codes "n") ∷ []) 6 ∷ []))
       (fault problem_file 17 23) (fault problem_file 17 25 ∷ [])
-  -- The functions are numbered as they stand, `total-cost` among them, and each value stands there once.
+  -- The functions are numbered as they are, `total-cost` among them, and each value is there once.
   pub its_functions : (task_of_trees lengths parked).functions ≡ record { name = codes "total-cost"; arguments = [] } ∷ record { name = codes "length"; arguments = (2 ∷ []) ∷ [] } ∷ []
   pub its_values : (task_of_trees lengths (with_start (value_of 22 (codes "length") (at 23 (codes "o") ∷ []) 7 ∷ length_of_k 24 5 ∷ value_of 26 (codes "LENGTH") (at 27 (codes "O") ∷ []) 7 ∷ []))).values
       ≡ record { function = record { predicate = 1; objects = 1 ∷ [] }; value = 7 } ∷ record { function = record { predicate = 1; objects = 0 ∷ [] }; value = 5 } ∷ []

@@ -1,6 +1,6 @@
--- Which faults a domain and a problem have, and which one is told: the rules for types, declarations and uses (PDDL 1.2
+-- Which faults a domain and a problem have, and which one is reported: the rules for types, declarations and uses (PDDL 1.2
 -- manual, "Domains", "Actions", "Goal descriptions", "Effects", "Problems"; action costs, 2008), with the limits of the
--- language profile. A fault is of a phase, and the first phase that has one is the one that tells, since what a later
+-- language profile. A fault is of a phase, and the first phase that has one is the one that reports, since what a later
 -- phase says rests on the declarations of those before it.
 use Rattle.std.specs.Prelude.{◌≡◌, ◌≢◌, ℕ, ◌+◌, ◌<◌, ◌≤◌, ◌⊎◌, ◌↔◌, true, false, List, [], ◌∷◌, ◌++◌, codes, length, map, slice_get, Some, Contains}
 use Rattle.model.specs.Limits.{max_types, max_objects, max_arguments, max_variables}
@@ -34,16 +34,16 @@ order_of of_goal = 7
 
 -- ---- declarations
 
--- the word stands after one that is the same
+-- the word comes after one that is the same
 pub record IsRepeated (words : List Placed) (w : Placed) : Type 0 where
   pub before : List Placed
   pub after : List Placed
-  pub stands : words ≡ before ++ w ∷ after
+  pub occurs : words ≡ before ++ w ∷ after
   pub earlier : Placed
   pub is_before : Contains before earlier
   pub is_same : is_same (folded w.word) (folded earlier.word) ≡ true
 
--- the words that stand after the `-` of a declaration
+-- the words that come after the `-` of a declaration
 abbrev pub type_words : Declared → List Placed
 type_words x = map (placed x.file) x.types
 
@@ -91,7 +91,7 @@ pub data IsAtomFault (file : File) (known : Known) (a : tree.Atom) : ℕ → Pla
   unknown_term : (t : tree.Term) → Contains a.terms t → IsUnknown known t → IsAtomFault file known a 17 (placed file (word_of t))
   wrong_count : (p : task.Predicate) → predicate_in_known known a.predicate ≡ Some p → length a.terms ≢ length p.arguments
       → IsAtomFault file known a 18 (placed file a.predicate)
-  -- a term that does not fit the argument in whose place it stands
+  -- a term that does not fit the argument in whose place it is
   wrong_type : (p : task.Predicate) (place : ℕ) (wanted : task.Union) (t : tree.Term) → predicate_in_known known a.predicate ≡ Some p
       → slice_get p.arguments place ≡ Some wanted → slice_get a.terms place ≡ Some t → fits_in known wanted (term_in known t) ≡ false
       → IsAtomFault file known a 19 (placed file (word_of t))
@@ -151,7 +151,7 @@ as_atom a = record { predicate = a.predicate; terms = map (λ (name : Name). tre
 pub record IsOtherValue (known : Known) (facts : List tree.Fact) (v : tree.InitialValue) : Type 0 where
   pub before : List tree.Fact
   pub after : List tree.Fact
-  pub stands : facts ≡ before ++ tree.initial_value v ∷ after
+  pub occurs : facts ≡ before ++ tree.initial_value v ∷ after
   pub given : task.FunctionValue
   pub gives : values_in known (tree.initial_value v) ≡ given ∷ []
   pub value : ℕ
@@ -221,7 +221,7 @@ pub data IsFaultIn (d : Domain) (p : Problem) : Phase → ℕ → Placed → Typ
   -- 8: the goal
   in_goal : (code : ℕ) (w : Placed) → IsFormulaFault problem_file (known_in_problem d p) p.goal code w → IsFaultIn d p of_goal code w
 
--- ---- what is told
+-- ---- what is reported
 
 -- no phase has a fault
 abbrev pub IsWellTyped : Domain → Problem → Type 0
@@ -243,8 +243,8 @@ ComesNoLater code w other v =
     (rank_of w.file < rank_of v.file)
     ⊎ ((rank_of w.file ≡ rank_of v.file) × ((w.word.span.start < v.word.span.start) ⊎ ((w.word.span.start ≡ v.word.span.start) × (code ≤ other))))
 
--- the fault is told of the pair: it is one of the first phase that has any, and none of that phase comes before it
-pub record IsTold (d : Domain) (p : Problem) (fault : TypingFault) : Type 0 where
+-- the fault is reported for the pair: it is one of the first phase that has any, and none of that phase comes before it
+pub record IsReported (d : Domain) (p : Problem) (fault : TypingFault) : Type 0 where
   pub phase : Phase
   pub word : Placed
   pub is_fault : IsFaultIn d p phase fault.fault.code word

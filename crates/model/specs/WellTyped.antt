@@ -9,8 +9,8 @@ pub use Rattle.model.specs.Limits.{max_arguments, max_variables}
 use Rattle.model.specs.Task.{ObjectType, Union, Predicate, Atom, LiftedAtom, Term, variable, object, Formula, Formulas, atom, equal, and, or, not, imply, exists, forall, no_formula, more_formulas, EffectLiteral, add, delete, Effect, Effects, literal, both, each, when, no_effect, more_effects, Increase, by_number, by_function, Schema, Task}
 use Rattle.model.specs.Meaning.{supertypes_of, is_below, is_of}
 
--- A term may stand where an object of one of these types is wanted: an object that is of one, or a variable each of
--- whose own types is one of them or stands below one. These are the types of the variables in scope.
+-- A term may occur where an object of one of these types is wanted: an object that is of one, or a variable each of
+-- whose own types is one of them or is below one. These are the types of the variables in scope.
 abbrev pub is_term : Task → List Union → Union → Term → Bool
 is_term task scope types (variable parameter) = option_map_or (list_all (is_below task types)) (slice_get scope parameter) false
 is_term task scope types (object number) = is_of task types number
@@ -78,7 +78,7 @@ is_schema task s =
     && is_formula task s.parameters s.precondition
     && is_effect task s.parameters s.effect
 
--- what stands above a type stands above all types below it
+-- what is above a type is above all types below it
 abbrev pub is_whole_chain : Task → ObjectType → Bool
 is_whole_chain task t = list_all (λ above. list_all (λ higher. list_any (nat_eq higher) t.supertypes) (supertypes_of task above)) t.supertypes
 

@@ -1,4 +1,4 @@
--- What it means that a text reads as words, and which fault is told of a text that does not. This is the part
+-- What it means that a text reads as words, and which fault is reported for a text that does not. This is the part
 -- that is read here (PDDL 1.2 manual, "Syntactic Notation": comments; "Domains": names): bytes for characters, names of
 -- ASCII letters, numbers of digits alone, and limits on the length of a text, the length of a run and the depth of its
 -- lists.
@@ -18,7 +18,7 @@ pub data Kind : Type 0 where
   opens : Kind
   closes : Kind
 
--- a word: its kind, its bytes as they stand in the text, and the offset of the first of them
+-- a word: its kind, its bytes as they are in the text, and the offset of the first of them
 pub record Word : Type 0 where
   pub kind : Kind
   pub text : List ℕ
@@ -176,7 +176,7 @@ AreNested open_lists (_ ∷ kinds) = AreNested open_lists kinds
 abbrev pub kinds_of : List Word → List Kind
 kinds_of words = map (λ (word : Word). word.kind) words
 
--- The text reads as these words: it is gaps (blanks and comments) and words in turn, no run stands against the next,
+-- The text reads as these words: it is gaps (blanks and comments) and words in turn, no run is against the next,
 -- and its lists are well nested, within the limits.
 pub record ReadsAs (text : List ℕ) (words : List Word) : Type 0 where
   pub short : length text ≤ longest_text
@@ -196,7 +196,7 @@ AreInOrder low text (word ∷ words) =
     (low ≤ word.start) × (0 < length word.text) × (slice_range text word.start (end_of word) ≡ word.text)
     × AreInOrder (end_of word) text words
 
--- Faults: what keeps a text from reading as words, with the number that is told of it
+-- Faults: what keeps a text from reading as words, with the number that is reported for it
 
 -- how many lists are open after a part of this form, where so many are open before it
 abbrev pub open_with : ℕ → Form → ℕ
@@ -221,9 +221,9 @@ IsWord closing = ⊤
 IsWord run = ⊤
 IsWord _ = ⊥
 
--- a part that stands after the parts `before` is at fault, by this number
+-- a part that comes after the parts `before` is at fault, by this number
 pub data IsAtFault (before : List Part) (part : Part) : ℕ → Type 0 where
-  -- a byte that is neither blank nor printable, and stands in no comment
+  -- a byte that is neither blank nor printable, and is in no comment
   bad_byte : form part ≡ stray → IsAtFault before part 1
   -- a run of no kind
   bad_word : form part ≡ run → kind_of_part part ≡ None → IsAtFault before part 2
@@ -253,9 +253,9 @@ abbrev pub ComesNoLater : Fault → Fault → Type 0
 ComesNoLater a b =
     (a.span.start < b.span.start) ⊎ ((a.span.start ≡ b.span.start) × (a.code ≤ b.code))
 
--- the fault that is told of the text: its length before all others, and then the first
-pub data IsTold (text : List ℕ) (fault : Fault) : Type 0 where
+-- the fault that is reported for the text: its length before all others, and then the first
+pub data IsReported (text : List ℕ) (fault : Fault) : Type 0 where
   text_too_long : longest_text < length text → fault.code ≡ 5 → fault.span.start ≡ longest_text
-      → fault.span.end ≡ length text → IsTold text fault
+      → fault.span.end ≡ length text → IsReported text fault
   comes_first : length text ≤ longest_text → IsFault text fault
-      → ((other : Fault) → IsFault text other → ComesNoLater fault other) → IsTold text fault
+      → ((other : Fault) → IsFault text other → ComesNoLater fault other) → IsReported text fault

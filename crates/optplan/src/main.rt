@@ -2,7 +2,7 @@
 #![tactic(auto)]
 
 use devices::Device;
-use planner_main::{SystemFiles, run, tell_no_memory};
+use planner_main::{SystemFiles, run, report_no_memory};
 use std::alloc::AllocError;
 use std::process::ExitCode;
 use std::{env, io};
@@ -21,12 +21,12 @@ fn main(rt: HostRuntime) -> ExitCode {
     let mut err = Device::new(rt.stderr());
     let status = match words {
         Ok(words) => run(rt.alloc(), &words, &mut files, &mut out, &mut err),
-        Err(AllocError) => tell_no_memory(&mut err),
+        Err(AllocError) => report_no_memory(&mut err),
     };
     ExitCode::from(status)
 }
 
-/// The arguments behind the program's name. Arguments that are no text are no words of the program.
+/// The arguments after the program's name. Arguments that are no text are no words of the program.
 fn arguments(rt: &HostRuntime) -> Result<Vec<String>, AllocError> {
     match env::args(rt) {
         Ok(arguments) => arguments.skip(1).collect(rt.alloc()),

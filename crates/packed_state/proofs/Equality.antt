@@ -25,8 +25,8 @@ same_packed a b same =
 -- of one width, they are equal where their words are
 pub same_width : (a b : Packed) (same : Bool) → a.width ≡ b.width → IsTrue same ↔ (a.words.items ≡ b.words.items) → same ≡ packed_eq a b
 unfolding bits_of
-same_width a b same wide told =
-    one_answer same (packed_eq a b) (λ is i. bits_in (wide i) (told.0 is i), λ bits. told.1 (same_packed a b bits).1) (packed_Decides a b)
+same_width a b same wide reported =
+    one_answer same (packed_eq a b) (λ is i. bits_in (wide i) (reported.0 is i), λ bits. reported.1 (same_packed a b bits).1) (packed_Decides a b)
 
 -- and of two widths never
 pub other_width : (a b : Packed) → a.width ≢ b.width → false ≡ packed_eq a b

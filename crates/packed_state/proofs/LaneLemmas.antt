@@ -1,4 +1,4 @@
--- What vectors tell of the words in their lanes, and chunks of the words of a whole.
+-- What vectors say of the words in their lanes, and chunks of the words of a whole.
 use Rattle.std.proofs.Common.{◌≡◌, ◌∙◌, ℕ, zero, suc, ◌+◌, ◌-◌, ◌*◌, ◌<◌, ◌≤◌, List, [], ◌∷◌, length, get_or, map, ◌/◌, ◌%◌, refl, sym, ap, subst, inl, inr, arith, w64, ◌↔◌, eqb-true, eq-eqb}
 use Rattle.std.specs.Prelude.{drop, bit_and, bit_or, IsTrue, ◌==◌}
 use Rattle.std.specs.Int.Bits.{bit_xor, xor_self, xor_add_and}
@@ -74,7 +74,7 @@ module _ (R : ℕ → ℕ → Type 0) (xs ys : List ℕ) (long : length xs ≡ l
             let left = chunk_word (length xs / 8) xs [] (k / 8) (k % 8) in_one (omega arith) ∙ ap (λ n. get_or xs n 0) whole in
             let right = chunk_word (length ys / 8) ys [] (k / 8) (k % 8) (omega arith) (omega arith) ∙ ap (λ n. get_or ys n 0) whole in
             subst (λ (p : ℕ × ℕ). R p.0 p.1) (λ i. (left i, right i)) both
-        | inr behind ↦
+        | inr following ↦
             let x : length xs / 8 * 8 + (k - length xs / 8 * 8) ≡ k = omega arith in
             let y : length ys / 8 * 8 + (k - length xs / 8 * 8) ≡ k = omega arith in
             let left = get_or-drop (length xs / 8 * 8) xs (k - length xs / 8 * 8) 0 ∙ ap (λ n. get_or xs n 0) x in
@@ -135,8 +135,8 @@ module _ (R : ℕ → ℕ → Type 0) (xs ys : List ℕ) (long : length xs ≡ l
 -- where each lane is 0 exactly where this is so of its words, the lanes together are 0 exactly where it is so of all
 module _ (R : ℕ → ℕ → Type 0) (lanes xs ys : List ℕ) (as_many : length lanes ≡ length ys)
     (so : (k : ℕ) → k < length ys → (get_or lanes k 0 ≡ 0 → R (get_or xs k 0) (get_or ys k 0)) × (R (get_or xs k 0) (get_or ys k 0) → get_or lanes k 0 ≡ 0)) where
-  pub lanes_tell : IsTrue (fold_l (λ x y. bit_or x y) 0 lanes == 0) ↔ Pairwise R xs ys
-  lanes_tell = (
+  pub lanes_report : IsTrue (fold_l (λ x y. bit_or x y) 0 lanes == 0) ↔ Pairwise R xs ys
+  lanes_report = (
     λ is k within. (so k within).0 ((none-or 0 lanes (eqb-true (fold_l (λ x y. bit_or x y) 0 lanes) 0 is)).1 k),
     λ all. eq-eqb (fold_l (λ x y. bit_or x y) 0 lanes) 0 (or-none 0 lanes refl (λ k within. let in_it : k < length ys = omega arith in (so k in_it).1 (all k in_it))),
   )
@@ -145,7 +145,7 @@ pub within_lanes : (part words : List ℕ) → length part ≡ length words
     → IsTrue (fold_l (λ x y. bit_or x y) 0 (zip2 (λ x y. bit_and x y) part (map (bit_not w64) words)) == 0) ↔ Pairwise includes words part
 within_lanes part words long =
     let as_many : length part ≡ length (map (bit_not w64) words) = long ∙ sym (length-map words (bit_not w64)) in
-    lanes_tell includes (zip2 (λ x y. bit_and x y) part (map (bit_not w64) words)) words part
+    lanes_report includes (zip2 (λ x y. bit_and x y) part (map (bit_not w64) words)) words part
     (length-zip2 (λ x y. bit_and x y) part (map (bit_not w64) words) as_many)
     (λ k within.
     let lane : get_or (zip2 (λ x y. bit_and x y) part (map (bit_not w64) words)) k 0 ≡ bit_and (get_or part k 0) (bit_not w64 (get_or words k 0)) =
@@ -156,7 +156,7 @@ within_lanes part words long =
 pub apart_lanes : (words others : List ℕ) → length words ≡ length others
     → IsTrue (fold_l (λ x y. bit_or x y) 0 (zip2 (λ x y. bit_and x y) words others) == 0) ↔ Pairwise is_apart words others
 apart_lanes words others long =
-    lanes_tell is_apart (zip2 (λ x y. bit_and x y) words others) words others
+    lanes_report is_apart (zip2 (λ x y. bit_and x y) words others) words others
     (length-zip2 (λ x y. bit_and x y) words others long ∙ long)
     (λ k within.
     let lane = get_or-zip2 (λ x y. bit_and x y) words others k 0 0 0 (omega arith) within in
@@ -176,7 +176,7 @@ words_same words others long each = ext_get_or 0 words others long (λ k within.
 pub same_lanes : (words others : List ℕ) → length words ≡ length others
     → IsTrue (fold_l (λ x y. bit_or x y) 0 (zip2 (λ x y. bit_xor x y) words others) == 0) ↔ Pairwise is_same words others
 same_lanes words others long =
-    lanes_tell is_same (zip2 (λ x y. bit_xor x y) words others) words others
+    lanes_report is_same (zip2 (λ x y. bit_xor x y) words others) words others
     (length-zip2 (λ x y. bit_xor x y) words others long ∙ long)
     (λ k within.
     let lane = get_or-zip2 (λ x y. bit_xor x y) words others k 0 0 0 (omega arith) within in

@@ -20,9 +20,9 @@ module _ (words : List ℕ) (number : ℕ) where
   shifted : (i : ℕ) → bit_at rest i ≡ bit_at word (number % 64 + i)
   shifted i = ap (λ n. n % 2) (shr-shr word (number % 64) i)
 
-  -- a number of the same word is told by what is left of it
-  told : (i : ℕ) → number % 64 + i < 64 → word_has words (number + i) ≡ (bit_at rest i == 1)
-  told i within =
+  -- a number of the same word is reported by what is left of it
+  reported : (i : ℕ) → number % 64 + i < 64 → word_has words (number + i) ≡ (bit_at rest i == 1)
+  reported i within =
       let same : number + i ≡ 64 * (number / 64) + (number % 64 + i) = omega arith in
       ap (word_has words) same ∙ in_word words (number / 64) (number % 64 + i) within ∙ ap (λ b. b == 1) (sym (shifted i))
 
@@ -34,7 +34,7 @@ module _ (words : List ℕ) (number : ℕ) where
     | inr later ↦
         let i = k - number in
         let same : k ≡ number + i = omega (arith, later) in
-        ap (word_has words) same ∙ told i (omega (arith, later, below)) ∙ ap (λ r. bit_at r i == 1) empty ∙ ap (λ b. b == 1) (bit_at-zero i)
+        ap (word_has words) same ∙ reported i (omega (arith, later, below)) ∙ ap (λ r. bit_at r i == 1) empty ∙ ap (λ b. b == 1) (bit_at-zero i)
   ]
 
   module _ (some : 0 < rest) (small : word < 2 ^ 64) where
@@ -50,9 +50,9 @@ module _ (words : List ℕ) (number : ℕ) where
           absurd (omega (arith, one, none))
     ]
 
-    -- else the lowest bit of what is left tells it
+    -- else the lowest bit of what is left reports it
     pub found : word_has words (number + trailing_zeros w64 rest) ≡ true
-    found = told (trailing_zeros w64 rest) same_word ∙ ap (λ b. b == 1) at.1
+    found = reported (trailing_zeros w64 rest) same_word ∙ ap (λ b. b == 1) at.1
 
     pub none_before : (from : ℕ) → ((k : ℕ) → from ≤ k → k < number → word_has words k ≡ false)
         → (k : ℕ) → from ≤ k → k < number + trailing_zeros w64 rest → word_has words k ≡ false
@@ -61,7 +61,7 @@ module _ (words : List ℕ) (number : ℕ) where
       | inr later ↦
           let i = k - number in
           let same : k ≡ number + i = omega (arith, later) in
-          ap (word_has words) same ∙ told i (omega (arith, later, below, same_word)) ∙ ap (λ b. b == 1) (at.2 i (omega (arith, later, below)))
+          ap (word_has words) same ∙ reported i (omega (arith, later, below, same_word)) ∙ ap (λ b. b == 1) (at.2 i (omega (arith, later, below)))
     ]
 
 -- ---- the least number of a set that is not below another

@@ -108,13 +108,13 @@ pub one_word_more : (words : List ℕ) (place : ℕ)
 unfolding numbers_of_word
 one_word_more words place =
     let first : 64 * place ≡ place * 64 = omega arith in
-    let told : (k : ℕ) → place * 64 ≤ k → k < place * 64 + 64 → word_has words k ≡ (bit_at (get_or words place 0) (k - place * 64) == 1) =
+    let reported : (k : ℕ) → place * 64 ≤ k → k < place * 64 + 64 → word_has words k ≡ (bit_at (get_or words place 0) (k - place * 64) == 1) =
     λ k past below. ap (word_has words) (omega arith) ∙ in_word words place (k - place * 64) (omega arith) in
     ap (λ count. filter (word_has words) (range_with_len 0 count)) (omega arith)
     ∙ kept_split (word_has words) (64 * place) 64
     ∙ ap (λ more. filter (word_has words) (range_with_len 0 (64 * place)) ++ more)
     (ap (λ from. filter (word_has words) (range_with_len from 64)) first
-    ∙ kept_alike (word_has words) (λ k. bit_at (get_or words place 0) (k - place * 64) == 1) (place * 64) 64 told)
+    ∙ kept_alike (word_has words) (λ k. bit_at (get_or words place 0) (k - place * 64) == 1) (place * 64) 64 reported)
 
 pub numbers_in_words : (width : ℕ) (words : List ℕ) → AreWordsOf width words
     → filter (word_has words) (range_with_len 0 (64 * length words)) ≡ filter (has (bits_in width words)) (range_with_len 0 width)
@@ -138,7 +138,7 @@ numbers_listed width words read before after are is added =
     ∙ ap (λ items. before ++ items) (numbers_in_words width words are)
     ∙ ap (λ count. before ++ filter (has (bits_in width words)) (range_with_len 0 count)) (sym (length-bits width words))
 
--- ---- what is added behind a list
+-- ---- what is added after a list
 
 pub one_more : (before list after : List ℕ) (x : ℕ) → BeginsWith before list → after ≡ list ++ x ∷ [] → BeginsWith before after
 one_more before list after x begins is =

@@ -28,7 +28,7 @@ bit_of width words are k =
           get_or_past (bits_in width words) k false length_is ∙ sym (are.rest k past)
     ]
 
--- words whose numbers are told by a test
+-- words whose numbers are reported by a test
 pub bits_are : (width : ℕ) (words : List ℕ) (f : ℕ → Bool) → ((k : ℕ) → k < width → word_has words k ≡ f k) → bits_in width words ≡ map f (range_with_len 0 width)
 bits_are width words f each =
     fill_by_all f (bits_in width words) width false (length-bits width words) (λ k within. bit_below width words k within ∙ each k within)

@@ -1,4 +1,4 @@
--- Where words stand among vectors, looked up by the test of their equality.
+-- Where words are among vectors, looked up by the test of their equality.
 use Rattle.std.proofs.Common.{◌≡◌, ℕ, suc, ◌<◌, Bool, true, false, List, [], ◌∷◌, ◌++◌, length, map, get_or, nat_eq, Option, None, Some, Result, Ok, Err, IfOk, OnErr, subst, refl, sym, ap, ◌∙◌, inl, inr, arith, Vec}
 use Rattle.std.specs.Prelude.{slice_get, Contains, MatchOption, is_some, vec_items, if◌then◌else◌}
 use Rattle.std.specs.declared.alloc.Global.{Global}
@@ -44,7 +44,7 @@ not_among words rows none at =
 not_any : (words : List ℕ) (rows : List (Vec ℕ Global)) → (Contains (map vec_items rows) words → ⊥) → list_any (has_words words) rows ≡ false
 not_any words rows none = false_from_ne_true (list_any (has_words words) rows) (λ any. none (among words rows any))
 
--- where a look-up finds a place, the words stand there, and where it finds none, they are nowhere
+-- where a look-up finds a place, the words are there, and where it finds none, they are nowhere
 pub found_words : (words : List ℕ) (rows : List (Vec ℕ Global)) (o : Option ℕ) → o ≡ position (has_words words) rows → is_some o ≡ list_any (has_words words) rows
     → MatchOption o (¬ Contains (map vec_items rows) words) (λ place. slice_get (map vec_items rows) place ≡ Some words)
 found_words words rows None is any = not_among words rows (sym any)

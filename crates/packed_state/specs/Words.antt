@@ -22,6 +22,6 @@ pub record AreWordsOf (width : ℕ) (words : List ℕ) : Type 0 where
   pub small : (place : ℕ) → slice_index words place < 2 ^ 64
   pub rest : (number : ℕ) → width ≤ number → word_has words number ≡ false
 
--- the list has some more behind the one before
+-- the list has some more after the one before
 abbrev pub BeginsWith : List ℕ → List ℕ → Type 0
 BeginsWith before after = (more : List ℕ) × (after ≡ before ++ more)

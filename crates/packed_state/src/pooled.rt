@@ -1,4 +1,4 @@
-//! A store of states whose words stand in one vector.
+//! A store of states whose words are in one vector.
 ghost use Rattle.std.specs.Prelude.{◌≡◌, ◌<◌, [], length, IfOk, OnErr};
 ghost use Rattle.std.proofs.Props.{props};
 ghost use Rattle.packed_state.specs.Words.{AreWordsOf};

@@ -34,7 +34,7 @@ pub trait StateStore: Drop {
             (¬ Contains (states self.now) (bits_of state.now))
             (λ place. slice_get (states self.now) place ≡ Some (bits_of state.now)) };
 
-    /// The set's place, and whether it was new: then it now stands at the end of the list. Where memory was refused
+    /// The set's place, and whether it was new: then it now is at the end of the list. Where memory was refused
     /// the list stays as it is.
     fn insert_if_new(&mut self, state: &Packed) -> Result<(u32, bool), NoMemory>
         requires width { length (bits_of state.now) ≡ width_of self.old }

@@ -7,7 +7,7 @@ use Rattle.pddl_tree_values.specs.declared.token.SectionKeyword as code
 use Rattle.pddl_tree_values.specs.declared.word_fault.WordRefusal.{WordRefusal}
 use Rattle.pddl_tree.specs.Sections.{sections_on, section_into, IsNotNew}
 use Rattle.pddl_tree_values.proofs.Read.{taken, phrase_then, read_in_turn}
-use Rattle.pddl_tree_values.proofs.Looks.{is_closes, refused_here, told_first, told_along}
+use Rattle.pddl_tree_values.proofs.Looks.{is_closes, refused_here, reported_first, reported_along}
 use Rattle.model.specs.GrammarWords.{SectionKeyword, requirement_key, left_out_keyword, unknown_keyword}
 use Rattle.model.specs.GrammarWords as words
 use Rattle.model.specs.Grammar.{section, section_of, section_after, keyword_in, seen_with, has_all, left_of}
@@ -89,16 +89,16 @@ pub section_answers : (f : File) (seen : List SectionKeyword) (j : SectionKeywor
     → has_section (sections_of f) j ≡ true → has_section seen j ≡ false → ReadsInto (phrase (section_into j c)) list (at + 2) d r → GoesOn (phrase (sections_on f seen c)) (phrase (sections_on f (seen_with seen j) d)) list at r
 section_answers f seen j c d list at (Ok next) o e here new h = (begun f seen j c list at o e here new ∙ ap (λ r. bind r (λ d w. phrase (sections_on f (seen_with seen j) d) w)) h.0, (omega (arith, h.1.0), h.1.1))
 section_answers f seen j c d list at (Err fault) o e here new h =
-    told_along list _ _ fault (begun f seen j c list at o e here new) (told_first list _ (λ d w. phrase (sections_on f (seen_with seen j) d) w) fault h)
+    reported_along list _ _ fault (begun f seen j c list at o e here new) (reported_first list _ (λ d w. phrase (sections_on f (seen_with seen j) d) w) fault h)
 
 -- `)` after what is required
 pub sections_end : (f : File) (seen : List SectionKeyword) (c : Contents) (list : List Word) (at : ℕ) → closes_first (first (from list at)) ≡ true → has_all (required_of f) seen ≡ true → phrase (sections_on f seen c) (from list at) ≡ made c (from list (at + 1))
 sections_end f seen c list at e all =
     ap (λ r. bind r (λ ss w. made (fold with_section c ss) w)) (taken (sections f seen) list at closes (is_closes (first (from list at)) e) (ap (λ b. cond b (Some (gives [])) None) all))
 
--- ---- words that may not stand there
+-- ---- words that may not occur there
 
--- any word, where all sections stand
+-- any word, where all sections are
 pub sections_full : (f : File) (seen : List SectionKeyword) (list : List Word) (at : ℕ) → has_all (sections_of f) seen ≡ true → closes_first (first (from list at)) ≡ false → part (sections f seen) (from list at) ≡ stops (number_seen define_word (first (from list at))) (from list at)
 sections_full f seen list at all e = let h = by_word (first (from list at)) e in refused_here (sections f seen) define_word list at h.0 h.1
   where

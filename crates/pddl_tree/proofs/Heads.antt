@@ -9,7 +9,7 @@ use Rattle.model.specs.Refusals.{Begins, after_all}
 use Rattle.model.proofs.GrammarBegins.{begins}
 use Rattle.pddl_tree_values.proofs.Read.{part_here, part_none, part_of, from_first}
 use Rattle.pddl_tree_values.proofs.Looks.{refused_here}
-use Rattle.pddl_tree.proofs.Told.{same_tokens}
+use Rattle.pddl_tree.proofs.Reported.{same_tokens}
 
 -- ---- one word
 

@@ -1,4 +1,4 @@
 pub mod Parts
 pub mod Files
 pub mod Heads
-pub mod Told
+pub mod Reported

@@ -2,7 +2,7 @@
 use Rattle.pddl_tree_values.proofs.Names.{◌≡◌, ℕ, ◌+◌, true, false, cond, List, [], ◌∷◌, ◌++◌, fold, Option, Some, None, Result, Ok, Err, refl, sym, ◌∙◌, ap, arith, option_and_then, Word, from, first, WordFault, made, stops, bind, part, phrase, number_seen, closes_first, opens_first, ReadsInto, GoesOn, formulas, Token, opens, closes, keyword, of_part, gives, ◌>>=◌, after, formula, has_part}
 use Rattle.pddl_tree.specs.Sections.{parts_on, part_into}
 use Rattle.pddl_tree_values.proofs.Read.{part_here, part_none, part_of, taken, read_in_turn}
-use Rattle.pddl_tree_values.proofs.Looks.{is_closes, refused_here, told_first, told_along}
+use Rattle.pddl_tree_values.proofs.Looks.{is_closes, refused_here, reported_first, reported_along}
 use Rattle.model.specs.Trees.{Action}
 use Rattle.model.specs.Trees as tree
 use Rattle.model.specs.GrammarWords.{PartKeyword}
@@ -22,7 +22,7 @@ pub part_answers : (seen : List PartKeyword) (p : PartKeyword) (a b : Action) (l
     → ReadsInto (phrase (part_into (seen ++ p ∷ []) p a)) list (at + 1) b r → GoesOn (phrase (parts_on seen a)) (phrase (parts_on (seen ++ p ∷ []) b)) list at r
 part_answers seen p a b list at (Ok next) e new h = (begun seen p a list at e new ∙ ap (λ r. bind r (λ b w. phrase (parts_on (seen ++ p ∷ []) b) w)) h.0, (omega (arith, h.1.0), h.1.1))
 part_answers seen p a b list at (Err fault) e new h =
-    told_along list _ _ fault (begun seen p a list at e new) (told_first list _ (λ b w. phrase (parts_on (seen ++ p ∷ []) b) w) fault h)
+    reported_along list _ _ fault (begun seen p a list at e new) (reported_first list _ (λ b w. phrase (parts_on (seen ++ p ∷ []) b) w) fault h)
 
 -- `)` after the parameters, and where they are missing
 pub parts_end : (seen : List PartKeyword) (a : Action) (list : List Word) (at : ℕ) → closes_first (first (from list at)) ≡ true → has_part seen words.parameters ≡ true → phrase (parts_on seen a) (from list at) ≡ made a (from list (at + 1))

@@ -6,7 +6,7 @@ use Rattle.pddl_tree_values.specs.declared.word_fault.WordRefusal.{WordRefusal}
 use Rattle.syntax_tree.specs.Name.{name_of}
 use Rattle.pddl_tree_values.specs.Token.{from}
 use Rattle.pddl_tree_values.specs.Refusal.{WordFault}
-use Rattle.pddl_tree_values.specs.Reading.{Reading, made, stops, bind, part, phrase, Stops, Tells}
+use Rattle.pddl_tree_values.specs.Reading.{Reading, made, stops, bind, part, phrase, Stops, Reports}
 use Rattle.model.specs.GrammarWords.{Token}
 use Rattle.model.specs.Trees.{File, Name}
 use Rattle.model.specs.Grammar.{Tree, Phrase, gives, ◌>>=◌, file, sections, tree_from, with_section, no_contents}
@@ -45,4 +45,4 @@ no_more (t ∷ w) = stops (by_word t) (t ∷ w)
 -- the words from an index on are all of this tree
 abbrev pub ReadsAll : {A : Type 0} → (List Token → Reading A) → List Word → ℕ → A → Result ⊤ WordFault → Type 0
 ReadsAll read words at tree (Ok _) = bind (read (from words at)) at_end ≡ made tree []
-ReadsAll read words at tree (Err fault) = Tells words (bind (read (from words at)) at_end) fault
+ReadsAll read words at tree (Err fault) = Reports words (bind (read (from words at)) at_end) fault

@@ -53,7 +53,7 @@ section_into k c = and_then (section_after k) (λ x. gives (with_section c x))
 abbrev pub the_domain : Phrase Name
 the_domain = a_name >>= λ n. close >> gives n
 
--- the word at an index is no keyword of a section of the file that is new, and is told as such
+-- the word at an index is no keyword of a section of the file that is new, and is reported as such
 abbrev pub IsNotNew : List Word → ℕ → File → List SectionKeyword → WordRefusal → Type 0
 IsNotNew words at f seen refusal =
     ((k : SectionKeyword) → first (from words at) ≡ Some (keyword (of_section k)) → has_section (sections_of f) k ≡ true → has_section seen k ≡ true)

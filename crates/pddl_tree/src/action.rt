@@ -84,7 +84,7 @@ fn part<'a>(
 fn part_keyword(words: &[Word], at: usize, seen: &[PartKeyword]) -> Result<PartKeyword, WordRefusal>
     ensures word { IfOk result (λ part. first (from words.now at) ≡ Some (keyword (of_part (part_view part)))) }
     ensures new { IfOk result (λ part. grammar.has_part (map part_view seen.now) (part_view part) ≡ false) }
-    ensures told { IfErr result (λ refusal. closes_first (first (from words.now at)) ≡ false → Stops words.now (part (grammar.parts (map part_view seen.now)) (from words.now at)) refusal) }
+    ensures reported { IfErr result (λ refusal. closes_first (first (from words.now at)) ≡ false → Stops words.now (part (grammar.parts (map part_view seen.now)) (from words.now at)) refusal) }
 {
     match token_at(words, at) {
         Token::Keyword(Keyword::Part(part)) => {

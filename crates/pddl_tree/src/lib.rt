@@ -5,7 +5,7 @@ mod action;
 mod reader;
 mod sections;
 
-pub use reader::{domain, examples_are_as_told, one_fault, one_reading, problem};
+pub use reader::{domain, examples_are_as_reported, one_fault, one_reading, problem};
 pub use syntax_tree::{
     Action, Amount, Atom, Domain, Effect, EffectLiteral, Fact, Formula, GroundAtom, Group,
     Increase, InitialCost, InitialValue, Name, Predicate, Problem, TaskFile, Term,

@@ -5,10 +5,10 @@
 //! through begin a file, so the first word that it refuses is the first with which no file goes on. The automaton is
 //! crates/model/specs/GrammarMachine.antt, and the property is proved in crates/model/proofs/GrammarBegins.antt. It differs
 //! from the textbook's in three things. A state is a function from the tree that comes next to the state after it, so
-//! that a run ends in the file's tree and not in a yes. Which sections and parts stand already belongs to the state, since
-//! each stands at most once and their order is free. And where it stops, it says by a number why.
+//! that a run ends in the file's tree and not in a yes. Which sections and parts are already belongs to the state, since
+//! each is at most once and their order is free. And where it stops, it says by a number why.
 ghost use Rattle.std.specs.Prelude.{◌≡◌, List, map, IfOk, IfErr, IsErrAnd, IfSome, IsSome, None, []};
-ghost use Rattle.tokens.specs.Told.{told_by};
+ghost use Rattle.tokens.specs.Reported.{reported_by};
 ghost use Rattle.tokens.specs.Word.{word_of};
 ghost use Rattle.model.specs.Fault as model;
 ghost use Rattle.model.specs.Words as text;
@@ -16,10 +16,10 @@ ghost use Rattle.model.specs.Trees.{File, domain_file, problem_file};
 ghost use Rattle.model.specs.GrammarWords.{tokens_of};
 ghost use Rattle.model.specs.Grammar.{EachIsOneDomain, EachIsOneProblem, IsDomain, IsProblem, IsFile, tree_from};
 ghost use Rattle.model.specs.Refusals.{IsWhole, IsRefused, span_of_place};
-ghost use Rattle.model.specs.GrammarExamples.{AreAsTold};
+ghost use Rattle.model.specs.GrammarExamples.{AreAsReported};
 ghost use Rattle.syntax_tree.specs.Name.{name_of};
 ghost use Rattle.pddl_tree_values.specs.Token.{from};
-ghost use Rattle.pddl_tree_values.specs.Refusal.{told, fault_of};
+ghost use Rattle.pddl_tree_values.specs.Refusal.{reported, fault_of};
 ghost use Rattle.pddl_tree_values.specs.Reading.{phrase, Stops};
 ghost use Rattle.pddl_tree.specs.Sections.{contents_of, sections_on};
 ghost use Rattle.pddl_tree.specs.Head.{HasHead, HasNoHead, ReadsHead, ReadsAll, no_more};
@@ -34,11 +34,11 @@ use tokens::Word;
 
 /// The domain that the words are: the whole file, in the words of its text.
 ///
-/// Refusals tell the first word such that the words up to and including it begin no domain, and its span; where the
+/// Refusals report the first word such that the words up to and including it begin no domain, and its span; where the
 /// words run out, `BadForm` at the end of the last word, or at `0..0` where there is none:
 ///
-/// - `RepeatedSection`: the keyword of a section or of a part of an action that stands a second time in its list.
-/// - `NumberTooLarge`: a number over 2,147,483,647 where a number may stand.
+/// - `RepeatedSection`: the keyword of a section or of a part of an action that is a second time in its list.
+/// - `NumberTooLarge`: a number over 2,147,483,647 where a number may occur.
 /// - `LeftOut`: the keyword of a section or part that the language profile leaves out, where one is wanted, or the name
 ///   of a form that it leaves out, as `preference`; the `(` of an `(either ..)` as the type of a name; `when` or `forall`
 ///   at the head of a list under a `when`; a function other than `total-cost` as what is increased or as the metric; or
@@ -64,13 +64,13 @@ use tokens::Word;
 /// at `15..16`.
 pub fn domain<'a>(alloc: Global, words: &[Word<'a>]) -> Result<Domain<'a>, Fault>
     ensures tree { IfOk result (λ tree. IsDomain (tokens_of (map word_of words.now)) (domain_of tree)) }
-    ensures refused { IfErr result (λ fault. IfSome (told_by fault) (IsRefused domain_file (map word_of words.now))) }
+    ensures refused { IfErr result (λ fault. IfSome (reported_by fault) (IsRefused domain_file (map word_of words.now))) }
 
-    // Words that are a domain are never refused: the only error is want of memory.
-    ensures taken { IsWhole domain_file (tokens_of (map word_of words.now)) → IfErr result (λ fault. told_by fault ≡ None) }
+    // Words that are a domain are never refused: the only error is running out of memory.
+    ensures taken { IsWhole domain_file (tokens_of (map word_of words.now)) → IfErr result (λ fault. reported_by fault ≡ None) }
 
-    // Words that stop within the head are refused for that, and never for want of memory.
-    ensures head { HasNoHead domain_file (tokens_of (map word_of words.now)) → IsErrAnd result (λ fault. IsSome (told_by fault)) }
+    // Words that stop within the head are refused for that, and never for running out of memory.
+    ensures head { HasNoHead domain_file (tokens_of (map word_of words.now)) → IsErrAnd result (λ fault. IsSome (reported_by fault)) }
 {
     let (name, contents) = file(alloc, words, TaskFile::Domain)?;
     Ok(Domain {
@@ -85,7 +85,7 @@ pub fn domain<'a>(alloc: Global, words: &[Word<'a>]) -> Result<Domain<'a>, Fault
 
 /// The problem that the words are: the whole file, in the words of its text.
 ///
-/// Refusals are those of [`domain`]; `MissingSection` is told at the `)` of a file without `:domain`, `:init` or `:goal`.
+/// Refusals are those of [`domain`]; `MissingSection` is reported at the `)` of a file without `:domain`, `:init` or `:goal`.
 ///
 /// # Examples
 /// The words of `(define (problem p) (:domain d) (:init (at a)) (:goal (at a)))` are a problem of one fact:
@@ -99,13 +99,13 @@ pub fn domain<'a>(alloc: Global, words: &[Word<'a>]) -> Result<Domain<'a>, Fault
 /// `(define (problem p) (:domain d) (:domain d))` is refused by `RepeatedSection` at the second `:domain`, `33..40`.
 pub fn problem<'a>(alloc: Global, words: &[Word<'a>]) -> Result<Problem<'a>, Fault>
     ensures tree { IfOk result (λ tree. IsProblem (tokens_of (map word_of words.now)) (problem_of tree)) }
-    ensures refused { IfErr result (λ fault. IfSome (told_by fault) (IsRefused problem_file (map word_of words.now))) }
+    ensures refused { IfErr result (λ fault. IfSome (reported_by fault) (IsRefused problem_file (map word_of words.now))) }
 
-    // Words that are a problem are never refused: the only error is want of memory.
-    ensures taken { IsWhole problem_file (tokens_of (map word_of words.now)) → IfErr result (λ fault. told_by fault ≡ None) }
+    // Words that are a problem are never refused: the only error is running out of memory.
+    ensures taken { IsWhole problem_file (tokens_of (map word_of words.now)) → IfErr result (λ fault. reported_by fault ≡ None) }
 
-    // Words that stop within the head are refused for that, and never for want of memory.
-    ensures head { HasNoHead problem_file (tokens_of (map word_of words.now)) → IsErrAnd result (λ fault. IsSome (told_by fault)) }
+    // Words that stop within the head are refused for that, and never for running out of memory.
+    ensures head { HasNoHead problem_file (tokens_of (map word_of words.now)) → IsErrAnd result (λ fault. IsSome (reported_by fault)) }
 {
     let (name, contents) = file(alloc, words, TaskFile::Problem)?;
     Ok(Problem {
@@ -124,7 +124,7 @@ pub fn one_reading()
     ensures problem { EachIsOneProblem }
 {}
 
-/// A law of refusals: at most one fault is told of words, and none of a whole file.
+/// A law of refusals: at most one fault is reported for words, and none of a whole file.
 pub fn one_fault()
     ensures one { (file : File) (words : List text.Word) (fault other : model.Fault)
         → IsRefused file words fault → IsRefused file words other → fault ≡ other }
@@ -132,14 +132,14 @@ pub fn one_fault()
         → IsWhole file (tokens_of words) → IsRefused file words fault → ⊥ }
 {}
 
-/// The worked examples of the definitions: small files with their tree, or with the fault that is told of them.
-pub fn examples_are_as_told()
-    ensures { AreAsTold }
+/// The worked examples of the definitions: small files with their tree, or with the fault that is reported for them.
+pub fn examples_are_as_reported()
+    ensures { AreAsReported }
 {}
 
-/// What a refusal tells of the file.
+/// What a refusal says of the file.
 fn fault(words: &[Word], refusal: WordFault) -> Fault
-    ensures { told_by result ≡ fault_of (map word_of words.now) (told refusal) }
+    ensures { reported_by result ≡ fault_of (map word_of words.now) (reported refusal) }
 {
     match refusal {
         Refused::At(WordRefusal { code, at }) => Refused::At(TextRefusal {
@@ -165,16 +165,16 @@ fn span_at(words: &[Word], at: usize) -> Span
     Span { start: end, end }
 }
 
-/// A file of this kind that the words are, whole: its name, and what stands in its sections.
+/// A file of this kind that the words are, whole: its name, and what is in its sections.
 fn file<'a>(
     alloc: Global,
     words: &[Word<'a>],
     file: TaskFile,
 ) -> Result<(Name<'a>, Contents<'a>), Fault>
     ensures read { IfOk result (λ r. IsFile (file_of file) (tokens_of (map word_of words.now)) (tree_from (file_of file) (name_of r.0) (contents_of r.1))) }
-    ensures refused { IfErr result (λ fault. IfSome (told_by fault) (IsRefused (file_of file) (map word_of words.now))) }
-    ensures taken { IsWhole (file_of file) (tokens_of (map word_of words.now)) → IfErr result (λ fault. told_by fault ≡ None) }
-    ensures head { HasNoHead (file_of file) (tokens_of (map word_of words.now)) → IsErrAnd result (λ fault. IsSome (told_by fault)) }
+    ensures refused { IfErr result (λ fault. IfSome (reported_by fault) (IsRefused (file_of file) (map word_of words.now))) }
+    ensures taken { IsWhole (file_of file) (tokens_of (map word_of words.now)) → IfErr result (λ fault. reported_by fault ≡ None) }
+    ensures head { HasNoHead (file_of file) (tokens_of (map word_of words.now)) → IsErrAnd result (λ fault. IsSome (reported_by fault)) }
 {
     let (name, at) = match head(words, 0, file) {
         Ok(head) => head,
@@ -188,7 +188,7 @@ fn file<'a>(
 }
 
 /// What follows the head of a file, taken into the contents, or the refused word.
-#[tactic(auto, using(crate::proofs::Told::of_rest))]
+#[tactic(auto, using(crate::proofs::Reported::of_rest))]
 fn rest<'a>(
     alloc: Global,
     words: &[Word<'a>],
@@ -218,10 +218,10 @@ fn head<'a>(words: &[Word<'a>], at: usize, file: TaskFile) -> Result<(Name<'a>, 
     Ok((name, next))
 }
 
-/// No word stands at this index.
+/// No word is at this index.
 fn end(words: &[Word], at: usize) -> Result<(), WordRefusal>
     ensures none { IfOk result (λ _. from words.now at ≡ []) }
-    ensures told { IfErr result (λ refusal. Stops words.now (no_more (from words.now at)) refusal) }
+    ensures reported { IfErr result (λ refusal. Stops words.now (no_more (from words.now at)) refusal) }
 {
     if at < words.len() {
         Err(refusal(words, at, Place::Elsewhere))

@@ -20,7 +20,7 @@ use std::alloc::Global;
 use syntax_tree::{Action, Fact, Formula, Group, Name, Predicate, TaskFile};
 use tokens::Word;
 
-/// What stands in a file's sections; what does not is empty.
+/// What is in a file's sections; what does not is empty.
 #[derive(Drop)]
 pub(crate) struct Contents<'a> {
     pub(crate) types: Vec<Group<'a>>,
@@ -81,7 +81,7 @@ pub(crate) fn sections<'a>(
     }
 }
 
-/// A section that may stand, taken into the contents and those seen: the index after it.
+/// A section that may occur, taken into the contents and those seen: the index after it.
 fn section<'a>(
     alloc: Global,
     words: &[Word<'a>],
@@ -115,7 +115,7 @@ fn see(seen: &mut Vec<SectionKeyword>, section: SectionKeyword) -> Result<(), No
     Ok(())
 }
 
-/// The `(` and the keyword of a section that may stand.
+/// The `(` and the keyword of a section that may occur.
 fn section_head(
     words: &[Word],
     at: usize,
@@ -125,7 +125,7 @@ fn section_head(
     ensures opens { IfOk result (λ _. first (from words.now at) ≡ Some opens) }
     ensures word { IfOk result (λ section. first (from words.now (at + 1)) ≡ Some (keyword (of_section (section_view section)))) }
     ensures new { IfOk result (λ section. (grammar.has_section (grammar.sections_of (file_of file)) (section_view section) ≡ true) × (grammar.has_section (map section_view seen.now) (section_view section) ≡ false)) }
-    ensures told { IfErr result (λ refusal. closes_first (first (from words.now at)) ≡ false → Stops words.now (part (grammar.sections (file_of file) (map section_view seen.now)) (from words.now at)) refusal) }
+    ensures reported { IfErr result (λ refusal. closes_first (first (from words.now at)) ≡ false → Stops words.now (part (grammar.sections (file_of file) (map section_view seen.now)) (from words.now at)) refusal) }
 {
     if has_all(seen, allowed(file)) {
         return Err(refusal(words, at, Place::Incomplete));
@@ -134,7 +134,7 @@ fn section_head(
     section_keyword(words, inside, file, seen)
 }
 
-/// The keyword of a section that may stand.
+/// The keyword of a section that may occur.
 fn section_keyword(
     words: &[Word],
     at: usize,
@@ -143,7 +143,7 @@ fn section_keyword(
 ) -> Result<SectionKeyword, WordRefusal>
     ensures word { IfOk result (λ section. first (from words.now at) ≡ Some (keyword (of_section (section_view section)))) }
     ensures new { IfOk result (λ section. (grammar.has_section (grammar.sections_of (file_of file)) (section_view section) ≡ true) × (grammar.has_section (map section_view seen.now) (section_view section) ≡ false)) }
-    ensures told { IfErr result (λ refusal. IsNotNew words.now at (file_of file) (map section_view seen.now) refusal) }
+    ensures reported { IfErr result (λ refusal. IsNotNew words.now at (file_of file) (map section_view seen.now) refusal) }
 {
     match token_at(words, at) {
         Token::Keyword(Keyword::Section(section)) => {

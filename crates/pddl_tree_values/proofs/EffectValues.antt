@@ -31,7 +31,7 @@ value_here list at = by_word (first (from list at)) refl
 
 -- ---- one item
 
--- by the word `increase`, where it stands there
+-- by the word `increase`, where it is there
 abbrev pub by_increase : Option Name → List Token → List Token → Reading Item
 by_increase (Some n) w here = bind (phrase (the_increase n) w) (λ i v. made (increase i) v)
 by_increase None w here = bind (part effect_list here) (λ e v. made (change e) v)

@@ -98,8 +98,8 @@ group_typed l {list} {next = next} end {ns} {ts} h e r =
     h.goes ∙ ap (λ r. bind r (λ gs w. made (with_names ns gs) w)) (taken (group l) list next dash e refl ∙ ap (λ r. bind r (λ us w. bind (part (typed l) w) (λ gs v. made (ends_group us ∷ gs) v))) r)
     ∙ bind_bind (part (typed l) (from list end)) (λ gs v. made (ends_group ts ∷ gs) v) (λ gs w. made (with_names ns gs) w) ∙ (λ i. bind (part (typed l) (from list end)) (λ gs w. made (names_end ns ts gs i) w))
 
-pub dash_told : (l : Listed) (list : List Word) (at : ℕ) → ends_group_first (first (from list at)) ≡ true → closes_first (first (from list at)) ≡ false → part (group l) (from list at) ≡ bind (part (type l) (from list (at + 1))) (λ us w. bind (part (typed l) w) (λ gs v. made (ends_group us ∷ gs) v))
-dash_told l list at e n = taken (group l) list at dash (is_dash (first (from list at)) e n) refl
+pub dash_reported : (l : Listed) (list : List Word) (at : ℕ) → ends_group_first (first (from list at)) ≡ true → closes_first (first (from list at)) ≡ false → part (group l) (from list at) ≡ bind (part (type l) (from list (at + 1))) (λ us w. bind (part (typed l) w) (λ gs v. made (ends_group us ∷ gs) v))
+dash_reported l list at e n = taken (group l) list at dash (is_dash (first (from list at)) e n) refl
 
 -- or none before the `)` of the list
 pub group_untyped : (l : Listed) {list : List Word} {at next : ℕ} {ns : List Name} → IsGroupOn l list at ns next → closes_first (first (from list next)) ≡ true → part (typed l) (from list at) ≡ one_of (part (typed l)) (record { names = ns; types = [] }) (from list next)
@@ -107,7 +107,7 @@ group_untyped l {list} {next = next} {ns} h e =
     let word = is_closes (first (from list next)) e in
     h.goes ∙ ap (λ r. bind r (λ gs w. made (with_names ns gs) w)) (taken (group l) list next closes word refl) ∙ (λ i. made (names_end ns [] [] i) (from list (next + 1))) ∙ sym (ap (λ r. bind r (λ gs w. made (record { names = ns; types = [] } ∷ gs) w)) (taken (typed l) list next closes word refl))
 
-pub ruleset of_groups = (unnamed_here, unnamed_inside, dash_told)
+pub ruleset of_groups = (unnamed_here, unnamed_inside, dash_reported)
 
 -- ---- a typed list that `)` ends
 

@@ -1,5 +1,5 @@
 -- What a look at the next word says of what is read there.
-use Rattle.pddl_tree_values.proofs.Names.{◌≡◌, ℕ, ◌+◌, true, false, List, [], ◌∷◌, ◌++◌, map, Option, Some, None, refl, sym, ◌∙◌, ap, subst, ◌≤◌, arith, option_map, option_and_then, At, NoMemory, WordFault, Word, from, first, Reading, made, stops, bind, by_rule, part, phrase, number_seen, one_of, Tells, Reads, ReadsInto, closes_first, opens_first, the_either, Name, Token, opens, closes, reserved, Sort, Value, Phrase, gives, ◌>>=◌, and_then, after, listed, many, a_name, close, number_at}
+use Rattle.pddl_tree_values.proofs.Names.{◌≡◌, ℕ, ◌+◌, true, false, List, [], ◌∷◌, ◌++◌, map, Option, Some, None, refl, sym, ◌∙◌, ap, subst, ◌≤◌, arith, option_map, option_and_then, At, NoMemory, WordFault, Word, from, first, Reading, made, stops, bind, by_rule, part, phrase, number_seen, one_of, Reports, Reads, ReadsInto, closes_first, opens_first, the_either, Name, Token, opens, closes, reserved, Sort, Value, Phrase, gives, ◌>>=◌, and_then, after, listed, many, a_name, close, number_at}
 use Rattle.std.specs.Prelude.{Result, Ok, Err}
 use Rattle.std.specs.Result.{IsErrAnd}
 use Rattle.std.proofs.lemmas.Result.{err_from_is_err_and}
@@ -12,7 +12,7 @@ use Rattle.model.specs.GrammarWords as words
 use Rattle.model.specs.GrammarWords.{large_number}
 use Rattle.model.specs.Grammar.{amount, increase_amount, more, either_word, conditional, conditional_literal}
 
--- `)` and `and` stand there
+-- `)` and `and` are there
 pub is_closes : (o : Option Token) → closes_first o ≡ true → o ≡ Some closes
 is_closes (Some closes) e = refl
 is_closes o e = absurd (cc)
@@ -26,28 +26,28 @@ is_and o e = absurd (cc)
 pub passed : {T E : Type 0} (P : Result T E → Type 0) (r : Result T E) {e : E} → IsErrAnd r (λ y. y ≡ e) → P (Err e) → P r
 passed P r h p = let is = err_from_is_err_and r h in subst P (sym (is.1 ∙ ap Err is.2)) p
 
--- what is told of a reading is told of what begins with it
-pub told_first : {A B : Type 0} (list : List Word) (r : Reading A) (f : A → List Token → Reading B) (e : WordFault) → Tells list r e → Tells list (bind r f) e
-told_first list r f (At refusal) h = ap (λ r. bind r f) h
-told_first list r f NoMemory h = tt
+-- what is reported for a reading is reported for what begins with it
+pub reported_first : {A B : Type 0} (list : List Word) (r : Reading A) (f : A → List Token → Reading B) (e : WordFault) → Reports list r e → Reports list (bind r f) e
+reported_first list r f (At refusal) h = ap (λ r. bind r f) h
+reported_first list r f NoMemory h = tt
 
-pub told_along : {A : Type 0} (list : List Word) (r q : Reading A) (e : WordFault) → r ≡ q → Tells list q e → Tells list r e
-told_along list r q e is h = subst (λ r. Tells list r e) (sym is) h
+pub reported_along : {A : Type 0} (list : List Word) (r q : Reading A) (e : WordFault) → r ≡ q → Reports list q e → Reports list r e
+reported_along list r q e is h = subst (λ r. Reports list r e) (sym is) h
 
 -- what is read from a later index on
 pub read_later : {T A : Type 0} (f g : List Token → Reading A) (list : List Word) (at next : ℕ) (view : T → A) (r : Result (T × ℕ) WordFault) → at ≤ next → f (from list at) ≡ g (from list next) → Reads g list next view r → Reads f list at view r
 read_later f g list at next view (Ok (x, i)) less e h = (e ∙ h.0, (omega (arith, h.1.0), h.1.1))
-read_later f g list at next view (Err fault) less e h = told_along list _ _ fault e h
+read_later f g list at next view (Err fault) less e h = reported_along list _ _ fault e h
 
 -- what was read, and put in its place
 pub put_in : {T A B : Type 0} (read : List Token → Reading A) (list : List Word) (at : ℕ) (view : T → A) (k : A → B) (r : Result (T × ℕ) WordFault) (placed : T) (result : Result ℕ WordFault) → Reads read list at view r → IsPut r placed result → ReadsInto (λ w. bind (read w) (λ x v. made (k x) v)) list at (k (view placed)) result
 put_in {A = A} {B} read list at view k (Ok (x, next)) placed result h is =
     subst (ReadsInto (λ w. bind (read w) (λ x v. made (k x) v)) list at (k (view placed))) (sym is.1) (ap (λ r. bind r (λ x v. made (k x) v)) h.0 ∙ ap (λ x. made (k (view x)) (from list next)) (sym is.0), h.1)
-put_in {A = A} {B} read list at view k (Err fault) placed result h is = subst (ReadsInto (λ w. bind (read w) (λ x v. made (k x) v)) list at (k (view placed))) (sym is) (told_first list (read (from list at)) (λ x v. made (k x) v) fault h)
+put_in {A = A} {B} read list at view k (Err fault) placed result h is = subst (ReadsInto (λ w. bind (read w) (λ x v. made (k x) v)) list at (k (view placed))) (sym is) (reported_first list (read (from list at)) (λ x v. made (k x) v) fault h)
 
 -- ---- words
 
--- a word that may not stand there, and is told as where another thing is wanted
+-- a word that may not occur there, and is reported as where another thing is wanted
 pub refused_here : (s u : Sort) (list : List Word) (at : ℕ) → option_and_then (after s) (first (from list at)) ≡ None → number_seen u (first (from list at)) ≡ number_seen s (first (from list at)) → part s (from list at) ≡ stops (number_seen u (first (from list at))) (from list at)
 refused_here s u list at none same = part_here s list at ∙ by_word (first (from list at)) none ∙ ap (λ n. stops n (from list at)) (sym same)
   where
@@ -55,9 +55,9 @@ refused_here s u list at none same = part_here s list at ∙ by_word (first (fro
     by_word None e = refl
     by_word (Some t) e = ap (λ p. by_rule part p (from list (at + 1)) (stops (number_at s t) (from list at))) e
 
--- a reserved word that may stand there
+-- a reserved word that may occur there
 pub by_reserved : (s : Sort) {p : Phrase (Value s)} (list : List Word) (at : ℕ) {word q : ReservedName} (n : Name) → Some (reserved (reserved_view word) n) ≡ first (from list at) → word ≡ q → after s (reserved (reserved_view q) n) ≡ Some p → part s (from list at) ≡ phrase p (from list (at + 1))
-by_reserved s list at {q = q} n stands is rule = taken s list at (reserved (reserved_view q) n) (sym stands ∙ ap (λ r. Some (reserved (reserved_view r) n)) is) rule
+by_reserved s list at {q = q} n occurs is rule = taken s list at (reserved (reserved_view q) n) (sym occurs ∙ ap (λ r. Some (reserved (reserved_view r) n)) is) rule
 
 -- no `(` where a list is wanted
 pub not_open : (s : Sort) (list : List Word) (at : ℕ) → opens_first (first (from list at)) ≡ false → part (listed s) (from list at) ≡ stops (number_seen close (first (from list at))) (from list at)
@@ -75,7 +75,7 @@ pub ruleset of_lists_inside = (open_here, not_open)
 
 pub ruleset of_words_inside = (part_here, not_open)
 
--- what is told where an amount is wanted is what is told where a number is
+-- what is reported where an amount is wanted is what is reported where a number is
 pub number_of_an_amount : (o : Option Token) → number_seen amount o ≡ number_seen increase_amount o
 number_of_an_amount None = refl
 number_of_an_amount (Some large_number) = refl

@@ -8,10 +8,10 @@ pub use Rattle.model.specs.GrammarWords.{Token, closes, dash, free, keyword, of_
 pub use Rattle.model.specs.Refusals.{number_at, start}
 pub use Rattle.model.specs.Trees.{File, Name, effects, formulas}
 pub use Rattle.pddl_tree_values.specs.Place.{listed_view}
-pub use Rattle.pddl_tree_values.specs.Reading.{GoesOn, Reading, Reads, ReadsInto, Stops, Tells, bind, by_rule, closes_first, made, number_seen, one_of, opens_first, part, phrase, stops}
+pub use Rattle.pddl_tree_values.specs.Reading.{GoesOn, Reading, Reads, ReadsInto, Stops, Reports, bind, by_rule, closes_first, made, number_seen, one_of, opens_first, part, phrase, stops}
 pub use Rattle.pddl_tree_values.specs.Typed.{the_either}
 pub use Rattle.syntax_tree.specs.Name.{name_of}
-pub use Rattle.pddl_tree_values.specs.Refusal.{WordFault, told}
+pub use Rattle.pddl_tree_values.specs.Refusal.{WordFault, reported}
 pub use Rattle.pddl_tree_values.specs.Token.{first, from, part_view, section_view}
 pub use Rattle.syntax_tree.specs.Tree.{action_of, effect_of, file_of, formula_of, group_of, increase_of, predicate_of}
 pub use Rattle.tokens.specs.Word.{word_of}

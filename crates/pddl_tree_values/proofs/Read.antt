@@ -100,13 +100,13 @@ first_is : (w : List Token) (t : Token) → first w ≡ Some t → w ≡ t ∷ r
 first_is [] t e = absurd (cc)
 first_is (u ∷ w) t e = let same : u ≡ t = cc in ap (λ x. x ∷ w) same
 
--- the words from an index on, where this one stands there
+-- the words from an index on, where this one is there
 pub from_first : (words : List Word) (at : ℕ) (t : Token) → first (from words at) ≡ Some t → from words at ≡ t ∷ from words (at + 1)
 from_first words at t e =
     let all = map (λ w. token_of (word_of w)) words in
     first_is (from words at) t e ∙ ap (λ w. t ∷ w) (rest-drop at all ∙ ap (λ i. drop i all) (sym (add-one at)))
 
--- a word that may stand there leads on
+-- a word that may occur there leads on
 pub taken : (s : Sort) {p : Phrase (Value s)} (words : List Word) (at : ℕ) (t : Token) → first (from words at) ≡ Some t → after s t ≡ Some p → part s (from words at) ≡ phrase p (from words (at + 1))
 taken s words at t e f =
     part_here s words at ∙ ap (λ o. by_first s o (from words (at + 1)) (from words at)) e ∙ ap (λ o. by_rule part o (from words (at + 1)) (stops (number_at s t) (from words at))) f

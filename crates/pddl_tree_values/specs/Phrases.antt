@@ -13,7 +13,7 @@ use Rattle.model.specs.Grammar as grammar
 abbrev pub the_equality : Phrase Formula
 the_equality = term >>= λ t. term >>= λ u. close >> gives (tree.equal t u)
 
--- a formula in its parentheses, and the `)` of what it stands in
+-- a formula in its parentheses, and the `)` of what it is in
 abbrev pub the_last : Phrase Formula
 the_last = listed formula >>= λ f. close >> gives f
 
@@ -21,7 +21,7 @@ the_last = listed formula >>= λ f. close >> gives f
 abbrev pub the_implication : Phrase Formula
 the_implication = listed formula >>= λ f. listed formula >>= λ g. close >> gives (tree.imply f g)
 
--- an effect in its parentheses, and the `)` of what it stands in
+-- an effect in its parentheses, and the `)` of what it is in
 abbrev pub the_last_effect : Phrase Effect
 the_last_effect = listed effect_list >>= λ e. close >> gives e
 
@@ -29,7 +29,7 @@ the_last_effect = listed effect_list >>= λ e. close >> gives e
 abbrev pub the_when : Phrase Effect
 the_when = listed formula >>= λ f. listed conditional >>= λ ls. close >> gives (tree.when f ls)
 
--- an atom in its parentheses, and the `)` of what it stands in
+-- an atom in its parentheses, and the `)` of what it is in
 abbrev pub the_last_atom : Literals → Phrase Atom
 the_last_atom literals.Plain = listed atom >>= λ a. close >> gives a
 the_last_atom literals.UnderWhen = listed conditional_atom >>= λ a. close >> gives a

@@ -27,7 +27,7 @@ abbrev pub phrase_by : {A : Type 0} → ((s : Sort) → List Token → Reading (
 phrase_by part (gives x) w = made x w
 phrase_by part (s >>= h) w = bind (part s w) (λ x v. phrase_by part (h x) v)
 
--- what has to follow a word, or none where it may not stand there
+-- what has to follow a word, or none where it may not occur there
 abbrev pub by_rule : {A : Type 0} → ((s : Sort) → List Token → Reading (Value s)) → Option (Phrase A) → List Token → Reading A → Reading A
 by_rule part (Some p) w here = phrase_by part p w
 by_rule part None w here = here
@@ -50,7 +50,7 @@ abbrev pub number_seen : Sort → Option Token → ℕ
 number_seen s None = 7
 number_seen s (Some t) = number_at s t
 
--- ---- what a call answers, which reads the words from an index on; nothing is said of want of memory
+-- ---- what a call answers, which reads the words from an index on; nothing is said of running out of memory
 
 -- the index after something that was read: it is of one word or more
 abbrev pub IsAfter : List Word → ℕ → ℕ → Type 0
@@ -60,14 +60,14 @@ IsAfter words at next = (at < next) × (next ≤ length words)
 abbrev pub Stops : {A : Type 0} → List Word → Reading A → WordRefusal → Type 0
 Stops words r refusal = r ≡ stops (number_of refusal.code) (from words refusal.at)
 
-abbrev pub Tells : {A : Type 0} → List Word → Reading A → WordFault → Type 0
-Tells words r (At refusal) = Stops words r refusal
-Tells words r NoMemory = Unit {0}
+abbrev pub Reports : {A : Type 0} → List Word → Reading A → WordFault → Type 0
+Reports words r (At refusal) = Stops words r refusal
+Reports words r NoMemory = Unit {0}
 
 -- the tree, and the index after it
 abbrev pub Reads : {T A : Type 0} → (List Token → Reading A) → List Word → ℕ → (T → A) → Result (T × ℕ) WordFault → Type 0
 Reads read words at view (Ok (x, next)) = (read (from words at) ≡ made (view x) (from words next)) × IsAfter words at next
-Reads read words at view (Err fault) = Tells words (read (from words at)) fault
+Reads read words at view (Err fault) = Reports words (read (from words at)) fault
 
 abbrev pub ReadsWords : {T A : Type 0} → (List Token → Reading A) → List Word → ℕ → (T → A) → Result (T × ℕ) WordRefusal → Type 0
 ReadsWords read words at view (Ok (x, next)) = (read (from words at) ≡ made (view x) (from words next)) × IsAfter words at next
@@ -76,13 +76,13 @@ ReadsWords read words at view (Err refusal) = Stops words (read (from words at))
 -- the index after what is of this tree
 abbrev pub ReadsInto : {A : Type 0} → (List Token → Reading A) → List Word → ℕ → A → Result ℕ WordFault → Type 0
 ReadsInto read words at tree (Ok next) = (read (from words at) ≡ made tree (from words next)) × IsAfter words at next
-ReadsInto read words at tree (Err fault) = Tells words (read (from words at)) fault
+ReadsInto read words at tree (Err fault) = Reports words (read (from words at)) fault
 
 abbrev pub Passes : {A : Type 0} → (List Token → Reading A) → List Word → ℕ → A → Result ℕ WordRefusal → Type 0
 Passes read words at tree (Ok next) = (read (from words at) ≡ made tree (from words next)) × IsAfter words at next
 Passes read words at tree (Err refusal) = Stops words (read (from words at)) refusal
 
--- what was read stands in its place, if it was read
+-- what was read is in its place, if it was read
 abbrev pub IsPut : {T : Type 0} → Result (T × ℕ) WordFault → T → Result ℕ WordFault → Type 0
 IsPut (Ok (x, next)) placed result = (placed ≡ x) × (result ≡ Ok next)
 IsPut (Err fault) placed result = result ≡ Err fault
@@ -90,7 +90,7 @@ IsPut (Err fault) placed result = result ≡ Err fault
 -- the index from which on it is read as this other thing
 abbrev pub GoesOn : {A : Type 0} → (List Token → Reading A) → (List Token → Reading A) → List Word → ℕ → Result ℕ WordFault → Type 0
 GoesOn read other words at (Ok next) = (read (from words at) ≡ other (from words next)) × IsAfter words at next
-GoesOn read other words at (Err fault) = Tells words (read (from words at)) fault
+GoesOn read other words at (Err fault) = Reports words (read (from words at)) fault
 
 -- one more of a list, and the index from which on it goes on
 abbrev pub one_of : {X : Type 0} → (List Token → Reading (List X)) → X → List Token → Reading (List X)
@@ -98,9 +98,9 @@ one_of list x w = bind (list w) (λ xs v. made (x ∷ xs) v)
 
 abbrev pub ReadsOne : {T X : Type 0} → (List Token → Reading (List X)) → List Word → ℕ → (T → X) → Result (T × ℕ) WordFault → Type 0
 ReadsOne list words at view (Ok (x, next)) = (list (from words at) ≡ one_of list (view x) (from words next)) × IsAfter words at next
-ReadsOne list words at view (Err fault) = Tells words (list (from words at)) fault
+ReadsOne list words at view (Err fault) = Reports words (list (from words at)) fault
 
--- ---- a look at the word that stands there
+-- ---- a look at the word that is there
 
 abbrev pub closes_first : Option Token → Bool
 closes_first (Some closes) = true

@@ -1,4 +1,4 @@
--- What a refusal tells: a number and the index of a word.
+-- What a refusal reports: a number and the index of a word.
 use Rattle.std.specs.Prelude.{ℕ, List, Option, None, Some}
 use Rattle.faults.specs.declared.refused.Refused.{Refused}
 use Rattle.faults.specs.declared.refused.Refused.TheVariants.{At, NoMemory}
@@ -11,11 +11,11 @@ use Rattle.model.specs.Refusals.{span_of_place}
 abbrev pub WordFault : Type 0
 WordFault = Refused WordRefusal
 
-abbrev pub told : WordFault → Option (ℕ × ℕ)
-told (At r) = Some (number_of r.code, r.at)
-told NoMemory = None
+abbrev pub reported : WordFault → Option (ℕ × ℕ)
+reported (At r) = Some (number_of r.code, r.at)
+reported NoMemory = None
 
--- what is told of these words
+-- what is reported for these words
 abbrev pub fault_of : List Word → Option (ℕ × ℕ) → Option fault.Fault
 fault_of words (Some place) = Some (record { code = place.0; span = span_of_place words place.1 })
 fault_of words None = None

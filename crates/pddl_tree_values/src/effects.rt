@@ -98,7 +98,7 @@ fn effects<'a>(alloc: Global, words: &[Word<'a>], at: usize) -> Parsed<Vec<Effec
     Ok((parts, next + 1))
 }
 
-/// What stands under a `when`, of which the `(` was read, and the index after its `)`: literals.
+/// What is under a `when`, of which the `(` was read, and the index after its `)`: literals.
 #[tactic(auto, using(crate::proofs::Looks::of_conditional))]
 fn conditional<'a>(alloc: Global, words: &[Word<'a>], at: usize) -> Parsed<Vec<EffectLiteral<'a>>>
     ensures { Reads (part wants_conditional) words.now at (λ ls. map effect_literal_of ls.items) result }

@@ -1,5 +1,5 @@
-//! The values that stand in domain and problem files, read from their words: typed lists, formulas, effects, costs,
-//! declarations and facts; what a word is to the grammar; and what is told of one that may not stand where it does.
+//! The values that are in domain and problem files, read from their words: typed lists, formulas, effects, costs,
+//! declarations and facts; what a word is to the grammar; and what is reported for one that may not occur where it does.
 #![tactic(auto)]
 
 mod costs;

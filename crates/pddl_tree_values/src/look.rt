@@ -1,4 +1,4 @@
-//! Single words: what stands at an index, taken or refused.
+//! Single words: what is at an index, taken or refused.
 ghost use Rattle.std.specs.Prelude.{◌≡◌, ◌<◌, IfSome, IsTrue, length};
 ghost use Rattle.std.specs.Option.{option_map, option_and_then};
 ghost use Rattle.model.specs.Grammar.{a_name, action_name as wants_action_name, term as wants_term, close as wants_close, either_word as wants_either, define_word, kind_word, total_cost as wants_total_cost, amount as wants_amount, number_type, minimize_word};
@@ -16,11 +16,11 @@ use crate::word_fault::{WordFault, WordRefusal};
 use syntax_tree::{Name, TaskFile, Term};
 use tokens::Word;
 
-/// Something that was read, and the index of the word after it; else the first word that may not stand there, by its
-/// code and index, or want of memory, which says nothing about the words.
+/// Something that was read, and the index of the word after it; else the first word that may not occur there, by its
+/// code and index, or running out of memory, which says nothing about the words.
 pub type Parsed<T> = Result<(T, usize), WordFault>;
 
-/// Whether `)` stands at an index.
+/// Whether `)` is at an index.
 pub fn is_close(words: &[Word], at: usize) -> bool
     ensures within { IsTrue result → at < length words.now }
     ensures first { result ≡ closes_first (first (from words.now at)) }
@@ -28,7 +28,7 @@ pub fn is_close(words: &[Word], at: usize) -> bool
     matches!(token_at(words, at), Token::Close)
 }
 
-/// Whether `and` stands at an index.
+/// Whether `and` is at an index.
 pub(crate) fn is_and(words: &[Word], at: usize) -> bool
     ensures within { IsTrue result → at < length words.now }
     ensures first { result ≡ and_first (first (from words.now at)) }
@@ -36,7 +36,7 @@ pub(crate) fn is_and(words: &[Word], at: usize) -> bool
     matches!(token_at(words, at), Token::Reserved(ReservedName::And, _))
 }
 
-/// Whether `-` stands at an index.
+/// Whether `-` is at an index.
 pub(crate) fn is_dash(words: &[Word], at: usize) -> bool
     ensures within { IsTrue result → at < length words.now }
     ensures first { result ≡ dash_first (first (from words.now at)) }
@@ -44,7 +44,7 @@ pub(crate) fn is_dash(words: &[Word], at: usize) -> bool
     matches!(token_at(words, at), Token::Dash)
 }
 
-/// Whether `-` or `)` stands at an index, which end a group of a typed list.
+/// Whether `-` or `)` is at an index, which end a group of a typed list.
 pub(crate) fn ends_group(words: &[Word], at: usize) -> bool
     ensures within { IsTrue result → at < length words.now }
     ensures first { result ≡ ends_group_first (first (from words.now at)) }
@@ -52,7 +52,7 @@ pub(crate) fn ends_group(words: &[Word], at: usize) -> bool
     matches!(token_at(words, at), Token::Dash | Token::Close)
 }
 
-/// The word `increase`, where it stands at an index.
+/// The word `increase`, where it is at an index.
 pub(crate) fn increase_word<'a>(words: &[Word<'a>], at: usize) -> Option<Name<'a>>
     ensures within { IfSome result (λ _. at < length words.now) }
     ensures word { option_map name_of result ≡ option_and_then increase_in (first (from words.now at)) }

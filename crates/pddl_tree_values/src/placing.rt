@@ -6,14 +6,14 @@ ghost use Rattle.pddl_tree_values.specs.Reading.{IsPut};
 use crate::look::Parsed;
 use crate::word_fault::WordFault;
 
-/// Puts a value where another stands.
+/// Puts a value where another is.
 pub fn replace<T: Drop>(place: &mut T, value: T)
     ensures { place.new ≡ value }
 {
     *place = value;
 }
 
-/// Puts what was read where another value stands: the index after it.
+/// Puts what was read where another value is: the index after it.
 pub fn put<T: Drop>(place: &mut T, read: Parsed<T>) -> Result<usize, WordFault>
     ensures { IsPut read place.new result }
 {

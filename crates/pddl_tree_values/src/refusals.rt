@@ -1,4 +1,4 @@
-//! What is told of a word that may not stand where it does: the table of refusals, by what is wanted at the place.
+//! What is reported for a word that may not occur where it does: the table of refusals, by what is wanted at the place.
 ghost use Rattle.std.specs.Prelude.{◌≡◌, map};
 ghost use Rattle.faults.specs.Fault.{number_of};
 ghost use Rattle.pddl_tree_values.specs.Token.{from, first, seen, part_view, section_view};
@@ -13,7 +13,7 @@ use faults::Code;
 use syntax_tree::TaskFile;
 use tokens::Word;
 
-/// The sections that may stand in a file.
+/// The sections that may occur in a file.
 pub fn allowed(file: TaskFile) -> &'static [SectionKeyword]
     ensures { map section_view result.now ≡ grammar.sections_of (file_of file) }
 {
@@ -69,12 +69,12 @@ pub(crate) enum Literals {
     UnderWhen,
 }
 
-/// A place in a file, as far as it decides what is told of a word that may not stand there.
+/// A place in a file, as far as it decides what is reported for a word that may not occur there.
 #[derive(Clone, Copy)]
 pub enum Place<'s> {
     /// In a list that lacks what is required, where its `)` is no other list's.
     Incomplete,
-    /// Where the keyword of a part of an action may stand, or its `)`.
+    /// Where the keyword of a part of an action may occur, or its `)`.
     Parts,
     /// Where the value of a part is wanted; these parts are seen.
     Value(&'s [PartKeyword]),
@@ -86,11 +86,11 @@ pub enum Place<'s> {
     Type(Listed),
     /// At the head of a list under a `when`.
     UnderWhen,
-    /// Where `total-cost` alone may stand.
+    /// Where `total-cost` alone may occur.
     TotalCost,
     /// After `:metric`.
     Metric,
-    /// Where a number may stand.
+    /// Where a number may occur.
     Number,
     /// Anywhere else.
     Elsewhere,
@@ -121,9 +121,9 @@ pub fn refusal(words: &[Word], at: usize, place: Place) -> WordRefusal
     }
 }
 
-/// What is told of a word, or of none: the first line that fits. A keyword that may not stand where one is wanted stands
+/// What is reported for a word, or of none: the first line that fits. A keyword that may not occur where one is wanted is
 /// already or is none; an `(either ..)` is left out as the type of a name, and so are other metrics, and other functions
-/// where `total-cost` alone may stand.
+/// where `total-cost` alone may occur.
 fn code_of(token: Token, place: Place) -> Code
     ensures { number_of result ≡ number_seen (wanted place.entry) (seen token.entry) }
 {

@@ -163,7 +163,7 @@ impl<'a> Token<'a> {
     }
 }
 
-/// What stands at an index.
+/// What is at an index.
 pub fn token_at<'a>(words: &[Word<'a>], at: usize) -> Token<'a>
     ensures within { IsToken (seen result) → at < length words.now }
     ensures first { seen result ≡ first (from words.now at) }

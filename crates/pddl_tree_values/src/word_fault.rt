@@ -1,4 +1,4 @@
-//! Why the words from some place on are refused, before it is told in bytes of the file.
+//! Why the words from some place on are refused, before it is reported in bytes of the file.
 use faults::{Code, Refused};
 
 /// The word at this index is refused; the words run out where it is their number.

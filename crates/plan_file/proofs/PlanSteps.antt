@@ -19,17 +19,17 @@ use Rattle.formulas.proofs.Quantifiers.{pointwise_push}
 use Rattle.tokens.proofs.Cut.{cut_unique}
 use Rattle.plan_file.specs.PlanFile.{IsNoObject, IsWrongObject, IsFirstFault}
 
--- what is told, where it is known
-pub told_some : (P : Fault → Type 0) (o : Option Fault) (fault : Fault) → o ≡ Some fault → P fault → IfSome o P
-told_some P o fault e h = subst (λ p. IfSome p P) (sym e) h
+-- what is reported, where it is known
+pub reported_some : (P : Fault → Type 0) (o : Option Fault) (fault : Fault) → o ≡ Some fault → P fault → IfSome o P
+reported_some P o fault e h = subst (λ p. IfSome p P) (sym e) h
 
-pub told_none : (P : Fault → Type 0) (o : Option Fault) → IfSome o P → ((fault : Fault) → P fault → ⊥) → o ≡ None
-told_none P None h never = refl
-told_none P (Some fault) h never = absurd (never fault h)
+pub reported_none : (P : Fault → Type 0) (o : Option Fault) → IfSome o P → ((fault : Fault) → P fault → ⊥) → o ≡ None
+reported_none P None h never = refl
+reported_none P (Some fault) h never = absurd (never fault h)
 
-pub told_more : (P Q : Fault → Type 0) (o : Option Fault) → ((fault : Fault) → P fault → Q fault) → IfSome o P → IfSome o Q
-told_more P Q None f h = tt
-told_more P Q (Some fault) f h = f fault h
+pub reported_more : (P Q : Fault → Type 0) (o : Option Fault) → ((fault : Fault) → P fault → Q fault) → IfSome o P → IfSome o Q
+reported_more P Q None f h = tt
+reported_more P Q (Some fault) f h = f fault h
 
 -- a list at an index
 pub split_at : {A B : Type 0} (f : A → B) (xs : List A) (i : ℕ) (x : A) → i < length xs → x ≡ get_or xs i x → map f xs ≡ map f (take i xs) ++ f x ∷ map f (drop (i + 1) xs)
@@ -74,21 +74,21 @@ found task number unions e = by_schema (slice_get task.schemas number) refl e
     by_schema None here e = absurd (cc)
     by_schema (Some schema) here e = record { schema = schema; here = here; parameters = cc }
 
--- what is told of a step, and what it means
+-- what is reported for a step, and what it means
 module _ (task : Task) (step : Step) where
   pub action_refused : position (is_same (folded step.action)) (schema_names task) ≡ None → (o : Option Fault) → o ≡ Some (record { code = 32; span = step.action.span }) → IfSome o (IsStepFault task step)
-  action_refused none o told =
-      told_some (IsStepFault task step) o _ told (unknown_action (λ (number, is). let both : Some number ≡ None = sym is ∙ none in cc) refl refl)
+  action_refused none o reported =
+      reported_some (IsStepFault task step) o _ reported (unknown_action (λ (number, is). let both : Some number ≡ None = sym is ∙ none in cc) refl refl)
 
   pub count_refused : (number : ℕ) (unions : List Union) → IsNumberOf (schema_names task) step.action number → HasParameters task number unions → length step.objects ≢ length unions → (o : Option Fault) → o ≡ Some (record { code = 33; span = step.action.span }) → IfSome o (IsStepFault task step)
-  count_refused number unions is has differs o told =
+  count_refused number unions is has differs o reported =
       let f = found task number unions has in
-      told_some (IsStepFault task step) o _ told (wrong_count number f.schema is f.here (λ h. differs (h ∙ ap length f.parameters)) refl refl)
+      reported_some (IsStepFault task step) o _ reported (wrong_count number f.schema is f.here (λ h. differs (h ∙ ap length f.parameters)) refl refl)
 
   pub objects_refused : (number : ℕ) (unions : List Union) → IsNumberOf (schema_names task) step.action number → HasParameters task number unions → length step.objects ≡ length unions → (o : Option Fault) → IfSome o (IsWrongObject task unions step.objects) → IfSome o (IsStepFault task step)
   objects_refused number unions is has same o h =
       let f = found task number unions has in
-      told_more (IsWrongObject task unions step.objects) (IsStepFault task step) o
+      reported_more (IsWrongObject task unions step.objects) (IsStepFault task step) o
       (λ fault w. wrong_object number f.schema is f.here (same ∙ sym (ap length f.parameters)) w.before w.after w.name w.theirs w.others w.types w.names_in_order (f.parameters ∙ w.types_in_order) w.objects_before w.wrong.is_none w.wrong.code w.wrong.span) h
 
   pub step_means : (i : Instance) (unions : List Union) → IsNumberOf (schema_names task) step.action i.schema → HasParameters task i.schema unions → AreNumbersOf (object_names task) step.objects i.objects → pointwise (is_of task) unions i.objects ≡ true → Means task step i
@@ -107,12 +107,12 @@ fit_more task f xs i x g items more y inside is more_is fit here =
     (λ j. pointwise (is_of task) (taken_at f xs i x inside is j) ((ap (map g) more_is ∙ map-append g items (y ∷ [])) j))
     ∙ pointwise_push (is_of task) (map f (take i xs)) (map g items) (f x) (g y) fit here
 
--- what is told of the first object that is not of the types in its place
+-- what is reported for the first object that is not of the types in its place
 pub object_refused : {A B C : Type 0} (task : Task) (f : A → Union) (xs : List A) (g : B → Name) (ys : List B) (i : ℕ) (x : A) (y : B) (h : C → ℕ) (items : List C) → i < length xs → i < length ys → x ≡ get_or xs i x → y ≡ get_or ys i y
     → AreNumbersOf (object_names task) (map g (take i ys)) (map h items) → pointwise (is_of task) (map f (take i xs)) (map h items) ≡ true
     → (o : Option Fault) → IfSome o (IsNoObject task (f x) (g y)) → IfSome o (IsWrongObject task (map f xs) (map g ys))
-object_refused task f xs g ys i x y h items inside within types_are name_is are fit o told =
-    told_more (IsNoObject task (f x) (g y)) (IsWrongObject task (map f xs) (map g ys)) o
+object_refused task f xs g ys i x y h items inside within types_are name_is are fit o reported =
+    reported_more (IsNoObject task (f x) (g y)) (IsWrongObject task (map f xs) (map g ys)) o
     (λ fault wrong. record {
       before = map g (take i ys);
       after = map g (drop (i + 1) ys);
@@ -124,15 +124,15 @@ object_refused task f xs g ys i x y h items inside within types_are name_is are 
       types_in_order = split_at f xs i x inside types_are;
       objects_before = names_each task (map f (take i xs)) (map g (take i ys)) (map h items) are fit;
       wrong = wrong;
-    }) told
+    }) reported
 
--- what is told of a text
+-- what is reported for a text
 pub form_refused : (task : Task) (text : List ℕ) (o : Option Fault) → IfSome o (IsFormFault text) → IfSome o (IsPlanFault task text)
-form_refused task text o h = told_more (IsFormFault text) (IsPlanFault task text) o (λ fault wrong. of_form wrong) h
+form_refused task text o h = reported_more (IsFormFault text) (IsPlanFault task text) o (λ fault wrong. of_form wrong) h
 
 pub meaning_refused : (task : Task) (text : List ℕ) (steps : List Step) → HasSteps text steps → (o : Option Fault) → IfSome o (IsFirstFault task steps) → IfSome o (IsPlanFault task text)
 meaning_refused task text steps has o h =
-    told_more (IsFirstFault task steps) (IsPlanFault task text) o
+    reported_more (IsFirstFault task steps) (IsPlanFault task text) o
     (λ fault first. of_step steps first.before first.after first.step first.plan has first.in_order first.mean first.wrong) h
 
 -- the laws
@@ -150,7 +150,7 @@ one_fault_of_text task text fault other = one_fault text (one_cut text) task fau
 
 pub none_of_plan : (task : Task) (text : List ℕ) (o : Option Fault) → IfSome o (IsPlanFault task text) → (plan : List Instance) → IsPlanText task text plan → o ≡ None
 none_of_plan task text o h plan is =
-    told_none (IsPlanFault task text) o h
+    reported_none (IsPlanFault task text) o h
     (λ fault. no_fault_of_plan task text plan fault is)
 
 -- a text has not too many steps for a plan

@@ -8,7 +8,7 @@ use Rattle.model.specs.PlanText.{Placed, placed_from, Step, HasSteps, is_stamp, 
 use Rattle.model.specs.PlanMachine.{Sort, sort_by, Place, outside, Turn, stops, goes, ends, turn, Outcome, reads, refuses, with_step, with_steps, open_at, at_end, after_turn, outcome}
 use Rattle.model.proofs.PlanReading.{form_fault, has_steps}
 use Rattle.tokens.proofs.Cut.{cut, cut_parts, PartBetween, part_between}
-use Rattle.plan_file.specs.PlanFile.{read_from, TellsStop}
+use Rattle.plan_file.specs.PlanFile.{read_from, ReportsStop}
 
 -- one part more
 module _ (text : List ℕ) (start end : ℕ) (f : Form) (inside_text : start < length text)
@@ -92,12 +92,12 @@ module _ (text : List ℕ) (at end : ℕ) (place : Place) (t : Turn) (span : Spa
   }
 
   stops_whole : (fault : Fault) → t ≡ stops fault.code → fault.span ≡ span → whole text ≡ refuses fault
-  stops_whole fault e told = sym keeps.same ∙ ap (with_steps so_far) (read ∙ ap (λ u. after_turn span u (read_from text end)) e ∙ ap (λ s. refuses (record { code = fault.code; span = s })) (sym told))
+  stops_whole fault e reported = sym keeps.same ∙ ap (with_steps so_far) (read ∙ ap (λ u. after_turn span u (read_from text end)) e ∙ ap (λ s. refuses (record { code = fault.code; span = s })) (sym reported))
 
-  pub word_refused : length text ≤ longest_text → (o : Option Fault) → IfSome o (TellsStop t span) → IfSome o (IsFormFault text)
+  pub word_refused : length text ≤ longest_text → (o : Option Fault) → IfSome o (ReportsStop t span) → IfSome o (IsFormFault text)
   word_refused short None h = tt
-  word_refused short (Some fault) (stopped, told) =
-      form_fault text (cut text) fault short (cut_parts text) (stops_whole fault stopped told)
+  word_refused short (Some fault) (stopped, reported) =
+      form_fault text (cut text) fault short (cut_parts text) (stops_whole fault stopped reported)
 
 -- the end of the text
 module _ (text : List ℕ) (at : ℕ) (place : Place) (so_far : List Step) (short : length text ≤ longest_text)
@@ -109,5 +109,5 @@ module _ (text : List ℕ) (at : ℕ) (place : Place) (so_far : List Step) (shor
 
   pub end_refused : at_end (length text) place ≡ refuses (open_at (length text)) → (o : Option Fault)
       → o ≡ Some (open_at (length text)) → IfSome o (IsFormFault text)
-  end_refused at_an_end o told = subst (λ p. IfSome p (IsFormFault text)) (sym told)
+  end_refused at_an_end o reported = subst (λ p. IfSome p (IsFormFault text)) (sym reported)
       (form_fault text (cut text) (open_at (length text)) short (cut_parts text) (sym keeps.same ∙ ap (with_steps so_far) (read ∙ at_an_end)))

@@ -2,7 +2,7 @@
 use Rattle.std.proofs.Common.{◌≡◌, ℕ, ◌≤◌, List, [], ◌∷◌, ◌++◌, length, map, Option, Some, None, IfSome, ap, ◌∙◌, subst, sym, append_assoc, true, false, true≢false}
 use Rattle.std.specs.Prelude.{is_some}
 use Rattle.std.proofs.lemmas.List.{map-append}
-use Rattle.tokens.specs.Told.{told_by}
+use Rattle.tokens.specs.Reported.{reported_by}
 use Rattle.faults.specs.declared.refused.TextRefusal.{TextRefusal}
 use Rattle.faults.specs.declared.refused.Refused.TheVariants.{At}
 use Rattle.model.specs.Fault.{Span, Fault}
@@ -14,7 +14,7 @@ use Rattle.model.proofs.PlanMeaning.{all_mean_push}
 use Rattle.plan_file.specs.PlanFile.{read_from, IsFirstFault, MeanOrRefused, IsMeaning}
 use Rattle.plan_file.specs.declared.steps.Meaning.{Meaning}
 use Rattle.plan_file.proofs.PlanWords.{Keeps, keeps_on, keeps_step, all_read}
-use Rattle.plan_file.proofs.PlanSteps.{told_more, meaning_refused}
+use Rattle.plan_file.proofs.PlanSteps.{reported_more, meaning_refused}
 
 -- There are steps so far, of which no list is in memory: the text is read as them up to here, and this is what they mean
 pub record IsReadSoFar (task : Task) (text : List ℕ) (at : ℕ) (place : Place) (meaning : Meaning) : Type 0 where
@@ -33,7 +33,7 @@ module _ (task : Task) (steps : List Step) (step : Step) where
   -- what is refused stays the first
   stays_first : (o : Option Fault) → IfSome o (IsFirstFault task steps) → IfSome o (IsFirstFault task (steps ++ step ∷ []))
   stays_first o h =
-      told_more (IsFirstFault task steps) (IsFirstFault task (steps ++ step ∷ [])) o
+      reported_more (IsFirstFault task steps) (IsFirstFault task (steps ++ step ∷ [])) o
       (λ fault first. record {
         before = first.before;
         after = first.after ++ step ∷ [];
@@ -47,7 +47,7 @@ module _ (task : Task) (steps : List Step) (step : Step) where
   -- after the first at fault nothing is taken
   pub none_taken : (o : Option TextRefusal) → is_some o ≡ true → (plan : List Instance) → MeanOrRefused task steps o plan → MeanOrRefused task (steps ++ step ∷ []) o plan
   none_taken None refused plan mean = absurd (true≢false (sym refused))
-  none_taken (Some refusal) refused plan first = stays_first (told_by (At refusal)) first
+  none_taken (Some refusal) refused plan first = stays_first (reported_by (At refusal)) first
 
   pub instance_taken : {A : Type 0} (f : A → Instance) (items more : List A) (x : A) → more ≡ items ++ x ∷ [] → (o : Option TextRefusal) → is_some o ≡ false → MeanOrRefused task steps o (map f items)
       → Means task step (f x) → MeanOrRefused task (steps ++ step ∷ []) o (map f more)

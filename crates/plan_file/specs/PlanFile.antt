@@ -8,7 +8,7 @@ use Rattle.plan_file.specs.declared.text.Place.TheVariants.{Outside, Opened, Ins
 use Rattle.plan_file.specs.declared.text.Turn.{Turn}
 use Rattle.plan_file.specs.declared.text.Turn.TheVariants.{Goes, Ends}
 use Rattle.plan_file.specs.declared.steps.Meaning.{Meaning}
-use Rattle.tokens.specs.Told.{told_by}
+use Rattle.tokens.specs.Reported.{reported_by}
 use Rattle.faults.specs.declared.refused.TextRefusal.{TextRefusal}
 use Rattle.faults.specs.declared.refused.Refused.TheVariants.{At}
 use Rattle.formulas.specs.State.{instance_of}
@@ -48,9 +48,9 @@ abbrev pub turn_of : Turn → List Word → machine.Turn
 turn_of (Goes place) objects = machine.goes (place_of place objects)
 turn_of (Ends action) objects = machine.ends (step_of action objects)
 
--- the word stops the reading, by the number that is told, and its span is told
-abbrev pub TellsStop : machine.Turn → Span → Fault → Type 0
-TellsStop t span fault = (t ≡ machine.stops fault.code) × (fault.span ≡ span)
+-- the word stops the reading, by the number that is reported, and its span is reported
+abbrev pub ReportsStop : machine.Turn → Span → Fault → Type 0
+ReportsStop t span fault = (t ≡ machine.stops fault.code) × (fault.span ≡ span)
 
 -- what is read of the text from this offset and place on
 abbrev pub read_from : List ℕ → ℕ → machine.Place → Outcome
@@ -63,13 +63,13 @@ GivesWord text at (Some word) =
     (place : machine.Place) → read_from text at place
     ≡ after_turn (span_of word) (turn place (sort_of word.sort) (name_of word)) (read_from text (word.start + length word.text.now))
 
--- the name is not that of an object of one of these types, and the fault is told of it
+-- the name is not that of an object of one of these types, and the fault is reported for it
 pub record IsNoObject (task : Task) (types : Union) (name : tree.Name) (fault : Fault) : Type 0 where
   pub is_none : NamesObject task types name → ⊥
   pub code : fault.code ≡ 34
   pub span : fault.span ≡ name.span
 
--- of these names the first that is not that of an object of the types in its place, and the fault that is told of it
+-- of these names the first that is not that of an object of the types in its place, and the fault that is reported for it
 pub record IsWrongObject (task : Task) (unions : List Union) (names : List tree.Name) (fault : Fault) : Type 0 where
   pub before : List tree.Name
   pub after : List tree.Name
@@ -95,7 +95,7 @@ pub record IsFirstFault (task : Task) (steps : List text.Step) (fault : Fault) :
 -- the steps name these instances, or the first that is at fault is refused so
 abbrev pub MeanOrRefused : Task → List text.Step → Option TextRefusal → List Instance → Type 0
 MeanOrRefused task steps None plan = AllMean task steps plan
-MeanOrRefused task steps (Some refusal) plan = IfSome (told_by (At refusal)) (IsFirstFault task steps)
+MeanOrRefused task steps (Some refusal) plan = IfSome (reported_by (At refusal)) (IsFirstFault task steps)
 
 -- it is what these steps mean
 abbrev pub IsMeaning : Task → List text.Step → Meaning → Type 0

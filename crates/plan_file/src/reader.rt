@@ -2,7 +2,7 @@
 //! first fault of a step's meaning then waits for the end of the text, since a fault of form goes before it.
 ghost use Rattle.std.specs.Prelude.{◌≡◌, ◌<◌, List, IsTrue, IfOk, IfErr, IsErrAnd, IfSome, None, Some, ℕ, length, map};
 ghost use Rattle.std.specs.List.{list_all};
-ghost use Rattle.tokens.specs.Told.{told_by};
+ghost use Rattle.tokens.specs.Reported.{reported_by};
 ghost use Rattle.task.specs.Task.{task_of};
 ghost use Rattle.formulas.specs.State.{instance_of, plan_of};
 ghost use Rattle.model.specs.Meaning.{is_instance};
@@ -10,7 +10,7 @@ ghost use Rattle.model.specs.PlanExamples.{ArePlans};
 ghost use Rattle.model.specs.PlanText.{IsPlanText, IsPlanFault};
 ghost use Rattle.model.specs.Words.{longest_text};
 ghost use Rattle.model.specs.Task as model;
-ghost use Rattle.model.specs.Fault as told;
+ghost use Rattle.model.specs.Fault as reported;
 
 use crate::steps::Meaning;
 use crate::text::{Place, Turn};
@@ -50,14 +50,14 @@ use tokens::LONGEST_TEXT;
 pub fn read_plan(alloc: Global, task: &Task, text: &[u8]) -> Result<Plan, Fault>
     ensures plan { IfOk result (λ plan. IsPlanText (task_of task.now) text.now (plan_of plan)) }
     ensures instances { IfOk result (λ plan. IsTrue (list_all (is_instance (task_of task.now)) (plan_of plan))) }
-    ensures refused { IfErr result (λ fault. IfSome (told_by fault) (IsPlanFault (task_of task.now) text.now)) }
+    ensures refused { IfErr result (λ fault. IfSome (reported_by fault) (IsPlanFault (task_of task.now) text.now)) }
 
-    // A text that is a plan for the task is never refused: the only error is want of memory.
+    // A text that is a plan for the task is never refused: the only error is running out of memory.
     ensures taken { (plan : List model.Instance) → IsPlanText (task_of task.now) text.now plan
-        → IfErr result (λ fault. told_by fault ≡ None) }
+        → IfErr result (λ fault. reported_by fault ≡ None) }
 
-    // A text that is too long is refused for that, and never for want of memory.
-    ensures too_long { longest_text < length text.now → IsErrAnd result (λ fault. told_by fault
+    // A text that is too long is refused for that, and never for running out of memory.
+    ensures too_long { longest_text < length text.now → IsErrAnd result (λ fault. reported_by fault
         ≡ Some (record { code = 30; span = record { start = longest_text; end = length text.now } })) }
 {
     let instances = instances_of(alloc, task, text)?;
@@ -68,8 +68,8 @@ pub fn read_plan(alloc: Global, task: &Task, text: &[u8]) -> Result<Plan, Fault>
 /// The instances of the steps of a whole text, in order.
 fn instances_of(alloc: Global, task: &Task, text: &[u8]) -> Result<Vec<Instance>, Fault>
     ensures plan { IfOk result (λ found. IsPlanText (task_of task.now) text.now (map instance_of found.items)) }
-    ensures refused { IfErr result (λ fault. IfSome (told_by fault) (IsPlanFault (task_of task.now) text.now)) }
-    ensures too_long { longest_text < length text.now → IsErrAnd result (λ fault. told_by fault
+    ensures refused { IfErr result (λ fault. IfSome (reported_by fault) (IsPlanFault (task_of task.now) text.now)) }
+    ensures too_long { longest_text < length text.now → IsErrAnd result (λ fault. reported_by fault
         ≡ Some (record { code = 30; span = record { start = longest_text; end = length text.now } })) }
 {
     if text.len() > LONGEST_TEXT {
@@ -95,22 +95,22 @@ fn instances_of(alloc: Global, task: &Task, text: &[u8]) -> Result<Vec<Instance>
     }
 }
 
-/// A text is at most one plan for a task, and no fault is told of one that is a plan. It is stated of all texts, and
+/// A text is at most one plan for a task, and no fault is reported for one that is a plan. It is stated of all texts, and
 /// proved; the call does nothing.
 pub fn one_plan()
     ensures one { (task : model.Task) (text : List ℕ) (plan other : List model.Instance)
         → IsPlanText task text plan → IsPlanText task text other → plan ≡ other }
-    ensures none { (task : model.Task) (text : List ℕ) (plan : List model.Instance) (fault : told.Fault)
+    ensures none { (task : model.Task) (text : List ℕ) (plan : List model.Instance) (fault : reported.Fault)
         → IsPlanText task text plan → IsPlanFault task text fault → ⊥ }
 {}
 
-/// Of a text at most one fault is told for a task. It is stated of all texts, and proved; the call does nothing.
+/// Of a text at most one fault is reported for a task. It is stated of all texts, and proved; the call does nothing.
 pub fn one_fault()
-    ensures { (task : model.Task) (text : List ℕ) (fault other : told.Fault)
+    ensures { (task : model.Task) (text : List ℕ) (fault other : reported.Fault)
         → IsPlanFault task text fault → IsPlanFault task text other → fault ≡ other }
 {}
 
-/// The worked examples of plan texts: small texts with their plan, or with the fault that is told of them.
-pub fn examples_are_as_told()
+/// The worked examples of plan texts: small texts with their plan, or with the fault that is reported for them.
+pub fn examples_are_as_reported()
     ensures { ArePlans }
 {}

@@ -2,7 +2,7 @@
 ghost use Rattle.std.specs.Prelude.{◌≡◌, ◌<◌, ◌≤◌, ◌++◌, ◌∷◌, [], ℕ, List, Some, IsTrue, IfOk, IfErr, IfSome, OnOk, length, map, position, slice_get};
 ghost use Rattle.std.specs.Cmp.Lexicographic.{pointwise};
 ghost use Rattle.std.specs.Option.{option_map};
-ghost use Rattle.tokens.specs.Told.{told_by};
+ghost use Rattle.tokens.specs.Reported.{reported_by};
 ghost use Rattle.task.specs.Task.{task_of};
 ghost use Rattle.task.specs.TaskParts.{object_of, schema_id_of, union_of};
 ghost use Rattle.formulas.specs.State as view;
@@ -24,7 +24,7 @@ use task::{ObjectId, SchemaId, Task, TypeUnion};
 pub(super) struct Meaning {
     /// The instances of the steps before the first at fault.
     instances: Vec<Instance>,
-    /// What is told of the first at fault.
+    /// What is reported for the first at fault.
     refusal: Option<TextRefusal>,
     /// Where each name is folded: it grows to the longest.
     buffer: Vec<u8>,
@@ -68,7 +68,7 @@ impl Meaning {
         ensures mean { IfOk result (λ found. (task : model.Task) (steps : List text.Step) → IsMeaning task steps self
             → AllMean task steps (map view.instance_of found.items)) }
         ensures refused { IfErr result (λ fault. (task : model.Task) (steps : List text.Step) → IsMeaning task steps self
-            → IfSome (told_by fault) (IsFirstFault task steps)) }
+            → IfSome (reported_by fault) (IsFirstFault task steps)) }
     {
         let Meaning {
             instances,
@@ -90,7 +90,7 @@ fn instance_of(
     buffer: &mut Vec<u8>,
 ) -> Result<Instance, Fault>
     ensures means { IfOk result (λ i. Means (task_of task.now) (step_of action.entry names.now) (view.instance_of i)) }
-    ensures refused { IfErr result (λ fault. IfSome (told_by fault) (IsStepFault (task_of task.now) (step_of action.entry names.now))) }
+    ensures refused { IfErr result (λ fault. IfSome (reported_by fault) (IsStepFault (task_of task.now) (step_of action.entry names.now))) }
 {
     let Some(schema) = schema_named(task, action, buffer)? else {
         return Err(action.refused(Code::UnknownAction));
@@ -123,7 +123,7 @@ fn objects_of(
     requires counts { length names.now ≡ length parameters.now }
     ensures objects { IfOk result (λ found. AreNumbersOf (object_names (task_of task.now)) (map name_of names.now) (map object_of found.items)) }
     ensures fit { IfOk result (λ found. IsTrue (pointwise (is_of (task_of task.now)) (map union_of parameters.now) (map object_of found.items))) }
-    ensures refused { IfErr result (λ fault. IfSome (told_by fault)
+    ensures refused { IfErr result (λ fault. IfSome (reported_by fault)
         (IsWrongObject (task_of task.now) (map union_of parameters.now) (map name_of names.now))) }
 {
     let mut objects = Binding::new();
@@ -142,7 +142,7 @@ fn object_of(
 ) -> Result<ObjectId, Fault>
     ensures number { IfOk result (λ object. IsNumberOf (object_names (task_of task.now)) (name_of name.entry) object.0) }
     ensures fits { IfOk result (λ object. IsTrue (is_of (task_of task.now) (union_of types.now) object.0)) }
-    ensures refused { IfErr result (λ fault. IfSome (told_by fault) (IsNoObject (task_of task.now) (union_of types.now) (name_of name.entry))) }
+    ensures refused { IfErr result (λ fault. IfSome (reported_by fault) (IsNoObject (task_of task.now) (union_of types.now) (name_of name.entry))) }
 {
     match object_named(task, name, buffer)? {
         Some(object) if task.is_of(object, types) => Ok(object),

@@ -1,13 +1,13 @@
 //! The form of a plan text.
 ghost use Rattle.std.specs.Prelude.{◌≡◌, IfOk, IfErr, IfSome};
-ghost use Rattle.tokens.specs.Told.{told_by};
-ghost use Rattle.plan_file.specs.PlanFile.{place_of, turn_of, sort_of, name_of, span_of, TellsStop};
+ghost use Rattle.tokens.specs.Reported.{reported_by};
+ghost use Rattle.plan_file.specs.PlanFile.{place_of, turn_of, sort_of, name_of, span_of, ReportsStop};
 ghost use Rattle.model.specs.PlanMachine.{turn};
 
 use crate::word::{Sort, Word};
 use faults::{Code, Fault};
 
-/// Where in a plan text a word stands. The names of the objects of a step that is open stand in a buffer beside it.
+/// Where in a plan text a word is. The names of the objects of a step that is open are in a buffer beside it.
 #[derive(Clone, Copy)]
 pub(super) enum Place<'a> {
     /// Outside of steps.
@@ -36,8 +36,8 @@ impl<'a> Place<'a> {
     ) -> Result<Turn<'a>, Fault>
         ensures goes_on { IfOk result (λ next.
             turn (place_of self.entry objects.old.items) (sort_of word.entry.sort) (name_of word.entry) ≡ turn_of next objects.new.items) }
-        ensures refused { IfErr result (λ fault. IfSome (told_by fault)
-            (TellsStop (turn (place_of self.entry objects.old.items) (sort_of word.entry.sort) (name_of word.entry)) (span_of word.entry))) }
+        ensures refused { IfErr result (λ fault. IfSome (reported_by fault)
+            (ReportsStop (turn (place_of self.entry objects.old.items) (sort_of word.entry.sort) (name_of word.entry)) (span_of word.entry))) }
     {
         match self {
             Place::Outside => match word.sort {

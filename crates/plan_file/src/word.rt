@@ -1,7 +1,7 @@
 //! The words of a plan text.
 ghost use Rattle.std.specs.Prelude.{◌≡◌, ◌+◌, ◌<◌, ◌≤◌, ◌^◌, length, IfSome, Some};
 ghost use Rattle.faults.specs.Fault.{number_of};
-ghost use Rattle.tokens.specs.Told.{told_by};
+ghost use Rattle.tokens.specs.Reported.{reported_by};
 ghost use Rattle.tokens.specs.Form.{view};
 ghost use Rattle.model.specs.Words.{is_gap};
 ghost use Rattle.model.specs.PlanText.{is_stamp};
@@ -104,15 +104,15 @@ impl<'a> Word<'a> {
 
     /// Its refusal by this code.
     pub(super) fn refused(self, code: Code) -> Fault
-        ensures { told_by result ≡ Some (record { code = number_of code; span = span_of self.entry }) }
+        ensures { reported_by result ≡ Some (record { code = number_of code; span = span_of self.entry }) }
     {
         refusal(code, self.start, self.end())
     }
 }
 
-/// The refusal of what stands between these offsets.
+/// The refusal of what is between these offsets.
 pub(super) fn refusal(code: Code, start: usize, end: usize) -> Fault
-    ensures { told_by result ≡ Some (record { code = number_of code; span = record { start = start; end = end } }) }
+    ensures { reported_by result ≡ Some (record { code = number_of code; span = record { start = start; end = end } }) }
 {
     let span = Span { start, end };
     Refused::At(TextRefusal { code, span })

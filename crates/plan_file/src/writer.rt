@@ -23,7 +23,7 @@ use task::{ObjectId, SchemaId, Task};
 
 /// Writes the text of a plan of this cost.
 ///
-/// Each step stands on a line, in lower case and with one blank between words, and last the line `; cost = N`. Every
+/// Each step is on a line, in lower case and with one blank between words, and last the line `; cost = N`. Every
 /// line ends with LF. An empty plan of cost 0 is `; cost = 0` and LF. A line is made in memory and then written, and
 /// never the whole text.
 ///

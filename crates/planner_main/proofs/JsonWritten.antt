@@ -32,7 +32,7 @@ quoted_same s = ap (λ (inner : List ℕ). 34 ∷ (inner ++ 34 ∷ [])) (all_esc
 strings_written : (later : Bool) (s : List ℕ) (rest : List (List ℕ)) → items_text later (items_of (map built.string (s ∷ rest))) ≡ comma_if later ++ (joined (map string_text (s ∷ rest)) ++ 93 ∷ [])
 strings_written later s [] = ap (λ (t : List ℕ). comma_if later ++ (t ++ 93 ∷ [])) (quoted_same s)
 strings_written later s (next ∷ rest) =
-    ap₂ (λ (t behind : List ℕ). comma_if later ++ (t ++ behind)) (quoted_same s) (strings_written true next rest)
+    ap₂ (λ (t following : List ℕ). comma_if later ++ (t ++ following)) (quoted_same s) (strings_written true next rest)
     ∙ ap (λ (t : List ℕ). comma_if later ++ t) (sym (append_assoc (string_text s) (44 ∷ joined (map string_text (next ∷ rest))) (93 ∷ [])))
 
 value_written : (v : Value) → compact_text (value_built v) ≡ value_text v
@@ -41,10 +41,10 @@ value_written (text s) = quoted_same s
 value_written (texts []) = refl
 value_written (texts (s ∷ rest)) = ap (λ (t : List ℕ). 91 ∷ t) (strings_written false s rest)
 
-member_written : (m : Member) (behind : List ℕ) → quoted m.key ++ 58 ∷ (compact_text (value_built m.value) ++ behind) ≡ member_text m ++ behind
-member_written m behind =
-    ap₂ (λ (k v : List ℕ). k ++ 58 ∷ (v ++ behind)) (quoted_same m.key) (value_written m.value)
-    ∙ sym (append_assoc (string_text m.key) (58 ∷ value_text m.value) behind)
+member_written : (m : Member) (following : List ℕ) → quoted m.key ++ 58 ∷ (compact_text (value_built m.value) ++ following) ≡ member_text m ++ following
+member_written m following =
+    ap₂ (λ (k v : List ℕ). k ++ 58 ∷ (v ++ following)) (quoted_same m.key) (value_written m.value)
+    ∙ sym (append_assoc (string_text m.key) (58 ∷ value_text m.value) following)
 
 members_written : (later : Bool) (m : Member) (rest : List Member) → members_text later (members_built (m ∷ rest)) ≡ comma_if later ++ (joined (map member_text (m ∷ rest)) ++ 125 ∷ [])
 members_written later m [] = ap (λ (t : List ℕ). comma_if later ++ t) (member_written m (125 ∷ []))
@@ -71,7 +71,7 @@ value_whole (texts list) = strings_whole list
 -- no number of it is a float
 object_whole : (members : List Member) → has_float (object (members_built members)) ≡ false
 object_whole [] = refl
-object_whole (m ∷ rest) = ap₂ (λ (first behind : Bool). first || behind) (value_whole m.value) (object_whole rest)
+object_whole (m ∷ rest) = ap₂ (λ (first following : Bool). first || following) (value_whole m.value) (object_whole rest)
 
 -- the object that is built is the one that a reader makes
 strings_outlined : (list : List (List ℕ)) → items_outline (items_of (map built.string list)) ≡ strings_read list
@@ -114,8 +114,8 @@ object_read members bytes in_order =
     ∙ ap (option_and_then (λ p. if_last p.0 p.1)) (value-json_tokens read max_depth [] (object_deep members))
 
 -- so what is written for it is the text, and reads as its members
-pub text_told : (members : List Member) (d : Data) → d ≡ object (members_built members) → (bytes : List ℕ) → (has_float d ≡ false → bytes ≡ compact_text d) → bytes ≡ object_text members
-text_told members d is bytes told = told (ap has_float is ∙ object_whole members) ∙ ap compact_text is ∙ object_written members
+pub text_reported : (members : List Member) (d : Data) → d ≡ object (members_built members) → (bytes : List ℕ) → (has_float d ≡ false → bytes ≡ compact_text d) → bytes ≡ object_text members
+text_reported members d is bytes said = said (ap has_float is ∙ object_whole members) ∙ ap compact_text is ∙ object_written members
 
-pub members_told : (members : List Member) (d : Data) → d ≡ object (members_built members) → (bytes : List ℕ) → IsInOrder bytes d → document bytes ≡ Some (json.object (members_read members))
-members_told members d is bytes in_order = object_read members bytes (subst (IsInOrder bytes) is in_order)
+pub members_reported : (members : List Member) (d : Data) → d ≡ object (members_built members) → (bytes : List ℕ) → IsInOrder bytes d → document bytes ≡ Some (json.object (members_read members))
+members_reported members d is bytes in_order = object_read members bytes (subst (IsInOrder bytes) is in_order)

@@ -1,8 +1,8 @@
 pub mod JsonWritten
 pub mod MembersInOrder
 pub mod JsonExampleProofs
-pub mod JsonTold
+pub mod JsonReported
 pub mod ProgramWords
-pub mod ProgramTold
-pub mod CertificateTold
+pub mod ProgramReported
+pub mod CertificateReported
 pub mod OrderWanted

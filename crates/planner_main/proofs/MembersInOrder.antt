@@ -1,4 +1,4 @@
--- Members whose keys ascend are put into the library's object one behind the other.
+-- Members whose keys ascend are put into the library's object one after the other.
 use Rattle.std.proofs.Common.{◌≡◌, ℕ, zero, suc, ◌+◌, ◌<◌, ◌≤◌, true, List, [], ◌∷◌, length, take, get_or, Ordering, Less, Equal, Greater, String, Global, BTreeMap, refl, sym, ap, ◌∙◌, arith}
 use Rattle.std.proofs.lemmas.Bool.{and_parts}
 use Rattle.std.proofs.lemmas.Cmp.{nat_list_cmp_total}
@@ -14,7 +14,7 @@ use Rattle.serde_json.proofs.Views.{view-Object}
 use Rattle.planner_main.specs.JsonText.{comes_before, ascend}
 use Rattle.planner_main.specs.Members.{keys_of, members_of, value_of}
 use Rattle.planner_main.specs.MembersBuilt.{value_built, members_built}
-use Rattle.planner_main.specs.declared.telling.members.Member.{Member}
+use Rattle.planner_main.specs.declared.printing.members.Member.{Member}
 
 less_at : (o : Ordering) → match_ordering o true false false ≡ true → o ≡ Less
 less_at Less e = refl
@@ -44,7 +44,7 @@ put_at (first ∷ later) (suc i) d within ascends =
     nat_list_cmp_total.antisymm next.key.now first.key.now ∙ ap ordering_reverse (first_below first later i d (omega (arith, within)) ascends) in
     rw above (ap (built.member first.key.now (value_built (value_of first.value))) (put_at later i d (omega (arith, within)) (rest_ascends first later ascends)))
 
--- the next member is put behind those before it
+-- the next member is put after those before it
 pub put_next : (members : List Member) (i : ℕ) (next : Member) → i < length members → get_or members i next ≡ next → ascend (keys_of members) ≡ true
     → put next.key.now (value_built (value_of next.value)) (members_built (members_of (take i members))) ≡ members_built (members_of (take (i + 1) members))
 put_next members i next within is ascends =

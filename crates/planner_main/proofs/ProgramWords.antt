@@ -1,4 +1,4 @@
--- What the program tells of what the words ask for.
+-- What the program says of what the words ask for.
 use Rattle.std.proofs.Common.{◌≡◌, ℕ, ◌⊎◌, inl, inr, List, take, refl, sym, ap, ◌∙◌, subst, arith}
 use Rattle.std.specs.Prelude.{Result, Ok, Err, Option, None, Some, IfSome, OnOk, IsTrue, Bool, true, false}
 use Rattle.std.specs.Io.KnownBytes.{Appends}
@@ -14,17 +14,17 @@ use Rattle.command_line.specs.declared.fault.WordsFault.{WordsFault}
 use Rattle.command_line.proofs.OrderLemmas.{one_wanted}
 use Rattle.devices.specs.Written.{NamedText}
 use Rattle.file_answers.specs.Inputs.{IsInputFault}
-use Rattle.planner_main.specs.CheckTold as check
+use Rattle.planner_main.specs.CheckReported as check
 use Rattle.planner_main.specs.Reported as reported
 use Rattle.planner_main.specs.Reported.{HasText, status_of}
-use Rattle.planner_main.specs.declared.telling.reports.Report.{Report}
-use Rattle.planner_main.specs.declared.telling.reports.Report.TheVariants as report
+use Rattle.planner_main.specs.declared.printing.reports.Report.{Report}
+use Rattle.planner_main.specs.declared.printing.reports.Report.TheVariants as report
 use Rattle.task.specs.Task.{task_of}
 use Rattle.validator.specs.Verdict.{verdict_of}
 use Rattle.model.proofs.TaskNames.{task_has_names}
 use Rattle.cert_checker.specs.declared.refusal.Refusal.{Refusal}
 use Rattle.cert_checker.specs.declared.checker.Accepted.{Accepted}
-use Rattle.planner_main.specs.Program.{IsTextIfNamed, OnTwo, OnThree, OnInputs, IsAnswerTo, IsReportOn, Refuses, fault_in, IsFaultFor, IsOneOf, IsToldOn, IsToldOfWords, SaysOfWords, HasFailed, HasNotFailed, CountsFailure, CountsEither, device_failure}
+use Rattle.planner_main.specs.Program.{IsTextIfNamed, OnTwo, OnThree, OnInputs, IsAnswerTo, IsReportOn, Refuses, fault_in, IsFaultFor, IsOneOf, IsReportedOn, IsReportedOfWords, SaysOfWords, HasFailed, HasNotFailed, CountsFailure, CountsEither, device_failure}
 use Rattle.devices.specs.Texts.{IsText, AreKept}
 use Rattle.source_text.specs.declared.texts.File.{File}
 use Rattle.file_answers.specs.declared.files.FileFault as file
@@ -35,9 +35,9 @@ use Rattle.file_answers.specs.Files.{fault_at}
 use Rattle.devices.specs.declared.device.WriteFault.{WriteFault}
 use Rattle.devices.specs.Devices.{AppendsBeginning, CountsDevice, IsWritten, one_more}
 use Rattle.planner_main.specs.Failures.{is_failure}
-use Rattle.planner_main.specs.VerdictTold as verdict
-use Rattle.planner_main.specs.AnswerTold as answer
-use Rattle.planner_main.specs.ExplanationTold as explanation
+use Rattle.planner_main.specs.VerdictReported as verdict
+use Rattle.planner_main.specs.AnswerReported as answer
+use Rattle.planner_main.specs.ExplanationReported as explanation
 use Rattle.file_answers.specs.declared.explanation.Subject.{Subject}
 use Rattle.file_answers.specs.declared.explanation.Subject.TheVariants as subject
 use Rattle.file_answers.specs.declared.explanation.Grounded.TheVariants as grounded
@@ -56,10 +56,10 @@ text_if_named_kept before after kept None (Some text) is = absurd is
 text_if_named_kept before after kept (Some name) None is = absurd is
 text_if_named_kept before after kept (Some name) (Some text) is = text_kept before after kept name text is
 
--- What is refused for what is asked for is refused for the words that ask for it: the status of a text is told with the line of the
+-- What is refused for what is asked for is refused for the words that ask for it: the status of a text is reported with the line of the
 -- fault that the failure is.
 module _ (contents : List ℕ → Option (List ℕ)) (words : List (List ℕ)) (wanted : Wanted) (asks : Asks words wanted) (after : List ℕ → Option (List ℕ)) (out out_after : Option (List ℕ)) (Says : List ℕ → Type 0) where
-  pub refuses_of_words : (f : Failure) (status : ℕ) → IsToldOn f Says status → status ≡ 20
+  pub refuses_of_words : (f : Failure) (status : ℕ) → IsReportedOn f Says status → status ≡ 20
       → IfSome (fault_in f) (λ fault. IsFaultFor contents wanted fault × (out_after ≡ out) × AreKept contents after)
       → Refuses words contents after out out_after Says
   refuses_of_words (failure.Text (refusal.At file code span)) status (inl (is, line)) same (fault, kept, files_kept) =
@@ -109,92 +109,92 @@ pub answered_status : (contents : List ℕ → Option (List ℕ)) (wanted : Want
     → IsAnswerTo contents wanted text status written → IsOfReport status
 answered_status contents wanted text status written (found, is_found, (is_text, is_status, files)) = subst IsOfReport (sym is_status) (report_status found)
 
--- What is found out of files can be told, as a text and as JSON.
-pub can_be_told : (contents : List ℕ → Option (List ℕ)) (wanted : Wanted) (found : Report) → IsReportOn contents wanted found → HasText found
-can_be_told contents (to_validate domain problem plan json) found (v, is, on) = subst HasText (sym is) tt
-can_be_told contents (to_solve domain problem asked) found (s, is, (d, p, d_is, p_is, (is_task, answer))) =
+-- What is found out of files can be reported, as a text and as JSON.
+pub can_be_reported : (contents : List ℕ → Option (List ℕ)) (wanted : Wanted) (found : Report) → IsReportOn contents wanted found → HasText found
+can_be_reported contents (to_validate domain problem plan json) found (v, is, on) = subst HasText (sym is) tt
+can_be_reported contents (to_solve domain problem asked) found (s, is, (d, p, d_is, p_is, (is_task, answer))) =
     subst HasText (sym is) (task_has_names d p (task_of s.task) is_task)
-can_be_told contents (to_check domain problem cert asked) found (c, is, (d, p, l, d_is, p_is, l_is, (text, steps, whole, is_task, handed, is_true, told))) =
-    subst HasText (sym is) (task_has_names d p (task_of c.task) is_task, told)
-can_be_told contents (to_explain domain problem asked) found (e, is, on) = subst HasText (sym is) tt
+can_be_reported contents (to_check domain problem cert asked) found (c, is, (d, p, l, d_is, p_is, l_is, (text, steps, whole, is_task, handed, is_true, said))) =
+    subst HasText (sym is) (task_has_names d p (task_of c.task) is_task, said)
+can_be_reported contents (to_explain domain problem asked) found (e, is, on) = subst HasText (sym is) tt
 
-pub object_too : (r : Report) → HasText r → reported.IsTold r
+pub object_too : (r : Report) → HasText r → reported.IsReported r
 object_too (report.Solve solved) names = names
-object_too (report.Validate v) tells = tells
-object_too (report.Check checked) (names, told) = told
-object_too (report.Explain e) tells = tells
+object_too (report.Validate v) says = says
+object_too (report.Check checked) (names, said) = said
+object_too (report.Explain e) says = says
 
 pub no_failure : (n status : ℕ) → IsOfReport status → is_failure n ≡ true → (n ≡ 20 → ⊥) → status ≡ n → ⊥
 no_failure n status (inl answers) fails other same = absurd (cc (ap is_failure same))
 no_failure n status (inr is) fails other same = absurd (other (sym same ∙ is))
 
--- What is told of a failure has its status: not that of words that are no command, and that of a device or of memory with its line.
+-- What is reported for a failure has its status: not that of words that are no command, and that of a device or of memory with its line.
 module _ (Says : List ℕ → Type 0) (status : ℕ) where
-  pub failed_status : (f : Failure) → IsToldOn f Says status → status ≡ 2 → ⊥
+  pub failed_status : (f : Failure) → IsReportedOn f Says status → status ≡ 2 → ⊥
   failed_status (failure.Text (refusal.At file code span)) (inl (is, line)) same = absurd (omega arith)
   failed_status (failure.Text (refusal.At file code span)) (inr (is, line)) same = absurd (omega arith)
   failed_status (failure.Text refusal.NoMemory) (is, line) same = absurd (omega arith)
   failed_status (failure.Device device.Device) (is, line) same = absurd (omega arith)
   failed_status (failure.Device device.NoMemory) (is, line) same = absurd (omega arith)
 
-  pub device_told : (f : Failure) → IsToldOn f Says status → status ≡ 21 → (f ≡ device_failure) × Says device_line
-  device_told (failure.Text (refusal.At file code span)) (inl (is, line)) same = absurd (omega arith)
-  device_told (failure.Text (refusal.At file code span)) (inr (is, line)) same = absurd (omega arith)
-  device_told (failure.Text refusal.NoMemory) (is, line) same = absurd (omega arith)
-  device_told (failure.Device device.Device) (is, line) same = (refl, line)
-  device_told (failure.Device device.NoMemory) (is, line) same = absurd (omega arith)
+  pub device_reported : (f : Failure) → IsReportedOn f Says status → status ≡ 21 → (f ≡ device_failure) × Says device_line
+  device_reported (failure.Text (refusal.At file code span)) (inl (is, line)) same = absurd (omega arith)
+  device_reported (failure.Text (refusal.At file code span)) (inr (is, line)) same = absurd (omega arith)
+  device_reported (failure.Text refusal.NoMemory) (is, line) same = absurd (omega arith)
+  device_reported (failure.Device device.Device) (is, line) same = (refl, line)
+  device_reported (failure.Device device.NoMemory) (is, line) same = absurd (omega arith)
 
-  pub memory_told : (f : Failure) → IsToldOn f Says status → status ≡ 22 → Says no_memory_line
-  memory_told (failure.Text (refusal.At file code span)) (inl (is, line)) same = absurd (omega arith)
-  memory_told (failure.Text (refusal.At file code span)) (inr (is, line)) same = line
-  memory_told (failure.Text refusal.NoMemory) (is, line) same = line
-  memory_told (failure.Device device.Device) (is, line) same = absurd (omega arith)
-  memory_told (failure.Device device.NoMemory) (is, line) same = line
+  pub memory_reported : (f : Failure) → IsReportedOn f Says status → status ≡ 22 → Says no_memory_line
+  memory_reported (failure.Text (refusal.At file code span)) (inl (is, line)) same = absurd (omega arith)
+  memory_reported (failure.Text (refusal.At file code span)) (inr (is, line)) same = line
+  memory_reported (failure.Text refusal.NoMemory) (is, line) same = line
+  memory_reported (failure.Device device.Device) (is, line) same = absurd (omega arith)
+  memory_reported (failure.Device device.NoMemory) (is, line) same = line
 
-  -- Where no fault of a text is told, the status is that of a device or of memory.
-  pub unread_status : (f : Failure) → fault_in f ≡ None → IsToldOn f Says status → (status ≡ 21) ⊎ (status ≡ 22)
-  unread_status (failure.Text (refusal.At file code span)) unread told = absurd (cc unread)
+  -- Where no fault of a text is reported, the status is that of a device or of memory.
+  pub unread_status : (f : Failure) → fault_in f ≡ None → IsReportedOn f Says status → (status ≡ 21) ⊎ (status ≡ 22)
+  unread_status (failure.Text (refusal.At file code span)) unread said = absurd (cc unread)
   unread_status (failure.Text refusal.NoMemory) unread (is, line) = inr is
   unread_status (failure.Device device.Device) unread (is, line) = inl is
   unread_status (failure.Device device.NoMemory) unread (is, line) = inr is
 
-  -- The failure of a text is told as the failure that it is.
-  pub fault_told : (f : Failure) (t : file.FileFault) (named : File) (code : Code) (span : Span) → f ≡ failure.Text t → t ≡ refusal.At named code span
+  -- The failure of a text is reported as the failure that it is.
+  pub fault_reported : (f : Failure) (t : file.FileFault) (named : File) (code : Code) (span : Span) → f ≡ failure.Text t → t ≡ refusal.At named code span
       → ((status ≡ 20) × Says (line_of_fault (fault_at named code span))) ⊎ ((status ≡ 22) × Says no_memory_line)
-      → IsToldOn f Says status
-  fault_told f t named code span first second told = subst (λ f. IsToldOn f Says status) (sym (first ∙ ap failure.Text second)) told
+      → IsReportedOn f Says status
+  fault_reported f t named code span first second said = subst (λ f. IsReportedOn f Says status) (sym (first ∙ ap failure.Text second)) said
 
--- What is told of words that are no order has the status of such words, with what is said of them, or that of memory, with its line.
+-- What is reported for words that are no order has the status of such words, with what is said of them, or that of memory, with its line.
 module _ (fault : WordsFault) (Says : List ℕ → Type 0) (status : ℕ) where
-  pub words_failed : IsToldOfWords fault Says status → is_failure status ≡ true
+  pub words_failed : IsReportedOfWords fault Says status → is_failure status ≡ true
   words_failed (inl (is, of_words, says)) = ap is_failure is
-  words_failed (inr (is, told)) = ap is_failure is
+  words_failed (inr (is, said)) = ap is_failure is
 
-  pub words_status : IsToldOfWords fault Says status → (status ≡ 2) ⊎ (status ≡ 22)
+  pub words_status : IsReportedOfWords fault Says status → (status ≡ 2) ⊎ (status ≡ 22)
   words_status (inl (is, of_words, says)) = inl is
-  words_status (inr (is, told)) = inr is
+  words_status (inr (is, said)) = inr is
 
-  pub words_told : IsToldOfWords fault Says status → status ≡ 2 → IsOfWords fault × SaysOfWords Says
-  words_told (inl (is, of_words, says)) same = (of_words, says)
-  words_told (inr (is, told)) same = absurd (omega arith)
+  pub words_reported : IsReportedOfWords fault Says status → status ≡ 2 → IsOfWords fault × SaysOfWords Says
+  words_reported (inl (is, of_words, says)) same = (of_words, says)
+  words_reported (inr (is, said)) same = absurd (omega arith)
 
-  pub words_memory : IsToldOfWords fault Says status → status ≡ 22 → Says no_memory_line
+  pub words_memory : IsReportedOfWords fault Says status → status ≡ 22 → Says no_memory_line
   words_memory (inl (is, of_words, says)) same = absurd (omega arith)
-  words_memory (inr (is, told)) same = told
+  words_memory (inr (is, said)) same = said
 
-  pub words_refuse_no_text : IsToldOfWords fault Says status → status ≡ 20 → ⊥
+  pub words_refuse_no_text : IsReportedOfWords fault Says status → status ≡ 20 → ⊥
   words_refuse_no_text (inl (is, of_words, says)) same = absurd (omega arith)
-  words_refuse_no_text (inr (is, told)) same = absurd (omega arith)
+  words_refuse_no_text (inr (is, said)) same = absurd (omega arith)
 
-  pub words_fail_no_device : IsToldOfWords fault Says status → status ≡ 21 → ⊥
+  pub words_fail_no_device : IsReportedOfWords fault Says status → status ≡ 21 → ⊥
   words_fail_no_device (inl (is, of_words, says)) same = absurd (omega arith)
-  words_fail_no_device (inr (is, told)) same = absurd (omega arith)
+  words_fail_no_device (inr (is, said)) same = absurd (omega arith)
 
   -- Of words that are a command it is that memory was refused.
-  pub unread_words : (words : List (List ℕ)) → IsToldOfWords fault Says status → (IsOfWords fault → IsCommand words → ⊥) → IsCommand words
+  pub unread_words : (words : List (List ℕ)) → IsReportedOfWords fault Says status → (IsOfWords fault → IsCommand words → ⊥) → IsCommand words
       → (status ≡ 21) ⊎ (status ≡ 22)
   unread_words words (inl (is, of_words, says)) refused command = absurd (refused of_words command)
-  unread_words words (inr (is, told)) refused command = inr is
+  unread_words words (inr (is, said)) refused command = inr is
 
 -- What counts as a failure of a device, in a call of the files after another that counted none.
 pub device_counted : (T : Type 0) (before opened after : ℕ) (fault : WriteFault) → opened ≡ before → CountsDevice {T = T} opened after (Err fault)
@@ -220,11 +220,11 @@ module _ (files files_after out out_after : ℕ) where
   pub device_has_failed : (f : Failure) → f ≡ device_failure → CountsEither files files_after out out_after f → HasFailed files files_after out out_after
   device_has_failed f is counted = subst (CountsEither files files_after out out_after) is counted
 
-  pub others_have_not_failed : (Says : List ℕ → Type 0) (status : ℕ) (f : Failure) → IsToldOn f Says status
+  pub others_have_not_failed : (Says : List ℕ → Type 0) (status : ℕ) (f : Failure) → IsReportedOn f Says status
       → CountsEither files files_after out out_after f → (status ≡ 21 → ⊥) → HasNotFailed files files_after out out_after
-  others_have_not_failed Says status (failure.Text fault) told counted other = counted
-  others_have_not_failed Says status (failure.Device device.Device) told counted other = absurd (other told.0)
-  others_have_not_failed Says status (failure.Device device.NoMemory) told counted other = counted
+  others_have_not_failed Says status (failure.Text fault) said counted other = counted
+  others_have_not_failed Says status (failure.Device device.Device) said counted other = absurd (other said.0)
+  others_have_not_failed Says status (failure.Device device.NoMemory) said counted other = counted
 
 -- What is refused of the texts of files.
 module _ (contents : List ℕ → Option (List ℕ)) where
@@ -246,7 +246,7 @@ module _ (contents : List ℕ → Option (List ℕ)) where
   refused_on_inputs domain problem plan d p l d_is p_is l_is None h = tt
   refused_on_inputs domain problem plan d p l d_is p_is l_is (Some fault) h = (d, p, l, d_is, p_is, l_is, h)
 
--- what a call says that writes all of the bytes or tells why not
+-- what a call says that writes all of the bytes or says why not
 pub written_by : {T : Type 0} (wants_memory : Bool) (failures failures_after : ℕ) (before after : Option (List ℕ)) (bytes : List ℕ) (r : Result T WriteFault)
     → OnOk r (Appends before after bytes) → AppendsBeginning before after bytes → CountsDevice failures failures_after r
     → (r ≡ Err device.NoMemory → IsTrue wants_memory) → IsWritten wants_memory failures failures_after before after bytes

@@ -1,12 +1,12 @@
--- How what is found out is told, and which files are written of it: as the words ask for it, and as the code has it.
+-- How what is found out is reported, and which files are written of it: as the words ask for it, and as the code has it.
 use Rattle.std.specs.Prelude.{Bool, true, false, List, ℕ, Option, None}
 use Rattle.command_line.specs.Orders.{Wanted, to_solve, to_validate, to_check, to_explain}
 use Rattle.command_line.specs.View.{text_in}
-use Rattle.planner_main.specs.declared.telling.reports.Format.{Format}
-use Rattle.planner_main.specs.declared.telling.reports.Format.TheVariants.{Text, Json}
+use Rattle.planner_main.specs.declared.printing.reports.Format.{Format}
+use Rattle.planner_main.specs.declared.printing.reports.Format.TheVariants.{Text, Json}
 use Rattle.planner_main.specs.declared.program.outputs.Outputs.{Outputs as Code}
 
--- whether the standard output tells it as JSON, and the files for the certificate and for the plan, if any
+-- whether the standard output reports it as JSON, and the files for the certificate and for the plan, if any
 pub record Outputs : Type 0 where
   pub json : Bool
   pub cert : Option (List ℕ)

@@ -1,4 +1,4 @@
--- What stands on the standard error where the program has no answer, and the statuses beside it.
+-- What is on the standard error where the program has no answer, and the statuses beside it.
 use Rattle.std.specs.Prelude.{ℕ, ◌==◌, Bool, List, [], ◌∷◌, ◌++◌, codes}
 use Rattle.std.specs.List.{list_any}
 use Rattle.std.specs.Fmt.{decimal}

@@ -16,7 +16,7 @@ pub record AreWritten : Type 0 where
   pub escaped : string_text (34 ∷ 92 ∷ 10 ∷ 9 ∷ 1 ∷ 31 ∷ []) ≡ codes "\"\\\"\\\\\\n\\t\\u0001\\u001f\""
   -- and with what is not: a solidus, DEL and bytes above ASCII
   pub as_they_are : string_text (47 ∷ 127 ∷ 195 ∷ 164 ∷ []) ≡ 34 ∷ 47 ∷ 127 ∷ 195 ∷ 164 ∷ 34 ∷ []
-  -- keys ascend by their bytes, a beginning before the longer one, and none stands twice
+  -- keys ascend by their bytes, a beginning before the longer one, and none is twice
   pub in_order : ascend (codes "Z" ∷ codes "a" ∷ codes "step" ∷ codes "steps" ∷ []) ≡ true
   pub not_in_order : ascend (codes "cost" ∷ codes "command" ∷ []) ≡ false
   pub one_key_twice : ascend (codes "cost" ∷ codes "cost" ∷ []) ≡ false

@@ -1,4 +1,4 @@
--- The compact text of a JSON object whose members are numbers, strings and lists of strings (RFC 8259): no blank stands in it, and a
+-- The compact text of a JSON object whose members are numbers, strings and lists of strings (RFC 8259): no blank is in it, and a
 -- string is escaped only where it must be.
 use Rattle.std.specs.Prelude.{ℕ, ◌/◌, ◌%◌, ◌==◌, ◌||◌, ◌&&◌, nat_lt, Bool, true, false, if◌then◌else◌, List, [], ◌∷◌, ◌++◌, flat_map, map, codes}
 use Rattle.std.specs.Fmt.{decimal}
@@ -16,7 +16,7 @@ pub record Member : Type 0 where
   pub key : List ℕ
   pub value : Value
 
--- What stands in a string for a byte (section 7): a quotation mark and a backslash have a backslash before them, as do the letters that
+-- What is in a string for a byte (section 7): a quotation mark and a backslash have a backslash before them, as do the letters that
 -- stand for backspace, form feed, line feed, carriage return and tab; another control character is `\u00` and two digits.
 abbrev pub escaped : ℕ → List ℕ
 escaped byte =
@@ -57,7 +57,7 @@ object_text members = codes "{" ++ (joined (map member_text members) ++ codes "}
 abbrev pub comes_before : List ℕ → List ℕ → Bool
 comes_before first second = match_ordering (slice_cmp nat_cmp first second) true false false
 
--- the keys ascend in the order of bytes, so that none stands twice
+-- the keys ascend in the order of bytes, so that none is twice
 abbrev pub ascend : List (List ℕ) → Bool
 ascend [] = true
 ascend (first ∷ []) = true

@@ -3,10 +3,10 @@ pub mod Members
 pub mod MembersBuilt
 pub mod JsonExamples
 pub mod Objects
-pub mod VerdictTold
-pub mod ExplanationTold
-pub mod AnswerTold
-pub mod CheckTold
+pub mod VerdictReported
+pub mod ExplanationReported
+pub mod AnswerReported
+pub mod CheckReported
 pub mod Failures
 pub mod Solution
 pub mod Asked

@@ -4,9 +4,9 @@ use Rattle.std.specs.Fmt.{decimal}
 use Rattle.std.specs.String.{string_bytes}
 use Rattle.json.specs.Json as json
 use Rattle.planner_main.specs.JsonText as text
-use Rattle.planner_main.specs.declared.telling.members.Member.{Member}
-use Rattle.planner_main.specs.declared.telling.members.Value.{Value}
-use Rattle.planner_main.specs.declared.telling.members.Value.TheVariants.{Number, Text, Texts}
+use Rattle.planner_main.specs.declared.printing.members.Member.{Member}
+use Rattle.planner_main.specs.declared.printing.members.Value.{Value}
+use Rattle.planner_main.specs.declared.printing.members.Value.TheVariants.{Number, Text, Texts}
 
 -- the value of the code, and the member
 abbrev pub value_of : Value → text.Value

@@ -1,4 +1,4 @@
--- What an answer is told as where JSON is asked for: an object of a command, a result and what belongs to it, with its keys in the order of
+-- What an answer is reported as where JSON is asked for: an object of a command, a result and what belongs to it, with its keys in the order of
 -- bytes.
 use Rattle.std.specs.Prelude.{ℕ, List, [], ◌∷◌, ◌++◌, codes, map, Result, Ok, Err}
 use Rattle.planner_main.specs.JsonText.{Value, Member, number, text, texts, object_text}
@@ -33,7 +33,7 @@ of_verdict (valid cost) = command (codes "validate") ∷ member (codes "cost") (
 of_verdict (not_applicable step) = command (codes "validate") ∷ result (codes "not applicable") ∷ member (codes "step") (number step) ∷ []
 of_verdict goal_missed = command (codes "validate") ∷ result (codes "goal missed") ∷ []
 
--- that the limit of this name is exceeded; beside that of the states stands what each plan costs at least
+-- that the limit of this name is exceeded; beside that of the states is what each plan costs at least
 abbrev of_limit : List ℕ → List Member
 of_limit name = command (codes "solve") ∷ member (codes "reason") (text name) ∷ result (codes "unknown") ∷ []
 

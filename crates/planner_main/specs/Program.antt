@@ -1,4 +1,4 @@
--- What the program does: what its words ask for, which texts its files have, and what it tells of them with which status.
+-- What the program does: what its words ask for, which texts its files have, and what it says of them with which status.
 use Rattle.std.specs.Prelude.{◌≡◌, ℕ, ◌⊎◌, Bool, List, [], ◌∷◌, ◌++◌, Option, None, Some, IfOk, IfErr, IfSome, IsTrue, Result, Ok, Err}
 use Rattle.std.specs.Io.KnownBytes.{Appends}
 use Rattle.solver.specs.Solver.{IsTrueAnswer}
@@ -7,8 +7,8 @@ use Rattle.validator.specs.declared.verdict.Verdict.{Verdict}
 use Rattle.validator.specs.Verdict.{verdict_of}
 use Rattle.file_answers.specs.declared.checking.Checked.{Checked}
 use Rattle.file_answers.specs.declared.solving.Solved.{Solved}
-use Rattle.planner_main.specs.declared.telling.reports.Report.{Report}
-use Rattle.planner_main.specs.declared.telling.reports.Report.TheVariants as report
+use Rattle.planner_main.specs.declared.printing.reports.Report.{Report}
+use Rattle.planner_main.specs.declared.printing.reports.Report.TheVariants as report
 use Rattle.planner_main.specs.declared.failures.Failure.{Failure}
 use Rattle.planner_main.specs.declared.failures.Failure.TheVariants as failure
 use Rattle.file_answers.specs.declared.files.FileFault.TheVariants as refusal
@@ -16,19 +16,19 @@ use Rattle.devices.specs.declared.device.WriteFault as device_fault
 use Rattle.devices.specs.declared.device.WriteFault.TheVariants as device
 use Rattle.devices.specs.Devices.{AppendsBeginning, one_more}
 use Rattle.planner_main.specs.Failures.{line_of_fault, device_line, no_memory_line, nothing_done_line}
-use Rattle.file_answers.specs.Files.{fault_at, told_in}
+use Rattle.file_answers.specs.Files.{fault_at, reported_in}
 use Rattle.command_line.specs.Orders.{Asks, Wanted, to_solve, to_validate, to_check, to_explain}
 use Rattle.command_line.specs.View.{IsOfWords}
 use Rattle.command_line.specs.declared.fault.WordsFault.{WordsFault}
 use Rattle.file_answers.specs.Checked.{IsTrueCheck}
-use Rattle.file_answers.specs.Inputs.{IsHandedIn, IsInputFault}
-use Rattle.planner_main.specs.CheckTold.{IsToldRefusal}
+use Rattle.file_answers.specs.Inputs.{IsGiven, IsInputFault}
+use Rattle.planner_main.specs.CheckReported.{IsReportedRefusal}
 use Rattle.planner_main.specs.Asked.{outputs_of}
 use Rattle.file_answers.specs.declared.explanation.Explanation.{Explanation}
 use Rattle.file_answers.specs.Explanations.{IsTrueOf}
 use Rattle.devices.specs.Texts.{AreKept, IsText}
 use Rattle.devices.specs.Written.{NamedText, AreWritten, AreWrittenPartly}
-use Rattle.planner_main.specs.Solution.{TellsReport}
+use Rattle.planner_main.specs.Solution.{WritesReport}
 use Rattle.cert_checker.specs.declared.refusal.Refusal.{Refusal}
 use Rattle.cert_checker.specs.declared.checker.Accepted.{Accepted}
 use Rattle.model.specs.Task.{Task, Instance}
@@ -98,12 +98,12 @@ IsSolutionOn contents domain problem states instances found =
     (s : Solved) × (found ≡ report.Solve s)
     × OnTwo contents domain problem (λ d p. IsTaskOf d p (task_of s.task) × IsTrueAnswer (task_of s.task) states instances s.answer)
 
--- or what is told of a certificate, for the task of two texts and the plan of a third, if that is handed in. This is known of
+-- or what is reported for a certificate, for the task of two texts and the plan of a third, if that is given. This is known of
 -- the certificate: it is the whole text, where it is known.
 abbrev pub IsCheckedIn : (known : Option (List ℕ)) → (domain problem : List ℕ) → (plan : Option (List ℕ)) → (most : ℕ) → Task → Result Accepted Refusal → Type 0
 IsCheckedIn known domain problem plan most task answer =
     (cert : List ℕ) × (steps : Option (List Instance)) × IfSome known (λ bytes. cert ≡ bytes) × IsTaskOf domain problem task
-    × IsHandedIn task plan steps × IsTrueCheck task cert steps most answer × IsToldRefusal answer
+    × IsGiven task plan steps × IsTrueCheck task cert steps most answer × IsReportedRefusal answer
 
 abbrev pub IsCheckOn : (List ℕ → Option (List ℕ)) → (domain problem cert : List ℕ) → (plan : Option (List ℕ)) → (most : ℕ) → Report → Type 0
 IsCheckOn contents domain problem cert plan most found =
@@ -122,39 +122,39 @@ IsReportOn contents (to_solve domain problem asked) = IsSolutionOn contents doma
 IsReportOn contents (to_check domain problem cert asked) = IsCheckOn contents domain problem cert asked.plan asked.instances
 IsReportOn contents (to_explain domain problem asked) = IsExplanationOn contents domain problem asked.plan asked.instances
 
--- This text, with this status and the files that are written before it, tells what is found out, which is true of the texts of
+-- This text, with this status and the files that are written before it, says what is found out, which is true of the texts of
 -- the files, as it is asked for; and as the words ask for it.
 abbrev pub IsAnswerTo : (List ℕ → Option (List ℕ)) → Wanted → (text : List ℕ) → (status : ℕ) → List NamedText → Type 0
 IsAnswerTo contents wanted text status written =
-    (found : Report) × IsReportOn contents wanted found × TellsReport found (outputs_of wanted) text status written
+    (found : Report) × IsReportOn contents wanted found × WritesReport found (outputs_of wanted) text status written
 
 abbrev pub IsAnswer : (List ℕ → Option (List ℕ)) → List (List ℕ) → (text : List ℕ) → (status : ℕ) → List NamedText → Type 0
 IsAnswer contents words text status written = (wanted : Wanted) × Asks words wanted × IsAnswerTo contents wanted text status written
 
--- A true answer is told: its files hold their texts, where files are known, and the standard output grew by its text.
-abbrev pub IsTold : (IsTrueText : List ℕ → ℕ → List NamedText → Type 0) → (known : Bool)
+-- A true answer is reported: its files hold their texts, where files are known, and the standard output grew by its text.
+abbrev pub IsReported : (IsTrueText : List ℕ → ℕ → List NamedText → Type 0) → (known : Bool)
     → (files files_after : List ℕ → Option (List ℕ)) → (out out_after : Option (List ℕ)) → ℕ → Type 0
-IsTold IsTrueText known files files_after out out_after status =
+IsReported IsTrueText known files files_after out out_after status =
     (text : List ℕ) × (written : List NamedText) × IsTrueText text status written × Appends out out_after text
     × (IsTrue known → AreWritten files files_after written)
 
--- A true answer is told in part. Nothing was written; or some of its files are, the next one is being written, and nothing of
+-- A true answer is reported in part. Nothing was written; or some of its files are, the next one is being written, and nothing of
 -- the standard output; or its files are written, and the standard output took a beginning of the text.
-pub data IsToldPartly (IsTrueText : List ℕ → ℕ → List NamedText → Type 0) (known : Bool)
+pub data IsReportedPartly (IsTrueText : List ℕ → ℕ → List NamedText → Type 0) (known : Bool)
     (files files_after : List ℕ → Option (List ℕ)) (out out_after : Option (List ℕ)) : Type 0 where
-  nothing : out_after ≡ out → AreKept files files_after → IsToldPartly IsTrueText known files files_after out out_after
+  nothing : out_after ≡ out → AreKept files files_after → IsReportedPartly IsTrueText known files files_after out out_after
   in_a_file : (text : List ℕ) (status : ℕ) (done rest : List NamedText) (next : NamedText) → IsTrueText text status (done ++ next ∷ rest)
       → out_after ≡ out → (IsTrue known → AreWrittenPartly files files_after done next)
-      → IsToldPartly IsTrueText known files files_after out out_after
+      → IsReportedPartly IsTrueText known files files_after out out_after
   on_the_output : (text : List ℕ) (status : ℕ) (written : List NamedText) → IsTrueText text status written → AppendsBeginning out out_after text
-      → (IsTrue known → AreWritten files files_after written) → IsToldPartly IsTrueText known files files_after out out_after
+      → (IsTrue known → AreWritten files files_after written) → IsReportedPartly IsTrueText known files files_after out out_after
 
--- what the words ask for is told, whole or in part
-abbrev pub Tells : List (List ℕ) → (known : Bool) → (files files_after : List ℕ → Option (List ℕ)) → (out out_after : Option (List ℕ)) → ℕ → Type 0
-Tells words known files files_after = IsTold (IsAnswer files words) known files files_after
+-- what the words ask for is reported, whole or in part
+abbrev pub Reports : List (List ℕ) → (known : Bool) → (files files_after : List ℕ → Option (List ℕ)) → (out out_after : Option (List ℕ)) → ℕ → Type 0
+Reports words known files files_after = IsReported (IsAnswer files words) known files files_after
 
-abbrev pub TellsPartly : List (List ℕ) → (known : Bool) → (files files_after : List ℕ → Option (List ℕ)) → (out out_after : Option (List ℕ)) → Type 0
-TellsPartly words known files files_after = IsToldPartly (IsAnswer files words) known files files_after
+abbrev pub ReportsPartly : List (List ℕ) → (known : Bool) → (files files_after : List ℕ → Option (List ℕ)) → (out out_after : Option (List ℕ)) → Type 0
+ReportsPartly words known files files_after = IsReportedPartly (IsAnswer files words) known files files_after
 
 -- The texts of the files that are named are refused, and this fault is the first. Where it is asked for what is wrong, that is
 -- the answer.
@@ -181,16 +181,16 @@ HasFailed files files_after out out_after = (files_after ≡ one_more files) ⊎
 abbrev pub HasNotFailed : (files files_after out out_after : ℕ) → Type 0
 HasNotFailed files files_after out out_after = (files_after ≡ files) × (out_after ≡ out)
 
--- what is asked for is told, whole or in part
-abbrev pub TellsFor : Wanted → (known : Bool) → (files files_after : List ℕ → Option (List ℕ)) → (out out_after : Option (List ℕ)) → ℕ → Type 0
-TellsFor wanted known files files_after = IsTold (IsAnswerTo files wanted) known files files_after
+-- what is asked for is reported, whole or in part
+abbrev pub ReportsFor : Wanted → (known : Bool) → (files files_after : List ℕ → Option (List ℕ)) → (out out_after : Option (List ℕ)) → ℕ → Type 0
+ReportsFor wanted known files files_after = IsReported (IsAnswerTo files wanted) known files files_after
 
-abbrev pub TellsPartlyFor : Wanted → (known : Bool) → (files files_after : List ℕ → Option (List ℕ)) → (out out_after : Option (List ℕ)) → Type 0
-TellsPartlyFor wanted known files files_after = IsToldPartly (IsAnswerTo files wanted) known files files_after
+abbrev pub ReportsPartlyFor : Wanted → (known : Bool) → (files files_after : List ℕ → Option (List ℕ)) → (out out_after : Option (List ℕ)) → Type 0
+ReportsPartlyFor wanted known files files_after = IsReportedPartly (IsAnswerTo files wanted) known files files_after
 
 -- the fault of a text that the failure is, and None of a device or of memory
 abbrev pub fault_in : Failure → Option FileFault
-fault_in (failure.Text fault) = told_in fault
+fault_in (failure.Text fault) = reported_in fault
 fault_in (failure.Device fault) = None
 
 -- the failure of a write
@@ -212,27 +212,27 @@ CountsEither files files_after out out_after (failure.Text fault) = HasNotFailed
 CountsEither files files_after out out_after (failure.Device device.Device) = HasFailed files files_after out out_after
 CountsEither files files_after out out_after (failure.Device device.NoMemory) = HasNotFailed files files_after out out_after
 
--- A failure is told: its line is said, and the status is 20 of a text that is refused, 21 of a device and 22 of memory.
--- Where there is no memory for the line of a fault, that is told in its place.
-abbrev pub IsToldOn : Failure → (Says : List ℕ → Type 0) → ℕ → Type 0
-IsToldOn (failure.Text (refusal.At file code span)) Says status =
+-- A failure is reported: its line is said, and the status is 20 of a text that is refused, 21 of a device and 22 of memory.
+-- Where there is no memory for the line of a fault, that is reported in its place.
+abbrev pub IsReportedOn : Failure → (Says : List ℕ → Type 0) → ℕ → Type 0
+IsReportedOn (failure.Text (refusal.At file code span)) Says status =
     ((status ≡ 20) × Says (line_of_fault (fault_at file code span))) ⊎ ((status ≡ 22) × Says no_memory_line)
-IsToldOn (failure.Text refusal.NoMemory) Says status = (status ≡ 22) × Says no_memory_line
-IsToldOn (failure.Device device.Device) Says status = (status ≡ 21) × Says device_line
-IsToldOn (failure.Device device.NoMemory) Says status = (status ≡ 22) × Says no_memory_line
+IsReportedOn (failure.Text refusal.NoMemory) Says status = (status ≡ 22) × Says no_memory_line
+IsReportedOn (failure.Device device.Device) Says status = (status ≡ 21) × Says device_line
+IsReportedOn (failure.Device device.NoMemory) Says status = (status ≡ 22) × Says no_memory_line
 
--- It is said what is wrong with the words, or the help that they ask for, and behind it that nothing was done.
+-- It is said what is wrong with the words, or the help that they ask for, and after it that nothing was done.
 abbrev pub SaysOfWords : (Says : List ℕ → Type 0) → Type 0
 SaysOfWords Says = (text : List ℕ) × Says (text ++ nothing_done_line)
 
--- Words that are no order are told with the status 2 where they are no command, and with 22 where memory was refused.
-abbrev pub IsToldOfWords : WordsFault → (Says : List ℕ → Type 0) → ℕ → Type 0
-IsToldOfWords fault Says status =
+-- Words that are no order are reported with the status 2 where they are no command, and with 22 where memory was refused.
+abbrev pub IsReportedOfWords : WordsFault → (Says : List ℕ → Type 0) → ℕ → Type 0
+IsReportedOfWords fault Says status =
     ((status ≡ 2) × IsOfWords fault × SaysOfWords Says) ⊎ ((status ≡ 22) × Says no_memory_line)
 
--- there is no answer, and no fault of a text is told
+-- there is no answer, and no fault of a text is reported
 abbrev pub IsUnread : {T : Type 0} → Result T Failure → Type 0
-IsUnread (Ok told) = ⊥
+IsUnread (Ok said) = ⊥
 IsUnread (Err failure) = fault_in failure ≡ None
 
 -- What is found out of what is asked for is true of these files, or the fault is the first of their texts; and where a file that is read

@@ -1,17 +1,17 @@
--- What is reported: the members of its object, the text that tells it, and the status beside it.
+-- What is reported: the members of its object, the text that reports it, and the status beside it.
 use Rattle.std.specs.Prelude.{ℕ, Bool, List, IsTrue, if◌then◌else◌}
 use Rattle.std.specs.String.{string_bytes}
 use Rattle.planner_main.specs.JsonText.{Member}
 use Rattle.task.specs.Task.{task_of}
 use Rattle.validator.specs.Verdict.{verdict_of}
 use Rattle.planner_main.specs.Objects.{line_of_members, of_answer, of_checked, of_explanation, of_verdict}
-use Rattle.planner_main.specs.AnswerTold as answers
-use Rattle.planner_main.specs.VerdictTold as verdicts
-use Rattle.planner_main.specs.CheckTold as checks
-use Rattle.planner_main.specs.ExplanationTold as explanations
-use Rattle.planner_main.specs.CheckTold.{IsToldRefusal}
-use Rattle.planner_main.specs.declared.telling.reports.Report.{Report}
-use Rattle.planner_main.specs.declared.telling.reports.Report.TheVariants as report
+use Rattle.planner_main.specs.AnswerReported as answers
+use Rattle.planner_main.specs.VerdictReported as verdicts
+use Rattle.planner_main.specs.CheckReported as checks
+use Rattle.planner_main.specs.ExplanationReported as explanations
+use Rattle.planner_main.specs.CheckReported.{IsReportedRefusal}
+use Rattle.planner_main.specs.declared.printing.reports.Report.{Report}
+use Rattle.planner_main.specs.declared.printing.reports.Report.TheVariants as report
 use Rattle.model.specs.PlanWriting.{has_names}
 
 -- the members of what is reported
@@ -21,21 +21,21 @@ of_report (report.Validate verdict) = of_verdict (verdict_of verdict)
 of_report (report.Check checked) = of_checked checked.answer
 of_report (report.Explain e) = of_explanation (string_bytes e.text)
 
--- What is reported can be told: the names of a task that was solved are names, as those of each task of files, and a refusal is told.
-abbrev pub IsTold : Report → Type 0
-IsTold (report.Solve solved) = IsTrue (has_names (task_of solved.task))
-IsTold (report.Validate verdict) = Unit {0}
-IsTold (report.Check checked) = IsToldRefusal checked.answer
-IsTold (report.Explain e) = Unit {0}
+-- What is reported can be reported: the names of a task that was solved are names, as those of each task of files, and a refusal is reported.
+abbrev pub IsReported : Report → Type 0
+IsReported (report.Solve solved) = IsTrue (has_names (task_of solved.task))
+IsReported (report.Validate verdict) = Unit {0}
+IsReported (report.Check checked) = IsReportedRefusal checked.answer
+IsReported (report.Explain e) = Unit {0}
 
--- It can be told as a text too: the names of a task whose certificate was checked are names.
+-- It can be reported as a text too: the names of a task whose certificate was checked are names.
 abbrev pub HasText : Report → Type 0
 HasText (report.Solve solved) = IsTrue (has_names (task_of solved.task))
 HasText (report.Validate verdict) = Unit {0}
-HasText (report.Check checked) = IsTrue (has_names (task_of checked.task)) × IsToldRefusal checked.answer
+HasText (report.Check checked) = IsTrue (has_names (task_of checked.task)) × IsReportedRefusal checked.answer
 HasText (report.Explain e) = Unit {0}
 
--- the text that tells it: a plan, a line, or the lines of an explanation
+-- the text that reports it: a plan, a line, or the lines of an explanation
 abbrev pub text_of : Report → List ℕ
 text_of (report.Solve solved) = answers.text_of (task_of solved.task) solved.answer
 text_of (report.Validate verdict) = verdicts.line_of (verdict_of verdict)
@@ -43,8 +43,8 @@ text_of (report.Check checked) = checks.line_of (task_of checked.task) checked.a
 text_of (report.Explain e) = string_bytes e.text
 
 -- what the standard output takes: that text, or the object on a line
-abbrev pub told_of : (json : Bool) → Report → List ℕ
-told_of json r = if json then line_of_members (of_report r) else text_of r
+abbrev pub reported_of : (json : Bool) → Report → List ℕ
+reported_of json r = if json then line_of_members (of_report r) else text_of r
 
 -- the status beside it
 abbrev pub status_of : Report → ℕ

@@ -1,4 +1,4 @@
--- What stands on the standard output, and in files, once something is reported, and the status beside it.
+-- What is on the standard output, and in files, once something is reported, and the status beside it.
 use Rattle.std.specs.Prelude.{◌≡◌, ℕ, List, [], ◌∷◌, ◌++◌, Option, None, Some, Bool, IsTrue}
 use Rattle.std.specs.Option.{option_map}
 use Rattle.formulas.specs.State.{plan_of}
@@ -11,9 +11,9 @@ use Rattle.certificate.specs.Certificate.{certificate_of}
 use Rattle.certificate_definitions.specs.CertificateNames.{certificate_text}
 use Rattle.devices.specs.Written.{NamedText, AreWrittenPartly}
 use Rattle.planner_main.specs.Asked.{Outputs}
-use Rattle.planner_main.specs.Reported.{status_of, told_of}
-use Rattle.planner_main.specs.declared.telling.reports.Report.{Report}
-use Rattle.planner_main.specs.declared.telling.reports.Report.TheVariants as report
+use Rattle.planner_main.specs.Reported.{status_of, reported_of}
+use Rattle.planner_main.specs.declared.printing.reports.Report.{Report}
+use Rattle.planner_main.specs.declared.printing.reports.Report.TheVariants as report
 use Rattle.model.specs.Task.{Task}
 use Rattle.model.specs.PlanWriting as plans
 
@@ -55,9 +55,9 @@ in_file (Some name) (Some text) = record { name = name; text = text } ∷ []
 abbrev pub files_for : Report → Outputs → List NamedText
 files_for r outputs = in_file outputs.cert (cert_text r) ++ in_file outputs.plan (plan_text r)
 
--- This text, with this status and these files, tells what is reported as it is asked for.
-abbrev pub TellsReport : Report → Outputs → (text : List ℕ) → (status : ℕ) → List NamedText → Type 0
-TellsReport r outputs text status files = (text ≡ told_of outputs.json r) × (status ≡ status_of r) × (files ≡ files_for r outputs)
+-- This text, with this status and these files, says what is reported as it is asked for.
+abbrev pub WritesReport : Report → Outputs → (text : List ℕ) → (status : ℕ) → List NamedText → Type 0
+WritesReport r outputs text status files = (text ≡ reported_of outputs.json r) × (status ≡ status_of r) × (files ≡ files_for r outputs)
 
 -- one of these files is being written, and none before it is asked for
 abbrev pub IsBegun : (known : Bool) → (before after : List ℕ → Option (List ℕ)) → List NamedText → Type 0

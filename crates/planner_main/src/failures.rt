@@ -4,10 +4,10 @@ ghost use Rattle.std.specs.String.{string_bytes};
 ghost use Rattle.command_line.specs.View.{IsOfWords};
 ghost use Rattle.planner_main.specs.Failures.{is_failure, line_of_fault, no_memory_line, nothing_done_line};
 ghost use Rattle.file_answers.specs.Files.{fault_at};
-ghost use Rattle.planner_main.specs.Program.{IsToldOfWords, IsToldOn};
+ghost use Rattle.planner_main.specs.Program.{IsReportedOfWords, IsReportedOn};
 ghost use Rattle.devices.specs.Devices.{IsWritten};
 
-use crate::telling::{DEVICE, NO_MEMORY, REFUSED, WRONG_WORDS};
+use crate::printing::{DEVICE, NO_MEMORY, REFUSED, WRONG_WORDS};
 use command_line::WordsFault;
 use devices::{Sink, WriteFault, write_all};
 use faults::{Code, NoMemory, Span};
@@ -60,28 +60,28 @@ impl From<NoMemory> for Failure {
     }
 }
 
-/// Tells a failure on standard error, and answers its status. That the telling fails changes no status.
-pub(crate) fn tell<E: Sink>(alloc: Global, failure: Failure, err: &mut E) -> u8
+/// Reports a failure on standard error, and answers its status. That the reporting fails changes no status.
+pub(crate) fn report_failure<E: Sink>(alloc: Global, failure: Failure, err: &mut E) -> u8
     ensures failure { IsTrue (is_failure result) }
-    // Where memory for the line is refused, that is told.
-    ensures told { IsToldOn failure (IsWritten E.wants_memory (E.failures err.old) (E.failures err.new) (E.taken err.old) (E.taken err.new)) result }
+    // Where memory for the line is refused, that is reported.
+    ensures said { IsReportedOn failure (IsWritten E.wants_memory (E.failures err.old) (E.failures err.new) (E.taken err.old) (E.taken err.new)) result }
 {
     match failure {
         Failure::Text(FileFault::At { file, code, span }) => {
-            tell_fault(alloc, file, code, span, err)
+            report_fault(alloc, file, code, span, err)
         }
         Failure::Device(WriteFault::Device) => {
             say(err, b"fault 61 Device\n");
             DEVICE
         }
         Failure::Text(FileFault::NoMemory) | Failure::Device(WriteFault::NoMemory) => {
-            tell_no_memory(err)
+            report_no_memory(err)
         }
     }
 }
 
-/// Tells the fault of a file's text.
-fn tell_fault<E: Sink>(alloc: Global, file: File, code: Code, span: Span, err: &mut E) -> u8
+/// Reports the fault of a file's text.
+fn report_fault<E: Sink>(alloc: Global, file: File, code: Code, span: Span, err: &mut E) -> u8
     ensures { ((result ≡ REFUSED) × IsWritten E.wants_memory (E.failures err.old) (E.failures err.new) (E.taken err.old) (E.taken err.new) (line_of_fault (fault_at file code span)))
         ⊎ ((result ≡ NO_MEMORY) × IsWritten E.wants_memory (E.failures err.old) (E.failures err.new) (E.taken err.old) (E.taken err.new) no_memory_line) }
 {
@@ -90,7 +90,7 @@ fn tell_fault<E: Sink>(alloc: Global, file: File, code: Code, span: Span, err: &
             say(err, line.as_bytes());
             REFUSED
         }
-        Err(AllocError) => tell_no_memory(err),
+        Err(AllocError) => report_no_memory(err),
     }
 }
 
@@ -104,8 +104,8 @@ fn fault_line(alloc: Global, file: File, code: Code, span: Span) -> Result<Strin
     format!(in alloc; "fault {number} {name} in {file} at {start}..{end}\n")
 }
 
-/// Tells that memory was refused, for which no memory is taken: the status.
-pub fn tell_no_memory<E: Sink>(err: &mut E) -> u8
+/// Reports that memory was refused, for which no memory is taken: the status.
+pub fn report_no_memory<E: Sink>(err: &mut E) -> u8
     ensures status { result ≡ NO_MEMORY }
     ensures line { IsWritten E.wants_memory (E.failures err.old) (E.failures err.new) (E.taken err.old) (E.taken err.new) no_memory_line }
 {
@@ -120,23 +120,23 @@ fn say<E: Sink>(err: &mut E, bytes: &[u8])
     let _ = write_all(err, bytes);
 }
 
-/// Tells what is wrong with the words, or the help that they ask for, and that nothing was done: the status.
-pub(crate) fn tell_words<E: Sink>(alloc: Global, fault: WordsFault, err: &mut E) -> u8
-    ensures { IsToldOfWords fault (IsWritten E.wants_memory (E.failures err.old) (E.failures err.new) (E.taken err.old) (E.taken err.new)) result }
+/// Reports what is wrong with the words, or the help that they ask for, and that nothing was done: the status.
+pub(crate) fn report_words<E: Sink>(alloc: Global, fault: WordsFault, err: &mut E) -> u8
+    ensures { IsReportedOfWords fault (IsWritten E.wants_memory (E.failures err.old) (E.failures err.new) (E.taken err.old) (E.taken err.new)) result }
 {
     match words_text(alloc, &fault) {
         Ok(text) => {
             say(err, text.as_bytes());
             WRONG_WORDS
         }
-        Err(AllocError) => tell_no_memory(err),
+        Err(AllocError) => report_no_memory(err),
     }
 }
 
 /// What a fault of the words says, and the last line.
 fn words_text(alloc: Global, fault: &WordsFault) -> Result<String, AllocError>
     ensures words { IfOk result (λ _. IsOfWords fault.now) }
-    ensures text { IfOk result (λ told. (text : List ℕ) × (string_bytes told ≡ text ++ nothing_done_line)) }
+    ensures text { IfOk result (λ said. (text : List ℕ) × (string_bytes said ≡ text ++ nothing_done_line)) }
 {
     match fault {
         WordsFault::Words(_) => {

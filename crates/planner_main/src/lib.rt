@@ -1,15 +1,15 @@
-//! The whole program over any files: what answers are told as, and with which status. It passes on all that a user of the
+//! The whole program over any files: what answers are reported as, and with which status. It passes on all that a user of the
 //! program as a library needs.
 #![tactic(auto)]
 
 mod failures;
 mod program;
-mod telling;
+mod printing;
 
 pub use cert_checker::{Accepted, Refusal, RefusalCode};
 pub use command_line::{MaxCount, Order, WordsFault, read_words};
 pub use devices::{Files, SystemFiles};
-pub use failures::tell_no_memory;
+pub use failures::report_no_memory;
 pub use file_answers::{
     Checked, Explanation, File, FileFault, Grounded, NamedText, Solved, Subject, check_files,
     explain_files, one_task, solve_files, solved_certificates_are_accepted,
@@ -17,5 +17,5 @@ pub use file_answers::{
 };
 pub use program::run;
 pub use solver::{Answer, Exceeded, Limits};
-pub use telling::{Report, json_examples_are_written, json_line};
+pub use printing::{Report, json_examples_are_written, json_line};
 pub use validator::Verdict;

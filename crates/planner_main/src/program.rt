@@ -3,7 +3,7 @@ ghost use Rattle.std.specs.Prelude.{◌≡◌, ℕ, ◌⊎◌, IfErr, IfOk, IfSo
 ghost use Rattle.command_line.specs.Orders.{IsCommand};
 ghost use Rattle.command_line.specs.View.{texts, wanted_of};
 ghost use Rattle.planner_main.specs.Failures.{device_line, is_failure, no_memory_line};
-ghost use Rattle.planner_main.specs.Program.{Tells, TellsFor, TellsPartly, TellsPartlyFor, Refuses, HasFailed, HasNotFailed, CountsEither, CountsFailure, NamesInput, NamesText, IsFaultFor, IsFound, IsOneOf, IsUnread, SaysOfWords, fault_in, inputs_of, texts_of};
+ghost use Rattle.planner_main.specs.Program.{Reports, ReportsFor, ReportsPartly, ReportsPartlyFor, Refuses, HasFailed, HasNotFailed, CountsEither, CountsFailure, NamesInput, NamesText, IsFaultFor, IsFound, IsOneOf, IsUnread, SaysOfWords, fault_in, inputs_of, texts_of};
 ghost use Rattle.devices.specs.Texts.{AreKept};
 ghost use Rattle.devices.specs.Devices.{IsWritten};
 
@@ -15,8 +15,8 @@ mod solution;
 mod validation;
 mod writing;
 
-use crate::failures::{Failure, tell, tell_words};
-use crate::telling::Report;
+use crate::failures::{Failure, report_failure, report_words};
+use crate::printing::Report;
 use acceptance::{Names, report_of_check};
 use command_line::{MaxCount, Order, read_words};
 use devices::{Files, Sink};
@@ -26,20 +26,20 @@ use solution::report_of_solve;
 use solver::Limits;
 use std::alloc::Global;
 use validation::report_of_validate;
-use writing::tell_report;
+use writing::write_report;
 
 /// The whole program: what the words ask for, with its answer on the standard output and its faults on the standard
 /// error, and the status that it ends with. What the words ask for is `read_words`' matter.
 ///
-/// `solve` tells a cheapest plan, or that there is none. At most so many states are listed, and so many instances kept, those that
-/// the start does not close off. Where so many states do not suffice, it tells what each plan costs at least; at another limit
+/// `solve` reports a cheapest plan, or that there is none. At most so many states are listed, and so many instances kept, those that
+/// the start does not close off. Where so many states do not suffice, it says what each plan costs at least; at another limit
 /// nothing is claimed of plans. The certificate of the answer, at the limit of states too, is written to the file of `--cert`, then a
 /// plan's text to the file of `--plan`, and then the standard output; where one of them fails, those after it are not touched, and
 /// neither is a file for which there is nothing to write. `validate` says whether the plan solves the task. `check` says what the
 /// certificate shows: with a plan, which is read from the file of `--plan`, that it is a cheapest one; else that no plan costs less, or
 /// that there is none. `explain` says for people what is wrong with a text or with a plan, and where, and else what the task holds. Of
 /// a file at most 16,777,217 bytes are read and taken for its whole text, and all files are read before any
-/// fault of their texts is told; but the certificate is only opened before, and then read line by line, to its end or to its first
+/// fault of their texts is reported; but the certificate is only opened before, and then read line by line, to its end or to its first
 /// fault, whatever its length.
 ///
 /// | What comes | Standard output | Standard error | Status |
@@ -63,7 +63,7 @@ use writing::tell_report;
 /// | memory is refused | | `fault 60 NoMemory` | 22 |
 ///
 /// With `--json` the standard output takes a line of JSON in place of the text (`json_line`), with the same status. Where a stream or
-/// a file that is written fails, a beginning of what is told stands there; that the standard error fails changes no status.
+/// a file that is written fails, a beginning of what is reported is there; that the standard error fails changes no status.
 ///
 /// ```
 /// // "domain.pddl" has `(define (domain path) ..)`, and "problem.pddl" has `(define (problem p) (:domain path) ..)`
@@ -80,63 +80,63 @@ pub fn run<F: Files, O: Sink, E: Sink>(
     out: &mut O,
     err: &mut E,
 ) -> u8
-    // What the words ask for is told, or the status says why not.
+    // What the words ask for is reported, or the status says why not.
     ensures status { IsTrue (is_failure result)
-        ⊎ Tells (texts words.now) F.is_known (F.contents files.old) (F.contents files.new) (O.taken out.old) (O.taken out.new) result }
+        ⊎ Reports (texts words.now) F.is_known (F.contents files.old) (F.contents files.new) (O.taken out.old) (O.taken out.new) result }
     ensures quiet { is_failure result ≡ false → E.taken err.new ≡ E.taken err.old }
 
-    // The status of words that are no command is told exactly of these, unless memory for reading them is refused; and that of
-    // texts only where they are refused: `explain` tells the fault on the standard output, as what was asked for, and of the other
-    // commands none tells an answer with this status.
+    // The status of words that are no command is reported exactly of these, unless memory for reading them is refused; and that of
+    // texts only where they are refused: `explain` reports the fault on the standard output, as what was asked for, and of the other
+    // commands none reports an answer with this status.
     ensures words { result ≡ 2 → IsCommand (texts words.now) → ⊥ }
     ensures no_command { (IsCommand (texts words.now) → ⊥) → (result ≡ 2) ⊎ (result ≡ 22) }
     ensures usage { result ≡ 2 → (O.taken out.new ≡ O.taken out.old) × AreKept (F.contents files.old) (F.contents files.new)
         × SaysOfWords (IsWritten E.wants_memory (E.failures err.old) (E.failures err.new) (E.taken err.old) (E.taken err.new)) }
     ensures refused { result ≡ 20 → Refuses (texts words.now) (F.contents files.old) (F.contents files.new)
         (O.taken out.old) (O.taken out.new) (IsWritten E.wants_memory (E.failures err.old) (E.failures err.new) (E.taken err.old) (E.taken err.new))
-        ⊎ (Tells (texts words.now) F.is_known (F.contents files.old) (F.contents files.new) (O.taken out.old) (O.taken out.new) result × (E.taken err.new ≡ E.taken err.old)) }
+        ⊎ (Reports (texts words.now) F.is_known (F.contents files.old) (F.contents files.new) (O.taken out.old) (O.taken out.new) result × (E.taken err.new ≡ E.taken err.old)) }
 
-    // The status of a device is told exactly where one failed. An answer may have been told in part.
+    // The status of a device is reported exactly where one failed. An answer may have been reported in part.
     ensures unfailed { (result ≡ 21 → ⊥) → HasNotFailed (F.failures files.old) (F.failures files.new) (O.failures out.old) (O.failures out.new) }
     ensures device { result ≡ 21 → HasFailed (F.failures files.old) (F.failures files.new) (O.failures out.old) (O.failures out.new)
-        × TellsPartly (texts words.now) F.is_known (F.contents files.old) (F.contents files.new) (O.taken out.old) (O.taken out.new)
+        × ReportsPartly (texts words.now) F.is_known (F.contents files.old) (F.contents files.new) (O.taken out.old) (O.taken out.new)
         × IsWritten E.wants_memory (E.failures err.old) (E.failures err.new) (E.taken err.old) (E.taken err.new) device_line }
-    // All files are opened before any fault of their texts is told.
+    // All files are opened before any fault of their texts is reported.
     ensures unread { (name : List ℕ) → NamesInput (texts words.now) name → IsTrue (F.is_missing files.old name)
         → (result ≡ 21) ⊎ (result ≡ 22) }
-    // All texts but the certificate's are read before any fault of them is told.
+    // All texts but the certificate's are read before any fault of them is reported.
     ensures unreadable { (name : List ℕ) → NamesText (texts words.now) name → IsTrue (F.is_unreadable files.old name)
         → (result ≡ 21) ⊎ (result ≡ 22) }
-    ensures memory { result ≡ 22 → TellsPartly (texts words.now) F.is_known (F.contents files.old) (F.contents files.new) (O.taken out.old) (O.taken out.new)
+    ensures memory { result ≡ 22 → ReportsPartly (texts words.now) F.is_known (F.contents files.old) (F.contents files.new) (O.taken out.old) (O.taken out.new)
         × IsWritten E.wants_memory (E.failures err.old) (E.failures err.new) (E.taken err.old) (E.taken err.new) no_memory_line }
 {
     match read_words(alloc, words) {
-        Err(fault) => tell_words(alloc, fault, err),
+        Err(fault) => report_words(alloc, fault, err),
         Ok(order) => match carry_out(alloc, order, files, out) {
             Ok(status) => status,
-            Err(failure) => tell(alloc, failure, err),
+            Err(failure) => report_failure(alloc, failure, err),
         },
     }
 }
 
-/// Does what is asked for: it is found out, and then told. The status.
+/// Does what is asked for: it is found out, and then reported. The status.
 fn carry_out<F: Files, O: Sink>(
     alloc: Global,
     order: Order<'_>,
     files: &mut F,
     out: &mut O,
 ) -> Result<u8, Failure>
-    ensures told { IfOk result (TellsFor (wanted_of order.entry) F.is_known (F.contents files.old) (F.contents files.new) (O.taken out.old) (O.taken out.new)) }
+    ensures said { IfOk result (ReportsFor (wanted_of order.entry) F.is_known (F.contents files.old) (F.contents files.new) (O.taken out.old) (O.taken out.new)) }
     ensures refused { IfErr result (λ failure. IfSome (fault_in failure) (λ fault. IsFaultFor (F.contents files.old) (wanted_of order.entry) fault
         × (O.taken out.new ≡ O.taken out.old) × AreKept (F.contents files.old) (F.contents files.new))) }
-    ensures partly { IfErr result (λ failure. TellsPartlyFor (wanted_of order.entry) F.is_known (F.contents files.old) (F.contents files.new) (O.taken out.old) (O.taken out.new)) }
+    ensures partly { IfErr result (λ failure. ReportsPartlyFor (wanted_of order.entry) F.is_known (F.contents files.old) (F.contents files.new) (O.taken out.old) (O.taken out.new)) }
     ensures unfailed { IfOk result (λ _. HasNotFailed (F.failures files.old) (F.failures files.new) (O.failures out.old) (O.failures out.new)) }
     ensures failures { IfErr result (CountsEither (F.failures files.old) (F.failures files.new) (O.failures out.old) (O.failures out.new)) }
     ensures unread { (name : List ℕ) → IsOneOf (inputs_of (wanted_of order.entry)) name → IsTrue (F.is_missing files.old name) → IsUnread result }
     ensures unreadable { (name : List ℕ) → IsOneOf (texts_of (wanted_of order.entry)) name → IsTrue (F.is_unreadable files.old name) → IsUnread result }
 {
     let report = report_of(alloc, order, files)?;
-    tell_report(alloc, &report, outputs_of(order), files, out)
+    write_report(alloc, &report, outputs_of(order), files, out)
 }
 
 /// What is found out of what is asked for.

@@ -1,4 +1,4 @@
--- Fair potential functions are lower bounds, and dead-fair ones tell dead ends.
+-- Fair potential functions are lower bounds, and dead-fair ones detect dead ends.
 use Rattle.std.proofs.Common.{◌≡◌, ◌∙◌, ℕ, ◌+◌, ◌<◌, ◌≤◌, Bool, true, false, List, [], ◌∷◌, length, get_or, sum_by, None, Some, refl, sym, ap, subst, arith, ℤ, pos, ◌+ℤ◌, ◌≤ℤ◌}
 use Rattle.std.specs.Prelude.{IsTrue, slice_get}
 use Rattle.std.specs.Option.{option_map, option_map_or, option_and_then}
@@ -14,10 +14,10 @@ use Rattle.model.specs.Runs.{System, run}
 use Rattle.model.specs.Meaning.{State, cost_of, step, meets_goal, system_of}
 use Rattle.model.specs.Fluents.{is_fluent, HasInitialStatics}
 use Rattle.model.specs.ClosedOff.{kept_instances}
-use Rattle.model.specs.NumberedAtoms.{stands_in}
+use Rattle.model.specs.NumberedAtoms.{occurs_in}
 use Rattle.model.specs.NumberedLiterals.{literals_of_instance, literals_of_goal, counting_of_instance}
 use Rattle.model.specs.Grounding.{state_of_bits, bits_of_state, ground_step, ground_system}
-use Rattle.model.proofs.NumberingLemmas.{stands_in-Contains}
+use Rattle.model.proofs.NumberingLemmas.{occurs_in-Contains}
 use Rattle.model.proofs.PackedStates.{contains-static, bits_of-packed_state}
 use Rattle.model.proofs.Atoms.{atoms_total}
 use Rattle.model.proofs.ClosedOffLemmas.{Contains-kept}
@@ -25,7 +25,7 @@ use Rattle.model.proofs.GroundTaskLemmas.{step-HasInitialStatics}
 use Rattle.std.specs.FinSet.{contains-from_list}
 use Rattle.potential_functions.specs.PotentialFunctions.{PotentialFunction, score, value, value_of_state, is_dead_by}
 use Rattle.potential_functions.specs.Fair.{is_pair, IsFairAt, AreFairAt, AreFair, nothing, AreDeadFair}
-use Rattle.potential_functions.specs.Laws.{AreNumberable, AreLowerBounds, FairOnesAreLowerBounds, TellDeadEnds, DeadFairOnesTellDeadEnds}
+use Rattle.potential_functions.specs.Laws.{AreNumberable, AreLowerBounds, FairOnesAreLowerBounds, DetectDeadEnds, DeadFairOnesDetectDeadEnds}
 use Rattle.potential_functions.proofs.Falls.{score-falls, score-ends, or_zero-most, value-falls, value-ends}
 use Rattle.potential_functions.proofs.Steps.{formula-says, step-is_pair, step-untouched}
 
@@ -106,8 +106,8 @@ module _ (allowance : Instance → ℕ) (task : Task) (atoms : List Atom) (p : P
 
   -- ---- packed states
 
-  numbered-fluent : (q : Atom) → stands_in atoms q ≡ true → is_fluent task q.predicate ≡ true
-  numbered-fluent q there = All-contains (λ (a : Atom). IsTrue (is_fluent task a.predicate)) atoms q numberable.fluent (stands_in-Contains atoms q there)
+  numbered-fluent : (q : Atom) → occurs_in atoms q ≡ true → is_fluent task q.predicate ≡ true
+  numbered-fluent q there = All-contains (λ (a : Atom). IsTrue (is_fluent task a.predicate)) atoms q numberable.fluent (occurs_in-Contains atoms q there)
 
   packed-statics : (bits : List Bool) → HasInitialStatics task (state_of_bits task atoms bits)
   packed-statics bits q static = contains-static (is_fluent task) task.init atoms numbered-fluent bits q static ∙ sym (contains-from_list atoms_total task.init q)
@@ -203,7 +203,7 @@ module _ (task : Task) (atoms : List Atom) (p : PotentialFunction) (numberable :
         | Some i ↦ refl
       ]
 
-  -- what comes only where the value is 0 does not come where a dead end is told
+  -- what comes only where the value is 0 does not come where a dead end is reported
   never-where : (bits : List Bool) (b : Bool) → IsTrue (is_dead_by p bits) → (b ≡ true → value p bits ≤ 0) → b ≡ false
   never-where bits b dead none_left =
       false_from_ne_true b (λ is. let none = none_left is in let some = leb-true 1 (value p bits) dead in absurd (omega arith))
@@ -222,8 +222,8 @@ module _ (task : Task) (atoms : List Atom) (p : PotentialFunction) (numberable :
       never-where bits ((ground_system task atoms).meets_goal bits) dead
       (λ goal. let zero = ground_value_ends nothing task atoms p numberable fair bits as_long goal in omega arith)
 
-  pub tell_dead_ends : TellDeadEnds task atoms p
-  tell_dead_ends = record {
+  pub detect_dead_ends : DetectDeadEnds task atoms p
+  detect_dead_ends = record {
     dead_ends = λ s end plan statics dead runs. never-where (bits_of_state atoms s) (meets_goal task end) dead (λ goal.
         let most = state_bound nothing task atoms p numberable fair s end plan statics runs goal in
         let none = sum-nothing nothing (λ i. refl) plan in
@@ -249,5 +249,5 @@ module _ (task : Task) (atoms : List Atom) (p : PotentialFunction) (numberable :
     };
   }
 
-pub dead_fair_ones_tell_dead_ends : DeadFairOnesTellDeadEnds
-dead_fair_ones_tell_dead_ends = tell_dead_ends
+pub dead_fair_ones_detect_dead_ends : DeadFairOnesDetectDeadEnds
+dead_fair_ones_detect_dead_ends = detect_dead_ends

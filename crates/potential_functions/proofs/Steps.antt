@@ -12,7 +12,7 @@ use Rattle.model.specs.Meaning.{State, atom_cmp, fits, holds, has_amount, can_ap
 use Rattle.model.specs.Fluents.{HasInitialStatics}
 use Rattle.model.specs.SureLiterals.{Literal, is_true, is_false, are_same, are_different, literal_holds, sure}
 use Rattle.model.specs.ClosedOff.{is_empty_and, is_unconditional, counting_changes}
-use Rattle.model.specs.NumberedAtoms.{stands_in, atom_of_literal, number_of, are_distinct}
+use Rattle.model.specs.NumberedAtoms.{occurs_in, atom_of_literal, number_of, are_distinct}
 use Rattle.model.specs.NumberedLiterals.{NumberedLiteral, NumberedChange, numbered_literal, numbered_literals, numbered_change, literals_of_instance, counting_of_instance}
 use Rattle.model.proofs.SureLiteralsHold.{sure_literals_hold}
 use Rattle.model.proofs.StaticLemmas.{contains-after_literals, same_atom, and_false}
@@ -161,18 +161,18 @@ module _ (atoms : List Atom) (distinct : are_distinct atoms ≡ true) (n : ℕ) 
     is_made c = holds task c.condition c.binding s
 
     -- the changes that are made and make the atom true, or false
-    made-any : (value : Bool) (changes : List Change) → stands_in (made_by value (literals_in task s changes)) a ≡ list_any (λ (c : Change). is_made c && makes_it value a c.literal) changes
+    made-any : (value : Bool) (changes : List Change) → occurs_in (made_by value (literals_in task s changes)) a ≡ list_any (λ (c : Change). is_made c && makes_it value a c.literal) changes
     made-any true [] = refl
     made-any false [] = refl
     made-any value (c ∷ changes) =
         let rest = made-any value changes in
-        elim (is_made c) as (λ m. stands_in (made_by value (map (λ (d : Change). d.literal) (cond m (c ∷ filter is_made changes) (filter is_made changes)))) a
+        elim (is_made c) as (λ m. occurs_in (made_by value (map (λ (d : Change). d.literal) (cond m (c ∷ filter is_made changes) (filter is_made changes)))) a
         ≡ ((m && makes_it value a c.literal) || list_any (λ (d : Change). is_made d && makes_it value a d.literal) changes)) [
           | true ↦ first value c.literal (literals_in task s changes) ∙ ap (λ b. makes_it value a c.literal || b) rest
           | false ↦ rest
         ]
       where
-        first : (value : Bool) (l : GroundLiteral) (literals : List GroundLiteral) → stands_in (made_by value (l ∷ literals)) a ≡ (makes_it value a l || stands_in (made_by value literals) a)
+        first : (value : Bool) (l : GroundLiteral) (literals : List GroundLiteral) → occurs_in (made_by value (l ∷ literals)) a ≡ (makes_it value a l || occurs_in (made_by value literals) a)
         first true (adds b) literals = refl
         first true (deletes b) literals = refl
         first false (adds b) literals = refl
@@ -191,7 +191,7 @@ module _ (atoms : List Atom) (distinct : are_distinct atoms ≡ true) (n : ℕ) 
       touches-any = any-filter_map (λ (k : NumberedChange). k.atom == n) (numbered_change atoms) changes ∙ (λ i. list_any (λ c. numbered-touches c i) changes)
 
       -- an unconditional change is made
-      pub makes-made : (value : Bool) → makes numbered true value n ≡ true → stands_in (made_by value (literals_in task s changes)) a ≡ true
+      pub makes-made : (value : Bool) → makes numbered true value n ≡ true → occurs_in (made_by value (literals_in task s changes)) a ≡ true
       makes-made value is =
           made-any value changes
           ∙ any-weaker (λ (c : Change). makes_it value a c.literal && beq (is_unconditional c) true) (λ (c : Change). is_made c && makes_it value a c.literal)
@@ -201,7 +201,7 @@ module _ (atoms : List Atom) (distinct : are_distinct atoms ≡ true) (n : ℕ) 
           (sym (makes-any true value) ∙ is)
 
       -- what is made is made by an unconditional change or by one under a `when`
-      pub made-makes : (value : Bool) → stands_in (made_by value (literals_in task s changes)) a ≡ true → (makes numbered true value n || makes numbered false value n) ≡ true
+      pub made-makes : (value : Bool) → occurs_in (made_by value (literals_in task s changes)) a ≡ true → (makes numbered true value n || makes numbered false value n) ≡ true
       made-makes value is =
           (λ i. makes-any true value i || makes-any false value i)
           ∙ any-either (λ (c : Change). is_made c && makes_it value a c.literal) (λ (c : Change). makes_it value a c.literal && beq (is_unconditional c) true)
@@ -215,7 +215,7 @@ module _ (atoms : List Atom) (distinct : are_distinct atoms ≡ true) (n : ℕ) 
           either false u e = absurd (true≢false (sym e))
 
       -- and touches the atom
-      pub made-touches : (value : Bool) → stands_in (made_by value (literals_in task s changes)) a ≡ true → touches numbered n ≡ true
+      pub made-touches : (value : Bool) → occurs_in (made_by value (literals_in task s changes)) a ≡ true → touches numbered n ≡ true
       made-touches value is =
           touches-any
           ∙ any-weaker (λ (c : Change). is_made c && makes_it value a c.literal) (λ (c : Change). eq_by_cmp atom_cmp a (atom_of_literal c.literal))
@@ -228,7 +228,7 @@ module _ (atoms : List Atom) (distinct : are_distinct atoms ≡ true) (n : ℕ) 
     abbrev changed : List GroundLiteral
     changed = literals_in task s (counting_changes task i)
 
-    after-is : contains next a ≡ ((contains s a && not (stands_in (made_by false changed) a)) || stands_in (made_by true changed) a)
+    after-is : contains next a ≡ ((contains s a && not (occurs_in (made_by false changed) a)) || occurs_in (made_by true changed) a)
     after-is = ap (λ (t : State). contains t a) (sym (step-counting task s next i statics leads)) ∙ contains-after_literals s changed a
 
     -- its precondition holds
@@ -261,7 +261,7 @@ module _ (atoms : List Atom) (distinct : are_distinct atoms ≡ true) (n : ℕ) 
         (ap not (false_from_ne_true (says (literals_of_instance task atoms i) n (not (contains s a))) (λ is. other (contains s a) (instance-says (not (contains s a)) is))))
         (subst (λ after. may_become (counting_of_instance task atoms i) n (contains s a) after ≡ true) (sym after-is)
         (comes (makes (counting_of_instance task atoms i) true true n) (makes (counting_of_instance task atoms i) true false n) (λ value. makes (counting_of_instance task atoms i) false value n)
-        (stands_in (made_by true changed) a) (stands_in (made_by false changed) a) (contains s a)
+        (occurs_in (made_by true changed) a) (occurs_in (made_by false changed) a) (contains s a)
         (makes-made task s (counting_changes task i) true) (makes-made task s (counting_changes task i) false)
         (made-makes task s (counting_changes task i) true) (made-makes task s (counting_changes task i) false)))
       where
@@ -272,10 +272,10 @@ module _ (atoms : List Atom) (distinct : are_distinct atoms ≡ true) (n : ℕ) 
     -- and an atom that no change touches stays as it is
     pub step-untouched : touches (counting_of_instance task atoms i) n ≡ false → contains s a ≡ contains next a
     step-untouched none =
-        sym (after-is ∙ kept (contains s a) (stands_in (made_by false changed) a) (stands_in (made_by true changed) a) (never false) (never true))
+        sym (after-is ∙ kept (contains s a) (occurs_in (made_by false changed) a) (occurs_in (made_by true changed) a) (never false) (never true))
       where
-        never : (value : Bool) → stands_in (made_by value changed) a ≡ false
-        never value = false_from_ne_true (stands_in (made_by value changed) a) (λ is. true≢false (sym (made-touches task s (counting_changes task i) value is) ∙ none))
+        never : (value : Bool) → occurs_in (made_by value changed) a ≡ false
+        never value = false_from_ne_true (occurs_in (made_by value changed) a) (λ is. true≢false (sym (made-touches task s (counting_changes task i) value is) ∙ none))
 
         kept : (before deleting adding : Bool) → deleting ≡ false → adding ≡ false → ((before && not deleting) || adding) ≡ before
         kept true false false e f = refl

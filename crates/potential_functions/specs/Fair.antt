@@ -40,7 +40,7 @@ pub record Pair : Type 0 where
   pub before : Bool
   pub after : Bool
 
--- the atom of this number may be so: before, as far as the literals tell, and then after
+-- the atom of this number may be so: before, as far as the literals report, and then after
 abbrev pub is_pair : List NumberedLiteral → List NumberedChange → ℕ → Pair → Bool
 is_pair literals changes number p = not (says literals number (not p.before)) && may_become changes number p.before p.after
 

@@ -209,7 +209,7 @@ pub record AreJudged : Type 0 where
   pub uncertain_delete : Loses [] (may_be_deleted ∷ []) (pos 3) (pos 0) (pos 0)
   pub uncertain_delete_of_true : Loses (is_true ∷ []) (may_be_deleted ∷ []) (pos 3) (pos 0) (pos 0)
   pub uncertain_delete_of_false : Loses (is_false ∷ []) (may_be_deleted ∷ []) (pos 0) (pos 0) (pos 0)
-  -- An add wins over a delete, in whatever order they stand, and over one under a `when`.
+  -- An add wins over a delete, in whatever order they are, and over one under a `when`.
   pub add_and_delete : Loses (is_true ∷ []) (added ∷ deleted ∷ []) (pos 0) (pos 0) (pos 0)
   pub delete_and_add : Loses (is_false ∷ []) (deleted ∷ added ∷ []) (minus 3) (pos 3) (pos 0)
   pub add_and_uncertain_delete : Loses (is_true ∷ []) (may_be_deleted ∷ added ∷ []) (pos 0) (pos 0) (pos 0)
@@ -247,7 +247,7 @@ pub record AreJudged : Type 0 where
   pub no_road : instance_loses hop_task hop_atoms hop_weights (instance 0 (0 ∷ 2 ∷ [])) ≡ pos 6
   pub hops_are_fair : AreFair hop_task hop_atoms (potentials (pos 6) hop_weights)
   pub hops_begin_at : initial_value hop_task hop_atoms (potentials (pos 6) hop_weights) ≡ 6
-  -- One more for (at b) makes the first hop cheaper than it is and the second too dear; the first that is unfair is told.
+  -- One more for (at b) makes the first hop cheaper than it is and the second too dear; the first that is unfair is reported.
   pub second_hop_is_unfair : IsFirstUnfair hop_task hop_atoms (potentials (pos 6) (pos 0 ∷ minus 2 ∷ minus 6 ∷ [])) 1
   pub constant_too_high : IsUnfairAtGoals hop_task hop_atoms (potentials (pos 7) hop_weights)
   -- The add of (b) under a `when` gives nothing back for (c), which may cost 3.

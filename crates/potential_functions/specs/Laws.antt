@@ -51,10 +51,10 @@ FairOnesAreLowerBounds = (task : Task) (atoms : List Atom) (p : PotentialFunctio
 
 -- ---- dead ends
 
--- No list of instances, of whatever length, runs from a state with the initial static atoms that is told a dead end to one
+-- No list of instances, of whatever length, runs from a state with the initial static atoms that is reported as a dead end to one
 -- that meets the goal.
-abbrev pub TellsDeadEndsOf : Task → List Atom → PotentialFunction → Type 0
-TellsDeadEndsOf task atoms p =
+abbrev pub DetectsDeadEndsOf : Task → List Atom → PotentialFunction → Type 0
+DetectsDeadEndsOf task atoms p =
     (state end : State) (plan : List Instance) → HasInitialStatics task state → IsTrue (is_dead_state atoms p state) → run (system_of task) state plan ≡ Some end
     → meets_goal task end ≡ false
 
@@ -65,8 +65,8 @@ pub record NeverFalls (task : Task) (atoms : List Atom) (p : PotentialFunction) 
   pub ends : (state : State) → HasInitialStatics task state → IsTrue (meets_goal task state) → value_of_state atoms p state ≡ 0
 
 -- the same of the ground task
-abbrev pub TellsGroundDeadEndsOf : Task → List Atom → PotentialFunction → Type 0
-TellsGroundDeadEndsOf task atoms p =
+abbrev pub DetectsGroundDeadEndsOf : Task → List Atom → PotentialFunction → Type 0
+DetectsGroundDeadEndsOf task atoms p =
     (bits end : List Bool) (plan : List ℕ) → length bits ≡ length atoms → IsTrue (is_dead_by p bits) → run (ground_system task atoms) bits plan ≡ Some end
     → (ground_system task atoms).meets_goal end ≡ false
 
@@ -75,19 +75,19 @@ pub record NeverFallsInGround (task : Task) (atoms : List Atom) (p : PotentialFu
       → value p bits ≤ value p next
   pub ends : (bits : List Bool) → length bits ≡ length atoms → IsTrue ((ground_system task atoms).meets_goal bits) → value p bits ≡ 0
 
--- a packed state that is told a dead end leads only to such, and does not meet the goal
+-- a packed state that is reported as a dead end leads only to such, and does not meet the goal
 pub record StaysDeadInGround (task : Task) (atoms : List Atom) (p : PotentialFunction) : Type 0 where
   pub stays : (bits next : List Bool) (number : ℕ) → length bits ≡ length atoms → IsTrue (is_dead_by p bits) → ground_step task atoms bits number ≡ Some next
       → IsTrue (is_dead_by p next)
   pub no_goal : (bits : List Bool) → length bits ≡ length atoms → IsTrue (is_dead_by p bits) → (ground_system task atoms).meets_goal bits ≡ false
 
 -- What dead-fair potential functions do.
-pub record TellDeadEnds (task : Task) (atoms : List Atom) (p : PotentialFunction) : Type 0 where
-  pub dead_ends : TellsDeadEndsOf task atoms p
+pub record DetectDeadEnds (task : Task) (atoms : List Atom) (p : PotentialFunction) : Type 0 where
+  pub dead_ends : DetectsDeadEndsOf task atoms p
   pub consistent : NeverFalls task atoms p
-  pub ground_dead_ends : TellsGroundDeadEndsOf task atoms p
+  pub ground_dead_ends : DetectsGroundDeadEndsOf task atoms p
   pub ground_consistent : NeverFallsInGround task atoms p
   pub ground_stays : StaysDeadInGround task atoms p
 
-abbrev pub DeadFairOnesTellDeadEnds : Type 0
-DeadFairOnesTellDeadEnds = (task : Task) (atoms : List Atom) (p : PotentialFunction) → AreNumberable task atoms → AreDeadFair task atoms p → TellDeadEnds task atoms p
+abbrev pub DeadFairOnesDetectDeadEnds : Type 0
+DeadFairOnesDetectDeadEnds = (task : Task) (atoms : List Atom) (p : PotentialFunction) → AreNumberable task atoms → AreDeadFair task atoms p → DetectDeadEnds task atoms p

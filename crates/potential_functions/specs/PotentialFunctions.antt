@@ -41,11 +41,11 @@ value_of_state atoms p state = value p (bits_of_state atoms state)
 
 -- ---- dead ends
 
--- the packed state is told a dead end: its value is at least 1
+-- the packed state is reported as a dead end: its value is at least 1
 abbrev pub is_dead_by : PotentialFunction → List Bool → Bool
 is_dead_by p bits = nat_le 1 (value p bits)
 
--- the state is told one, where these atoms have numbers
+-- the state is reported one, where these atoms have numbers
 abbrev pub is_dead_state : List Atom → PotentialFunction → State → Bool
 is_dead_state atoms p state = is_dead_by p (bits_of_state atoms state)
 

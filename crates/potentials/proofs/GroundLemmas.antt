@@ -6,7 +6,7 @@ use Rattle.grounding.specs.Views.{atom_of}
 use Rattle.grounding.specs.declared.ground.Ground.{Ground}
 use Rattle.grounding.specs.Ground.{task_in, atoms_in}
 use Rattle.model.specs.ClosedOff.{kept_instances}
-use Rattle.model.proofs.NumberingLemmas.{Contains-stands_in}
+use Rattle.model.proofs.NumberingLemmas.{Contains-occurs_in}
 use Rattle.potential_functions.specs.Laws.{AreNumberable}
 
 pub few-atoms : (g : Ground) → length (atoms_in g) ≤ 1048576
@@ -20,5 +20,5 @@ few-instances g = omega (arith, g.few, ap length g.numbering.kept)
 pub numberable : (g : Ground) → AreNumberable (task_in g) (atoms_in g)
 numberable g = record {
   distinct = g.numbering.distinct;
-  fluent = λ k d below. g.numbering.fluent (get_or (atoms_in g) k d) (Contains-stands_in (atoms_in g) (get_or (atoms_in g) k d) (All-contains_itself (atoms_in g) k d below));
+  fluent = λ k d below. g.numbering.fluent (get_or (atoms_in g) k d) (Contains-occurs_in (atoms_in g) (get_or (atoms_in g) k d) (All-contains_itself (atoms_in g) k d below));
 }

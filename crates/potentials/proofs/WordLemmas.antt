@@ -77,10 +77,10 @@ gained-lowest : (count : ℕ) (weights : List ℤ) (first word rest after low : 
 gained-lowest count weights first word rest after low gain within there gone others is =
     let f = gained_at weights first word after in
     let g = gained_at weights first rest after in
-    let as_told = λ (k : ℕ) (bit : ℕ). if bit == 1 then (if bit_at after k == 1 then weight weights (first + k) else neg_ℤ (weight weights (first + k))) else pos 0 in
-    let moved = sum-changed count f g low within (λ k below other. ap (as_told k) (sym (others k below other))) in
-    let now : f low ≡ gain = ap (as_told low) there ∙ sym is in
-    let later : g low ≡ pos 0 = ap (as_told low) gone in
+    let as_reported = λ (k : ℕ) (bit : ℕ). if bit == 1 then (if bit_at after k == 1 then weight weights (first + k) else neg_ℤ (weight weights (first + k))) else pos 0 in
+    let moved = sum-changed count f g low within (λ k below other. ap (as_reported k) (sym (others k below other))) in
+    let now : f low ≡ gain = ap (as_reported low) there ∙ sym is in
+    let later : g low ≡ pos 0 = ap (as_reported low) gone in
     omega (arith, ints)
 
 pub none_gained : (weights : List ℤ) (first after : ℕ) → gained_in_word weights first 0 after ≡ pos 0

@@ -1,4 +1,4 @@
--- What is told of potentials.
+-- What is reported for potentials.
 use Rattle.std.specs.Prelude.{ℕ, List, All}
 use Rattle.model.specs.Task.{Atom, Task, Instance}
 use Rattle.model.specs.Meaning.{cost_of}
@@ -9,7 +9,7 @@ use Rattle.potentials.specs.declared.fairness.Allowance.{Allowance}
 use Rattle.potentials.specs.declared.fairness.Allowance.TheVariants.{Cost, Nothing}
 use Rattle.potentials.specs.declared.fairness.Fairness.{Fairness}
 use Rattle.potentials.specs.declared.fairness.Fairness.TheVariants.{Fair, Goal}
-use Rattle.potentials.specs.declared.fairness.Fairness.TheVariants as told
+use Rattle.potentials.specs.declared.fairness.Fairness.TheVariants as reported
 
 -- how much is allowed to an instance of the task
 abbrev pub allowed_by : Allowance → Task → Instance → ℕ
@@ -27,15 +27,15 @@ AreInstancesFair task = AreInstancesFairAt (cost_of task) task
 abbrev pub AreInstancesDeadFair : Task → List Atom → PotentialFunction → Type 0
 AreInstancesDeadFair = AreInstancesFairAt nothing
 
-abbrev pub TellsAt : (Instance → ℕ) → Task → List Atom → PotentialFunction → Fairness → Type 0
-TellsAt allowance task atoms p Fair = AreFairAt allowance task atoms p
-TellsAt allowance task atoms p (told.Instance number) = IsFirstUnfairAt allowance task atoms p number
-TellsAt allowance task atoms p Goal = AreInstancesFairAt allowance task atoms p × (¬ IsFairAtGoals task atoms p)
+abbrev pub ReportsAt : (Instance → ℕ) → Task → List Atom → PotentialFunction → Fairness → Type 0
+ReportsAt allowance task atoms p Fair = AreFairAt allowance task atoms p
+ReportsAt allowance task atoms p (reported.Instance number) = IsFirstUnfairAt allowance task atoms p number
+ReportsAt allowance task atoms p Goal = AreInstancesFairAt allowance task atoms p × (¬ IsFairAtGoals task atoms p)
 
 -- whether they are fair
-abbrev pub Tells : Task → List Atom → PotentialFunction → Fairness → Type 0
-Tells task = TellsAt (cost_of task) task
+abbrev pub Reports : Task → List Atom → PotentialFunction → Fairness → Type 0
+Reports task = ReportsAt (cost_of task) task
 
 -- whether they are dead-fair
-abbrev pub TellsDead : Task → List Atom → PotentialFunction → Fairness → Type 0
-TellsDead = TellsAt nothing
+abbrev pub DetectsDead : Task → List Atom → PotentialFunction → Fairness → Type 0
+DetectsDead = ReportsAt nothing

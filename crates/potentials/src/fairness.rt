@@ -6,7 +6,7 @@ ghost use Rattle.model.specs.Meaning.{cost_of};
 ghost use Rattle.model.specs.ClosedOff.{kept_instances};
 ghost use Rattle.potential_functions.specs.Fair.{IsFairAt, IsFairAtGoals, IsFirstUnfairAt};
 ghost use Rattle.potentials.specs.Potentials.{potentials_of};
-ghost use Rattle.potentials.specs.Fairness.{allowed_by, AreInstancesFairAt, TellsAt, Tells, TellsDead};
+ghost use Rattle.potentials.specs.Fairness.{allowed_by, AreInstancesFairAt, ReportsAt, Reports, DetectsDead};
 
 use crate::goals::goal_gives_at_most;
 use crate::instances::instance_count;
@@ -41,7 +41,7 @@ impl Potentials {
     /// most 0. There is a weight for each numbered atom.
     pub fn fair(&self, _alloc: Global, ground: &Ground<'_>) -> Result<Fairness, NoMemory>
         requires { length (potentials_of self.now).weights ≡ length (atoms_in ground.now) }
-        ensures { IfOk result (Tells (task_in ground.now) (atoms_in ground.now) (potentials_of self.now)) }
+        ensures { IfOk result (Reports (task_in ground.now) (atoms_in ground.now) (potentials_of self.now)) }
     {
         Ok(self.fairness(ground, Allowance::Cost))
     }
@@ -50,7 +50,7 @@ impl Potentials {
     /// So a state of which the value is at least 1 is a dead end. There is a weight for each numbered atom.
     pub fn dead_fair(&self, _alloc: Global, ground: &Ground<'_>) -> Result<Fairness, NoMemory>
         requires { length (potentials_of self.now).weights ≡ length (atoms_in ground.now) }
-        ensures { IfOk result (TellsDead (task_in ground.now) (atoms_in ground.now) (potentials_of self.now)) }
+        ensures { IfOk result (DetectsDead (task_in ground.now) (atoms_in ground.now) (potentials_of self.now)) }
     {
         Ok(self.fairness(ground, Allowance::Nothing))
     }
@@ -58,7 +58,7 @@ impl Potentials {
     /// Whether they are fair where this is allowed to each instance.
     fn fairness(&self, ground: &Ground<'_>, allowance: Allowance) -> Fairness
         requires { length (potentials_of self.now).weights ≡ length (atoms_in ground.now) }
-        ensures { TellsAt (allowed_by allowance (task_in ground.now)) (task_in ground.now) (atoms_in ground.now) (potentials_of self.now) result }
+        ensures { ReportsAt (allowed_by allowance (task_in ground.now)) (task_in ground.now) (atoms_in ground.now) (potentials_of self.now) result }
     {
         match self.first_unfair(ground, allowance) {
             Some(number) => Fairness::Instance(number),

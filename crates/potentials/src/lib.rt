@@ -1,5 +1,5 @@
 //! Potentials: weights of atoms by which a state has a value, which is a lower bound of what is still to pay where they are
-//! fair; and what instances lose and goals give, at most, by which it is told whether they are.
+//! fair; and what instances lose and goals give, at most, by which it is reported whether they are.
 #![tactic(auto)]
 
 mod fairness;

@@ -17,7 +17,7 @@ use Rattle.potentials_drafted.specs.declared.touching.Touching.{Touching}
 use Rattle.potentials_drafted.specs.Touching.{number_of, touches_at, row_of, IsTouching, IsAdded}
 use Rattle.potentials.proofs.LossLemmas.{touches-append}
 
--- what is read of a list stands there
+-- what is read of a list is there
 pub got-again : {X : Type 0} (xs : List X) (n : ℕ) (d : X) → n < length xs → get_or xs n d ≡ get_or xs n (get_or xs n d)
 got-again [] n d within = absurd (omega arith)
 got-again (x ∷ xs) zero d within = refl
@@ -134,7 +134,7 @@ row-pushed mid new x atom rows a = ap (map number_of) (rows a) ∙ of_bit (a == 
     of_bit true = map-append number_of (touches_at mid a) (x ∷ [])
     of_bit false = refl
 
--- what stands beside the rows is of no account
+-- what is beside the rows is of no account
 pub added-alike : (number : ℕ) (changes : List NumberedChange) (old new other : Touching) → IsAdded number changes old new → other.rows ≡ new.rows → IsAdded number changes old other
 added-alike number changes old new other so is = subst (λ rows. IsAdded number changes old (record new { rows = rows; atoms = other.atoms; ends = other.ends })) (sym is)
     (record { width = so.width; kept = so.kept; only = so.only; added = so.added })

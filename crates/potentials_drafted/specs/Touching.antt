@@ -20,7 +20,7 @@ touches_at t a = option_map_or (λ (v : Vec Touch). v.items) (slice_get t.rows.i
 abbrev pub row_of : Touching → ℕ → List ℕ
 row_of t a = map number_of (touches_at t a)
 
--- The numbers are of instances of the task, and each instance below this number that touches an atom stands in its row.
+-- The numbers are of instances of the task, and each instance below this number that touches an atom is in its row.
 pub record IsTouching (task : Task) (atoms : List Atom) (count : ℕ) (t : Touching) : Type 0 where
   pub width : length t.rows.items ≡ length atoms
   pub within : (a n : ℕ) → Contains (row_of t a) n → n < count

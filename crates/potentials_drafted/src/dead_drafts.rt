@@ -1,7 +1,7 @@
-//! Weights that may tell dead ends.
+//! Weights that may detect dead ends.
 //!
 //! Where no instance may lose anything, each multiple of fair weights is fair, so that the linear program has edges without an
-//! end. Along one on which a state gains, its value comes to at least 1, and the state is told a dead end.
+//! end. Along one on which a state gains, its value comes to at least 1, and the state is reported as a dead end.
 use crate::aims::{Aim, Aims};
 use crate::linear_program::LinearProgram;
 use crate::mending::is_whole;
@@ -14,7 +14,7 @@ use std::num::{nearest_i64_to_f64, saturating_f64_to_i64};
 /// For how many states weights are drafted, at most: the initial one, and sampled ones.
 const MAX_STATES: usize = 17;
 
-/// How many numbers the simplex algorithm may look at: in all, and of these behind the initial state, for the sampled ones.
+/// How many numbers the simplex algorithm may look at: in all, and of these after the initial state, for the sampled ones.
 const MAX_WORK: u64 = 524_288;
 
 const MAX_WORK_SAMPLED: u64 = 131_072;
@@ -37,9 +37,9 @@ pub struct DeadDrafts<'a> {
     done: usize,
 }
 
-/// Which states weights tell dead: whether the initial one, and how many of all.
+/// Which states weights report dead: whether the initial one, and how many of all.
 #[derive(Clone, Copy)]
-struct Told {
+struct Reported {
     is_initial: bool,
     states: usize,
 }
@@ -62,15 +62,15 @@ impl<'a> DeadDrafts<'a> {
         })
     }
 
-    /// Weights that may tell more of the states dead than these, if some are found for one of those left. Where the initial
-    /// state is told dead, no more is to be told.
+    /// Weights that may report more of the states dead than these, if some are found for one of those left. Where the initial
+    /// state is reported dead, no more is to be reported.
     pub fn next(&mut self, alloc: Global, weights: &[i64]) -> Result<Option<Vec<i64>>, NoMemory> {
-        if self.is_told(0, weights) {
+        if self.is_reported(0, weights) {
             return Ok(None);
         }
         for place in self.done..self.states.len() {
             self.done = place.saturating_add(1);
-            if !self.is_told(place, weights) {
+            if !self.is_reported(place, weights) {
                 let draft = self.draft(alloc, place, weights)?;
                 if place == 0 {
                     self.vertex.limit_work(MAX_WORK_SAMPLED);
@@ -83,7 +83,7 @@ impl<'a> DeadDrafts<'a> {
         Ok(None)
     }
 
-    /// Weights that may tell more of the states dead than these, if some are found for the one at this place: either alone, or
+    /// Weights that may report more of the states dead than these, if some are found for the one at this place: either alone, or
     /// added to these.
     fn draft(
         &mut self,
@@ -98,9 +98,9 @@ impl<'a> DeadDrafts<'a> {
         for (more, weight) in found.iter().zip(weights) {
             both.push(more.saturating_add(*weight))?;
         }
-        let before = self.told(weights);
-        let alone = self.told(&found);
-        let together = self.told(&both);
+        let before = self.reported(weights);
+        let alone = self.reported(&found);
+        let together = self.reported(&both);
         if together.is_more_than(before) && !alone.is_more_than(together) {
             return Ok(Some(both));
         }
@@ -125,8 +125,8 @@ impl<'a> DeadDrafts<'a> {
         whole(alloc, &weights)
     }
 
-    /// Which of the states these weights tell dead, with the greatest constant that the goal allows.
-    fn told(&self, weights: &[i64]) -> Told {
+    /// Which of the states these weights report dead, with the greatest constant that the goal allows.
+    fn reported(&self, weights: &[i64]) -> Reported {
         let constant = self.tables.constant(weights);
         let mut states = 0usize;
         for atoms in self.states {
@@ -134,14 +134,14 @@ impl<'a> DeadDrafts<'a> {
                 states = states.saturating_add(1);
             }
         }
-        Told {
-            is_initial: self.is_told(0, weights),
+        Reported {
+            is_initial: self.is_reported(0, weights),
             states,
         }
     }
 
-    /// Whether they tell the one at this place dead.
-    fn is_told(&self, place: usize, weights: &[i64]) -> bool {
+    /// Whether they report the one at this place dead.
+    fn is_reported(&self, place: usize, weights: &[i64]) -> bool {
         match self.states.get(place) {
             Some(atoms) => score(self.tables.constant(weights), weights, atoms) > 0,
             None => false,
@@ -149,9 +149,9 @@ impl<'a> DeadDrafts<'a> {
     }
 }
 
-impl Told {
-    /// Whether the initial state is told only here, or in both or neither and here more states are told.
-    fn is_more_than(self, other: Told) -> bool {
+impl Reported {
+    /// Whether the initial state is reported only here, or in both or neither and here more states are reported.
+    fn is_more_than(self, other: Reported) -> bool {
         if self.is_initial == other.is_initial {
             self.states > other.states
         } else {

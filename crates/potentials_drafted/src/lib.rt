@@ -1,7 +1,7 @@
-//! Drafts of potentials: weights by which states may have greater values, or be told dead ends.
+//! Drafts of potentials: weights by which states may have greater values, or be reported dead ends.
 //!
 //! Nothing is claimed of a draft, so that whoever takes one tests it. What is claimed is which instances touch an atom: of
-//! that the moves of single weights behind the drafts make use.
+//! that the moves of single weights after the drafts make use.
 #![tactic(auto)]
 
 mod aims;

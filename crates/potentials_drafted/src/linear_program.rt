@@ -16,7 +16,7 @@ struct Pair {
     above: Option<usize>,
 }
 
-/// The variables, and where those of each atom stand.
+/// The variables, and where those of each atom are.
 #[derive(Drop)]
 pub(crate) struct LinearProgram {
     /// What one more of each variable moves.
@@ -45,7 +45,7 @@ impl LinearProgram {
         Ok(program)
     }
 
-    /// Adds the variable of these moves, if it is of use; tells its place.
+    /// Adds the variable of these moves, if it is of use; reports its place.
     fn add(&mut self, tables: &Tables, aims: &Aims, step: Move) -> Result<Option<usize>, NoMemory> {
         let is_of_use = aims.shared_gain(tables, step, 1.0) > 0.0
             || tables

@@ -118,7 +118,7 @@ impl Mending {
         }
     }
 
-    /// Moves single weights by one until each instance is fair; tells whether it came to that.
+    /// Moves single weights by one until each instance is fair; says whether it came to that.
     fn mend(&mut self, tables: &Tables, aims: &Aims) -> Result<bool, NoMemory> {
         for moves in 0..MAX_MOVES {
             let Some(number) = self.unfair.pop() else {

@@ -120,7 +120,7 @@ impl Walk {
         Ok(())
     }
 
-    /// Goes on by an applicable instance that chance picks, if there is one; tells whether there is.
+    /// Goes on by an applicable instance that chance picks, if there is one; says whether there is.
     fn step(&mut self, ground: &Ground<'_>) -> Result<bool, NoMemory> {
         if self.state.width() != ground.width() || self.next.width() != ground.width() {
             return Ok(false);

@@ -152,7 +152,7 @@ impl Vertex {
         Ok(())
     }
 
-    /// Goes on as long as the initial state gains by it, and by this share the sampled ones; tells whether it took a step.
+    /// Goes on as long as the initial state gains by it, and by this share the sampled ones; says whether it took a step.
     pub(crate) fn climb(
         &mut self,
         tables: &Tables,

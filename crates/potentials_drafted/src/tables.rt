@@ -61,7 +61,7 @@ impl Tables {
     {
         Ok(Tables {
             width: ground.width(),
-            at_goal: told_at_goal(alloc, ground)?,
+            at_goal: reported_at_goal(alloc, ground)?,
             costs: costs(alloc, ground)?,
             touching: Touching::new(alloc, ground)?,
             states: states(alloc, ground)?,
@@ -126,16 +126,16 @@ impl Tables {
 }
 
 /// What the goal says of each atom.
-fn told_at_goal(alloc: Global, ground: &Ground<'_>) -> Result<Vec<AtGoal>, NoMemory> {
-    let mut told = vec![in alloc; AtGoal::OPEN; ground.width() as usize]?;
+fn reported_at_goal(alloc: Global, ground: &Ground<'_>) -> Result<Vec<AtGoal>, NoMemory> {
+    let mut reported = vec![in alloc; AtGoal::OPEN; ground.width() as usize]?;
     for literal in ground.goal_literals() {
         let place = literal.atom as usize;
-        if place < told.len() {
-            told[place].is_true |= literal.value;
-            told[place].is_false |= !literal.value;
+        if place < reported.len() {
+            reported[place].is_true |= literal.value;
+            reported[place].is_false |= !literal.value;
         }
     }
-    Ok(told)
+    Ok(reported)
 }
 
 /// What each instance costs.

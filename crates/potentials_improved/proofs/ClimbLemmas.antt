@@ -64,13 +64,13 @@ module _ (task : Task) (atoms : List Atom) where
       → ((s +ℤ neg_ℤ before) +ℤ after) ≡ goal_gives_at_most (length atoms) (set weights n w) goal
   goal-moved weights n w s old v before after fails holds literals within width sums are says_fails says_holds weighs same gives_before gives_after =
       let here : w ≡ weight (set weights n w) n = sym (weight-here weights n w (omega (arith, width))) in
-      let as_told = λ (x y : ℤ) (xy : x ≡ y). (
+      let as_reported = λ (x y : ℤ) (xy : x ≡ y). (
       ap (λ b. if b then pos 0 else if holds then x else int_max (pos 0) x) (says_fails ∙ ap (λ l. says l n false) are)
       ∙ ap (λ b. if says goal n false then pos 0 else if b then x else int_max (pos 0) x) (says_holds ∙ ap (λ l. says l n true) are)
       ∙ ap (λ z. if says goal n false then pos 0 else if says goal n true then z else int_max (pos 0) z) xy
       ) in
-      let e0 : before ≡ goal_gives goal weights n = gives_before ∙ as_told old (weight weights n) weighs in
-      let e1 : after ≡ goal_gives goal (set weights n w) n = gives_after ∙ as_told v (weight (set weights n w) n) (same ∙ here) in
+      let e0 : before ≡ goal_gives goal weights n = gives_before ∙ as_reported old (weight weights n) weighs in
+      let e1 : after ≡ goal_gives goal (set weights n w) n = gives_after ∙ as_reported v (weight (set weights n w) n) (same ∙ here) in
       let moved = gives-set (length atoms) weights n w goal within (sym width) in
       omega (arith, ints)
 
@@ -82,9 +82,9 @@ module _ (task : Task) (atoms : List Atom) where
       → ((((s +ℤ neg_ℤ c) +ℤ kk) +ℤ neg_ℤ before) +ℤ after) ≡ score (potentials k (set p.weights n w)) initial
   score-moved p n w k s c kk old v before after bit bits within width sums constant kept are holds weighs same gives_before gives_after =
       let here : w ≡ weight (set p.weights n w) n = sym (weight-here p.weights n w (omega (arith, width))) in
-      let as_told = λ (x y : ℤ) (xy : x ≡ y). (ap (λ b. if b then x else pos 0) (holds ∙ ap (λ l. get_or l n false) are) ∙ ap (λ z. if get_or initial n false then z else pos 0) xy) in
-      let e0 : before ≡ given p.weights initial n = gives_before ∙ as_told old (weight p.weights n) weighs in
-      let e1 : after ≡ given (set p.weights n w) initial n = gives_after ∙ as_told v (weight (set p.weights n w) n) (same ∙ here) in
+      let as_reported = λ (x y : ℤ) (xy : x ≡ y). (ap (λ b. if b then x else pos 0) (holds ∙ ap (λ l. get_or l n false) are) ∙ ap (λ z. if get_or initial n false then z else pos 0) xy) in
+      let e0 : before ≡ given p.weights initial n = gives_before ∙ as_reported old (weight p.weights n) weighs in
+      let e1 : after ≡ given (set p.weights n w) initial n = gives_after ∙ as_reported v (weight (set p.weights n w) n) (same ∙ here) in
       let long = initial-long in
       let moved = given-set (length initial) p.weights n w initial (omega arith) (omega (arith, width)) in
       omega (arith, ints)

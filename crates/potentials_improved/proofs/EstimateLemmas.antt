@@ -1,4 +1,4 @@
--- The value that fair potentials give is a consistent estimate, whatever bits a state has, and what dead-fair ones tell are
+-- The value that fair potentials give is a consistent estimate, whatever bits a state has, and what dead-fair ones report are
 -- dead ends.
 use Rattle.std.proofs.Common.{◌≡◌, ◌∙◌, ℕ, zero, suc, ◌<◌, inl, inr, Bool, true, false, List, [], ◌∷◌, length, get_or, sym, ap, subst, arith, ℤ, pos, negsuc, refl, ◌+ℤ◌, ◌≤ℤ◌, nat_le, All}
 use Rattle.std.specs.Prelude.{IsTrue, if◌then◌else◌, slice_get}
@@ -13,18 +13,18 @@ use Rattle.model.specs.Task.{Atom, Task, Instance}
 use Rattle.model.specs.Meaning.{State, step, meets_goal}
 use Rattle.model.specs.Fluents.{is_fluent}
 use Rattle.model.specs.ClosedOff.{kept_instances}
-use Rattle.model.specs.NumberedAtoms.{stands_in}
+use Rattle.model.specs.NumberedAtoms.{occurs_in}
 use Rattle.model.specs.Grounding.{state_of_bits, bits_of_state, ground_step, ground_system}
-use Rattle.model.proofs.NumberingLemmas.{stands_in-Contains}
-use Rattle.model.proofs.PackedStates.{chosen-stands_in, contains-fluent, contains-static, contains-numbered, packed-bits_of_state}
+use Rattle.model.proofs.NumberingLemmas.{occurs_in-Contains}
+use Rattle.model.proofs.PackedStates.{chosen-occurs_in, contains-fluent, contains-static, contains-numbered, packed-bits_of_state}
 use Rattle.search.specs.Estimates.{IsConsistent, above_zero, value_by}
-use Rattle.search.specs.DeadEnds.{TellsDeadEnds}
+use Rattle.search.specs.DeadEnds.{DetectsDeadEnds}
 use Rattle.potential_functions.specs.PotentialFunctions.{PotentialFunction, weight, sum_below, given, score, or_zero, value, is_dead_by}
 use Rattle.potential_functions.specs.Fair.{AreFair, AreDeadFair}
 use Rattle.potential_functions.specs.Laws.{AreNumberable}
 use Rattle.potential_functions.proofs.Sums.{sum-alike, sum-least, sum-zero}
 use Rattle.potential_functions.proofs.Falls.{or_zero-most}
-use Rattle.potential_functions.proofs.LowerBound.{are_lower_bounds, tell_dead_ends}
+use Rattle.potential_functions.proofs.LowerBound.{are_lower_bounds, detect_dead_ends}
 use Rattle.potentials.proofs.WordLemmas.{sum-past, given-past}
 
 same-value : (z : ℤ) → above_zero z ≡ or_zero z
@@ -32,8 +32,8 @@ same-value (pos n) = refl
 same-value (negsuc n) = refl
 
 module _ (task : Task) (atoms : List Atom) (numberable : AreNumberable task atoms) where
-  numbered-fluent : (q : Atom) → stands_in atoms q ≡ true → is_fluent task q.predicate ≡ true
-  numbered-fluent q there = All-contains (λ (a : Atom). IsTrue (is_fluent task a.predicate)) atoms q numberable.fluent (stands_in-Contains atoms q there)
+  numbered-fluent : (q : Atom) → occurs_in atoms q ≡ true → is_fluent task q.predicate ≡ true
+  numbered-fluent q there = All-contains (λ (a : Atom). IsTrue (is_fluent task a.predicate)) atoms q numberable.fluent (occurs_in-Contains atoms q there)
 
   -- the bits of the state that the bits stand for: as many as there are atoms
   abbrev again : List Bool → List Bool
@@ -46,7 +46,7 @@ module _ (task : Task) (atoms : List Atom) (numberable : AreNumberable task atom
   again-state bits =
       packed-bits_of_state (is_fluent task) task.init atoms numbered-fluent (state_of_bits task atoms bits)
       (λ q static. contains-static (is_fluent task) task.init atoms numbered-fluent bits q static)
-      (λ q is there. chosen-stands_in atoms bits q (sym (contains-fluent (is_fluent task) task.init atoms bits q is) ∙ there))
+      (λ q is there. chosen-occurs_in atoms bits q (sym (contains-fluent (is_fluent task) task.init atoms bits q is) ∙ there))
 
   again-bit : (bits : List Bool) (n : ℕ) → n < length atoms → get_or (again bits) n false ≡ get_or bits n false
   again-bit bits n below =
@@ -99,18 +99,18 @@ module _ (task : Task) (atoms : List Atom) (numberable : AreNumberable task atom
     again-dead : (bits : List Bool) → is_dead_by p (again bits) ≡ is_dead_by p bits
     again-dead bits = ap (λ z. nat_le 1 (or_zero z)) (again-score bits)
 
-    pub dead_fair_tells : AreDeadFair task atoms p → TellsDeadEnds (ground_system task atoms) (is_dead_by p)
-    dead_fair_tells fair =
-        let laws = (tell_dead_ends task atoms p numberable fair).ground_stays in
+    pub dead_fair_detects : AreDeadFair task atoms p → DetectsDeadEnds (ground_system task atoms) (is_dead_by p)
+    dead_fair_detects fair =
+        let laws = (detect_dead_ends task atoms p numberable fair).ground_stays in
         record {
-          no_goal = λ bits told.
-              subst (λ (s : State). meets_goal task s ≡ false) (again-state bits) (laws.no_goal (again bits) (again-long bits) (again-dead bits ∙ told));
-          stays_dead = λ bits next number told leads. laws.stays (again bits) next number (again-long bits) (again-dead bits ∙ told) (again-step bits number ∙ leads);
+          no_goal = λ bits reported.
+              subst (λ (s : State). meets_goal task s ≡ false) (again-state bits) (laws.no_goal (again bits) (again-long bits) (again-dead bits ∙ reported));
+          stays_dead = λ bits next number reported leads. laws.stays (again bits) next number (again-long bits) (again-dead bits ∙ reported) (again-step bits number ∙ leads);
         }
 
--- where neither the constant nor a weight is above 0, no state is told dead
-pub none-told : (p : PotentialFunction) → p.constant ≤ℤ pos 0 → All (λ w. w ≤ℤ pos 0) p.weights → (bits : List Bool) → is_dead_by p bits ≡ false
-none-told p constant weights bits =
+-- where neither the constant nor a weight is above 0, no state is reported dead
+pub none-reported : (p : PotentialFunction) → p.constant ≤ℤ pos 0 → All (λ w. w ≤ℤ pos 0) p.weights → (bits : List Bool) → is_dead_by p bits ≡ false
+none-reported p constant weights bits =
     let sums = sum-least (length bits) (given p.weights bits) (λ k. pos 0) (λ k below. given-most (get_or bits k false) (weight p.weights k) (weight-most p.weights weights k)) in
     let none = sum-zero (length bits) in
     let most = or_zero-most (score p bits) 0 (omega (arith, ints)) in

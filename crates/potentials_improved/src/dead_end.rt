@@ -3,7 +3,7 @@ use crate::dead_fair_potentials::DeadFair;
 use packed_state::Packed;
 use search::DeadEnd;
 
-/// A state is told dead where its value is at least 1.
+/// A state is reported dead where its value is at least 1.
 impl DeadEnd for DeadFair<'_, '_> {
     ghost use Rattle.std.specs.Prelude.{length};
     ghost use Rattle.grounding.specs.Ground.{task_in, atoms_in};
@@ -17,9 +17,9 @@ impl DeadEnd for DeadFair<'_, '_> {
 
     ghost is_dead = { λ test. is_dead_by (potentials_in test) };
 
-    ghost tells_dead_ends = { λ test. test.dead_ends };
+    ghost detects_dead_ends = { λ test. test.dead_ends };
 
     fn dead(&self, state: &Packed) -> bool {
-        !self.tell_none() && self.potentials().value(state) >= 1
+        !self.detect_none() && self.potentials().value(state) >= 1
     }
 }

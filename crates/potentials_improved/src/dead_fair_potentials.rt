@@ -1,9 +1,9 @@
-//! Dead-fair potentials, which tell dead ends.
+//! Dead-fair potentials, which detect dead ends.
 ghost use Rattle.std.specs.Prelude.{◌≡◌, ◌≤ℤ◌, ◌↔◌, pos, Bool, List, true, false, All, IsTrue, length};
 ghost use Rattle.std.proofs.Props.{props};
 ghost use Rattle.grounding.specs.Ground.{task_in, atoms_in};
 ghost use Rattle.model.specs.Grounding.{ground_system};
-ghost use Rattle.search.specs.DeadEnds.{TellsDeadEnds};
+ghost use Rattle.search.specs.DeadEnds.{DetectsDeadEnds};
 ghost use Rattle.potential_functions.specs.PotentialFunctions.{is_dead_by};
 ghost use Rattle.potentials.specs.Potentials.{potentials_of};
 
@@ -18,10 +18,10 @@ pub struct DeadFair<'g, 't> {
     potentials: Potentials,
     ground: &'g Ground<'t>,
     /// That no state has such a value.
-    tell_none: bool,
+    detect_none: bool,
     ghost width: { length (potentials_of potentials).weights ≡ length (atoms_in ground.now) } by { Prim.hlevel props },
-    ghost dead_ends: { TellsDeadEnds (ground_system (task_in ground.now) (atoms_in ground.now)) (is_dead_by (potentials_of potentials)) } by { Prim.hlevel props },
-    ghost none: { IsTrue tell_none → (bits : List Bool) → is_dead_by (potentials_of potentials) bits ≡ false } by { Prim.hlevel props },
+    ghost dead_ends: { DetectsDeadEnds (ground_system (task_in ground.now) (atoms_in ground.now)) (is_dead_by (potentials_of potentials)) } by { Prim.hlevel props },
+    ghost none: { IsTrue detect_none → (bits : List Bool) → is_dead_by (potentials_of potentials) bits ≡ false } by { Prim.hlevel props },
 }
 
 impl<'g, 't> DeadFair<'g, 't> {
@@ -52,11 +52,11 @@ impl<'g, 't> DeadFair<'g, 't> {
         requires dead_fair { AreDeadFair (task_in ground.now) (atoms_in ground.now) (potentials_of potentials) }
         ensures { AreOf ground.now (potentials_of potentials) result }
     {
-        let tell_none = tell_none(&potentials);
+        let detect_none = detect_none(&potentials);
         DeadFair {
             potentials,
             ground,
-            tell_none,
+            detect_none,
         }
     }
 
@@ -75,15 +75,15 @@ impl<'g, 't> DeadFair<'g, 't> {
     }
 
     /// Whether it is known that no state has a value of at least 1.
-    pub(crate) fn tell_none(&self) -> bool
+    pub(crate) fn detect_none(&self) -> bool
         ensures { IsTrue result → (bits : List Bool) → is_dead_by (potentials_in self.now) bits ≡ false }
     {
-        self.tell_none
+        self.detect_none
     }
 }
 
 /// Whether the constant is at most 0 and so is each weight, so that no state has a value of at least 1.
-fn tell_none(potentials: &Potentials) -> bool
+fn detect_none(potentials: &Potentials) -> bool
     ensures { IsTrue result → (bits : List Bool) → is_dead_by (potentials_of potentials.now) bits ≡ false }
 {
     potentials.constant() <= 0 && are_at_most_zero(potentials.weights())

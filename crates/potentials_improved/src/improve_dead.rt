@@ -17,14 +17,14 @@ use potentials::{Fairness, Potentials};
 use potentials_drafted::{DeadDrafts, Tables};
 use std::alloc::Global;
 
-/// What can be made better of potentials that tell dead ends.
+/// What can be made better of potentials that detect dead ends.
 pub trait ImproveDead: Sized {
     /// The potentials that they are.
     ghost potentials_in: { Self → PotentialFunction };
 
     /// Dead-fair potentials whose value in the initial state is no lower.
     ///
-    /// At most one draft a round is tested, which tells the initial state dead, or more of some that were sampled on the way
+    /// At most one draft a round is tested, which reports the initial state dead, or more of some that were sampled on the way
     /// from it than those before.
     fn improve_dead(
         self,

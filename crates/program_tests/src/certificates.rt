@@ -1,5 +1,5 @@
 //! The limits of certificates in memory, and the checker where no instance may be kept.
-use crate::helpers::Told::Plain;
+use crate::helpers::Reported::Plain;
 use crate::helpers::{Answer, check_text};
 use cert_checker::{Accepted, RefusalCode};
 use certificate::{Bounds, Cert, Claim, Header, Mark, Potential, StateLine, Version};
@@ -41,7 +41,7 @@ type Line = (u64, Mark, &'static [u32]);
 /// keep its limits.
 type Row = (Version, Claim, Weights, Weights, Line, bool);
 
-/// The largest number that may stand in a certificate.
+/// The largest number that may occur in a certificate.
 const MOST: u64 = 1_152_921_504_606_846_975;
 
 /// Constants and weights of 0, and the largest ones.
@@ -61,7 +61,7 @@ static CLAIMS: [Row; 11] = [
     (Version::One, Claim::Bound(MOST + 1), LARGEST, ZERO, START, false),
     (Version::One, Claim::Bound(0), LARGEST, ZERO, (MOST + 1, Mark::Open, &[]), false),
     (Version::One, Claim::Bound(0), LARGEST, ZERO, (0, Mark::Cut { rest: MOST + 1 }, &[]), false),
-    // numbers that fall, stand twice, or name no atom
+    // numbers that fall, are twice, or name no atom
     (Version::One, Claim::Bound(0), LARGEST, ZERO, (0, Mark::Open, &[1, 0]), false),
     (Version::One, Claim::Bound(0), LARGEST, ZERO, (0, Mark::Open, &[0, 0]), false),
     (Version::One, Claim::Bound(0), LARGEST, ZERO, (0, Mark::Open, &[1, 1]), false),

@@ -29,10 +29,10 @@ static ROWS: [Row; 4] = [
         text: "pddl-cert 1\nclaim none\nconstant 0\natom 0 (at a)\natom 0 (at b)\natom 0 (at c)\nopen 0 0\nopen 3 1\nopen 6 2\nend 3\n" },
 ];
 
-/// The bytes that stand in the place of another.
+/// The bytes that are in the place of another.
 const OTHERS: &[u8] = b"0129 \n()an";
 
-/// What the checker answers where this byte stands at this place of the text; `None` where it stands there already.
+/// What the checker answers where this byte is at this place of the text; `None` where it is there already.
 fn answer(
     alloc: Global,
     task: &Task,

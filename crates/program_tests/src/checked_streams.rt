@@ -1,5 +1,5 @@
 //! The checker over sources that fail, and that never end.
-use crate::helpers::Told::{Device, Line as At};
+use crate::helpers::Reported::{Device, Line as At};
 use crate::helpers::{Answer, check_source};
 use cert_checker::RefusalCode::{CertForm, NotFluent, Repeated};
 use cert_checker::{Accepted, RefusalCode};
@@ -29,8 +29,8 @@ fn failing(alloc: Global, task: &Task, bytes: &[u8], reads: u64) -> Result<Answe
     Ok(check_source(alloc, task, source, None, 6))
 }
 
-/// A failure is told before the end of the text.
-fn failures_are_told(rt: &impl Abort, alloc: Global, task: &Task) -> Result<(), Fail> {
+/// A failure is reported before the end of the text.
+fn failures_are_reported(rt: &impl Abort, alloc: Global, task: &Task) -> Result<(), Fail> {
     for reads in 0..=NO_PLAN.len() as u64 {
         let answer = failing(alloc, task, NO_PLAN, reads)?;
         assert_eq!(rt; answer, Err(Device), "{reads}");
@@ -43,9 +43,9 @@ fn at_line(code: RefusalCode, line: u64) -> Answer {
     Err(At { code, line })
 }
 
-/// A failure is told unless the end of the text was read, or a fault of a line that came comes before it.
-fn only_failures_are_told(rt: &impl Abort, alloc: Global, task: &Task) -> Result<(), Fail> {
-    failures_are_told(rt, alloc, task)?;
+/// A failure is reported unless the end of the text was read, or a fault of a line that came comes before it.
+fn only_failures_are_reported(rt: &impl Abort, alloc: Global, task: &Task) -> Result<(), Fail> {
+    failures_are_reported(rt, alloc, task)?;
     let answers = [
         failing(alloc, task, NO_PLAN, NO_PLAN.len().saturating_add(1) as u64)?,
         failing(alloc, task, AGAIN, AGAIN.len() as u64)?,
@@ -55,11 +55,11 @@ fn only_failures_are_told(rt: &impl Abort, alloc: Global, task: &Task) -> Result
 }
 
 #[test]
-fn a_failure_is_told_where_it_comes(rt: HostRuntime) -> Result<(), Fail> {
-    on_task(&rt, rt.alloc(), &PAIRS, only_failures_are_told)
+fn a_failure_is_reported_where_it_comes(rt: HostRuntime) -> Result<(), Fail> {
+    on_task(&rt, rt.alloc(), &PAIRS, only_failures_are_reported)
 }
 
-/// What stands before the first atom.
+/// What comes before the first atom.
 const HEAD: &[u8] = b"pddl-cert 1\nclaim none\nconstant 0\n";
 
 /// What the checker answers to a text that these bytes follow for ever.
@@ -83,8 +83,8 @@ static ENDLESS: [(&[u8], &[u8], RefusalCode, u64); 6] = [
     (HEAD, b"atom 0 (on s9)\n", NotFluent, 4),
 ];
 
-/// The first line at fault is told, whatever follows.
-fn ends_are_told(rt: &impl Abort, alloc: Global, task: &Task) -> Result<(), Fail> {
+/// The first line at fault is reported, whatever follows.
+fn ends_are_reported(rt: &impl Abort, alloc: Global, task: &Task) -> Result<(), Fail> {
     for (number, (text, again, code, line)) in ENDLESS.iter().enumerate() {
         let answer = endless(alloc, task, *text, *again)?;
         assert_eq!(rt; answer, at_line(*code, *line), "row {number}");
@@ -94,5 +94,5 @@ fn ends_are_told(rt: &impl Abort, alloc: Global, task: &Task) -> Result<(), Fail
 
 #[test]
 fn texts_without_an_end_are_refused(rt: HostRuntime) -> Result<(), Fail> {
-    on_task(&rt, rt.alloc(), &PAIRS, ends_are_told)
+    on_task(&rt, rt.alloc(), &PAIRS, ends_are_reported)
 }

@@ -23,12 +23,12 @@ fn leaves(
     let mut files = FailingFiles::new(table(alloc)?, failing);
     let (mut out, mut err) = (Memory::empty(alloc), Memory::empty(alloc));
     let ended = run(alloc, &SOLVE, &mut files, &mut out, &mut err);
-    let [certificate, plan, told] = left;
+    let [certificate, plan, reported] = left;
     Ok(
         ended == status
             && files.table.get("cert") == certificate
             && files.table.get("out") == plan
-            && Some(out.as_slice()) == told,
+            && Some(out.as_slice()) == reported,
     )
 }
 
@@ -51,8 +51,8 @@ fn fails_at_each_write(rt: &impl Abort, alloc: Global, certificate: &[u8]) -> Re
     Ok(())
 }
 
-/// The certificate's file fails behind its last write, where it is made, and where it is closed.
-fn fails_before_and_behind(rt: &impl Abort, alloc: Global, certificate: &[u8]) -> Result<(), Fail> {
+/// The certificate's file fails after its last write, where it is made, and where it is closed.
+fn fails_before_and_after(rt: &impl Abort, alloc: Global, certificate: &[u8]) -> Result<(), Fail> {
     let writes = certificate.len().div_ceil(WRITE_PIECE) as u64;
     let rows = [
         (
@@ -77,5 +77,5 @@ fn fails_before_and_behind(rt: &impl Abort, alloc: Global, certificate: &[u8]) -
 fn a_certificate_that_fails_leaves_the_plan_unwritten(rt: HostRuntime) -> Result<(), Fail> {
     let certificate = certificate(rt.alloc())?;
     fails_at_each_write(&rt, rt.alloc(), &certificate)?;
-    fails_before_and_behind(&rt, rt.alloc(), &certificate)
+    fails_before_and_after(&rt, rt.alloc(), &certificate)
 }

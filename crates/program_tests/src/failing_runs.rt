@@ -55,11 +55,11 @@ const NOTHING: Left<'static> = Left {
     out: b"",
 };
 
-/// Whether a run leaves this. The standard error tells a device that failed, and else nothing.
+/// Whether a run leaves this. The standard error reports a device that failed, and else nothing.
 fn leaves(alloc: Global, files: &mut FailingFiles, wanted: Left<'_>) -> bool {
     let (mut out, mut err) = (Memory::empty(alloc), Memory::empty(alloc));
     let status = run(alloc, &SOLVE, files, &mut out, &mut err);
-    let told: &[u8] = if status == 21 {
+    let reported: &[u8] = if status == 21 {
         b"fault 61 Device\n"
     } else {
         b""
@@ -67,7 +67,7 @@ fn leaves(alloc: Global, files: &mut FailingFiles, wanted: Left<'_>) -> bool {
     status == wanted.status
         && files.table.get("out") == Some(wanted.file)
         && out.as_slice() == wanted.out
-        && err.as_slice() == told
+        && err.as_slice() == reported
 }
 
 /// Whether a run leaves this where this fails of the plan's file.
@@ -88,11 +88,11 @@ fn fails_at_each_write(rt: &impl Abort, alloc: Global) -> Result<(), Fail> {
     Ok(())
 }
 
-/// Whether a run leaves the whole plan where a write behind the last would fail, and where nothing fails.
+/// Whether a run leaves the whole plan where a write after the last would fail, and where nothing fails.
 fn leaves_the_whole(alloc: Global) -> Result<[bool; 2], NoMemory> {
-    let behind = Failing::Write(BEGINNINGS.len() as u64);
+    let following = Failing::Write(BEGINNINGS.len() as u64);
     Ok([
-        leaves_where(alloc, behind, WHOLE)?,
+        leaves_where(alloc, following, WHOLE)?,
         leaves_where(alloc, Failing::Never, WHOLE)?,
     ])
 }
@@ -122,13 +122,13 @@ fn a_file_may_fail_where_it_is_made_or_closed(rt: HostRuntime) -> Result<(), Fai
     Ok(())
 }
 
-/// The status of a run over files without an end, and whether it tells that the domain is too long, and nothing else.
+/// The status of a run over files without an end, and whether it says that the domain is too long, and nothing else.
 fn run_without_an_end(alloc: Global) -> (u8, bool) {
     let mut files = EndlessFiles::new(alloc);
     let (mut out, mut err) = (Memory::empty(alloc), Memory::empty(alloc));
     let status = run(alloc, &SOLVE, &mut files, &mut out, &mut err);
-    let told = b"fault 5 TooLong in domain at 16777216..16777217\n".as_slice();
-    (status, out.as_slice().is_empty() & (err.as_slice() == told))
+    let reported = b"fault 5 TooLong in domain at 16777216..16777217\n".as_slice();
+    (status, out.as_slice().is_empty() & (err.as_slice() == reported))
 }
 
 #[test]

@@ -15,7 +15,7 @@ use task::{SchemaId, Task};
 
 /// A [`Refusal`] as tests compare it.
 #[derive(Clone, Copy, Debug, PartialEq, Eq)]
-pub(crate) enum Told {
+pub(crate) enum Reported {
     /// What is wrong with a line.
     Line {
         /// What is wrong.
@@ -33,27 +33,27 @@ pub(crate) enum Told {
     NoMemory,
     /// The device failed.
     Device,
-    /// The reader had told a fault before.
+    /// The reader had reported a fault before.
     Failed,
 }
 
 /// The refusal, to be compared.
-fn as_told(refusal: Refusal) -> Told {
+fn as_reported(refusal: Refusal) -> Reported {
     match refusal {
-        Refusal::Line { code, line } => Told::Line { code, line },
-        Refusal::Unfair(instance) => Told::Unfair(instance.schema),
-        Refusal::DeadUnfair(instance) => Told::DeadUnfair(instance.schema),
-        Refusal::Plain(code) => Told::Plain(code),
-        Refusal::NoMemory => Told::NoMemory,
-        Refusal::Device => Told::Device,
-        Refusal::Failed => Told::Failed,
+        Refusal::Line { code, line } => Reported::Line { code, line },
+        Refusal::Unfair(instance) => Reported::Unfair(instance.schema),
+        Refusal::DeadUnfair(instance) => Reported::DeadUnfair(instance.schema),
+        Refusal::Plain(code) => Reported::Plain(code),
+        Refusal::NoMemory => Reported::NoMemory,
+        Refusal::Device => Reported::Device,
+        Refusal::Failed => Reported::Failed,
     }
 }
 
 /// What the checker answers.
-pub(crate) type Answer = Result<Accepted, Told>;
+pub(crate) type Answer = Result<Accepted, Reported>;
 
-/// What the checker answers to the certificate whose text the source gives, and to the plan, if one is handed in.
+/// What the checker answers to the certificate whose text the source gives, and to the plan, if one is given.
 pub(crate) fn check_source<S: Source + Drop>(
     alloc: Global,
     task: &Task,
@@ -66,7 +66,7 @@ pub(crate) fn check_source<S: Source + Drop>(
     let mut reader = CertReader::new(alloc, source);
     match check(alloc, task, &mut reader, plan, max_instances) {
         Ok(accepted) => Ok(accepted),
-        Err(refusal) => Err(as_told(refusal)),
+        Err(refusal) => Err(as_reported(refusal)),
     }
 }
 
@@ -75,7 +75,7 @@ pub(crate) fn check_text(alloc: Global, task: &Task, text: Vec<u8>, max_instance
     check_source(alloc, task, Memory::new(text), None, max_instances)
 }
 
-/// What the checker answers to the text of the listing, and to the plan, if one is handed in.
+/// What the checker answers to the text of the listing, and to the plan, if one is given.
 pub(crate) fn check_cert(
     alloc: Global,
     task: &Task,

@@ -1,5 +1,5 @@
 //! Tests of certificates, written, read over devices and changed, of the machine's files, and of the whole program over files
-//! that fail, and of what it tells.
+//! that fail, and of what it reports.
 #![tactic(auto)]
 
 #[cfg(test)]
@@ -27,6 +27,6 @@ mod reading_certificates;
 #[cfg(test)]
 mod reports;
 #[cfg(test)]
-mod told;
+mod reported;
 #[cfg(test)]
 mod writing;

@@ -55,7 +55,7 @@ fn the_machine_makes_no_folder(rt: HostRuntime) -> Result<(), Fail> {
 const FULL: &str = "/dev/full";
 
 #[test]
-fn the_machine_tells_a_full_device(rt: HostRuntime) -> Result<(), Fail> {
+fn the_machine_reports_a_full_device(rt: HostRuntime) -> Result<(), Fail> {
     assert!(rt; !fs::exists(&rt, FULL)? || fails_to_write(&rt, FULL));
     Ok(())
 }

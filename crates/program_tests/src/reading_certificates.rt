@@ -11,16 +11,16 @@ use test_devices::{Endless, FailsAt, InPieces};
 const HOP: &[u8] =
     b"pddl-cert 1\nclaim bound 6\nconstant 6\natom 0 (at a)\natom -3 (at b)\natom -6 (at c)\nopen 0 0\nopen 3 1\ncut 6 0 2\nend 3\n";
 
-/// What is told at a line.
+/// What is reported at a line.
 const fn at_line(fault: TextFault, line: u64) -> CertFault {
     CertFault::Line { fault, line }
 }
 
-/// How many lines are handed out, and the fault behind them; `None` where the text is a certificate.
-type Told = (u64, Option<CertFault>);
+/// How many lines are given out, and the fault after them; `None` where the text is a certificate.
+type Reported = (u64, Option<CertFault>);
 
-/// What the reader tells, and `None` where it never ends.
-fn told<S: Source>(reader: &mut CertReader<S>) -> Option<Told> {
+/// What the reader reports, and `None` where it never ends.
+fn reported<S: Source>(reader: &mut CertReader<S>) -> Option<Reported> {
     for count in 0..17_000_000 {
         match reader.next_line() {
             Ok(Some(_)) => {}
@@ -34,9 +34,9 @@ fn told<S: Source>(reader: &mut CertReader<S>) -> Option<Told> {
     None
 }
 
-/// What is told of the text that the source gives.
-fn reads<S: Source + Drop>(alloc: Global, source: S) -> Option<Told> {
-    told(&mut CertReader::new(alloc, source))
+/// What is reported for the text that the source gives.
+fn reads<S: Source + Drop>(alloc: Global, source: S) -> Option<Reported> {
+    reported(&mut CertReader::new(alloc, source))
 }
 
 /// A device that gives these bytes one by one.
@@ -109,7 +109,7 @@ fn is_next<S: Source>(
     Ok(reader.next_line()? == Some(wanted))
 }
 
-/// Whether the reader hands out these lines, and no more.
+/// Whether the reader gives out these lines, and no more.
 fn hands_out<S: Source>(
     alloc: Global,
     reader: &mut CertReader<S>,
@@ -132,8 +132,8 @@ fn lines_are_what_they_say(rt: HostRuntime) -> Result<(), Fail> {
     Ok(())
 }
 
-/// What is told of a device that gives these bytes, and then fails.
-fn before_failure(alloc: Global, bytes: &[u8]) -> Result<Option<Told>, Fail> {
+/// What is reported for a device that gives these bytes, and then fails.
+fn before_failure(alloc: Global, bytes: &[u8]) -> Result<Option<Reported>, Fail> {
     let reads_before = Some(bytes.len() as u64);
     Ok(reads(
         alloc,
@@ -142,7 +142,7 @@ fn before_failure(alloc: Global, bytes: &[u8]) -> Result<Option<Told>, Fail> {
 }
 
 #[test]
-fn the_fault_of_a_line_that_came_is_told_before_a_failure(rt: HostRuntime) -> Result<(), Fail> {
+fn the_fault_of_a_line_that_came_is_reported_before_a_failure(rt: HostRuntime) -> Result<(), Fail> {
     let rows: [(&[u8], u64, CertFault); 4] = [
         (b"pddl-cert 9\n", 0, at_line(TextFault::Version, 1)),
         (b"pddl-cert 1\nclaim some\n", 1, at_line(TextFault::Form, 2)),
@@ -150,24 +150,24 @@ fn the_fault_of_a_line_that_came_is_told_before_a_failure(rt: HostRuntime) -> Re
         (b"pddl-cert 1\nclaim none", 1, CertFault::Device),
     ];
     for (text, lines, fault) in &rows {
-        let told = before_failure(rt.alloc(), *text)?;
-        assert_eq!(rt; told, Some((*lines, Some(*fault))));
+        let reported = before_failure(rt.alloc(), *text)?;
+        assert_eq!(rt; reported, Some((*lines, Some(*fault))));
     }
     Ok(())
 }
 
 #[test]
-fn a_text_that_is_cut_is_told_at_the_line_that_is(rt: HostRuntime) -> Result<(), Fail> {
-    let told = reads(
+fn a_text_that_is_cut_is_reported_at_the_line_that_is(rt: HostRuntime) -> Result<(), Fail> {
+    let reported = reads(
         rt.alloc(),
         one_by_one(rt.alloc(), b"pddl-cert 1\nclaim none")?,
     );
-    assert_eq!(rt; told, Some((1, Some(at_line(TextFault::Truncated, 2)))));
+    assert_eq!(rt; reported, Some((1, Some(at_line(TextFault::Truncated, 2)))));
     Ok(())
 }
 
 #[test]
-fn one_atom_more_than_there_may_be_is_told(rt: HostRuntime) -> Result<(), Fail> {
+fn one_atom_more_than_there_may_be_is_reported(rt: HostRuntime) -> Result<(), Fail> {
     let alloc = rt.alloc();
     let head = b"pddl-cert 1\nclaim none\nconstant 0\n".to_vec(alloc)?;
     let again = b"atom 0 (lit)\n".repeat(alloc, 5_000)?;
@@ -177,7 +177,7 @@ fn one_atom_more_than_there_may_be_is_told(rt: HostRuntime) -> Result<(), Fail> 
 }
 
 #[test]
-fn one_state_more_than_there_may_be_is_told(rt: HostRuntime) -> Result<(), Fail> {
+fn one_state_more_than_there_may_be_is_reported(rt: HostRuntime) -> Result<(), Fail> {
     let alloc = rt.alloc();
     let head = b"pddl-cert 1\nclaim none\nconstant 0\n".to_vec(alloc)?;
     let again = b"open 0\n".repeat(alloc, 9_000)?;

@@ -1,4 +1,4 @@
-//! What the words of a command line ask for, and what is told as JSON.
+//! What the words of a command line ask for, and what is reported as JSON.
 ghost use Rattle.std.specs.Prelude.{IsTrue};
 ghost use Rattle.model.specs.PlanWriting.{has_names};
 ghost use Rattle.task.specs.Task.{task_of};
@@ -9,14 +9,14 @@ use std::alloc::Global;
 use std::test::Fail;
 use test_texts::{HOP, Texts};
 
-/// What is told of an answer.
+/// What is reported for an answer.
 fn answer_line(alloc: Global, solved: Solved) -> Result<String, NoMemory>
     requires { IsTrue (has_names (task_of solved.task)) }
 {
     json_line(alloc, &Report::Solve(solved))
 }
 
-/// What is told of what is found out of a task.
+/// What is reported for what is found out of a task.
 fn solved(alloc: Global, texts: &Texts) -> Result<String, Fail> {
     let limits = Limits::new(100, 100).ok_or("no limits")?;
     let (domain, problem) = (texts[0].as_bytes(), texts[1].as_bytes());
@@ -25,7 +25,7 @@ fn solved(alloc: Global, texts: &Texts) -> Result<String, Fail> {
 }
 
 #[test]
-fn an_answer_is_told_as_json(rt: HostRuntime) -> Result<(), Fail> {
+fn an_answer_is_reported_as_json(rt: HostRuntime) -> Result<(), Fail> {
     assert_eq!(rt;
         solved(rt.alloc(), &HOP)?.as_str(),
         "{\"command\":\"solve\",\"cost\":6,\"result\":\"plan\",\"steps\":[\"(hop a b)\",\"(hop b c)\"]}"

@@ -73,7 +73,7 @@ fn text(alloc: Global, count: u32) -> Result<Vec<u8>, AllocError> {
     Ok(text)
 }
 
-/// What is told, and what is taken of the text, where the sink takes so many bytes at a write and the write after so many
+/// What is reported, and what is taken of the text, where the sink takes so many bytes at a write and the write after so many
 /// fails.
 fn taken(
     alloc: Global,
@@ -90,8 +90,8 @@ fn taken(
     (written, sink.inner.inner.into_vec())
 }
 
-/// What is told where this is taken of the text, and no more: that a write failed, unless it is all.
-fn told_of(taken: &[u8], text: &[u8]) -> Result<(), WriteFault> {
+/// What is reported where this is taken of the text, and no more: that a write failed, unless it is all.
+fn reported_of(taken: &[u8], text: &[u8]) -> Result<(), WriteFault> {
     if taken == text {
         Ok(())
     } else {
@@ -106,7 +106,7 @@ fn fails_at_each_byte(rt: &impl Abort, alloc: Global, task: &Task, cert: &Cert, 
         let (written, taken) = taken(alloc, task, cert, 1, count as u64);
         assert_eq!(rt;
             (written, taken.as_slice()),
-            (told_of(wanted, text), wanted)
+            (reported_of(wanted, text), wanted)
         );
     }
 }
@@ -125,17 +125,17 @@ fn a_certificate_is_begun_where_a_write_fails(rt: HostRuntime) -> Result<(), Fai
 const MANY: u32 = 4_000;
 
 /// Whether the sink that takes a thousand bytes at a write, of which the one after so many fails, takes a beginning of the
-/// text, and no less than it was given but for one piece that was shorter, and what is told is so.
+/// text, and no less than it was given but for one piece that was shorter, and what is reported is so.
 fn is_begun(alloc: Global, task: &Task, cert: &Cert, text: &[u8], writes: u64) -> bool {
     let (written, taken) = taken(alloc, task, cert, 1_000, writes);
     let most = writes.saturating_mul(1_000);
     let count = taken.len() as u64;
     text.starts_with(&taken)
-        && written == told_of(&taken, text)
+        && written == reported_of(&taken, text)
         && (written.is_ok() || count <= most && most < count.saturating_add(1_000))
 }
 
-/// It fails at each write, and at none where the one that fails would come behind the text.
+/// It fails at each write, and at none where the one that fails would come after the text.
 fn fails_at_each_piece(rt: &impl Abort, alloc: Global, task: &Task, cert: &Cert, text: &[u8]) {
     for writes in 0..90 {
         assert!(rt; is_begun(alloc, task, cert, text, writes), "{writes}");

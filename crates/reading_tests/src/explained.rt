@@ -1,7 +1,7 @@
-//! What is said of a plan in memory, of where its steps stand, of a task, and of a fault.
+//! What is said of a plan in memory, of where its steps are, of a task, and of a fault.
 use explained_faults::{File, FileRefusal, NamedText, NamedTexts, explain_fault};
 use explained_plans::{
-    Summary, explain_plan, false_parts_tell, step_place, tell_details, tell_verdict,
+    Summary, explain_plan, false_parts_report, step_place, report_details, report_verdict,
 };
 use faults::{Code, NoMemory, Span};
 use plan_file::read_plan;
@@ -26,7 +26,7 @@ const ROAD: Texts = [
 
 /// Plans, and what is said of them.
 #[rattlefmt::skip]
-static TOLD: [(&str, &str); 2] = [
+static REPORTED: [(&str, &str); 2] = [
     ("(hop a b)(hop b a)(hop a b)",
         "valid, cost 10\n1  (hop a b)  cost 4, 4 so far\n2  (hop b a)  cost 2, 6 so far\n3  (hop a b)  cost 4, 10 so far\n"),
     ("(hop b c)", "step 1, (hop b c), is not applicable\n(at b) is false: it was never true.\n\
@@ -34,18 +34,18 @@ static TOLD: [(&str, &str); 2] = [
 ];
 
 /// What is said of the plan of this text: what is true of it, and then why.
-fn told(alloc: Global, task: &Task, text: &str) -> Result<String, Fail> {
+fn reported(alloc: Global, task: &Task, text: &str) -> Result<String, Fail> {
     let plan = read_plan(alloc, task, text.as_bytes())?;
     let explanation = explain_plan(alloc, task, &plan)?;
-    let mut told = tell_verdict(alloc, task, &plan, &explanation)?;
-    let details = tell_details(alloc, task, &plan, &explanation)?;
-    told.push_str(details.as_str())?;
-    Ok(told)
+    let mut reported = report_verdict(alloc, task, &plan, &explanation)?;
+    let details = report_details(alloc, task, &plan, &explanation)?;
+    reported.push_str(details.as_str())?;
+    Ok(reported)
 }
 
-fn are_told(rt: &impl Abort, alloc: Global, task: &Task) -> Result<(), Fail> {
-    for (plan, wanted) in &TOLD {
-        let text = told(alloc, task, *plan)?;
+fn are_reported(rt: &impl Abort, alloc: Global, task: &Task) -> Result<(), Fail> {
+    for (plan, wanted) in &REPORTED {
+        let text = reported(alloc, task, *plan)?;
         assert_eq!(rt; text.as_str(), *wanted);
     }
     Ok(())
@@ -53,8 +53,8 @@ fn are_told(rt: &impl Abort, alloc: Global, task: &Task) -> Result<(), Fail> {
 
 #[test]
 fn plans_are_explained(rt: HostRuntime) -> Result<(), Fail> {
-    false_parts_tell();
-    on_task(&rt, rt.alloc(), &ROAD, are_told)
+    false_parts_report();
+    on_task(&rt, rt.alloc(), &ROAD, are_reported)
 }
 
 /// What the task of the places holds.
@@ -62,7 +62,7 @@ const HOLDS: &str = "types 1, objects 3, predicates 3, functions 2, actions 2\n\
 costs yes, conditional effects no, quantifiers yes, negations yes, disjunctions yes\n";
 
 #[test]
-fn what_a_task_holds_is_told(rt: HostRuntime) -> Result<(), Fail> {
+fn what_a_task_holds_is_reported(rt: HostRuntime) -> Result<(), Fail> {
     on_task(&rt, rt.alloc(), &ROAD, |rt, alloc, task| {
         let text = Summary::of(task).text(alloc)?;
         assert_eq!(rt; text.as_str(), HOLDS);
@@ -83,7 +83,7 @@ fn steps_are_placed(rt: HostRuntime) {
     assert_eq!(rt; places, [Some(first), Some(second), None]);
 }
 
-/// A predicate stands in the goal that the domain has not.
+/// A predicate is in the goal that the domain has not.
 #[rattlefmt::skip]
 const FASTER: [&[u8]; 2] = [
     b"(define (domain d) (:predicates (fast ?c) (at ?c)))",
@@ -92,7 +92,7 @@ const FASTER: [&[u8]; 2] = [
 ];
 
 /// What is said of the fault.
-fn fault_told(alloc: Global) -> Result<String, NoMemory> {
+fn fault_reported(alloc: Global) -> Result<String, NoMemory> {
     let texts = NamedTexts {
         domain: NamedText {
             name: "domain.pddl",
@@ -118,7 +118,7 @@ fn fault_told(alloc: Global) -> Result<String, NoMemory> {
 #[test]
 fn a_fault_is_explained(rt: HostRuntime) -> Result<(), Fail> {
     assert_eq!(rt;
-        fault_told(rt.alloc())?.as_str(),
+        fault_reported(rt.alloc())?.as_str(),
         "problem.pddl:2:18: fault 17 UnknownName (columns count bytes)
    2 |  (:init) (:goal (fats herbie)))
      |                  ^^^^

@@ -1,4 +1,4 @@
-//! What ground tasks tell of instances beside the states that they lead to: sure literals, and the changes that count.
+//! What ground tasks say of instances beside the states that they lead to: sure literals, and the changes that count.
 use crate::ground_tasks::LAMP;
 use grounding::{CountingChange, Ground, NumberedLiteral};
 use std::alloc::{AllocError, Global};
@@ -18,7 +18,7 @@ const LATCH: Texts = [
 /// Tasks, what is sure of each instance's precondition and which of its changes count, in the instances' order, and what is
 /// sure of the goal: atoms by their numbers, each with whether it is true, and a `?` at what is under a condition.
 #[rattlefmt::skip]
-static TOLD: [(Texts, &[&str], &str); 5] = [
+static REPORTED: [(Texts, &[&str], &str); 5] = [
     (LAMP, &["-> +1 ", "+0 -> +2 -0 +3? "], "+2 +3 "),
     (HOP, &["+0 -> -0 +1 ", "+1 -> -1 +2 ", "+0 -> -0 +2 "], "+2 "),
     (LATCH, &["+0 -1 -> -0 +1 +2 +2? "], "-0 "),
@@ -33,67 +33,67 @@ fn sign(value: bool) -> &'static str {
     if value { "+" } else { "-" }
 }
 
-fn write_literals(told: &mut String, literals: &[NumberedLiteral]) -> Result<(), AllocError> {
+fn write_literals(reported: &mut String, literals: &[NumberedLiteral]) -> Result<(), AllocError> {
     for literal in literals {
-        write!(told, "{}{} ", sign(literal.value), literal.atom)?;
+        write!(reported, "{}{} ", sign(literal.value), literal.atom)?;
     }
     Ok(())
 }
 
-fn write_changes(told: &mut String, changes: &[CountingChange<'_>]) -> Result<(), AllocError> {
+fn write_changes(reported: &mut String, changes: &[CountingChange<'_>]) -> Result<(), AllocError> {
     for change in changes {
         let end = if change.is_unconditional() { " " } else { "? " };
-        write!(told, "{}{}{end}", sign(change.value), change.atom)?;
+        write!(reported, "{}{}{end}", sign(change.value), change.atom)?;
     }
     Ok(())
 }
 
-/// What is told of the instance of this number.
-fn told(alloc: Global, ground: &Ground<'_>, number: u32) -> Result<String, AllocError> {
-    let mut told = String::new(alloc);
+/// What is reported for the instance of this number.
+fn reported(alloc: Global, ground: &Ground<'_>, number: u32) -> Result<String, AllocError> {
+    let mut reported = String::new(alloc);
     if (number as usize) < ground.instances().len() {
-        write_literals(&mut told, ground.literals(number))?;
-        write!(told, "-> ")?;
-        write_changes(&mut told, ground.counting(number))?;
+        write_literals(&mut reported, ground.literals(number))?;
+        write!(reported, "-> ")?;
+        write_changes(&mut reported, ground.counting(number))?;
     }
-    Ok(told)
+    Ok(reported)
 }
 
-fn told_of_goal(alloc: Global, ground: &Ground<'_>) -> Result<String, AllocError> {
-    let mut told = String::new(alloc);
-    write_literals(&mut told, ground.goal_literals())?;
-    Ok(told)
+fn reported_of_goal(alloc: Global, ground: &Ground<'_>) -> Result<String, AllocError> {
+    let mut reported = String::new(alloc);
+    write_literals(&mut reported, ground.goal_literals())?;
+    Ok(reported)
 }
 
-/// These are told of the first instances, in their order.
-fn tells_of_instances(
+/// These are reported for the first instances, in their order.
+fn reports_of_instances(
     rt: &impl Abort,
     alloc: Global,
     ground: &Ground<'_>,
     wanted: &[&str],
 ) -> Result<(), Fail> {
     for (wanted, number) in wanted.iter().zip(0..u32::MAX) {
-        assert_eq!(rt; told(alloc, ground, number)?.as_str(), *wanted);
+        assert_eq!(rt; reported(alloc, ground, number)?.as_str(), *wanted);
     }
     Ok(())
 }
 
-/// That many instances are kept, and this is told of the goal.
-fn tells_of_all(
+/// That many instances are kept, and this is reported for the goal.
+fn reports_of_all(
     rt: &impl Abort,
     alloc: Global,
     ground: &Ground<'_>,
     instances: &[&str],
     goal: &str,
 ) -> Result<(), Fail> {
-    tells_of_instances(rt, alloc, ground, instances)?;
-    let told = told_of_goal(alloc, ground)?;
+    reports_of_instances(rt, alloc, ground, instances)?;
+    let reported = reported_of_goal(alloc, ground)?;
     let kept = ground.instances().len();
-    assert_eq!(rt; (kept, told.as_str()), (instances.len(), goal));
+    assert_eq!(rt; (kept, reported.as_str()), (instances.len(), goal));
     Ok(())
 }
 
-fn tells(
+fn reports(
     rt: &impl Abort,
     alloc: Global,
     task: &Task,
@@ -101,14 +101,14 @@ fn tells(
     goal: &str,
 ) -> Result<(), Fail> {
     let ground = Ground::new(alloc, task, &[], 10)?;
-    tells_of_all(rt, alloc, &ground, instances, goal)
+    reports_of_all(rt, alloc, &ground, instances, goal)
 }
 
 #[test]
-fn literals_and_changes_are_told(rt: HostRuntime) -> Result<(), Fail> {
-    for (texts, instances, goal) in &TOLD {
+fn literals_and_changes_are_reported(rt: HostRuntime) -> Result<(), Fail> {
+    for (texts, instances, goal) in &REPORTED {
         on_task(&rt, rt.alloc(), texts, |rt, alloc, task| {
-            tells(rt, alloc, task, *instances, *goal)
+            reports(rt, alloc, task, *instances, *goal)
         })?;
     }
     Ok(())

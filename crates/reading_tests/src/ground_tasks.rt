@@ -156,7 +156,7 @@ fn exceeds(alloc: Global, task: &Task, max: u32) -> Result<bool, NoMemory> {
 }
 
 #[test]
-fn the_limit_is_told_exactly(rt: HostRuntime) -> Result<(), Fail> {
+fn the_limit_is_reported_exactly(rt: HostRuntime) -> Result<(), Fail> {
     for (texts, max, is_more) in &COUNTS {
         on_task(&rt, rt.alloc(), texts, |rt, alloc, task| {
             assert_eq!(rt; exceeds(alloc, task, *max)?, *is_more, "{max}");
@@ -258,7 +258,7 @@ fn leads(alloc: Global, ground: &Ground<'_>, line: &Line) -> Result<bool, NoMemo
 }
 
 /// Whether the goal holds in the state exactly where the line says so.
-fn is_goal_told(alloc: Global, ground: &Ground<'_>, line: &Line) -> Result<bool, NoMemory> {
+fn is_goal_reported(alloc: Global, ground: &Ground<'_>, line: &Line) -> Result<bool, NoMemory> {
     let state = state(alloc, ground, line.0)?;
     Ok(ground.meets_goal(&state) == line.1)
 }
@@ -279,11 +279,11 @@ fn starts(alloc: Global, ground: &Ground<'_>, lines: &[Line]) -> Result<bool, No
     Ok(lines.first().is_some_and(|line| line.0 == start.as_slice()))
 }
 
-/// Whether the instances lead to the line's states, and the goal is told as the line says.
+/// Whether the instances lead to the line's states, and the goal is reported as the line says.
 fn is_line(alloc: Global, ground: &Ground<'_>, line: &Line) -> Result<[bool; 2], NoMemory> {
     Ok([
         leads(alloc, ground, line)?,
-        is_goal_told(alloc, ground, line)?,
+        is_goal_reported(alloc, ground, line)?,
     ])
 }
 
@@ -303,25 +303,25 @@ fn are_states(
     Ok(())
 }
 
-fn tells_all(rt: &impl Abort, alloc: Global, ground: &Ground<'_>, row: &Row) -> Result<(), Fail> {
-    let are_told = [
+fn reports_all(rt: &impl Abort, alloc: Global, ground: &Ground<'_>, row: &Row) -> Result<(), Fail> {
+    let are_reported = [
         are_costs(ground, row.costs),
         starts(alloc, ground, row.lines)?,
     ];
-    assert_eq!(rt; are_told, [true, true]);
+    assert_eq!(rt; are_reported, [true, true]);
     are_states(rt, alloc, ground, row.lines)
 }
 
-fn tells(rt: &impl Abort, alloc: Global, task: &Task, row: &Row) -> Result<(), Fail> {
+fn reports(rt: &impl Abort, alloc: Global, task: &Task, row: &Row) -> Result<(), Fail> {
     let ground = Ground::new(alloc, task, &[], 10)?;
-    tells_all(rt, alloc, &ground, row)
+    reports_all(rt, alloc, &ground, row)
 }
 
 #[test]
 fn numbers_lead_from_state_to_state(rt: HostRuntime) -> Result<(), Fail> {
     for row in &STATES {
         on_task(&rt, rt.alloc(), &row.texts, |rt, alloc, task| {
-            tells(rt, alloc, task, row)
+            reports(rt, alloc, task, row)
         })?;
     }
     Ok(())

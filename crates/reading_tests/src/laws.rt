@@ -17,12 +17,12 @@ fn laws_of_reading_are_called() {
     tokens::one_fault();
     pddl_tree::one_reading();
     pddl_tree::one_fault();
-    pddl_tree::examples_are_as_told();
+    pddl_tree::examples_are_as_reported();
     examples_are_typed();
     supertypes_are_those_above();
     plan_file::one_plan();
     plan_file::one_fault();
-    plan_file::examples_are_as_told();
+    plan_file::examples_are_as_reported();
     plan_file::written_text_reads_back();
     plan_file::examples_are_written();
 }

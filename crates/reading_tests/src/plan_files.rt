@@ -127,8 +127,8 @@ fn taken(alloc: Global, task: &Task, hops: &Plan, length: usize, writes: u64) ->
     (written, sink.inner.inner.into_vec())
 }
 
-/// What is told where these bytes of the two hops are taken, and no more: that a write failed, unless they are all.
-fn told_of(taken: &[u8]) -> Result<(), WriteFault> {
+/// What is reported where these bytes of the two hops are taken, and no more: that a write failed, unless they are all.
+fn reported_of(taken: &[u8]) -> Result<(), WriteFault> {
     if taken == TWO_HOPS {
         Ok(())
     } else {
@@ -141,7 +141,7 @@ fn fails_at_each_byte(rt: &impl Abort, alloc: Global, task: &Task, hops: &Plan) 
     for count in 0..=TWO_HOPS.len() {
         let wanted = &TWO_HOPS[..count];
         let (written, text) = taken(alloc, task, hops, 1, count as u64);
-        assert_eq!(rt; (written, text.as_slice()), (told_of(wanted), wanted));
+        assert_eq!(rt; (written, text.as_slice()), (reported_of(wanted), wanted));
     }
 }
 
@@ -159,7 +159,7 @@ static BEGINNINGS: [&[u8]; 7] = [
 fn fails_at_each_piece(rt: &impl Abort, alloc: Global, task: &Task, hops: &Plan) {
     for (writes, wanted) in BEGINNINGS.iter().enumerate() {
         let (written, text) = taken(alloc, task, hops, 7, writes as u64);
-        assert_eq!(rt; (written, text.as_slice()), (told_of(*wanted), *wanted));
+        assert_eq!(rt; (written, text.as_slice()), (reported_of(*wanted), *wanted));
     }
 }
 

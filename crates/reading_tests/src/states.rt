@@ -46,7 +46,7 @@ fn walks(rt: &impl Abort, alloc: Global, task: &Task, start: &State) -> Result<(
     Ok(())
 }
 
-/// Whether the walker is at the second place, as any valuation tells it.
+/// Whether the walker is at the second place, as any valuation reports it.
 fn is_valued<V: Valuation>(state: &V) -> bool {
     state.contains(&atom(0, &[1])) && !state.contains(&atom(0, &[0]))
 }
@@ -151,11 +151,11 @@ fn lists_changes(rt: &impl Abort, alloc: Global, task: &Task) -> Result<(), Fail
     assert!(rt;
         always.condition.is_none() & first.condition.is_some() & second.condition.is_some()
     );
-    let told = format!(in alloc;
+    let reported = format!(in alloc;
         "{:?} {:?}, {:?} {:?}, {:?} {:?}",
         always.binding, always.literal, first.binding, first.literal, second.binding, second.literal
     )?;
-    assert_eq!(rt; told.as_str(), CHANGED);
+    assert_eq!(rt; reported.as_str(), CHANGED);
     Ok(())
 }
 

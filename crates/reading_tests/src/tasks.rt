@@ -62,8 +62,8 @@ fn declarations(alloc: Global, task: &Task) -> Result<String, AllocError> {
     format!(in alloc; "{p:?} {q:?}\n{go:?}\n{init:?}\n{goal:?}")
 }
 
-/// The declarations of `MIXED`, with one quantifier for each variable, and an `and` for the one over none; the start is told as
-/// it stands in the file.
+/// The declarations of `MIXED`, with one quantifier for each variable, and an `and` for the one over none; the start is reported as
+/// it is in the file.
 const DECLARATIONS: &str = "\
 Some(Predicate { arguments: [TypeUnion([TypeId(0)])] }) Some(Predicate { arguments: [] })
 Some(Schema { parameters: [TypeUnion([TypeId(0)]), TypeUnion([TypeId(0)])], \
@@ -75,11 +75,11 @@ effect: Literal(Delete(LiftedAtom { predicate: PredicateId(1), terms: [] })), in
 [Atom { predicate: PredicateId(0), objects: [ObjectId(1)] }, Atom { predicate: PredicateId(0), objects: [ObjectId(1)] }]
 Atom(LiftedAtom { predicate: PredicateId(0), terms: [Object(ObjectId(1))] })";
 
-/// The declarations are told, and no number leads beyond them.
+/// The declarations are reported, and no number leads beyond them.
 fn has_its_declarations(rt: &impl Abort, alloc: Global, task: &Task) -> Result<(), Fail> {
-    let told = declarations(alloc, task)?;
+    let reported = declarations(alloc, task)?;
     let are_all = task.predicate(PredicateId(2)).is_none() && task.schema(SchemaId(1)).is_none();
-    assert_eq!(rt; (told.as_str(), are_all), (DECLARATIONS, true));
+    assert_eq!(rt; (reported.as_str(), are_all), (DECLARATIONS, true));
     Ok(())
 }
 
@@ -143,8 +143,8 @@ fn has_its_functions(rt: &impl Abort, alloc: Global, task: &Task) -> Result<(), 
     functions_have_values(rt, task);
     let go = task.schema(SchemaId(0)).ok_or("no action")?;
     let pay = task.schema(SchemaId(1)).ok_or("one action")?;
-    let told = format!(in alloc; "{:?} {:?}", go.increase, pay.increase)?;
-    assert_eq!(rt; told.as_str(), INCREASES);
+    let reported = format!(in alloc; "{:?} {:?}", go.increase, pay.increase)?;
+    assert_eq!(rt; reported.as_str(), INCREASES);
     Ok(())
 }
 

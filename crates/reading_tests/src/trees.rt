@@ -1,4 +1,4 @@
-//! Trees of domains and problems in memory, and what is told of words that stop too early.
+//! Trees of domains and problems in memory, and what is reported for words that stop too early.
 use faults::{Code, Fault, Span, TextRefusal};
 use pddl_tree::{
     Action, Amount, Domain, Effect, EffectLiteral, Fact, Formula, Group, Increase, Name, Predicate,
@@ -18,7 +18,7 @@ const TRIP: &[u8] =
  (:init (p) (= (total-cost) 07) (q a) (= (LEN B) 3)) (:goal (and (p) (or) (not (q B))
  (imply (p) (q a)) (= ?x B) (exists (?x ?y - (either place truck) ?z) (q ?y)) (forall () (p)))))";
 
-/// The words that stand before this place are refused there, since more is wanted.
+/// The words that come before this place are refused there, since more is wanted.
 fn refused_at(end: usize) -> Option<Fault> {
     Some(Fault::At(TextRefusal {
         code: Code::BadForm,

@@ -4,8 +4,8 @@ use std::process::Abort;
 use std::test::Fail;
 use tokens::{Form, is_name, part_end, scan};
 
-/// The words of a text, each with its kind and its span, which is where its bytes stand.
-fn told(rt: &impl Abort, alloc: Global, text: &[u8]) -> Result<String, Fail> {
+/// The words of a text, each with its kind and its span, which is where its bytes are.
+fn reported(rt: &impl Abort, alloc: Global, text: &[u8]) -> Result<String, Fail> {
     let words = scan(alloc, text)?;
     let mut out = String::new(alloc);
     for word in &words {
@@ -36,7 +36,7 @@ static TEXTS: [(&[u8], &str); 9] = [
 #[test]
 fn words_of_texts(rt: HostRuntime) -> Result<(), Fail> {
     for (text, wanted) in &TEXTS {
-        assert_eq!(rt; told(&rt, rt.alloc(), *text)?.as_str(), *wanted);
+        assert_eq!(rt; reported(&rt, rt.alloc(), *text)?.as_str(), *wanted);
     }
     Ok(())
 }

@@ -11,7 +11,7 @@ use Rattle.model.proofs.ClaimsLemmas.{claim-of_closed}
 use Rattle.model.proofs.ListLemmas.{Contains-here, Contains-there, Contains-cases, Contains-none}
 use Rattle.search.specs.declared.nodes.Node.{Node}
 use Rattle.search.specs.Estimates.{IsConsistent}
-use Rattle.search.specs.DeadEnds.{TellsDeadEnds}
+use Rattle.search.specs.DeadEnds.{DetectsDeadEnds}
 use Rattle.search.specs.Outcome.{line_of, lines_of, IsReachableAt, ReachingCostsAtLeast, AreFound, AreExpandedWithin}
 use Rattle.search.specs.Nodes.{Waiting, Found, found_of, IsWaiting, total_of, AreNodes, IsFoundWithin, AreOpen, parent_of, begins, follows, IsPath, IsReachedIn, IsWay, expanded_count, dearest}
 use Rattle.search.proofs.Consistent.{lower_bound}
@@ -43,24 +43,24 @@ at-line {S} value is_dead (x ∷ states) (y ∷ all) zero s r is_s is_r =
 at-line value is_dead (x ∷ states) (y ∷ all) (suc k) s r is_s is_r =
     Contains-there (line_of value is_dead x y) (lines_of value is_dead states all) (line_of value is_dead s r) (at-line value is_dead states all k s r is_s is_r)
 
--- what a mark tells
+-- what a mark reports
 abbrev rest_of : Mark → ℕ
 rest_of opened = 0
 rest_of (cut rest) = rest
 rest_of dead = 0
 
-open_if : (expanded told : Bool) (estimate : ℕ) → (if expanded then opened else (if told then dead else cut estimate)) ≡ opened → expanded ≡ true
-open_if true told estimate is = refl
+open_if : (expanded reported : Bool) (estimate : ℕ) → (if expanded then opened else (if reported then dead else cut estimate)) ≡ opened → expanded ≡ true
+open_if true reported estimate is = refl
 open_if false true estimate is = absurd (cc)
 open_if false false estimate is = absurd (cc)
 
-cut_if : (expanded told : Bool) (estimate rest : ℕ) → (if expanded then opened else (if told then dead else cut estimate)) ≡ cut rest → (expanded ≡ false) × (told ≡ false) × (rest ≡ estimate)
-cut_if true told estimate rest is = absurd (cc)
+cut_if : (expanded reported : Bool) (estimate rest : ℕ) → (if expanded then opened else (if reported then dead else cut estimate)) ≡ cut rest → (expanded ≡ false) × (reported ≡ false) × (rest ≡ estimate)
+cut_if true reported estimate rest is = absurd (cc)
 cut_if false true estimate rest is = absurd (cc)
 cut_if false false estimate rest is = (refl, refl, sym (ap rest_of is))
 
-dead_if : (expanded told : Bool) (estimate : ℕ) → (if expanded then opened else (if told then dead else cut estimate)) ≡ dead → told ≡ true
-dead_if true told estimate is = absurd (cc)
+dead_if : (expanded reported : Bool) (estimate : ℕ) → (if expanded then opened else (if reported then dead else cut estimate)) ≡ dead → reported ≡ true
+dead_if true reported estimate is = absurd (cc)
 dead_if false true estimate is = refl
 dead_if false false estimate is = absurd (cc)
 
@@ -130,8 +130,8 @@ module _ {S : Type 0} (t : System S ℕ) (value : S → ℕ) (is_dead : S → Bo
           );
       dead_are_dead = λ line at mark.
           let (k, s, r, is_s, is_r, is) = line-at value is_dead states all line at in
-          let told : is_dead s ≡ true = dead_if r.is_expanded (is_dead s) (value s) (ap (λ (l : Line S). l.mark) is ∙ mark) in
-          ap is_dead (sym (ap (λ (l : Line S). l.state) is)) ∙ told;
+          let reported : is_dead s ≡ true = dead_if r.is_expanded (is_dead s) (value s) (ap (λ (l : Line S). l.mark) is ∙ mark) in
+          ap is_dead (sym (ap (λ (l : Line S). l.state) is)) ∙ reported;
     }
 
     pub found_states : (claim : Claim) (max_states : ℕ) → length states ≤ max_states → IsClosed t value is_dead claim (lines_of value is_dead states all)
@@ -156,9 +156,9 @@ module _ {S : Type 0} (t : System S ℕ) (value : S → ℕ) (is_dead : S → Bo
     }
 
     -- what a closed listing claims is true
-    pub claimed : IsConsistent t value → TellsDeadEnds t is_dead → (claim : Claim) → IsClosed t value is_dead claim (lines_of value is_dead states all) → ClaimHolds t claim
-    claimed consistent tells claim is_closed =
-        claim-of_closed t value is_dead claim (lines_of value is_dead states all) (lower_bound t value consistent) (are_dead_ends t is_dead tells) is_closed
+    pub claimed : IsConsistent t value → DetectsDeadEnds t is_dead → (claim : Claim) → IsClosed t value is_dead claim (lines_of value is_dead states all) → ClaimHolds t claim
+    claimed consistent reports claim is_closed =
+        claim-of_closed t value is_dead claim (lines_of value is_dead states all) (lower_bound t value consistent) (are_dead_ends t is_dead reports) is_closed
 
   module _ (queue : List Waiting) (nodes : AreNodes t value is_dead (found_of states all) queue) where
     listing : AreListed t is_dead (found_of states all)
@@ -191,32 +191,32 @@ module _ {S : Type 0} (t : System S ℕ) (value : S → ℕ) (is_dead : S → Bo
     path_runs k path n (follows node before elsewhere at earlier is) there =
         let same : n.node ≡ node = same_Some n.node node (sym (found_of-get states all k n there).1 ∙ at) in
         let leads = nodes.linked k n there elsewhere in
-        let stands : slice_get (found_of states all) (parent_of node) ≡ Some leads.parent = ap (λ (x : Node). slice_get (found_of states all) (parent_of x)) (sym same) ∙ leads.stands in
+        let occurs : slice_get (found_of states all) (parent_of node) ≡ Some leads.parent = ap (λ (x : Node). slice_get (found_of states all) (parent_of x)) (sym same) ∙ leads.occurs in
         let by : n.node.action ≡ node.action = ap (λ (x : Node). x.action) same in
-        let (runs, costs) = path_runs (parent_of node) before leads.parent earlier stands in (
+        let (runs, costs) = path_runs (parent_of node) before leads.parent earlier occurs in (
           ap (run t t.initial) is ∙ run-push t t.initial before node.action leads.parent.state n.state runs (ap (t.step leads.parent.state) (sym by) ∙ leads.step),
           ap (cost_of_all t) is ∙ sum_by-append t.cost before (node.action ∷ []) ∙ omega (arith, costs, leads.cost, ap t.cost by),
         )
 
     -- no list that solves costs less than the sum of the node whose turn came: each has to pass through one that waits
-    pub no_plan_cheaper : IsConsistent t value → TellsDeadEnds t is_dead → (one : Found S) → AreOpen t (found_of states all)
+    pub no_plan_cheaper : IsConsistent t value → DetectsDeadEnds t is_dead → (one : Found S) → AreOpen t (found_of states all)
         → ((k : ℕ) (n : Found S) → slice_get (found_of states all) k ≡ Some n → IsWaiting is_dead n → total_of value one ≤ total_of value n)
         → CostsAtLeast t (total_of value one)
-    no_plan_cheaper consistent tells one are_open least =
+    no_plan_cheaper consistent reports one are_open least =
         let sum = total_of value one in
-        claimed listing consistent tells (bound sum) (closed listing (bound sum) are_open (λ k n at waits. least k n at waits))
+        claimed listing consistent reports (bound sum) (closed listing (bound sum) are_open (λ k n at waits. least k n at waits))
 
     -- a goal state whose turn came is reached by a cheapest list
-    pub optimal : IsConsistent t value → TellsDeadEnds t is_dead → (i : ℕ) (one : Found S) (steps : List ℕ) (max_states : ℕ) → AreOpen t (found_of states all) → slice_get (found_of states all) i ≡ Some one
+    pub optimal : IsConsistent t value → DetectsDeadEnds t is_dead → (i : ℕ) (one : Found S) (steps : List ℕ) (max_states : ℕ) → AreOpen t (found_of states all) → slice_get (found_of states all) i ≡ Some one
         → ((k : ℕ) (n : Found S) → slice_get (found_of states all) k ≡ Some n → IsWaiting is_dead n → total_of value one ≤ total_of value n)
         → t.meets_goal one.state ≡ true → IsPath all i steps → length steps ≤ length all → length states ≤ max_states
         → IsOptimal t steps × (cost_of_all t steps ≡ one.node.cost) × AreFound t value is_dead (bound one.node.cost) max_states states all
         × (length steps ≤ max_states) × AreExpandedWithin value one.node.cost states all
-    optimal consistent tells i one steps max_states are_open stands least goal path short within =
+    optimal consistent reports i one steps max_states are_open occurs least goal path short within =
         let nothing_left : value one.state ≡ 0 = consistent.zero_at_goals one.state goal in
         let is_closed = closed listing (bound one.node.cost) are_open (λ k n at waits. omega (arith, least k n at waits, nothing_left)) in
-        let holds = no_plan_cheaper consistent tells one are_open least in
-        let (runs, costs) = path_runs i steps one path stands in
+        let holds = no_plan_cheaper consistent reports one are_open least in
+        let (runs, costs) = path_runs i steps one path occurs in
         let solves : Solves t steps = (one.state, runs, goal) in (
           (solves, λ plan is_plan. omega (arith, holds plan is_plan, costs)),
           costs,
@@ -226,9 +226,9 @@ module _ {S : Type 0} (t : System S ℕ) (value : S → ℕ) (is_dead : S → Bo
         )
 
     -- where no state waits, none solves
-    pub unsolvable : IsConsistent t value → TellsDeadEnds t is_dead → (max_states : ℕ) → AreOpen t (found_of states all)
+    pub unsolvable : IsConsistent t value → DetectsDeadEnds t is_dead → (max_states : ℕ) → AreOpen t (found_of states all)
         → ((k : ℕ) (n : Found S) → slice_get (found_of states all) k ≡ Some n → IsWaiting is_dead n → ⊥) → length states ≤ max_states
         → IsUnsolvable t × AreFound t value is_dead none max_states states all
-    unsolvable consistent tells max_states are_open none_waits within =
+    unsolvable consistent reports max_states are_open none_waits within =
         let is_closed = closed listing none are_open (λ k n at waits. none_waits k n at waits) in
-        (claimed listing consistent tells none is_closed, found_states listing none max_states within is_closed)
+        (claimed listing consistent reports none is_closed, found_states listing none max_states within is_closed)

@@ -31,7 +31,7 @@ distinct-push {S} states s distinct is_new j k x at_j at_k =
           ]
     ]
   where
-    -- what stands before the end is not the new state
+    -- what comes before the end is not the new state
     not_both : (before last : ℕ) (x : S) → before ≢ length states → slice_get (states ++ s ∷ []) before ≡ Some x → last ≡ length states → slice_get (states ++ s ∷ []) last ≡ Some x → ⊥
     not_both before last x other at_before is_last at_last =
         let is_s : s ≡ x = same_Some s x (sym (get-push_new states s) ∙ ap (slice_get (states ++ s ∷ [])) (sym is_last) ∙ at_last) in
@@ -70,7 +70,7 @@ module _ {S : Type 0} (t : System S ℕ) (value : S → ℕ) (is_dead : S → Bo
             is_initial (sym (ap (λ (y : Found S). y.state) same) ∙ nodes.root.2)
         | inr elsewhere ↦
             let leads = nodes.linked k n there elsewhere in
-            precedes-next (parent_of n.node) leads.parent leads.stands leads.is_expanded n.node.action n.state leads.step
+            precedes-next (parent_of n.node) leads.parent leads.occurs leads.is_expanded n.node.action n.state leads.step
       ]
 
   with_reach : (x : S) → PrecedesPlans t value is_dead x → IsReachable t x × PrecedesPlans t value is_dead x
@@ -86,10 +86,10 @@ module _ {S : Type 0} (t : System S ℕ) (value : S → ℕ) (is_dead : S → Bo
         with_reach x
         (elim (Contains-push_cases states s x at) [
           | inl among ↦
-              let (k, stands) = Contains-place states x among in
-              let (n, there, same) = node_there k x stands in
+              let (k, occurs) = Contains-place states x among in
+              let (n, there, same) = node_there k x occurs in
               subst (λ y. PrecedesPlans t value is_dead y) same (precedes-found k n there)
-          | inr is ↦ precedes-next i turn.found turn.stands turn.is_expanded a x (step ∙ ap Some is)
+          | inr is ↦ precedes-next i turn.found turn.occurs turn.is_expanded a x (step ∙ ap Some is)
         ])),
     omega (arith, length-append states (s ∷ []), full),
   )

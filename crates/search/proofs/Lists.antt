@@ -1,4 +1,4 @@
--- What stands at a place of a list after an element joins it at its end or takes another's place.
+-- What is at a place of a list after an element joins it at its end or takes another's place.
 use Rattle.std.proofs.Common.{◌≡◌, ℕ, zero, suc, ◌<◌, ◌≢◌, List, [], ◌∷◌, ◌++◌, length, set, get_or, Some, refl, ap, arith}
 use Rattle.std.specs.Prelude.{slice_get}
 

@@ -53,15 +53,15 @@ module _ {S : Type 0} (nodes after : List (Found S)) (i : ℕ) (one : Found S) (
   entry_marked value is_dead w of =
       elim (cases_eq (place_of w) i) [
         | inl e ↦
-            let same : one ≡ of.found = same_Some one of.found (sym stood ∙ ap (slice_get nodes) (sym e) ∙ of.stands) in
+            let same : one ≡ of.found = same_Some one of.found (sym stood ∙ ap (slice_get nodes) (sym e) ∙ of.occurs) in
             record {
               found = marked true one;
-              stands = ap (slice_get after) e ∙ here;
+              occurs = ap (slice_get after) e ∙ here;
               alive = ap (λ (x : Found S). is_dead x.state) same ∙ of.alive;
               estimate = of.estimate ∙ sym (ap (λ (x : Found S). value x.state) same);
               part = of.part;
             }
-        | inr other ↦ record { found = of.found; stands = others (place_of w) other ∙ of.stands; alive = of.alive; estimate = of.estimate; part = of.part }
+        | inr other ↦ record { found = of.found; occurs = others (place_of w) other ∙ of.occurs; alive = of.alive; estimate = of.estimate; part = of.part }
       ]
 
   pub entries_marked : (value : S → ℕ) (is_dead : S → Bool) (queue : List Waiting) → All (IsEntryOf value is_dead nodes) queue → All (IsEntryOf value is_dead after) queue
@@ -71,7 +71,7 @@ module _ {S : Type 0} (nodes after : List (Found S)) (i : ℕ) (one : Found S) (
     leads_marked : (n : Found S) → Leads t nodes n → Leads t after n
     leads_marked n leads = record {
       parent = leads.parent;
-      stands = stays_marked (parent_of n.node) leads.parent leads.stands leads.is_expanded;
+      occurs = stays_marked (parent_of n.node) leads.parent leads.occurs leads.is_expanded;
       is_expanded = leads.is_expanded;
       cost = leads.cost;
       step = leads.step;
@@ -80,7 +80,7 @@ module _ {S : Type 0} (nodes after : List (Found S)) (i : ℕ) (one : Found S) (
     marked_leads : (n : Found S) → Leads t after n → Leads t after (marked true n)
     marked_leads n leads = record {
       parent = leads.parent;
-      stands = leads.stands;
+      occurs = leads.occurs;
       is_expanded = leads.is_expanded;
       cost = leads.cost;
       step = leads.step;
@@ -140,7 +140,7 @@ module _ {S : Type 0} (nodes after : List (Found S)) (i : ℕ) (one : Found S) (
         let (way, leads, short) = old.shallow i one stood in
         record {
           found = marked true one;
-          stands = here;
+          occurs = here;
           is_expanded = refl;
           greatest = each_marked (λ k n. n.node.is_expanded ≡ true → total_of value n ≤ total_of value one)
               (λ _. omega arith)
@@ -158,8 +158,8 @@ module _ {S : Type 0} (nodes after : List (Found S)) (i : ℕ) (one : Found S) (
 
 -- its turn ends: it is open as the others are
 pub open_all : {S : Type 0} (t : System S ℕ) (nodes : List (Found S)) (i : ℕ) (one : Found S) → slice_get nodes i ≡ Some one → IsOpen t nodes one → AreOpenBut t nodes i → AreOpen t nodes
-open_all {S} t nodes i one stands is_open others k n at expanded =
+open_all {S} t nodes i one occurs is_open others k n at expanded =
     elim (cases_eq k i) [
-      | inl e ↦ subst (λ (x : Found S). IsOpen t nodes x) (same_Some one n (sym stands ∙ ap (slice_get nodes) (sym e) ∙ at)) is_open
+      | inl e ↦ subst (λ (x : Found S). IsOpen t nodes x) (same_Some one n (sym occurs ∙ ap (slice_get nodes) (sym e) ∙ at)) is_open
       | inr other ↦ others k n at expanded other
     ]

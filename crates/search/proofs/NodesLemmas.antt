@@ -22,7 +22,7 @@ pub record Stepped {S : Type 0} (t : System S ℕ) (value : S → ℕ) (is_dead 
   pub continues : Continues nodes after i
   pub listed : IsListed t after i a s
 
--- the queue once a state is reached by a way that is new: its entry joins the others, unless the state is told dead
+-- the queue once a state is reached by a way that is new: its entry joins the others, unless the state is reported dead
 abbrev pub IsJoined : Bool → Waiting → List Waiting → List Waiting → Type 0
 IsJoined true w queue queue' = queue' ≡ queue
 IsJoined false w queue queue' = IsPermutation (w ∷ queue) queue'
@@ -82,10 +82,10 @@ module _ {S : Type 0} (nodes after : List (Found S)) (j : ℕ) (m : Found S) (up
   entry_still value is_dead w of =
       elim (cases_eq (place_of w) j) [
         | inl e ↦
-            let was : slice_get nodes j ≡ Some of.found = ap (slice_get nodes) (sym e) ∙ of.stands in
+            let was : slice_get nodes j ≡ Some of.found = ap (slice_get nodes) (sym e) ∙ of.occurs in
             let same = updates.same_state of.found was in
-            record { found = m; stands = ap (slice_get after) e ∙ updates.here; alive = ap is_dead (sym same) ∙ of.alive; estimate = of.estimate ∙ ap value same; part = of.part }
-        | inr other ↦ record { found = of.found; stands = updates.others (place_of w) other ∙ of.stands; alive = of.alive; estimate = of.estimate; part = of.part }
+            record { found = m; occurs = ap (slice_get after) e ∙ updates.here; alive = ap is_dead (sym same) ∙ of.alive; estimate = of.estimate ∙ ap value same; part = of.part }
+        | inr other ↦ record { found = of.found; occurs = updates.others (place_of w) other ∙ of.occurs; alive = of.alive; estimate = of.estimate; part = of.part }
       ]
 
   -- an expanded node was there before
@@ -96,7 +96,7 @@ module _ {S : Type 0} (nodes after : List (Found S)) (j : ℕ) (m : Found S) (up
         | inr was ↦ was.1
       ]
 
-  -- what the queue has once the updated node's entry has joined it, or has not since its state is told dead
+  -- what the queue has once the updated node's entry has joined it, or has not since its state is reported dead
   pub record HasJoined (value : S → ℕ) (is_dead : S → Bool) (queue queue' : List Waiting) : Type 0 where
     pub keeps : (w : Waiting) → Contains queue w → Contains queue' w
     pub queued : IsWaiting is_dead m → Contains queue' (entry m.node.cost (value m.state) j)
@@ -114,7 +114,7 @@ module _ {S : Type 0} (nodes after : List (Found S)) (j : ℕ) (m : Found S) (up
           entries = subst (λ q. All (IsEntryOf value is_dead after) q) (sym same) all_in;
         }
         | false ↦ λ alive joins.
-            let of : IsEntryOf value is_dead after one = record { found = m; stands = updates.here; alive = alive; estimate = refl; part = omega arith } in
+            let of : IsEntryOf value is_dead after one = record { found = m; occurs = updates.here; alive = alive; estimate = refl; part = omega arith } in
             record {
               keeps = λ w at. Contains-permutation (one ∷ queue) queue' w joins (Contains-there one queue w at);
               queued = λ _. Contains-permutation (one ∷ queue) queue' one joins (Contains-here one queue);
@@ -126,7 +126,7 @@ module _ {S : Type 0} (nodes after : List (Found S)) (j : ℕ) (m : Found S) (up
     leads_still : (n : Found S) → Leads t nodes n → Leads t after n
     leads_still n leads = record {
       parent = leads.parent;
-      stands = stays (parent_of n.node) leads.parent leads.stands leads.is_expanded;
+      occurs = stays (parent_of n.node) leads.parent leads.occurs leads.is_expanded;
       is_expanded = leads.is_expanded;
       cost = leads.cost;
       step = leads.step;
@@ -142,7 +142,7 @@ module _ {S : Type 0} (nodes after : List (Found S)) (j : ℕ) (m : Found S) (up
     way_still queue old k way (follows n before elsewhere at earlier is) other =
         let leads = old.linked k n at elsewhere in
         follows n before elsewhere (updates.others k other ∙ at)
-        (way_still queue old (parent_of n.node) before earlier (not_here (parent_of n.node) leads.parent leads.stands leads.is_expanded)) is
+        (way_still queue old (parent_of n.node) before earlier (not_here (parent_of n.node) leads.parent leads.occurs leads.is_expanded)) is
 
     pub open_still : (n : Found S) → IsOpen t nodes n → IsOpen t after n
     open_still n is_open a next step = found_still next (n.node.cost + t.cost a) (is_open a next step)
@@ -154,12 +154,12 @@ module _ {S : Type 0} (nodes after : List (Found S)) (j : ℕ) (m : Found S) (up
     pub turn_still : (queue : List Waiting) → AreNodes t value is_dead nodes queue → (i : ℕ) (turn : IsTurn value nodes i) → IsTurn value after i
     turn_still queue old i turn = record {
       found = turn.found;
-      stands = stays i turn.found turn.stands turn.is_expanded;
+      occurs = stays i turn.found turn.occurs turn.is_expanded;
       is_expanded = turn.is_expanded;
       greatest = λ k n at expanded. turn.greatest k n (expanded_before k n at expanded) expanded;
       cheap = rw updates.count turn.cheap;
       way = turn.way;
-      leads = way_still queue old i turn.way turn.leads (not_here i turn.found turn.stands turn.is_expanded);
+      leads = way_still queue old i turn.way turn.leads (not_here i turn.found turn.occurs turn.is_expanded);
       shallow = rw updates.count turn.shallow;
     }
 
@@ -169,7 +169,7 @@ module _ {S : Type 0} (nodes after : List (Found S)) (j : ℕ) (m : Found S) (up
         elim (cases_eq j 0) [
           | inl first ↦ ([], begins first refl, omega arith)
           | inr elsewhere ↦
-              let before : IsWay after i turn.way = way_still queue old i turn.way turn.leads (not_here i turn.found turn.stands turn.is_expanded) in (
+              let before : IsWay after i turn.way = way_still queue old i turn.way turn.leads (not_here i turn.found turn.occurs turn.is_expanded) in (
                 turn.way ++ m.node.action ∷ [],
                 follows m turn.way elsewhere updates.here (subst (λ k. IsWay after k turn.way) (sym parent) before) refl,
                 omega (arith, length-append turn.way (m.node.action ∷ []), turn.shallow, updates.count),
@@ -184,7 +184,7 @@ module _ {S : Type 0} (nodes after : List (Found S)) (j : ℕ) (m : Found S) (up
     nodes_updated i turn queue queue' old parent cost affordable step falls joined =
         let leads : Leads t after m = record {
           parent = turn.found;
-          stands = ap (slice_get after) parent ∙ stays i turn.found turn.stands turn.is_expanded;
+          occurs = ap (slice_get after) parent ∙ stays i turn.found turn.occurs turn.is_expanded;
           is_expanded = turn.is_expanded;
           cost = cost;
           step = step;
@@ -211,7 +211,7 @@ module _ {S : Type 0} (nodes after : List (Found S)) (j : ℕ) (m : Found S) (up
               let (way, leads, short) = old.shallow k n at in
               (way, way_still queue old k way leads other, omega (arith, short, updates.count)));
           reachable = each_after (λ k n. IsReachableAt t n.state n.node.cost)
-              (subst (λ c. IsReachableAt t m.state c) (sym cost) (reachable-push t turn.found.state m.state turn.found.node.cost m.node.action (old.reachable i turn.found turn.stands) step))
+              (subst (λ c. IsReachableAt t m.state c) (sym cost) (reachable-push t turn.found.state m.state turn.found.node.cost m.node.action (old.reachable i turn.found turn.occurs) step))
               (λ k n other at. old.reachable k n at);
           no_goal = each_after (λ k n. n.node.is_expanded ≡ true → t.meets_goal n.state ≡ false)
               (λ expanded. absurd (false≢true (sym updates.waits ∙ expanded)))
@@ -250,11 +250,11 @@ module _ {S : Type 0} (nodes after : List (Found S)) (j : ℕ) (m : Found S) (up
           others = open_but_still i others;
           continues = record {
             found = found_still;
-            stays = λ n at. stays i n at (sym (ap (λ (x : Found S). x.node.is_expanded) (same_Some turn.found n (sym turn.stands ∙ at))) ∙ turn.is_expanded);
+            stays = λ n at. stays i n at (sym (ap (λ (x : Found S). x.node.is_expanded) (same_Some turn.found n (sym turn.occurs ∙ at))) ∙ turn.is_expanded);
             count = updates.count;
           };
           listed = λ n at.
-              let now : slice_get after i ≡ Some turn.found = stays i turn.found turn.stands turn.is_expanded in
+              let now : slice_get after i ≡ Some turn.found = stays i turn.found turn.occurs turn.is_expanded in
               let same : turn.found ≡ n = same_Some turn.found n (sym now ∙ at) in
               (j, m, updates.here, refl, omega (arith, cost, ap (λ (x : Found S). x.node.cost) same));
         }

@@ -77,7 +77,7 @@ module _ (initial old new : List Waiting) (all : List Node) (x : Waiting) (keeps
   pub takes-popped : IsFirst x old → IsCurrent all x → (turn : Turn) → place_of x ≡ turn.id.0 → sum_of x ≡ turn.sum → estimate_of x ≡ turn.estimate → TakesNext initial new all turn
   takes-popped ahead now turn place sum estimate = record {
     next = x;
-    stands = place;
+    occurs = place;
     sum = sum;
     estimate = estimate;
     among = popped.0;
@@ -105,8 +105,8 @@ pub current-read : (all : List Node) (w : Waiting) (r : Node) → place_of w < l
 current-read all w r within read waits same = (r, slice_get_read all (length all) (place_of w) r refl within read, same, waits)
 
 pub stale-read : (all : List Node) (w : Waiting) (r : Node) → place_of w < length all → r ≡ get_or all (place_of w) r → (r.is_expanded ≡ true) ⊎ (r.cost + estimate_of w ≢ sum_of w) → ¬ IsCurrent all w
-stale-read all w r within read cases (node, stands, sums, waits) =
-    let same : r ≡ node = same_Some r node (sym (slice_get_read all (length all) (place_of w) r refl within read) ∙ stands) in
+stale-read all w r within read cases (node, occurs, sums, waits) =
+    let same : r ≡ node = same_Some r node (sym (slice_get_read all (length all) (place_of w) r refl within read) ∙ occurs) in
     elim cases [
       | inl expanded ↦ absurd (false≢true (sym waits ∙ sym (ap (λ (x : Node). x.is_expanded) same) ∙ expanded))
       | inr dearer ↦ absurd (dearer (ap (λ (x : Node). x.cost + estimate_of w) same ∙ sums))
@@ -122,19 +122,19 @@ pub record IsWayBack (nodes : List Node) (goal at : ℕ) (steps : List ℕ) : Ty
 -- the last action before a node that is not the initial state
 pub record IsLastStep (nodes : List Node) (at : ℕ) (path : List ℕ) (node : Node) : Type 0 where
   pub before : List ℕ
-  pub stands : slice_get nodes at ≡ Some node
+  pub occurs : slice_get nodes at ≡ Some node
   pub leads : IsPath nodes (parent_of node) before
   pub is : path ≡ before ++ node.action ∷ []
 
 last_step : (nodes : List Node) (at : ℕ) (path : List ℕ) → IsPath nodes at path → at ≢ 0 → (node : Node) × IsLastStep nodes at path node
 last_step nodes at path (begins first none) elsewhere = absurd (elsewhere first)
-last_step nodes at path (follows node before _ stands earlier is) elsewhere =
-    (node, record { before = before; stands = stands; leads = earlier; is = is })
+last_step nodes at path (follows node before _ occurs earlier is) elsewhere =
+    (node, record { before = before; occurs = occurs; leads = earlier; is = is })
 
 -- no action leads to the initial state
 path_at_root : (nodes : List Node) (at : ℕ) (path : List ℕ) → IsPath nodes at path → at ≡ 0 → path ≡ []
 path_at_root nodes at path (begins first none) root = none
-path_at_root nodes at path (follows node before elsewhere stands earlier is) root = absurd (elsewhere root)
+path_at_root nodes at path (follows node before elsewhere occurs earlier is) root = absurd (elsewhere root)
 
 module _ (nodes : List Node) (goal : ℕ) where
   pub way_back-start : IsReachedIn nodes goal (length nodes) → IsWayBack nodes goal goal []
@@ -149,13 +149,13 @@ module _ (nodes : List Node) (goal : ℕ) where
   pub way_back-within : (at : ℕ) (steps : List ℕ) → IsWayBack nodes goal at steps → at ≢ 0 → at < length nodes
   way_back-within at steps way elsewhere =
       let (node, last) = last_step nodes at way.before way.here elsewhere in
-      slice_get_within nodes at node last.stands
+      slice_get_within nodes at node last.occurs
 
   pub way_back-more : (at : ℕ) (steps : List ℕ) (node : Node) → IsWayBack nodes goal at steps → at ≢ 0 → slice_get nodes at ≡ Some node
       → IsWayBack nodes goal (parent_of node) (steps ++ node.action ∷ []) × (length (steps ++ node.action ∷ []) ≤ length nodes)
-  way_back-more at steps node way elsewhere stands =
+  way_back-more at steps node way elsewhere occurs =
       let (there, last) = last_step nodes at way.before way.here elsewhere in
-      let same : there ≡ node = same_Some there node (sym last.stands ∙ stands) in
+      let same : there ≡ node = same_Some there node (sym last.occurs ∙ occurs) in
       let is : way.before ≡ last.before ++ node.action ∷ [] = last.is ∙ ap (λ (x : Node). last.before ++ x.action ∷ []) same in
       let count : length way.before ≡ length last.before + 1 = ap length is ∙ length-append last.before (node.action ∷ []) in
       let more : length (steps ++ node.action ∷ []) ≡ length steps + 1 = length-append steps (node.action ∷ []) in (

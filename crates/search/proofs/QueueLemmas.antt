@@ -10,7 +10,7 @@ use Rattle.std.proofs.lemmas.List.Sorted.{IsPermutation-map, IsPermutation-appen
 use Rattle.search.specs.Nodes.{Waiting, sum_of, estimate_of, place_of, entry_at}
 use Rattle.search.specs.Queue.{by_sum, by_word, entry_of}
 
--- the entry that was put into a word stands in it
+-- the entry that was put into a word is in it
 pub entry_in_word : (sum estimate place word : ℕ) → sum < 1048576 → estimate ≤ sum → place < 16777216 → word ≡ (sum * 1048576 + estimate) * 16777216 + place
     → entry_of (record { 0 = word }) ≡ entry_at sum estimate place
 entry_in_word sum estimate place word near part within is =
@@ -82,11 +82,11 @@ module _ (near : List (Reverse ℕ)) (far : List Waiting) where
   first_far w none greatest =
       subst (λ (ns : List (Reverse ℕ)). IsFirst w (map entry_of ns ++ far)) (sym none) (All-from_recursion (λ x. is_lt (by_sum w x) ≡ false) far greatest)
 
--- what is told of an option is told of it in other words
-pub none_told : {X P Q : Type 0} → (P → Q) → (r : Option X) → IfNone r P → IfNone r Q
-none_told says None told = says told
-none_told says (Some x) told = told
+-- what is reported for an option is reported for it in other words
+pub none_reported : {X P Q : Type 0} → (P → Q) → (r : Option X) → IfNone r P → IfNone r Q
+none_reported says None reported = says reported
+none_reported says (Some x) reported = reported
 
-pub some_told : {X : Type 0} {P Q R : X → Type 0} → ((x : X) → P x → Q x → R x) → (r : Option X) → IfSome r P → IfSome r Q → IfSome r R
-some_told says None one other = one
-some_told says (Some x) one other = says x one other
+pub some_reported : {X : Type 0} {P Q R : X → Type 0} → ((x : X) → P x → Q x → R x) → (r : Option X) → IfSome r P → IfSome r Q → IfSome r R
+some_reported says None one other = one
+some_reported says (Some x) one other = says x one other

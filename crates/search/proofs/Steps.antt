@@ -14,7 +14,7 @@ use Rattle.search.specs.declared.nodes.ShortId.{ShortId}
 use Rattle.search.specs.Transitions.{AreApplicable}
 use Rattle.search.specs.declared.turns.Turn.{Turn}
 use Rattle.search.specs.Estimates.{IsConsistent}
-use Rattle.search.specs.DeadEnds.{TellsDeadEnds, IsValueUnlessDead}
+use Rattle.search.specs.DeadEnds.{DetectsDeadEnds, IsValueUnlessDead}
 use Rattle.search.specs.Outcome.{IsReachableAt, ReachingCostsAtLeast}
 use Rattle.packed_state.specs.Store.{IsPlaced}
 use Rattle.search.specs.Nodes.{Waiting, place_of, estimate_of, entry, IsEntry, IsWaiting, total_of, IsEntryOf, parent_of, begins, HasWay, Found, found_of, expanded_count, dearest, Leads, AreNodes, IsFoundWithin, IsOpen, AreOpen, AreOpenBut, IsTurn, IsCurrent, marked_as, marked}
@@ -67,7 +67,7 @@ module _ {S : Type 0} (t : System S ℕ) (value : S → ℕ) (is_dead : S → Bo
       let stood : slice_get (found_of states all) j ≡ Some n = get-found_of states all j s reached is_s is_reached in
       -- there is no cheaper way to an expanded state
       let way : IsReachableAt t s (turn.found.node.cost + t.cost now.action) =
-      reachable-push t turn.found.state s turn.found.node.cost now.action (nodes.reachable i turn.found turn.stands) step in
+      reachable-push t turn.found.state s turn.found.node.cost now.action (nodes.reachable i turn.found turn.occurs) step in
       let waited : reached.is_expanded ≡ false =
       elim (reached.is_expanded) as (λ b. reached.is_expanded ≡ b → b ≡ false) [
         | true ↦ λ expanded. absurd (omega (arith, costs, cheaper, nodes.cheapest j n stood expanded way.0 way.1, way.2))
@@ -103,7 +103,7 @@ module _ {S : Type 0} (t : System S ℕ) (value : S → ℕ) (is_dead : S → Bo
         others = others;
         continues = record { found = λ _ _ found. found; stays = λ _ at. at; count = refl };
         listed = λ x at.
-            let same : turn.found ≡ x = same_Some turn.found x (sym turn.stands ∙ at) in
+            let same : turn.found ≡ x = same_Some turn.found x (sym turn.occurs ∙ at) in
             (j, n, stood, refl, omega (arith, costs, no_dearer, ap (λ (y : Found S). y.node.cost) same));
       }
 
@@ -114,8 +114,8 @@ module _ {S : Type 0} (t : System S ℕ) (value : S → ℕ) (is_dead : S → Bo
     subst (λ ss. Stepped t value is_dead (found_of states all) (found_of ss all) queue i now.action s) (sym is_states) (stepped_known j reached is_s is_reached no_dearer),
   )
 
--- the queue after a state is found, by what is told of the state
-pub joined_by : {S : Type 0} (value : S → ℕ) (is_dead : S → Bool) (s : S) (told : Option ℕ) (old new : Queue) (cost place : ℕ) → IsValueUnlessDead value is_dead s told → JoinsBy old new cost place told
+-- the queue after a state is found, by what is reported for the state
+pub joined_by : {S : Type 0} (value : S → ℕ) (is_dead : S → Bool) (s : S) (reported : Option ℕ) (old new : Queue) (cost place : ℕ) → IsValueUnlessDead value is_dead s reported → JoinsBy old new cost place reported
     → IsJoined (is_dead s) (entry cost (value s) place) (waiting_in old) (waiting_in new) × (IsQueue old → IsQueue new)
 joined_by value is_dead s None old new cost place dead same = (
   subst (λ b. IsJoined b (entry cost (value s) place) (waiting_in old) (waiting_in new)) (sym dead) (ap waiting_in same),
@@ -127,9 +127,9 @@ joined_by value is_dead s (Some estimate) old new cost place (alive, is, fits) j
   joins.heap,
 )
 
--- the sum of a cost and what is told of a state fits
-pub value_fits : {S : Type 0} (value : S → ℕ) (is_dead : S → Bool) (s : S) (told : Option ℕ) (cost : ℕ) → IsValueUnlessDead value is_dead s told → cost < 2 ^ 63 → IfSome told (λ v. cost + v < 2 ^ 64)
-value_fits value is_dead s None cost told small = tt
+-- the sum of a cost and what is reported for a state fits
+pub value_fits : {S : Type 0} (value : S → ℕ) (is_dead : S → Bool) (s : S) (reported : Option ℕ) (cost : ℕ) → IsValueUnlessDead value is_dead s reported → cost < 2 ^ 63 → IfSome reported (λ v. cost + v < 2 ^ 64)
+value_fits value is_dead s None cost reported small = tt
 value_fits value is_dead s (Some estimate) cost (alive, is, fits) small = omega (arith, fits, small)
 
 -- the sums fit
@@ -139,10 +139,10 @@ turn_limits {S} value nodes i max_states turn within limit =
     let count = count_by-le-length (λ (n : Found S). n.node.is_expanded) nodes in
     omega (arith, turn.cheap, count, within, limit)
 
--- what the action leads to from the state that stands at the place
+-- what the action leads to from the state that is at the place
 pub leads_from : {S : Type 0} (t : System S ℕ) (states : List S) (before one next : S) (i a : ℕ) → slice_get states i ≡ Some before → slice_get states i ≡ Some one
     → t.step before a ≡ Some next → t.step one a ≡ Some next
-leads_from {S} t states before one next i a stands at leads = subst (λ (s : S). t.step s a ≡ Some next) (same_Some before one (sym stands ∙ at)) leads
+leads_from {S} t states before one next i a occurs at leads = subst (λ (s : S). t.step s a ≡ Some next) (same_Some before one (sym occurs ∙ at)) leads
 
 pub placed_new : {S : Type 0} (old new : List S) (s : S) (place : ℕ) (is_new : Bool) → is_new ≡ true → IsPlaced old new s place is_new → (¬ Contains old s) × (new ≡ old ++ s ∷ []) × (place ≡ length old)
 placed_new old new s place true is placed = placed
@@ -172,7 +172,7 @@ module _ {S : Type 0} (t : System S ℕ) (value : S → ℕ) (is_dead : S → Bo
   each : (P : ℕ → Found S → Type 0) → P 0 one_node → (k : ℕ) (n : Found S) → slice_get (one_node ∷ []) k ≡ Some n → P k n
   each P one k n at = let is = only k n at in subst (λ i. P i n) (sym is.0) (subst (λ x. P 0 x) is.1 one)
 
-  -- the queue has its entry, or none since it is told dead
+  -- the queue has its entry, or none since it is reported dead
   record HasStarted : Type 0 where
     pub queued : IsWaiting is_dead one_node → Contains queue' (entry 0 (value s) 0)
     pub entries : All (IsEntryOf value is_dead (one_node ∷ [])) queue'
@@ -188,7 +188,7 @@ module _ {S : Type 0} (t : System S ℕ) (value : S → ℕ) (is_dead : S → Bo
         }
         | false ↦ λ alive joins.
             let joins' : IsPermutation (only_entry ∷ []) queue' = subst (λ q. IsPermutation (only_entry ∷ q) queue') empty joins in
-            let of : IsEntryOf value is_dead (one_node ∷ []) only_entry = record { found = one_node; stands = refl; alive = alive; estimate = refl; part = omega arith } in
+            let of : IsEntryOf value is_dead (one_node ∷ []) only_entry = record { found = one_node; occurs = refl; alive = alive; estimate = refl; part = omega arith } in
             record {
               queued = λ _. Contains-permutation (only_entry ∷ []) queue' only_entry joins' (Contains-here only_entry []);
               entries = All-permutation (IsEntryOf value is_dead (one_node ∷ [])) (only_entry ∷ []) queue' joins'
@@ -226,10 +226,10 @@ pub record AreLeft {S : Type 0} (t : System S ℕ) (nodes : List (Found S)) (i :
   pub complete : (n : Found S) → slice_get nodes i ≡ Some n → (a : ℕ) (next : S) → t.step n.state a ≡ Some next
       → IsFoundWithin nodes next (n.node.cost + t.cost a) ⊎ Contains rest a
 
-module _ {S : Type 0} (t : System S ℕ) (nodes : List (Found S)) (i : ℕ) (one : Found S) (stands : slice_get nodes i ≡ Some one) where
+module _ {S : Type 0} (t : System S ℕ) (nodes : List (Found S)) (i : ℕ) (one : Found S) (occurs : slice_get nodes i ≡ Some one) where
   pub left_start : (s : S) (numbers : List ℕ) → s ≡ one.state → AreApplicable t s numbers → AreLeft t nodes i numbers
   left_start s numbers is applicable =
-      let same : (n : Found S) → slice_get nodes i ≡ Some n → s ≡ n.state = λ n at. is ∙ ap (λ (x : Found S). x.state) (same_Some one n (sym stands ∙ at)) in
+      let same : (n : Found S) → slice_get nodes i ≡ Some n → s ≡ n.state = λ n at. is ∙ ap (λ (x : Found S). x.state) (same_Some one n (sym occurs ∙ at)) in
       record {
         sound = λ n at a among. subst (λ x. IsTrue (is_some (t.step x a))) (same n at) ((applicable a).0 among);
         complete = λ n at a next step. inr ((applicable a).1 (ap is_some (ap (λ x. t.step x a) (same n at) ∙ step)));
@@ -237,8 +237,8 @@ module _ {S : Type 0} (t : System S ℕ) (nodes : List (Found S)) (i : ℕ) (one
 
   pub left_more : (after : List (Found S)) (a : ℕ) (s : S) (rest : List ℕ) → AreLeft t nodes i (a ∷ rest) → t.step one.state a ≡ Some s → Continues nodes after i → IsListed t after i a s → AreLeft t after i rest
   left_more after a s rest left leads continues listed =
-      let now = continues.stays one stands in
-      let was : (n : Found S) → slice_get after i ≡ Some n → slice_get nodes i ≡ Some n = λ n at. stands ∙ sym now ∙ at in
+      let now = continues.stays one occurs in
+      let was : (n : Found S) → slice_get after i ≡ Some n → slice_get nodes i ≡ Some n = λ n at. occurs ∙ sym now ∙ at in
       record {
         sound = λ n at b among. left.sound n (was n at) b (Contains-there a rest b among);
         complete = λ n at b next step.
@@ -257,7 +257,7 @@ module _ {S : Type 0} (t : System S ℕ) (nodes : List (Found S)) (i : ℕ) (one
 
   pub left_end : (rest : List ℕ) → rest ≡ [] → AreLeft t nodes i rest → IsOpen t nodes one
   left_end rest none left a next step =
-      elim (left.complete one stands a next step) [
+      elim (left.complete one occurs a next step) [
         | inl found ↦ found
         | inr among ↦ absurd (Contains-none a (subst (λ r. Contains r a) none among))
       ]
@@ -273,15 +273,15 @@ pub continues_same : {S : Type 0} (nodes : List (Found S)) (i : ℕ) → Continu
 continues_same nodes i = record { found = λ _ _ found. found; stays = λ _ at. at; count = refl }
 
 -- the state at the place stays there
-pub stands_still : {S : Type 0} (states states' : List S) (all all' : List Node) (i : ℕ) (n : Found S) (s : S) → slice_get (found_of states all) i ≡ Some n
+pub occurs_still : {S : Type 0} (states states' : List S) (all all' : List Node) (i : ℕ) (n : Found S) (s : S) → slice_get (found_of states all) i ≡ Some n
     → Continues (found_of states all) (found_of states' all') i → slice_get states i ≡ Some s → slice_get states' i ≡ Some s
-stands_still states states' all all' i n s at continues stands =
-    (found_of-get states' all' i n (continues.stays n at)).0 ∙ sym (found_of-get states all i n at).0 ∙ stands
+occurs_still states states' all all' i n s at continues occurs =
+    (found_of-get states' all' i n (continues.stays n at)).0 ∙ sym (found_of-get states all i n at).0 ∙ occurs
 
 -- the state whose turn it is: it waits, and of those that wait none has a lesser sum; the others are in the queue that is left
 pub record IsNext {S : Type 0} (value : S → ℕ) (is_dead : S → Bool) (states : List S) (all : List Node) (queue' : List Waiting) (turn : Turn) : Type 0 where
   pub found : Found S
-  pub stands : slice_get (found_of states all) turn.id.0 ≡ Some found
+  pub occurs : slice_get (found_of states all) turn.id.0 ≡ Some found
   pub state : slice_get states turn.id.0 ≡ Some found.state
   pub node : slice_get all turn.id.0 ≡ Some found.node
   pub waits : IsWaiting is_dead found
@@ -297,7 +297,7 @@ module _ {S : Type 0} (t : System S ℕ) (value : S → ℕ) (is_dead : S → Bo
   pub entries_of : All (IsEntry (length all)) queue
   entries_of =
       All-weaker (IsEntryOf value is_dead (found_of states all)) (IsEntry (length all))
-      (λ w of. (omega (arith, slice_get_within (found_of states all) (place_of w) of.found of.stands, length-found_of states all one_each, one_each), of.part)) queue nodes.entries
+      (λ w of. (omega (arith, slice_get_within (found_of states all) (place_of w) of.found of.occurs, length-found_of states all one_each, one_each), of.part)) queue nodes.entries
 
   -- a node that waits has a current entry
   current_entry : (k : ℕ) (n : Found S) → slice_get (found_of states all) k ≡ Some n → IsWaiting is_dead n → IsCurrent all (entry n.node.cost (value n.state) k)
@@ -309,17 +309,17 @@ module _ {S : Type 0} (t : System S ℕ) (value : S → ℕ) (is_dead : S → Bo
   pub at_turn : (queue' : List Waiting) (turn : Turn) → TakesNext queue queue' all turn → IsNext value is_dead states all queue' turn
   at_turn queue' turn takes =
       let i = turn.id.0 in
-      let (node, stands, sums, waits) = takes.current in
+      let (node, occurs, sums, waits) = takes.current in
       let of = All-contains (IsEntryOf value is_dead (found_of states all)) queue takes.next nodes.entries takes.among in
-      let is_node : slice_get all i ≡ Some node = ap (slice_get all) (sym takes.stands) ∙ stands in
+      let is_node : slice_get all i ≡ Some node = ap (slice_get all) (sym takes.occurs) ∙ occurs in
       let s = get_exists states i (omega (arith, slice_get_within all i node is_node)) in
       let one : Found S = record { state = s.0; node = node } in
       let at_one : slice_get (found_of states all) i ≡ Some one = get-found_of states all i s.0 node s.1 is_node in
-      let same : of.found ≡ one = same_Some of.found one (sym of.stands ∙ ap (slice_get (found_of states all)) takes.stands ∙ at_one) in
+      let same : of.found ≡ one = same_Some of.found one (sym of.occurs ∙ ap (slice_get (found_of states all)) takes.occurs ∙ at_one) in
       let estimate : estimate_of takes.next ≡ value one.state = of.estimate ∙ ap (λ (x : Found S). value x.state) same in
       record {
         found = one;
-        stands = at_one;
+        occurs = at_one;
         state = s.1;
         node = is_node;
         waits = (waits, ap (λ (x : Found S). is_dead x.state) (sym same) ∙ of.alive);
@@ -335,13 +335,13 @@ pub record HasBegun {S : Type 0} (t : System S ℕ) (value : S → ℕ) (is_dead
   pub nodes : AreNodes t value is_dead (found_of states all) queue
   pub turn : IsTurn value (found_of states all) i
   pub others_open : AreOpenBut t (found_of states all) i
-  pub stands : slice_get (found_of states all) i ≡ Some (marked true one)
+  pub occurs : slice_get (found_of states all) i ≡ Some (marked true one)
   pub count : expanded_count (found_of states all) ≡ expanded_count before + 1
 
 -- a turn begins
-module _ {S : Type 0} (t : System S ℕ) (value : S → ℕ) (is_dead : S → Bool) (consistent : IsConsistent t value) (tells : TellsDeadEnds t is_dead) (states : List S) (all : List Node) (queue queue' : List Waiting)
+module _ {S : Type 0} (t : System S ℕ) (value : S → ℕ) (is_dead : S → Bool) (consistent : IsConsistent t value) (reports : DetectsDeadEnds t is_dead) (states : List S) (all : List Node) (queue queue' : List Waiting)
     (one_each : length all ≡ length states) (nodes : AreNodes t value is_dead (found_of states all) queue)
-    (i : ℕ) (one : Found S) (stands : slice_get (found_of states all) i ≡ Some one) (waits : IsWaiting is_dead one)
+    (i : ℕ) (one : Found S) (occurs : slice_get (found_of states all) i ≡ Some one) (waits : IsWaiting is_dead one)
     (least : (k : ℕ) (n : Found S) → slice_get (found_of states all) k ≡ Some n → IsWaiting is_dead n → total_of value one ≤ total_of value n)
     (rest : (k : ℕ) (n : Found S) → slice_get (found_of states all) k ≡ Some n → IsWaiting is_dead n → k ≢ i → Contains queue' (entry n.node.cost (value n.state) k))
     (entries : All (IsEntryOf value is_dead (found_of states all)) queue') where
@@ -350,23 +350,23 @@ module _ {S : Type 0} (t : System S ℕ) (value : S → ℕ) (is_dead : S → Bo
       → HasBegun t value is_dead (found_of states all) states' all' queue' i one
   turn_begins no_goal are_open states' all' is_states is_all =
       let now : Node = marked_as true one.node in
-      let marks : found_of states (set all i now) ≡ set (found_of states all) i (marked true one) = found_of-set states all i one now stands in
+      let marks : found_of states (set all i now) ≡ set (found_of states all) i (marked true one) = found_of-set states all i one now occurs in
       let same : found_of states' all' ≡ found_of states (set all i now) = cc in
       let is : found_of states' all' ≡ set (found_of states all) i (marked true one) = same ∙ marks in
       let after = found_of states' all' in
-      let here : slice_get after i ≡ Some (marked true one) = ap (λ (ns : List (Found S)). slice_get ns i) is ∙ get-set_here (found_of states all) i (marked true one) one stands in
+      let here : slice_get after i ≡ Some (marked true one) = ap (λ (ns : List (Found S)). slice_get ns i) is ∙ get-set_here (found_of states all) i (marked true one) one occurs in
       let others : (k : ℕ) → k ≢ i → slice_get after k ≡ slice_get (found_of states all) k =
       λ k elsewhere. ap (λ (ns : List (Found S)). slice_get ns k) is ∙ get-set_other (found_of states all) i (marked true one) k elsewhere in
-      let count : expanded_count after ≡ expanded_count (found_of states all) + 1 = ap expanded_count is ∙ count-mark (found_of states all) i one stands waits.0 in
+      let count : expanded_count after ≡ expanded_count (found_of states all) + 1 = ap expanded_count is ∙ count-mark (found_of states all) i one occurs waits.0 in
       let count_states : length states' ≡ length states = ap length is_states in
       let count_all : length all' ≡ length all = ap length is_all ∙ length-set all i now in
-      let way = cheapest_way t value is_dead consistent tells (found_of states all) are_open (total_of value one) least queue nodes i one stands waits.1 (omega arith) in
+      let way = cheapest_way t value is_dead consistent reports (found_of states all) are_open (total_of value one) least queue nodes i one occurs waits.1 (omega arith) in
       record {
         one_each = omega (arith, count_states, count_all, one_each);
-        nodes = nodes_marked (found_of states all) after i one stands waits.0 here others count t value is_dead queue queue' nodes waits.1 no_goal
-            (no_plan_cheaper t value is_dead states all one_each queue nodes consistent tells one are_open least) way least rest entries;
-        turn = turn_marked (found_of states all) after i one stands waits.0 here others count t value is_dead queue queue' nodes waits.1;
-        others_open = open_but_marked (found_of states all) after i one stands waits.0 here others count t value is_dead queue queue' nodes waits.1 are_open;
-        stands = here;
+        nodes = nodes_marked (found_of states all) after i one occurs waits.0 here others count t value is_dead queue queue' nodes waits.1 no_goal
+            (no_plan_cheaper t value is_dead states all one_each queue nodes consistent reports one are_open least) way least rest entries;
+        turn = turn_marked (found_of states all) after i one occurs waits.0 here others count t value is_dead queue queue' nodes waits.1;
+        others_open = open_but_marked (found_of states all) after i one occurs waits.0 here others count t value is_dead queue queue' nodes waits.1 are_open;
+        occurs = here;
         count = count;
       }

@@ -8,7 +8,7 @@ use Rattle.model.specs.Runs.{System}
 use Rattle.model.specs.Claims.{bound}
 use Rattle.search.specs.declared.nodes.Node.{Node}
 use Rattle.search.specs.Estimates.{IsConsistent}
-use Rattle.search.specs.DeadEnds.{TellsDeadEnds}
+use Rattle.search.specs.DeadEnds.{DetectsDeadEnds}
 use Rattle.search.specs.Outcome.{IsReachableAt, ReachingCostsAtLeast, IsAtLimit}
 use Rattle.search.specs.Nodes.{Waiting, Found, found_of, IsWaiting, total_of, dearest, AreNodes, IsFoundWithin, IsOpen, AreOpen, AreOpenBut, IsTurn, marked_as, marked}
 use Rattle.search.proofs.Lists.{get-set_here, get-set_other}
@@ -80,33 +80,33 @@ module _ {S : Type 0} (t : System S ℕ) (value : S → ℕ) (is_dead : S → Bo
     (one_each : length all ≡ length states) (nodes : AreNodes t value is_dead (found_of states all) queue)
     (i : ℕ) (turn : IsTurn value (found_of states all) i) (others_open : AreOpenBut t (found_of states all) i) where
   -- the state whose turn it is is taken back
-  pub at_limit : IsConsistent t value → TellsDeadEnds t is_dead → (states' : List S) (all' : List Node) (max_states least : ℕ)
+  pub at_limit : IsConsistent t value → DetectsDeadEnds t is_dead → (states' : List S) (all' : List Node) (max_states least : ℕ)
       → states' ≡ states → all' ≡ set all i (marked_as false turn.found.node) → length states ≡ max_states → least ≡ total_of value turn.found
       → IsAtLimit t value is_dead max_states least states' all'
-  at_limit consistent tells states' all' max_states least is_states is_all full is_least =
+  at_limit consistent reports states' all' max_states least is_states is_all full is_least =
       let one = turn.found in
       let now : Node = marked_as false one.node in
       let same : found_of states' all' ≡ found_of states (set all i now) = cc in
-      let is : found_of states' all' ≡ set (found_of states all) i (marked false one) = same ∙ found_of-set states all i one now turn.stands in
+      let is : found_of states' all' ≡ set (found_of states all) i (marked false one) = same ∙ found_of-set states all i one now turn.occurs in
       let after = found_of states' all' in
-      let here : slice_get after i ≡ Some (marked false one) = ap (λ (ns : List (Found S)). slice_get ns i) is ∙ get-set_here (found_of states all) i (marked false one) one turn.stands in
+      let here : slice_get after i ≡ Some (marked false one) = ap (λ (ns : List (Found S)). slice_get ns i) is ∙ get-set_here (found_of states all) i (marked false one) one turn.occurs in
       let others : (k : ℕ) → k ≢ i → slice_get after k ≡ slice_get (found_of states all) k =
       λ k elsewhere. ap (λ (ns : List (Found S)). slice_get ns k) is ∙ get-set_other (found_of states all) i (marked false one) k elsewhere in
       let long : length (found_of states all) ≡ length after = sym (ap length is ∙ length-set (found_of states all) i (marked false one)) in
       let count_states : length states' ≡ length states = ap length is_states in
       let count_all : length all' ≡ length all = ap length is_all ∙ length-set all i now in
       let one_each' : length all' ≡ length states' = omega (arith, count_states, count_all, one_each) in
-      let listed = listed_unmarked (found_of states all) after i one turn.stands here others long t is_dead (are_listed t value is_dead (found_of states all) queue nodes) in
-      let waiting = least_unmarked (found_of states all) after i one turn.stands here others long t value is_dead queue nodes turn.is_expanded in
-      let expanded = greatest_unmarked (found_of states all) after i one turn.stands here others long value turn.greatest in
-      let is_closed = closed t value is_dead states' all' one_each' listed (bound least) (open_unmarked (found_of states all) after i one turn.stands here others long t others_open)
+      let listed = listed_unmarked (found_of states all) after i one turn.occurs here others long t is_dead (are_listed t value is_dead (found_of states all) queue nodes) in
+      let waiting = least_unmarked (found_of states all) after i one turn.occurs here others long t value is_dead queue nodes turn.is_expanded in
+      let expanded = greatest_unmarked (found_of states all) after i one turn.occurs here others long value turn.greatest in
+      let is_closed = closed t value is_dead states' all' one_each' listed (bound least) (open_unmarked (found_of states all) after i one turn.occurs here others long t others_open)
       (λ k n at waits. omega (arith, is_least, waiting k n at waits)) in
       let parts = found_of-get states' all' i (marked false one) here in
       record {
         found = found_states t value is_dead states' all' one_each' listed (bound least) max_states (omega (arith, count_states, full)) is_closed;
         full = count_states ∙ full;
         at_most_each_cut = λ k s r at_s at_r waits. omega (arith, is_least, waiting k (record { state = s; node = r }) (node_at t value is_dead states' all' one_each' k s r at_s at_r) waits);
-        of_some_cut = (i, one.state, now, parts.0, parts.1, (refl, nodes.alive i one turn.stands turn.is_expanded), sym is_least);
+        of_some_cut = (i, one.state, now, parts.0, parts.1, (refl, nodes.alive i one turn.occurs turn.is_expanded), sym is_least);
         expanded_within = λ k s r at_s at_r is_expanded. omega (arith, is_least, expanded k (record { state = s; node = r }) (node_at t value is_dead states' all' one_each' k s r at_s at_r) is_expanded);
-        costs_at_least = claimed t value is_dead states' all' one_each' listed consistent tells (bound least) is_closed;
+        costs_at_least = claimed t value is_dead states' all' one_each' listed consistent reports (bound least) is_closed;
       }

@@ -7,17 +7,17 @@ use Rattle.std.proofs.lemmas.Option.{same_Some}
 use Rattle.std.proofs.lemmas.List.Sums.{sum_by-cons}
 use Rattle.model.specs.Runs.{System, run, cost_of_all}
 use Rattle.search.specs.Estimates.{IsConsistent}
-use Rattle.search.specs.DeadEnds.{TellsDeadEnds}
+use Rattle.search.specs.DeadEnds.{DetectsDeadEnds}
 use Rattle.search.specs.Outcome.{ReachingCostsAtLeast}
 use Rattle.search.specs.Nodes.{Waiting, Found, IsWaiting, total_of, AreNodes, IsFoundWithin, AreOpen}
 use Rattle.search.proofs.Consistent.{falls_along}
 use Rattle.search.proofs.DeadEnds.{dead_along}
 
-module _ {S : Type 0} (t : System S ℕ) (value : S → ℕ) (is_dead : S → Bool) (consistent : IsConsistent t value) (tells : TellsDeadEnds t is_dead)
+module _ {S : Type 0} (t : System S ℕ) (value : S → ℕ) (is_dead : S → Bool) (consistent : IsConsistent t value) (reports : DetectsDeadEnds t is_dead)
     (nodes : List (Found S)) (are_open : AreOpen t nodes)
     (least : ℕ) (at_least : (k : ℕ) (n : Found S) → slice_get nodes k ≡ Some n → IsWaiting is_dead n → least ≤ total_of value n) where
-  -- A list that runs from a found state to one that is not told dead comes to one that waits, or leads to one that is found
-  -- at no more than the list costs. It comes to none that is told dead.
+  -- A list that runs from a found state to one that is not reported dead comes to one that waits, or leads to one that is found
+  -- at no more than the list costs. It comes to none that is reported dead.
   from_found : (plan : List ℕ) (end : S) (k : ℕ) (n : Found S) → is_dead end ≡ false → slice_get nodes k ≡ Some n → run t n.state plan ≡ Some end
       → (least ≤ n.node.cost + cost_of_all t plan + value end) ⊎ IsFoundWithin nodes end (n.node.cost + cost_of_all t plan)
   from_found [] end k n alive at runs = inr (k, n, at, same_Some n.state end runs, omega arith)
@@ -26,7 +26,7 @@ module _ {S : Type 0} (t : System S ℕ) (value : S → ℕ) (is_dead : S → Bo
         | false ↦ λ not_expanded.
             elim (is_dead n.state) as (λ d. is_dead n.state ≡ d → (least ≤ n.node.cost + cost_of_all t (a ∷ plan) + value end) ⊎ IsFoundWithin nodes end (n.node.cost + cost_of_all t (a ∷ plan))) [
               | false ↦ λ living. inl (omega (arith, at_least k n at (not_expanded, living), falls_along t value consistent (a ∷ plan) n.state end runs))
-              | true ↦ λ told. absurd (false≢true (sym alive ∙ dead_along t is_dead tells (a ∷ plan) n.state end runs told))
+              | true ↦ λ reported. absurd (false≢true (sym alive ∙ dead_along t is_dead reports (a ∷ plan) n.state end runs reported))
             ] refl
         | true ↦ λ expanded.
             elim (t.step n.state a) as (λ o. t.step n.state a ≡ o → option_and_then (λ next. run t next plan) o ≡ Some end
@@ -37,7 +37,7 @@ module _ {S : Type 0} (t : System S ℕ) (value : S → ℕ) (is_dead : S → Bo
                   let paid : cost_of_all t (a ∷ plan) ≡ t.cost a + cost_of_all t plan = sum_by-cons t.cost a plan in
                   elim (from_found plan end j m alive there (subst (λ (s : S). run t s plan ≡ Some end) (sym is) on)) [
                     | inl waits ↦ inl (omega (arith, waits, within, paid))
-                    | inr (i, x, stands, same, cheap) ↦ inr (i, x, stands, same, omega (arith, cheap, within, paid))
+                    | inr (i, x, occurs, same, cheap) ↦ inr (i, x, occurs, same, omega (arith, cheap, within, paid))
                   ]
             ] refl runs
       ] refl
@@ -45,13 +45,13 @@ module _ {S : Type 0} (t : System S ℕ) (value : S → ℕ) (is_dead : S → Bo
   -- a waiting state of the least sum is reached by a cheapest way
   pub cheapest_way : (queue : List Waiting) → AreNodes t value is_dead nodes queue → (i : ℕ) (one : Found S) → slice_get nodes i ≡ Some one → is_dead one.state ≡ false
       → total_of value one ≤ least → ReachingCostsAtLeast t one.state one.node.cost
-  cheapest_way queue old i one stands alive is_least actions runs =
+  cheapest_way queue old i one occurs alive is_least actions runs =
       let (root, at, is, free) = old.root in
       elim (from_found actions one.state 0 root alive at (subst (λ (s : S). run t s actions ≡ Some one.state) (sym is) runs)) [
         | inl waits ↦ omega (arith, waits, free, is_least)
         | inr (k, n, there, same, within) ↦
-            let place : k ≡ i = old.distinct k i n one there stands same in
-            let same_node : n ≡ one = same_Some n one (sym there ∙ ap (slice_get nodes) place ∙ stands) in
+            let place : k ≡ i = old.distinct k i n one there occurs same in
+            let same_node : n ≡ one = same_Some n one (sym there ∙ ap (slice_get nodes) place ∙ occurs) in
             let same_cost : n.node.cost ≡ one.node.cost = ap (λ (x : Found S). x.node.cost) same_node in
             omega (arith, within, free, same_cost)
       ]

@@ -30,11 +30,11 @@ entry cost estimate place = entry_at (cost + estimate) estimate place
 abbrev pub IsEntry : ℕ → Waiting → Type 0
 IsEntry count w = (place_of w < count) × (estimate_of w ≤ sum_of w)
 
--- the entry tells at what cost a state waits now
+-- the entry reports at what cost a state waits now
 abbrev pub IsCurrent : List Node → Waiting → Type 0
 IsCurrent nodes w = (node : Node) × (slice_get nodes (place_of w) ≡ Some node) × (node.cost + estimate_of w ≡ sum_of w) × (node.is_expanded ≡ false)
 
--- the place that three bytes tell
+-- the place that three bytes report
 abbrev pub place_in : ShortId → ℕ
 place_in id = id.low + id.middle * 256 + id.high * 65536
 
@@ -53,7 +53,7 @@ found_of [] nodes = []
 found_of (s ∷ states) [] = []
 found_of (s ∷ states) (node ∷ nodes) = record { state = s; node = node } ∷ found_of states nodes
 
--- the found state waits to be expanded: it was not yet, and it is not told dead
+-- the found state waits to be expanded: it was not yet, and it is not reported dead
 abbrev pub IsWaiting : {S : Type 0} → (S → Bool) → Found S → Type 0
 IsWaiting is_dead n = IsCut is_dead n.state n.node
 
@@ -61,10 +61,10 @@ IsWaiting is_dead n = IsCut is_dead n.state n.node
 abbrev pub total_of : {S : Type 0} → (S → ℕ) → Found S → ℕ
 total_of value n = n.node.cost + value n.state
 
--- the entry is one of a found state that is not told dead, with the state's estimate
+-- the entry is one of a found state that is not reported dead, with the state's estimate
 pub record IsEntryOf {S : Type 0} (value : S → ℕ) (is_dead : S → Bool) (nodes : List (Found S)) (w : Waiting) : Type 0 where
   pub found : Found S
-  pub stands : slice_get nodes (place_of w) ≡ Some found
+  pub occurs : slice_get nodes (place_of w) ≡ Some found
   pub alive : is_dead found.state ≡ false
   pub estimate : estimate_of w ≡ value found.state
   pub part : estimate_of w ≤ sum_of w
@@ -77,7 +77,7 @@ module _ {S : Type 0} (t : System S ℕ) (nodes : List (Found S)) where
   -- the node's action leads to it from its parent, which is expanded
   pub record Leads (n : Found S) : Type 0 where
     pub parent : Found S
-    pub stands : slice_get nodes (parent_of n.node) ≡ Some parent
+    pub occurs : slice_get nodes (parent_of n.node) ≡ Some parent
     pub is_expanded : parent.node.is_expanded ≡ true
     pub cost : n.node.cost ≡ parent.node.cost + t.cost n.node.action
     pub step : t.step parent.state n.node.action ≡ Some n.state
@@ -144,7 +144,7 @@ AreOpenBut {S} t nodes i = (k : ℕ) (n : Found S) → slice_get nodes k ≡ Som
 -- the node at this place is being expanded, and no expanded one has a greater sum
 pub record IsTurn {S : Type 0} (value : S → ℕ) (nodes : List (Found S)) (i : ℕ) : Type 0 where
   pub found : Found S
-  pub stands : slice_get nodes i ≡ Some found
+  pub occurs : slice_get nodes i ≡ Some found
   pub is_expanded : found.node.is_expanded ≡ true
   pub greatest : (k : ℕ) (n : Found S) → slice_get nodes k ≡ Some n → n.node.is_expanded ≡ true → total_of value n ≤ total_of value found
   pub cheap : found.node.cost + dearest ≤ expanded_count nodes * dearest

@@ -1,4 +1,4 @@
--- What a search tells of a transition system.
+-- What a search says of a transition system.
 use Rattle.std.specs.Prelude.{◌≡◌, ℕ, ◌+◌, ◌*◌, ◌<◌, ◌≤◌, Bool, true, false, if◌then◌else◌, List, [], ◌∷◌, length, slice_get, Some, Contains}
 use Rattle.model.specs.Runs.{System, run, cost_of_all, IsReachable, CostsAtLeast, IsOptimal, IsUnsolvable}
 use Rattle.model.specs.Claims.{Claim, bound, none, Mark, opened, cut, dead, Line, IsClosed}
@@ -15,7 +15,7 @@ IsReachableAt {S} {A} t s cost = (actions : List A) × (run t t.initial actions 
 abbrev pub ReachingCostsAtLeast : {S A : Type 0} → System S A → S → ℕ → Type 0
 ReachingCostsAtLeast {S} {A} t s least = (actions : List A) → run t t.initial actions ≡ Some s → least ≤ cost_of_all t actions
 
--- what a listing says of a found state: that it is open where it was expanded, a dead end where it is told dead, and
+-- what a listing says of a found state: that it is open where it was expanded, a dead end where it is reported dead, and
 -- otherwise a cut, where what follows costs at least its estimate
 abbrev pub mark_of : {S : Type 0} → (S → ℕ) → (S → Bool) → S → Node → Mark
 mark_of value is_dead s node = if node.is_expanded then opened else (if is_dead s then dead else cut (value s))
@@ -42,7 +42,7 @@ pub record AreFound {S A : Type 0} (t : System S A) (value : S → ℕ) (is_dead
   -- an expanded state was reached by a cheapest way
   pub expanded_cheapest : (k : ℕ) (s : S) (node : Node) → slice_get states k ≡ Some s → slice_get nodes k ≡ Some node → node.is_expanded ≡ true
       → ReachingCostsAtLeast t s node.cost
-  -- no state that is told dead was expanded
+  -- no state that is reported dead was expanded
   pub expanded_alive : (k : ℕ) (s : S) (node : Node) → slice_get states k ≡ Some s → slice_get nodes k ≡ Some node → node.is_expanded ≡ true → is_dead s ≡ false
   pub closed : IsClosed t value is_dead claim (lines_of value is_dead states nodes)
 
@@ -53,7 +53,7 @@ AreExpandedWithin {S} value most states nodes =
 
 -- A search by this estimate may have to find the state before any plan is sure to be cheapest: the state is the initial
 -- one, or an action leads to it from one that does not meet the goal, at the end of a list that costs, with the estimate
--- of what is still to pay, no more than any list that solves, and that is not told dead. (Russell & Norvig, Artificial Intelligence, section 3.5.3,
+-- of what is still to pay, no more than any list that solves, and that is not reported dead. (Russell & Norvig, Artificial Intelligence, section 3.5.3,
 -- on search contours: no state is expanded whose cost and estimate are more than a cheapest plan costs. Some whose sum is
 -- as much may be; this leaves open which.)
 pub data PrecedesPlans {S A : Type 0} (t : System S A) (value : S → ℕ) (is_dead : S → Bool) (s : S) : Type 0 where
@@ -66,7 +66,7 @@ abbrev pub AreMoreReachable : {S A : Type 0} → System S A → (S → ℕ) → 
 AreMoreReachable {S} t value is_dead max_states =
     (states : List S) × AreDistinct states × ((s : S) → Contains states s → IsReachable t s × PrecedesPlans t value is_dead s) × (max_states < length states)
 
--- the found state is a cut: it was not expanded, and it is not told dead
+-- the found state is a cut: it was not expanded, and it is not reported dead
 abbrev pub IsCut : {S : Type 0} → (S → Bool) → S → Node → Type 0
 IsCut is_dead s node = (node.is_expanded ≡ false) × (is_dead s ≡ false)
 

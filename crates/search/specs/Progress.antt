@@ -14,7 +14,7 @@ use Rattle.search.specs.Nodes.{Waiting, sum_of, estimate_of, place_of, entry, Is
 -- and of these it comes first. It leaves the queue, and the others stay in it.
 pub record TakesNext (old new : List Waiting) (all : List Node) (turn : Turn) : Type 0 where
   pub next : Waiting
-  pub stands : place_of next ≡ turn.id.0
+  pub occurs : place_of next ≡ turn.id.0
   pub sum : sum_of next ≡ turn.sum
   pub estimate : estimate_of next ≡ turn.estimate
   pub among : Contains old next
@@ -42,7 +42,7 @@ module _ {S Store : Type 0} (t : System S ℕ) (value : S → ℕ) (is_dead : S 
     pub nodes : AreNodes t value is_dead (nodes_in states_of p) queue
     pub heap : IsQueue p.queue
     pub found : Found S
-    pub stands : slice_get (nodes_in states_of p) turn.id.0 ≡ Some found
+    pub occurs : slice_get (nodes_in states_of p) turn.id.0 ≡ Some found
     pub waits : IsWaiting is_dead found
     pub sum : turn.sum ≡ total_of value found
     pub least : (k : ℕ) (n : Found S) → slice_get (nodes_in states_of p) k ≡ Some n → IsWaiting is_dead n → total_of value found ≤ total_of value n

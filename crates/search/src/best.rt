@@ -49,9 +49,9 @@ pub enum Outcome<S> {
 /// least estimate; and among these the one that was found first. A goal state is answered when its turn comes. With the
 /// estimate 0 (`NoEstimate`) that is uniform-cost search, or Dijkstra's algorithm.
 ///
-/// A state that `dead_ends` tells dead is listed as a dead end, and never expanded; with `NoDeadEnd` there is none.
+/// A state that `dead_ends` reports dead is listed as a dead end, and never expanded; with `NoDeadEnd` there is none.
 ///
-/// What differs from these: the states stand in a store, in the order in which they were found, and are named by
+/// What differs from these: the states are in a store, in the order in which they were found, and are named by
 /// their places there; actions are the system's numbers. Where a cheaper way to a waiting state is found, the old entry
 /// stays in the queue beside the new one, and is passed over when it comes up (lazy deletion). To an expanded state there
 /// is no cheaper way, since an estimate is consistent. Whether a state is a dead end is asked where it is found, and where a
@@ -60,11 +60,11 @@ pub enum Outcome<S> {
 /// may be listed. Each turn writes into the same buffers, so that a state takes no memory but its place in the store, among
 /// the nodes and in the queue.
 ///
-/// The clause promises what costs decide. A plan that is found is a cheapest one. `States` is told only where more states
-/// than the limit are next to one that is not told dead and, with its estimate, no dearer than any plan (`PrecedesPlans`):
+/// The clause promises what costs decide. A plan that is found is a cheapest one. `States` is reported only where more states
+/// than the limit are next to one that is not reported dead and, with its estimate, no dearer than any plan (`PrecedesPlans`):
 /// where there are no more of these, the answer is a plan, or that there is none. Its bound is the least sum of cost and
-/// estimate over the found states that are neither expanded nor told dead, and the found states prove it (`IsAtLimit`). No
-/// state that is told dead is expanded. The clause leaves open which of several cheapest plans is answered, which states
+/// estimate over the found states that are neither expanded nor reported dead, and the found states prove it (`IsAtLimit`). No
+/// state that is reported dead is expanded. The clause leaves open which of several cheapest plans is answered, which states
 /// whose sum is as much as these cost are expanded before, and the order of the states in the store. Of that order, the
 /// contract of `next_waiting` says that it gives the state found first of those of the least estimate of those of the least
 /// sum; that this is the one to be expanded or answered, and that states are found in the order of the successors, is shown

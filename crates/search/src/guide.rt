@@ -16,7 +16,7 @@ pub(crate) struct Guide<'a, E, D> {
 }
 
 impl<E: Estimate, D: DeadEnd> Guide<'_, E, D> {
-    /// The estimate of the state, unless it is told dead.
+    /// The estimate of the state, unless it is reported dead.
     pub(crate) fn value_in(&self, state: &Packed) -> Option<u64>
         requires estimate_width { length (bits_of state.now) ≡ E.width_of self.now.estimate.now }
         requires dead_width { length (bits_of state.now) ≡ D.width_of self.now.dead_ends.now }

@@ -80,7 +80,7 @@ fn place_of_state<S: StateStore>(
 }
 
 impl<S: StateStore> Progress<S> {
-    /// The initial state alone is found, and waits unless it is told dead.
+    /// The initial state alone is found, and waits unless it is reported dead.
     pub(crate) fn start<T: TransitionSystem, E: Estimate, D: DeadEnd>(
         alloc: Global,
         system: &T,
@@ -191,7 +191,7 @@ impl<S: StateStore> Progress<S> {
         self.nodes[id.0 as usize].is_expanded = is_expanded;
     }
 
-    /// Lists a successor of the state that is being expanded; tells whether the limit allows that.
+    /// Lists a successor of the state that is being expanded; says whether the limit allows that.
     fn reach<T: TransitionSystem, E: Estimate, D: DeadEnd>(
         &mut self,
         system: &T,
@@ -238,7 +238,7 @@ impl<S: StateStore> Progress<S> {
         Ok(true)
     }
 
-    /// Lists the successors of the state whose turn it is, which the buffers hold; tells whether the limit allows that.
+    /// Lists the successors of the state whose turn it is, which the buffers hold; says whether the limit allows that.
     /// Where it does not, the state is not expanded.
     pub(crate) fn expand<T: TransitionSystem, E: Estimate, D: DeadEnd>(
         &mut self,

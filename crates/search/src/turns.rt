@@ -41,7 +41,7 @@ impl Turn {
 }
 
 impl Parent<'_> {
-    /// The estimate of the state that the action leads to, unless that is told dead.
+    /// The estimate of the state that the action leads to, unless that is reported dead.
     pub(crate) fn value_after<E: Estimate, D: DeadEnd>(
         &self,
         guide: &Guide<'_, E, D>,

@@ -1,6 +1,6 @@
 //! The queue of a search: the states that wait, in the order in which their turns come.
 //!
-//! Most sums are small. Where one is below 2^20, an entry's sum, estimate and place stand in one word, whose order is theirs, so
+//! Most sums are small. Where one is below 2^20, an entry's sum, estimate and place are in one word, whose order is theirs, so
 //! that it takes 8 bytes and is compared at once. Such entries are in a heap of their own, and the others come after them.
 ghost use Rattle.std.specs.Prelude.{◌≡◌, ◌+◌, ◌*◌, ◌≤◌, ◌<◌, [], ◌∷◌, length, All, IsPermutation, IfNone, IfSome, OnOk, false};
 ghost use Rattle.std.specs.Ordering.{is_lt};
@@ -84,7 +84,7 @@ fn word_of(sum: u64, estimate: u64, id: StateId) -> u64
     (sum * FAR + estimate) * PLACES + u64::from(id.0)
 }
 
-/// The entry that stands in the word.
+/// The entry that is in the word.
 fn entry_in(word: u64) -> QueueEntry
     ensures { result ≡ entry_of (record { 0 = word }) }
 {

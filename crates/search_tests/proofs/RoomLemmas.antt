@@ -3,9 +3,9 @@ use Rattle.std.proofs.Common.{◌≡◌, ◌∙◌, ◌<◌, ◌+◌, ◌-◌, �
 use Rattle.std.specs.Prelude.{find, Contains, IsTrue, ◌↔◌, option_map, option_and_then}
 use Rattle.std.specs.List.{range_with_len}
 use Rattle.std.proofs.lemmas.Bool.{false≢true}
-use Rattle.std.proofs.lemmas.Bool.Decides.{eqb_tells}
+use Rattle.std.proofs.lemmas.Bool.Decides.{eqb_reports}
 use Rattle.model.proofs.ListLemmas.{Contains-here, Contains-there, Contains-cases, Contains-none}
-use Rattle.search_tests.specs.Rooms.{room_in, doors, behind, moved, through, door_numbers}
+use Rattle.search_tests.specs.Rooms.{room_in, doors, following, moved, through, door_numbers}
 
 -- a number that does not pass is gone on from
 pub find_next : (p : ℕ → Bool) (k n : ℕ) → k < n → p k ≡ false → find p (range_with_len k (n - k)) ≡ find p (range_with_len (k + 1) (n - (k + 1)))
@@ -53,7 +53,7 @@ there-listed p none others (suc (suc (suc n))) is = absurd (false≢true (sym (o
 
 no-way : (width : ℕ) (set : List Bool) → is_some (through width [] set) ≡ false
 no-way width set =
-    elim (room_in set) as (λ o. is_some (option_and_then (λ room. option_map (moved set room) (behind width [] room)) o) ≡ false) [
+    elim (room_in set) as (λ o. is_some (option_and_then (λ room. option_map (moved set room) (following width [] room)) o) ≡ false) [
       | None ↦ refl
       | Some room ↦ refl
     ]
@@ -61,8 +61,8 @@ no-way width set =
 other-doors : (first second : List ℕ) (m : ℕ) → doors first second (suc (suc (suc m))) ≡ []
 other-doors first second m =
     let door : ℕ = suc (suc (suc m)) in
-    let not_first : nat_eq door 1 ≡ false = elim (eqb_tells door 1) [ inl is ↦ absurd (omega (arith, is.1)) | inr other ↦ other.0 ] in
-    let not_second : nat_eq door 2 ≡ false = elim (eqb_tells door 2) [ inl is ↦ absurd (omega (arith, is.1)) | inr other ↦ other.0 ] in
+    let not_first : nat_eq door 1 ≡ false = elim (eqb_reports door 1) [ inl is ↦ absurd (omega (arith, is.1)) | inr other ↦ other.0 ] in
+    let not_second : nat_eq door 2 ≡ false = elim (eqb_reports door 2) [ inl is ↦ absurd (omega (arith, is.1)) | inr other ↦ other.0 ] in
     ap (λ b. cond b first (cond (nat_eq door 2) second [])) not_first ∙ ap (λ b. cond b second []) not_second
 
 -- the numbers of the doors that are there are those of the actions that are applicable

@@ -2,8 +2,8 @@
 use Rattle.std.specs.Prelude.{◌≡◌, ℕ, ◌==◌, Bool, true, false, not, ◌&&◌, IsTrue, List, [], Option, None, Some, is_some, if◌then◌else◌, refl}
 use Rattle.model.specs.Runs.{System}
 use Rattle.packed_state.specs.Sets.{has}
-use Rattle.search.specs.DeadEnds.{TellsDeadEnds}
-use Rattle.search_tests.specs.Rooms.{rooms, room_in, behind, through}
+use Rattle.search.specs.DeadEnds.{DetectsDeadEnds}
+use Rattle.search_tests.specs.Rooms.{rooms, room_in, following, through}
 
 -- the state's room is not the one to be reached, and has no door
 abbrev pub is_blind : ℕ → List ℕ → List ℕ → ℕ → List Bool → Bool
@@ -32,10 +32,10 @@ by_door width first second set next false false no_first no_second leads = no_do
 
 -- so each of them is a dead end
 pub blind_rooms_are_dead_ends : (width : ℕ) (first second : List ℕ) (first_cost second_cost goal : ℕ)
-    → TellsDeadEnds (rooms width first second first_cost second_cost goal) (is_blind width first second goal)
+    → DetectsDeadEnds (rooms width first second first_cost second_cost goal) (is_blind width first second goal)
 blind_rooms_are_dead_ends width first second first_cost second_cost goal = record {
-  no_goal = λ set told. (three (has set goal) (is_some (through width first set)) (is_some (through width second set)) told).0;
-  stays_dead = λ set next door told leads.
-      let parts = three (has set goal) (is_some (through width first set)) (is_some (through width second set)) told in
+  no_goal = λ set reported. (three (has set goal) (is_some (through width first set)) (is_some (through width second set)) reported).0;
+  stays_dead = λ set next door reported leads.
+      let parts = three (has set goal) (is_some (through width first set)) (is_some (through width second set)) reported in
       absurd (by_door width first second set next (door == 1) (door == 2) parts.1 parts.2 leads);
 }

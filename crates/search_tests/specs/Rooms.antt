@@ -16,9 +16,9 @@ room_in set = find (has set) (range_with_len 0 (length set))
 abbrev pub doors : List ℕ → List ℕ → ℕ → List ℕ
 doors first second door = if door == 1 then first else if door == 2 then second else []
 
--- the room behind a room's door, if there is one and its number is below the width
-abbrev pub behind : ℕ → List ℕ → ℕ → Option ℕ
-behind width leads room = option_and_then (λ next. if nat_lt next width then Some next else None) (slice_get leads room)
+-- the room after a room's door, if there is one and its number is below the width
+abbrev pub following : ℕ → List ℕ → ℕ → Option ℕ
+following width leads room = option_and_then (λ next. if nat_lt next width then Some next else None) (slice_get leads room)
 
 -- from one room into the other
 abbrev pub moved : List Bool → ℕ → ℕ → List Bool
@@ -26,7 +26,7 @@ moved set room next = slice_set (slice_set set room false) next true
 
 -- what going through a door of the state's room leads to
 abbrev pub through : ℕ → List ℕ → List Bool → Option (List Bool)
-through width leads set = option_and_then (λ room. option_map (moved set room) (behind width leads room)) (room_in set)
+through width leads set = option_and_then (λ room. option_map (moved set room) (following width leads room)) (room_in set)
 
 -- the door's number, where there is such a door
 abbrev pub door_numbers : ℕ → Bool → List ℕ
@@ -42,7 +42,7 @@ rooms width first second first_cost second_cost goal = record {
   meets_goal = λ set. has set goal;
 }
 
--- What the sign in the state's room tells, of which no more is believed than this; 0 where there is no sign, and where the
+-- What the sign in the state's room reports, of which no more is believed than this; 0 where there is no sign, and where the
 -- room to be reached is in the set.
 abbrev pub believed : ℕ → List ℕ → ℕ → List Bool → ℕ
 believed most signs goal set = if has set goal then 0 else option_map_or (λ sign. min sign most) (option_and_then (slice_get signs) (room_in set)) 0
@@ -64,10 +64,10 @@ pub consistent_signs : (width : ℕ) (first second : List ℕ) (first_cost secon
     → IsConsistent (rooms width first second first_cost second_cost goal) (believed (min first_cost second_cost) signs goal)
 consistent_signs width first second first_cost second_cost goal signs =
     let most = min first_cost second_cost in
-    let told = λ (set : List Bool). option_and_then (slice_get signs) (room_in set) in
+    let reported = λ (set : List Bool). option_and_then (slice_get signs) (room_in set) in
     record {
-      zero_at_goals = λ set reached. ap (λ b. if b then 0 else option_map_or (λ sign. min sign most) (told set) 0) reached;
+      zero_at_goals = λ set reached. ap (λ b. if b then 0 else option_map_or (λ sign. min sign most) (reported set) 0) reached;
       falls_by_no_more = λ set next door leads.
-          le_trans (if-le (has set goal) (option_map_or (λ sign. min sign most) (told set) 0) most (believed-le most (told set)))
+          le_trans (if-le (has set goal) (option_map_or (λ sign. min sign most) (reported set) 0) most (believed-le most (reported set)))
           (le_trans (cheapest-le (door == 1) first_cost second_cost) (le-add_right (if door == 1 then first_cost else second_cost) (believed most signs goal next)));
     }

@@ -8,7 +8,7 @@ use crate::rooms::Rooms;
 use packed_state::Packed;
 use search::{DeadEnd, TransitionSystem};
 
-/// The rooms of which those without doors are told dead.
+/// The rooms of which those without doors are reported dead.
 #[derive(Clone, Copy)]
 pub(crate) struct Blind(pub(crate) Rooms);
 
@@ -27,7 +27,7 @@ impl DeadEnd for Blind {
 
     ghost is_dead = { λ b set. is_blind b.0.width b.0.first.now b.0.second.now b.0.goal set };
 
-    ghost tells_dead_ends = { λ b. blind_rooms_are_dead_ends b.0.width b.0.first.now b.0.second.now b.0.first_cost b.0.second_cost b.0.goal };
+    ghost detects_dead_ends = { λ b. blind_rooms_are_dead_ends b.0.width b.0.first.now b.0.second.now b.0.first_cost b.0.second_cost b.0.goal };
 
     fn dead(&self, state: &Packed) -> bool {
         is_blind(&self.0, state)

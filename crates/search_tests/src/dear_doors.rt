@@ -3,7 +3,7 @@ use crate::rooms::Rooms;
 use crate::searches::{Row, are_as_wanted};
 use std::test::Fail;
 
-/// From each room a first door leads to the next, and a second one to the one behind that.
+/// From each room a first door leads to the next, and a second one to the one after that.
 const FIRST: &[u32] = &[1, 2, 3, 4, 5];
 
 const SECOND: &[u32] = &[2, 3, 4, 5, 6];

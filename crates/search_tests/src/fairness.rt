@@ -24,8 +24,8 @@ pub(crate) fn weighing(
     Ok(Potentials::new(constant, list))
 }
 
-/// What is told of the potentials.
-fn told(
+/// What is reported for the potentials.
+fn reported(
     alloc: Global,
     ground: &Ground<'_>,
     constant: i64,
@@ -40,8 +40,8 @@ fn told(
     Ok(Some(potentials.fair(alloc, ground)?))
 }
 
-/// What is told of the potentials where nothing is allowed to an instance.
-fn told_dead(
+/// What is reported for the potentials where nothing is allowed to an instance.
+fn reported_dead(
     alloc: Global,
     ground: &Ground<'_>,
     constant: i64,
@@ -56,7 +56,7 @@ fn told_dead(
     Ok(Some(potentials.dead_fair(alloc, ground)?))
 }
 
-/// Whether the first state is told dead, and the second, which is as wide.
+/// Whether the first state is reported dead, and the second, which is as wide.
 fn both_dead<D: DeadEnd>(test: &D, first: &Packed, second: &Packed) -> (bool, bool)
     requires { length (bits_of first.now) ≡ D.width_of test.now }
 {
@@ -66,7 +66,7 @@ fn both_dead<D: DeadEnd>(test: &D, first: &Packed, second: &Packed) -> (bool, bo
     )
 }
 
-/// Whether these potentials, if they are dead-fair, tell the initial state dead, and the state in which nothing is true.
+/// Whether these potentials, if they are dead-fair, report the initial state dead, and the state in which nothing is true.
 fn are_dead(
     alloc: Global,
     ground: &Ground<'_>,
@@ -87,7 +87,7 @@ fn are_dead(
     }
 }
 
-/// What fair potentials tell of the initial state.
+/// What fair potentials say of the initial state.
 fn estimated(
     alloc: Global,
     ground: &Ground<'_>,
@@ -121,12 +121,12 @@ fn improved(alloc: Global, ground: &Ground<'_>, rounds: u32) -> Result<Option<u6
     Ok(Some(better.value(&initial)))
 }
 
-/// What is told of three potentials for the ground task of `HOP`.
-fn told_of_three(alloc: Global, ground: &Ground<'_>) -> Result<[Option<Fairness>; 3], NoMemory> {
+/// What is reported for three potentials for the ground task of `HOP`.
+fn reported_of_three(alloc: Global, ground: &Ground<'_>) -> Result<[Option<Fairness>; 3], NoMemory> {
     Ok([
-        told(alloc, ground, 6, &[0, -3, -6])?,
-        told(alloc, ground, 6, &[0, -2, -6])?,
-        told(alloc, ground, 7, &[0, -3, -6])?,
+        reported(alloc, ground, 6, &[0, -3, -6])?,
+        reported(alloc, ground, 6, &[0, -2, -6])?,
+        reported(alloc, ground, 7, &[0, -3, -6])?,
     ])
 }
 
@@ -143,18 +143,18 @@ fn estimated_and_improved(
 }
 
 /// The same where nothing is allowed: a hop moves from one place to another, and at the goal one is at `c`.
-fn told_dead_of_three(
+fn reported_dead_of_three(
     alloc: Global,
     ground: &Ground<'_>,
 ) -> Result<[Option<Fairness>; 3], NoMemory> {
     Ok([
-        told_dead(alloc, ground, 1, &[-1, -1, -1])?,
-        told_dead(alloc, ground, 1, &[-1, -2, -1])?,
-        told_dead(alloc, ground, 2, &[-1, -1, -1])?,
+        reported_dead(alloc, ground, 1, &[-1, -1, -1])?,
+        reported_dead(alloc, ground, 1, &[-1, -2, -1])?,
+        reported_dead(alloc, ground, 2, &[-1, -1, -1])?,
     ])
 }
 
-/// What the first of them tell, and what the last do, which are not dead-fair.
+/// What the first of them report, and what the last do, which are not dead-fair.
 fn dead_of_two(alloc: Global, ground: &Ground<'_>) -> Result<[Option<(bool, bool)>; 2], NoMemory> {
     Ok([
         are_dead(alloc, ground, 1, &[-1, -1, -1])?,
@@ -166,8 +166,8 @@ fn dead_of_two(alloc: Global, ground: &Ground<'_>) -> Result<[Option<(bool, bool
 fn who_is_nowhere_is_dead(rt: HostRuntime) -> Result<(), Fail> {
     on_task(&rt, rt.alloc(), &HOP, |rt, alloc, task| {
         let ground = Ground::new(alloc, task, &[], 10)?;
-        let told = (
-            told_dead_of_three(alloc, &ground)?,
+        let reported = (
+            reported_dead_of_three(alloc, &ground)?,
             dead_of_two(alloc, &ground)?,
         );
         let fairness = [
@@ -175,7 +175,7 @@ fn who_is_nowhere_is_dead(rt: HostRuntime) -> Result<(), Fail> {
             Some(Fairness::Instance(0)),
             Some(Fairness::Goal),
         ];
-        assert_eq!(rt; told, (fairness, [Some((false, true)), None]));
+        assert_eq!(rt; reported, (fairness, [Some((false, true)), None]));
         Ok(())
     })
 }
@@ -189,7 +189,7 @@ fn hops_are_fair(rt: HostRuntime) -> Result<(), Fail> {
             Some(Fairness::Instance(1)),
             Some(Fairness::Goal),
         ];
-        assert_eq!(rt; told_of_three(alloc, &ground)?, wanted);
+        assert_eq!(rt; reported_of_three(alloc, &ground)?, wanted);
         Ok(())
     })
 }

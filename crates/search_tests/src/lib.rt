@@ -1,4 +1,4 @@
-//! Tests of packed states and both stores of them, of the search over a system that stands here alone, of potentials, and of
+//! Tests of packed states and both stores of them, of the search over a system that is here alone, of potentials, and of
 //! the certificates of answers over either store.
 #![tactic(auto)]
 

@@ -123,8 +123,8 @@ fn compared(width: u32, set: Sample, other: Sample) -> [bool; 3] {
     answers
 }
 
-/// The same as the calls tell it.
-fn told(alloc: Global, width: u32, set: Sample, other: Sample) -> Result<[bool; 3], NoMemory> {
+/// The same as the calls report it.
+fn reported(alloc: Global, width: u32, set: Sample, other: Sample) -> Result<[bool; 3], NoMemory> {
     let mask = other.mask(alloc, width)?;
     let other = inserted(alloc, width, other)?;
     let set = set.packed(alloc, width)?;
@@ -192,7 +192,7 @@ fn is_pair_joined(alloc: Global, width: u32, [set, other]: [Sample; 2]) -> Resul
 
 /// Whether all calls over the two sets are right.
 fn is_pair(alloc: Global, width: u32, [set, other]: [Sample; 2]) -> Result<bool, NoMemory> {
-    let are_compared = told(alloc, width, set, other)? == compared(width, set, other);
+    let are_compared = reported(alloc, width, set, other)? == compared(width, set, other);
     let is_changed = is_pair_changed(alloc, width, [set, other])?;
     Ok(are_compared && is_changed && is_pair_joined(alloc, width, [set, other])?)
 }
@@ -285,7 +285,7 @@ pub(crate) fn put<S: StateStore>(
 }
 
 /// Whether the store has the set at this place.
-pub(crate) fn stands_at<S: StateStore>(
+pub(crate) fn is_at<S: StateStore>(
     alloc: Global,
     store: &S,
     set: &Packed,
@@ -307,11 +307,11 @@ pub(crate) fn found<S: StateStore>(store: &S, set: &Packed) -> Option<u32> {
     None
 }
 
-/// What a store tells of a set that is put in twice: how many it has before, where the set stands, and what it answers.
-type Told = (usize, Option<u32>, [Option<(u32, bool)>; 2]);
+/// What a store says of a set that is put in twice: how many it has before, where the set is, and what it answers.
+type Reported = (usize, Option<u32>, [Option<(u32, bool)>; 2]);
 
-/// What the store tells of the set where it is put in twice.
-fn taken<S: StateStore>(store: &mut S, set: &Packed) -> Result<Told, NoMemory> {
+/// What the store says of the set where it is put in twice.
+fn taken<S: StateStore>(store: &mut S, set: &Packed) -> Result<Reported, NoMemory> {
     let before = (store.len(), found(store, set));
     let first = put(store, set)?;
     let again = put(store, set)?;
@@ -334,7 +334,7 @@ fn has_at<S: StateStore>(
     set: &Packed,
     place: u32,
 ) -> Result<bool, NoMemory> {
-    Ok(found(store, set) == Some(place) && stands_at(alloc, store, set, place)?)
+    Ok(found(store, set) == Some(place) && is_at(alloc, store, set, place)?)
 }
 
 /// Whether the store has just these sets, in this order.

@@ -236,14 +236,14 @@ fn cert_of(answer: &Answer) -> Option<&Cert> {
 
 /// What is found out, whether the certificate is the same over the plain store, whether its states take more than one word,
 /// and whether it lists dead ends.
-type Told = (Found, [bool; 3]);
+type Reported = (Found, [bool; 3]);
 
-fn told_of(
+fn reported_of(
     alloc: Global,
     task: &Task,
     limits: Limits,
     answer: &Answer,
-) -> Result<Option<Told>, NoMemory> {
+) -> Result<Option<Reported>, NoMemory> {
     let Some(cert) = cert_of(answer) else {
         return Ok(None);
     };
@@ -253,9 +253,9 @@ fn told_of(
     Ok(Some((found(answer), [is_same, is_wide, has_dead_ends])))
 }
 
-fn told(alloc: Global, task: &Task, limits: Limits) -> Result<Option<Told>, NoMemory> {
+fn reported(alloc: Global, task: &Task, limits: Limits) -> Result<Option<Reported>, NoMemory> {
     let answer = solve(alloc, task, limits)?;
-    told_of(alloc, task, limits, &answer)
+    reported_of(alloc, task, limits, &answer)
 }
 
 #[test]
@@ -265,7 +265,7 @@ fn stores_give_the_same_certificate(rt: HostRuntime) -> Result<(), Fail> {
         on_task(&rt, rt.alloc(), texts, |rt, alloc, task| {
             let [is_wide, has_dead_ends] = *shape;
             let wanted = (*found, [true, is_wide, has_dead_ends]);
-            assert_eq!(rt; told(alloc, task, limits)?, Some(wanted));
+            assert_eq!(rt; reported(alloc, task, limits)?, Some(wanted));
             Ok(())
         })?;
     }

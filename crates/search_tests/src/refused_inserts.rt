@@ -1,4 +1,4 @@
-//! A store that refuses a set for want of memory has what it had. `tools/refuse-growth` has each allocation of this test fail
+//! A store that refuses a set for running out of memory has what it had. `tools/refuse-growth` has each allocation of this test fail
 //! in turn, and the test passes whichever does; where memory is ample nothing is refused.
 use crate::packed_states::{distinct_sets, found, put, set_of};
 use faults::NoMemory;
@@ -20,7 +20,7 @@ fn has_just<S: StateStore>(store: &S, sets: &[Packed], lent: &mut Packed) -> boo
     store.len() == sets.len()
 }
 
-/// Whether the answer tells of a new set that stands behind so many.
+/// Whether the answer says of a new set that comes after so many.
 fn is_next(answer: Option<(u32, bool)>, count: usize) -> bool {
     match answer {
         Some((place, is_new)) => place as usize == count && is_new,
@@ -28,7 +28,7 @@ fn is_next(answer: Option<(u32, bool)>, count: usize) -> bool {
     }
 }
 
-/// Puts the set behind these, once more where memory is refused: whether it then stands there, and the store had just these
+/// Puts the set after these, once more where memory is refused: whether it then is there, and the store had just these
 /// until then.
 fn takes_next<S: StateStore>(
     store: &mut S,

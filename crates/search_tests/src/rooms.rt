@@ -1,7 +1,7 @@
 //! A small transition system of the tests' own: rooms with doors, where a state is the set of its one room.
 ghost use Rattle.std.specs.Prelude.{◌≡◌, ◌+◌, ◌<◌, ◌≤◌, ◌++◌, length, vec_len, vec_capacity, is_some, IfSome};
 ghost use Rattle.packed_state.specs.Packed.{bits_of};
-ghost use Rattle.search_tests.specs.Rooms.{rooms, room_in, doors, behind, through, door_numbers};
+ghost use Rattle.search_tests.specs.Rooms.{rooms, room_in, doors, following, through, door_numbers};
 
 use faults::NoMemory;
 use packed_state::Packed;
@@ -46,9 +46,9 @@ impl Rooms {
         }
     }
 
-    /// The room behind the room's door of this number.
-    fn behind(&self, door: u32, room: u32) -> Option<u32>
-        ensures behind { result ≡ behind self.now.width (doors self.now.first.now self.now.second.now door) room }
+    /// The room after the room's door of this number.
+    fn following(&self, door: u32, room: u32) -> Option<u32>
+        ensures following { result ≡ following self.now.width (doors self.now.first.now self.now.second.now door) room }
         ensures within { IfSome result (λ next. next < self.now.width) }
     {
         let next = *self.doors(door).get(room as usize)?;
@@ -61,7 +61,7 @@ impl Rooms {
         ensures { result ≡ is_some (through self.now.width (doors self.now.first.now self.now.second.now door) (bits_of state.now)) }
     {
         match room_in(state) {
-            Some(room) => self.behind(door, room).is_some(),
+            Some(room) => self.following(door, room).is_some(),
             None => false,
         }
     }
@@ -109,7 +109,7 @@ impl TransitionSystem for Rooms {
     fn successor(&self, door: u32, state: &Packed, into: &mut Packed) {
         into.copy_from(state);
         if let Some(room) = room_in(state) {
-            if let Some(next) = self.behind(door, room) {
+            if let Some(next) = self.following(door, room) {
                 into.remove(room);
                 into.insert(next);
             }

@@ -1,9 +1,9 @@
-//! The search over a system that stands here alone: what it finds, and in which order, in either store.
+//! The search over a system that is here alone: what it finds, and in which order, in either store.
 ghost use Rattle.std.specs.Prelude.{◌≡◌, [], length};
 ghost use Rattle.packed_state.specs.Packed.{bits_of};
 
 use crate::blind_rooms::{Blind, is_blind};
-use crate::packed_states::{set_of, stands_at};
+use crate::packed_states::{set_of, is_at};
 use crate::rooms::Rooms;
 use crate::signs::Signs;
 use faults::NoMemory;
@@ -16,7 +16,7 @@ use std::alloc::Global;
 use std::test::Fail;
 
 /// Rooms, their signs, the most rooms that may be found, the doors of the plan that is found and its cost, if there is one, what
-/// every plan costs at least where the limit is told, and the rooms in the order in which they are found, with what it costs to
+/// every plan costs at least where the limit is reported, and the rooms in the order in which they are found, with what it costs to
 /// reach each.
 pub(crate) struct Row {
     pub(crate) rooms: Rooms,
@@ -28,7 +28,7 @@ pub(crate) struct Row {
     pub(crate) costs: &'static [u64],
 }
 
-/// From each room a door leads to the next, at cost 1, and another to the one behind that, at cost 5.
+/// From each room a door leads to the next, at cost 1, and another to the one after that, at cost 5.
 const CLIMB_FIRST: &[u32] = &[1, 2, 3, 4, 5, 6, 7, 8, 9];
 
 const CLIMB_SECOND: &[u32] = &[2, 3, 4, 5, 6, 7, 8, 9];
@@ -107,7 +107,7 @@ fn has_just<S: StateStore>(
 ) -> Result<bool, NoMemory> {
     for (&room, place) in rooms.iter().zip(0..u32::MAX) {
         let state = set_of(alloc, width, &[room])?;
-        if !stands_at(alloc, store, &state, place)? {
+        if !is_at(alloc, store, &state, place)? {
             return Ok(false);
         }
     }
@@ -159,7 +159,7 @@ fn are_found<S: StateStore>(
 }
 
 /// Whether this is what the row says.
-fn is_told<S: StateStore>(
+fn is_reported<S: StateStore>(
     alloc: Global,
     outcome: &Outcome<S>,
     row: &Row,
@@ -190,7 +190,7 @@ fn is_as_wanted<S: StateStore>(alloc: Global, row: &Row, store: S) -> Result<boo
         signs: row.signs,
     };
     let outcome = best_first(alloc, &row.rooms, &signs, &Blind(row.rooms), store, most)?;
-    is_told(alloc, &outcome, row)
+    is_reported(alloc, &outcome, row)
 }
 
 /// The same in the plain store, and in the pooled one.

@@ -1,4 +1,4 @@
-//! An estimate of the tests' own: a sign in each room tells how far it is to the room that is to be reached.
+//! An estimate of the tests' own: a sign in each room says how far it is to the room that is to be reached.
 ghost use Rattle.std.specs.Prelude.{◌≡◌, min, pos, length, option_and_then, slice_get};
 ghost use Rattle.std.specs.Option.{option_map_or};
 ghost use Rattle.packed_state.specs.Packed.{bits_of};

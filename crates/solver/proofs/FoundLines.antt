@@ -32,8 +32,8 @@ cut_is : (e d : Bool) (value : ℕ) → e ≡ false → d ≡ false → mark_by 
 cut_is e d value waits alive = λ i. mark_by (waits i) (alive i) value
 
 dead_by : (e d : Bool) (value : ℕ) → (e ≡ true → d ≡ false) → d ≡ true → mark_by e d value ≡ dead
-dead_by true d value alive told = absurd (true≢false (sym told ∙ alive refl))
-dead_by false d value alive told = ap (λ b. mark_by false b value) told
+dead_by true d value alive reported = absurd (true≢false (sym reported ∙ alive refl))
+dead_by false d value alive reported = ap (λ b. mark_by false b value) reported
 
 module _ {S : Type 0} (value : S → ℕ) (is_dead : S → Bool) where
   -- an open line is that of an expanded state
@@ -47,9 +47,9 @@ module _ {S : Type 0} (value : S → ℕ) (is_dead : S → Bool) where
   pub cut_of_waits : (s : S) (node : Node) → IsCut is_dead s node → search.mark_of value is_dead s node ≡ cut (value s)
   cut_of_waits s node waits = cut_is node.is_expanded (is_dead s) (value s) waits.0 waits.1
 
-  -- a state that is told dead, and so was not expanded, is said to be
-  pub dead_of_told : (s : S) (node : Node) → (node.is_expanded ≡ true → is_dead s ≡ false) → is_dead s ≡ true → search.mark_of value is_dead s node ≡ dead
-  dead_of_told s node alive told = dead_by node.is_expanded (is_dead s) (value s) alive told
+  -- a state that is reported dead, and so was not expanded, is said to be
+  pub dead_of_reported : (s : S) (node : Node) → (node.is_expanded ≡ true → is_dead s ≡ false) → is_dead s ≡ true → search.mark_of value is_dead s node ≡ dead
+  dead_of_reported s node alive reported = dead_by node.is_expanded (is_dead s) (value s) alive reported
 
   -- ---- the lines
 

@@ -18,21 +18,21 @@ use Rattle.solver.specs.Listing.{numbers_in, state_line, found_certificate, IsSh
 use Rattle.solver.proofs.TypedLemmas.{numbered_typed}
 use Rattle.solver.proofs.GroundLemmas.{length-reachable, distinct_states}
 use Rattle.solver.proofs.PotentialLemmas.{most_value, value-most, potentials-pass, value-packed}
-use Rattle.solver.proofs.FoundLines.{expanded_of_open, dead_of_told, found_line, length-lines, node_at}
+use Rattle.solver.proofs.FoundLines.{expanded_of_open, dead_of_reported, found_line, length-lines, node_at}
 use Rattle.model.specs.Task.{Task, Atom}
 use Rattle.model.specs.WellTyped.{is_task, is_atom}
 use Rattle.model.specs.Runs.{System}
 use Rattle.model.specs.Claims.{Claim, opened, cut, dead, Line, IsClosed}
 use Rattle.model.specs.Meaning.{State, system_of}
 use Rattle.model.specs.Fluents.{is_fluent, static_atoms}
-use Rattle.model.specs.NumberedAtoms.{stands_in, are_distinct, numbered_atoms}
+use Rattle.model.specs.NumberedAtoms.{occurs_in, are_distinct, numbered_atoms}
 use Rattle.model.specs.Grounding.{chosen, state_of_bits, ground_system, NamesKept}
 use Rattle.certificate_definitions.specs.Certificates.{two, Certificate, StateLine, is_number, is_claim, is_weight, is_mark, is_state_line, are_potentials, keeps_limits, rise, state_of_line, lines_of, value_of, is_dead_end_of}
 use Rattle.potential_functions.specs.PotentialFunctions.{PotentialFunction, value, is_dead_by, AreInRange}
 use Rattle.potential_functions.specs.Fair.{AreFair, AreDeadFair}
 use Rattle.model.proofs.ListLemmas.{map-Contains}
 use Rattle.model.proofs.LimitsLemmas.{numbered_again}
-use Rattle.model.proofs.NumberingLemmas.{stands_in-got}
+use Rattle.model.proofs.NumberingLemmas.{occurs_in-got}
 use Rattle.model.proofs.GroundTaskLemmas.{numbered-distinct, numbered-fluent, ground_task_is_bisimilar}
 use Rattle.model.proofs.BisimilarListings.{closed_forth}
 
@@ -130,15 +130,15 @@ pairs_apart (a ∷ atoms) distinct zero zero d before within = absurd (omega (ar
 pairs_apart (a ∷ atoms) distinct (suc i) zero d before within = absurd (omega (arith, before))
 pairs_apart (a ∷ atoms) distinct zero (suc j) d before within =
     λ same.
-    let parts = and_parts (not (stands_in atoms a)) (are_distinct atoms) distinct in
-    let there = stands_in-got atoms j (get_or atoms j d) (slice_get-get_or atoms j d (omega (arith, within))) in
-    true≢false (sym (ap (stands_in atoms) same ∙ there) ∙ not-true (stands_in atoms a) parts.0)
+    let parts = and_parts (not (occurs_in atoms a)) (are_distinct atoms) distinct in
+    let there = occurs_in-got atoms j (get_or atoms j d) (slice_get-get_or atoms j d (omega (arith, within))) in
+    true≢false (sym (ap (occurs_in atoms) same ∙ there) ∙ not-true (occurs_in atoms a) parts.0)
 pairs_apart (a ∷ atoms) distinct (suc i) (suc j) d before within =
-    pairs_apart atoms (and_parts (not (stands_in atoms a)) (are_distinct atoms) distinct).1 i j d (omega (arith, before)) (omega (arith, within))
+    pairs_apart atoms (and_parts (not (occurs_in atoms a)) (are_distinct atoms) distinct).1 i j d (omega (arith, before)) (omega (arith, within))
 
 -- ---- the certificate
 
--- p gives the values, and q tells the dead ends
+-- p gives the values, and q reports the dead ends
 module _ (task : Task) (claim : Claim) (most : ℕ) (p q : PotentialFunction) (states : List (List Bool)) (nodes : List Node) where
   abbrev atoms : List Atom
   atoms = numbered_atoms task []
@@ -194,7 +194,7 @@ module _ (task : Task) (claim : Claim) (most : ℕ) (p q : PotentialFunction) (s
     pub same_value : (k : ℕ) (bits : List Bool) → slice_get states k ≡ Some bits → value_of made (state_of_bits task atoms bits) ≡ value p bits
     same_value k bits at = value-packed task p bits (found_width k bits at)
 
-    -- and tells it a dead end where it was found so
+    -- and reports it a dead end where it was found so
     same_dead : (k : ℕ) (bits : List Bool) → slice_get states k ≡ Some bits → is_dead_end_of made (state_of_bits task atoms bits) ≡ is_dead_by q bits
     same_dead k bits at = ap (nat_le 1) (value-packed task q bits (found_width k bits at))
 
@@ -203,13 +203,13 @@ module _ (task : Task) (claim : Claim) (most : ℕ) (p q : PotentialFunction) (s
     same_listing line among =
         let (k, s, n, there, here, is) = found_line (value p) (is_dead_by q) states nodes line among in
         let at : slice_get states k ≡ Some line.state = there ∙ ap (λ (l : Line (List Bool)). Some l.state) (sym is) in
-        (omega (arith, same_value k line.state at), λ told. same_dead k line.state at ∙ told)
+        (omega (arith, same_value k line.state at), λ reported. same_dead k line.state at ∙ reported)
 
-    told_dead : (line : Line State) → Contains (lines_of task made) line → is_dead_end_of made line.state ≡ true → line.mark ≡ dead
-    told_dead line among told =
+    reported_dead : (line : Line State) → Contains (lines_of task made) line → is_dead_end_of made line.state ≡ true → line.mark ≡ dead
+    reported_dead line among reported =
         let (k, s, n, there, here, is) = line_found line among in
-        let dead_found : is_dead_by q s ≡ true = sym (same_dead k s there) ∙ ap (λ (l : Line State). is_dead_end_of made l.state) (sym is) ∙ told in
-        ap (λ (l : Line State). l.mark) is ∙ dead_of_told (value p) (is_dead_by q) s n (found.expanded_alive k s n there here) dead_found
+        let dead_found : is_dead_by q s ≡ true = sym (same_dead k s there) ∙ ap (λ (l : Line State). is_dead_end_of made l.state) (sym is) ∙ reported in
+        ap (λ (l : Line State). l.mark) is ∙ dead_of_reported (value p) (is_dead_by q) s n (found.expanded_alive k s n there here) dead_found
 
     pub shown_by : is_task task ≡ true → length p.weights ≡ length atoms → length q.weights ≡ length atoms → AreFair task atoms p → AreDeadFair task atoms q → keeps_limits made ≡ true
         → IsShownBy task claim (length states) made
@@ -222,7 +222,7 @@ module _ (task : Task) (claim : Claim) (most : ℕ) (p q : PotentialFunction) (s
         dead_ends_are_fair = subst (λ (l : List Atom). AreDeadFair task l q) (sym (numbered_again task)) dead_fair;
         atoms_are_fluent = λ k d below.
             let a = get_or atoms k d in
-            let there = stands_in-got atoms k a (slice_get-get_or atoms k d below) in
+            let there = occurs_in-got atoms k a (slice_get-get_or atoms k d below) in
             and_from (is_atom task a) (is_fluent task a.predicate) (numbered_typed task a well there) (numbered-fluent task [] none_more a there);
         atoms_are_distinct = pairs_apart atoms (numbered-distinct task []);
         states_are_distinct = subst (AllPairs (λ (k l : Line State). k.state ≢ l.state)) (sym listing)
@@ -230,7 +230,7 @@ module _ (task : Task) (claim : Claim) (most : ℕ) (p q : PotentialFunction) (s
         listing_is_closed = subst (IsClosed (system_of task) (value_of made) (is_dead_end_of made) claim) (sym listing)
             (closed_forth (ground_system task atoms) (system_of task) (state_of_bits task atoms) (NamesKept task) (ground_task_is_bisimilar task [] none_more)
             (λ bits. value_of made (state_of_bits task atoms bits)) (value_of made) (λ s. omega arith)
-            (λ bits. is_dead_end_of made (state_of_bits task atoms bits)) (is_dead_end_of made) (λ s told. told) claim lines
+            (λ bits. is_dead_end_of made (state_of_bits task atoms bits)) (is_dead_end_of made) (λ s reported. reported) claim lines
             (closed_higher (ground_system task atoms) (value p) (λ bits. value_of made (state_of_bits task atoms bits)) (is_dead_by q) (λ bits. is_dead_end_of made (state_of_bits task atoms bits)) claim lines
             same_listing found.closed));
       };
@@ -238,7 +238,7 @@ module _ (task : Task) (claim : Claim) (most : ℕ) (p q : PotentialFunction) (s
       atoms = refl;
       within_limits = kept;
       version = refl;
-      dead_ends_are_told = told_dead;
+      dead_ends_are_reported = reported_dead;
     }
 
     pub open_within : (cost : ℕ) → AreExpandedWithin (value p) cost states nodes → AreOpenWithin task cost made
@@ -303,7 +303,7 @@ more_allowed given le = record {
   atoms = given.atoms;
   within_limits = given.within_limits;
   version = given.version;
-  dead_ends_are_told = given.dead_ends_are_told;
+  dead_ends_are_reported = given.dead_ends_are_reported;
 }
 
 module _ (task : Task) (claim : Claim) (most : ℕ) (p q : PotentialFunction) (states : List (List Bool)) (nodes : List Node) (known : List Atom) (numbered : known ≡ numbered_atoms task [])

@@ -13,8 +13,8 @@ use Rattle.task.specs.TaskParts.{atom_of, object_of}
 use Rattle.formulas.specs.declared.instance.Instance as code
 use Rattle.formulas.specs.State.{instance_of}
 use Rattle.model.specs.Task.{Task, Instance, Atom}
-use Rattle.model.specs.NumberedAtoms.{stands_in, are_distinct}
-use Rattle.model.proofs.NumberingLemmas.{stands_in-got}
+use Rattle.model.specs.NumberedAtoms.{occurs_in, are_distinct}
+use Rattle.model.proofs.NumberingLemmas.{occurs_in-got}
 use Rattle.formulas.proofs.Equality.{atom_eq, equal_atoms, one_atom}
 use Rattle.indexmap.specs.IndexSet.{insert_key}
 use Rattle.model.specs.ClosedOff.{kept_instances}
@@ -44,14 +44,14 @@ named_next steps new one task numbers i d below so_far pushed here =
 
 -- ---- the atoms
 
--- where no atom stands twice, the one at a place does not stand before it
+-- where no atom is twice, the one at a place does not occur before it
 none_before : (atoms : List Atom) (i : ℕ) (a : Atom) → are_distinct atoms ≡ true → slice_get atoms i ≡ Some a → Contains (take i atoms) a → ⊥
 none_before [] i a distinct at among = absurd (cc)
 none_before (b ∷ atoms) zero a distinct at among = Contains-none a among
 none_before (b ∷ atoms) (suc i) a distinct at among =
-    let parts = and_parts (not (stands_in atoms b)) (are_distinct atoms) distinct in
+    let parts = and_parts (not (occurs_in atoms b)) (are_distinct atoms) distinct in
     elim (Contains-cases b (take i atoms) a among) [
-      | inl is ↦ true≢false (sym (ap (stands_in atoms) is ∙ stands_in-got atoms i a at) ∙ not-true (stands_in atoms b) parts.0)
+      | inl is ↦ true≢false (sym (ap (occurs_in atoms) is ∙ occurs_in-got atoms i a at) ∙ not-true (occurs_in atoms b) parts.0)
       | inr later ↦ none_before atoms i a parts.1 at later
     ]
 
@@ -62,13 +62,13 @@ atoms_next keys new one atoms i d distinct below so_far inserted is =
     ∙ (λ j. so_far j ++ is j ∷ [])
     ∙ sym (ap (map atom_of) (take_more atoms i d below) ∙ map-append atom_of (take i atoms) (get_or atoms i d ∷ []))
   where
-    stands : slice_get (map atom_of atoms) i ≡ Some (atom_of one)
-    stands = slice_get-map atom_of atoms i ∙ ap (option_map atom_of) (slice_get-get_or atoms i d below) ∙ ap Some (sym is)
+    occurs : slice_get (map atom_of atoms) i ≡ Some (atom_of one)
+    occurs = slice_get-map atom_of atoms i ∙ ap (option_map atom_of) (slice_get-get_or atoms i d below) ∙ ap Some (sym is)
 
     absent : (there : Bool) → list_any (atom_eq one) keys ≡ there → there ≡ false
     absent false found = refl
     absent true found =
-        absurd (none_before (map atom_of atoms) i (atom_of one) distinct stands
+        absurd (none_before (map atom_of atoms) i (atom_of one) distinct occurs
         (subst (λ (front : List Atom). Contains front (atom_of one)) (so_far ∙ sym (take-map atom_of i atoms))
         (Contains-map atom_of keys one (Contains-from_any (λ a b alike. one_atom a b (equal_atoms a b alike)) one keys found))))
 

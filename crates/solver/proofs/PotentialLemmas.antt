@@ -12,7 +12,7 @@ use Rattle.model.specs.Grounding.{state_of_bits, bits_of_state, ground_system}
 use Rattle.model.specs.Claims.{IsLowerBound, AreDeadEnds}
 use Rattle.model.proofs.GroundTaskLemmas.{packs_states}
 use Rattle.potential_functions.specs.PotentialFunctions.{PotentialFunction, score, or_zero, value, is_dead_by, given, IsInRange, AreInRange}
-use Rattle.potential_functions.specs.Laws.{AreLowerBounds, TellDeadEnds}
+use Rattle.potential_functions.specs.Laws.{AreLowerBounds, DetectDeadEnds}
 use Rattle.potential_functions.specs.Settled.{IsImproved}
 use Rattle.potential_functions.proofs.Zero.{zero_potentials}
 use Rattle.potential_functions.proofs.Falls.{or_zero-most}
@@ -90,5 +90,5 @@ module _ (task : Task) (p : PotentialFunction) where
 pub lower_bound : (task : Task) (atoms : List Atom) (p : PotentialFunction) → AreLowerBounds task atoms p → IsLowerBound (ground_system task atoms) (value p)
 lower_bound task atoms p bounds s end plan reached runs goal = bounds.ground_bound s end plan (length-reachable task atoms s reached) runs goal
 
-pub are_dead_ends : (task : Task) (atoms : List Atom) (q : PotentialFunction) → TellDeadEnds task atoms q → AreDeadEnds (ground_system task atoms) (is_dead_by q)
-are_dead_ends task atoms q tell s end plan reached told runs = tell.ground_dead_ends s end plan (length-reachable task atoms s reached) told runs
+pub are_dead_ends : (task : Task) (atoms : List Atom) (q : PotentialFunction) → DetectDeadEnds task atoms q → AreDeadEnds (ground_system task atoms) (is_dead_by q)
+are_dead_ends task atoms q detect s end plan reached reported runs = detect.ground_dead_ends s end plan (length-reachable task atoms s reached) reported runs

@@ -12,23 +12,23 @@ use Rattle.model.specs.WellTyped.{is_term, is_lifted_atom, is_atom, is_formula, 
 use Rattle.model.specs.Meaning.{atom_cmp, supertypes_of, is_below, is_of, object_of, ground_atom, Change, ground_literal, change_under, changes_of, changes_of_all, fits, is_instance}
 use Rattle.model.specs.Fluents.{is_fluent}
 use Rattle.model.specs.ClosedOff.{kept_instances, counts}
-use Rattle.model.specs.NumberedAtoms.{stands_in, atom_of_literal, touched_by, initial_fluent_atoms, numbered_atoms}
+use Rattle.model.specs.NumberedAtoms.{occurs_in, atom_of_literal, touched_by, initial_fluent_atoms, numbered_atoms}
 use Rattle.model.proofs.Tests.{passes_got}
-use Rattle.model.proofs.StaticLemmas.{same_atom, stands_in-filter}
+use Rattle.model.proofs.StaticLemmas.{same_atom, occurs_in-filter}
 use Rattle.model.proofs.ClosedOffLemmas.{kept-Contains}
-use Rattle.model.proofs.NumberingLemmas.{flat_map-stands_in}
-use Rattle.model.proofs.GroundTaskLemmas.{stands_in-numbered}
+use Rattle.model.proofs.NumberingLemmas.{flat_map-occurs_in}
+use Rattle.model.proofs.GroundTaskLemmas.{occurs_in-numbered}
 
 or_later : (a b : Bool) → b ≡ true → (a || b) ≡ true
 or_later true b is = refl
 or_later false b is = is
 
 -- an atom of a list of which each passes
-typed_there : (p : Atom → Bool) (atoms : List Atom) (q : Atom) → stands_in atoms q ≡ true → list_all p atoms ≡ true → p q ≡ true
+typed_there : (p : Atom → Bool) (atoms : List Atom) (q : Atom) → occurs_in atoms q ≡ true → list_all p atoms ≡ true → p q ≡ true
 typed_there p [] q there all = absurd (cc)
 typed_there p (a ∷ atoms) q there all =
     let parts = and_parts (p a) (list_all p atoms) all in
-    elim (eq_by_cmp atom_cmp q a) as (λ e. eq_by_cmp atom_cmp q a ≡ e → (e || stands_in atoms q) ≡ true → p q ≡ true) [
+    elim (eq_by_cmp atom_cmp q a) as (λ e. eq_by_cmp atom_cmp q a ≡ e → (e || occurs_in atoms q) ≡ true → p q ≡ true) [
       | true ↦ λ same _. ap p (same_atom q a same) ∙ parts.0
       | false ↦ λ _ later. typed_there p atoms q later parts.1
     ] refl there
@@ -65,7 +65,7 @@ one_passes p (m ∷ numbers) n among passes =
 abbrev chains : Task → Bool
 chains task = list_all (is_whole_chain task) task.types
 
--- what stands above a type above a type stands above it
+-- what is above a type above a type is above it
 above_above : (task : Task) (type above higher : ℕ) → chains task ≡ true → list_any (nat_eq above) (supertypes_of task type) ≡ true
     → list_any (nat_eq higher) (supertypes_of task above) ≡ true → list_any (nat_eq higher) (supertypes_of task type) ≡ true
 above_above task type above higher whole is_above is_higher =
@@ -246,14 +246,14 @@ touched_typed task i well is =
           (all_filtered (is_typed task) (counts task) (changes_of task schema.effect i.objects) all)
     ] refl is
 
-pub numbered_typed : (task : Task) (q : Atom) → is_task task ≡ true → stands_in (numbered_atoms task []) q ≡ true → is_atom task q ≡ true
+pub numbered_typed : (task : Task) (q : Atom) → is_task task ≡ true → occurs_in (numbered_atoms task []) q ≡ true → is_atom task q ≡ true
 numbered_typed task q well at =
-    elim (or_cases (stands_in (initial_fluent_atoms task) q) (stands_in touched q) (sym (stands_in-numbered task [] q) ∙ at)) [
+    elim (or_cases (occurs_in (initial_fluent_atoms task) q) (occurs_in touched q) (sym (occurs_in-numbered task [] q) ∙ at)) [
       | inl start ↦
-          let there : (is_fluent task q.predicate && stands_in task.init q) ≡ true = sym (stands_in-filter (λ (a : Atom). is_fluent task a.predicate) task.init q) ∙ start in
-          typed_there (is_atom task) task.init q (and_parts (is_fluent task q.predicate) (stands_in task.init q) there).1 (parts_typed task well).2
+          let there : (is_fluent task q.predicate && occurs_in task.init q) ≡ true = sym (occurs_in-filter (λ (a : Atom). is_fluent task a.predicate) task.init q) ∙ start in
+          typed_there (is_atom task) task.init q (and_parts (is_fluent task q.predicate) (occurs_in task.init q) there).1 (parts_typed task well).2
       | inr there ↦
-          let (i, among, by) = flat_map-stands_in (touched_by task) (kept_instances task) q there in
+          let (i, among, by) = flat_map-occurs_in (touched_by task) (kept_instances task) q there in
           typed_there (is_atom task) (touched_by task i) q by (touched_typed task i well (kept-Contains task i among).0)
     ]
   where

@@ -12,7 +12,7 @@ abbrev pub IsCutOf : Task → Certificate → Line State → (rest : ℕ) → Ty
 IsCutOf task certificate line rest = Contains (lines_of task certificate) line × (line.mark ≡ cut rest)
 
 -- The certificate lists as many states as the limit allows, each at the cost of a list of instances that leads to it. Each cut
--- stands with its state's value, and `least` is the least sum of cost and value of a cut, of which there is one at least: what
+-- is with its state's value, and `least` is the least sum of cost and value of a cut, of which there is one at least: what
 -- a plan that goes on from there costs at least. No open state has a greater sum.
 pub record IsAtLimit (task : Task) (least max_states : ℕ) (certificate : Certificate) : Type 0 where
   pub full : length certificate.lines ≡ max_states

@@ -25,7 +25,7 @@ abbrev pub mark_of_line : {S : Type 0} → Line S → Marked
 mark_of_line line = record { cost = line.cost; mark = line.mark }
 
 -- the certificate that lists these found states, each expanded one as open, each other as a dead end where the potentials
--- `dead_ends` tell it one, and else as a cut with its value by `p`
+-- `dead_ends` report it one, and else as a cut with its value by `p`
 abbrev pub found_certificate : Claim → List Atom → (p dead_ends : PotentialFunction) → List (List Bool) → List Node → Certificate
 found_certificate claim atoms p dead_ends states nodes = record {
   version = two;
@@ -38,7 +38,7 @@ found_certificate claim atoms p dead_ends states nodes = record {
 
 -- The certificate is closed for the task, claims this, keeps the limits of a certificate's text, and lists at most
 -- `max_states` states by the numbered atoms, each at the place that is its number. It is of version 2, and each listed state
--- that its potentials tell a dead end is listed as one.
+-- that its potentials report a dead end is listed as one.
 pub record IsShownBy (task : Task) (claim : Claim) (max_states : ℕ) (certificate : Certificate) : Type 0 where
   pub claims : certificate.claim ≡ claim
   pub closed : IsClosedFor task certificate
@@ -46,7 +46,7 @@ pub record IsShownBy (task : Task) (claim : Claim) (max_states : ℕ) (certifica
   pub atoms : certificate.atoms ≡ numbered_atoms task []
   pub within_limits : IsTrue (keeps_limits certificate)
   pub version : certificate.version ≡ two
-  pub dead_ends_are_told : (line : Line State) → Contains (lines_of task certificate) line → IsTrue (is_dead_end_of certificate line.state) → line.mark ≡ dead
+  pub dead_ends_are_reported : (line : Line State) → Contains (lines_of task certificate) line → IsTrue (is_dead_end_of certificate line.state) → line.mark ≡ dead
 
 -- each open state of the certificate costs, with its value, at most this
 abbrev pub AreOpenWithin : Task → ℕ → Certificate → Type 0

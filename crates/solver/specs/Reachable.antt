@@ -1,4 +1,4 @@
--- Where a limit of states is told: which states may have to be found before any plan is sure to be cheapest.
+-- Where a limit of states is reported: which states may have to be found before any plan is sure to be cheapest.
 use Rattle.std.specs.Prelude.{◌≡◌, ℕ, ◌<◌, false, List, length, Some, Contains}
 use Rattle.model.specs.Runs.{System, run, cost_of_all, IsReachable, CostsAtLeast}
 use Rattle.packed_state.specs.Store.{AreDistinct}

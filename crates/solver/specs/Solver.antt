@@ -15,7 +15,7 @@ use Rattle.model.specs.Runs.{cost_of_all, CostsAtLeast, IsOptimal, IsUnsolvable}
 use Rattle.model.specs.Claims.{bound, none}
 use Rattle.model.specs.Meaning.{system_of, is_instance}
 use Rattle.model.specs.Limits.{max_numbered_atoms}
-use Rattle.model.specs.Grounding.{of_instances, of_atoms, limit_told}
+use Rattle.model.specs.Grounding.{of_instances, of_atoms, exceeded_limit}
 
 -- The answer is true: the steps are instances of the task, solve it at this cost, and no list of whatever length that
 -- solves costs less; or no list solves; and the certificate shows it, by at most `states` states, with potentials that are
@@ -31,14 +31,14 @@ IsTrueAnswer task states instances (Plan steps cost cert) =
     × IsShownBy task (bound cost) states (certificate_of cert)
     × HasSettledOrHigh task (certificate_of cert)
     × AreOpenWithin task cost (certificate_of cert)
-    × (limit_told instances max_numbered_atoms task [] ≡ None)
+    × (exceeded_limit instances max_numbered_atoms task [] ≡ None)
 IsTrueAnswer task states instances (Unsolvable cert) =
     IsUnsolvable (system_of task) × IsShownBy task none states (certificate_of cert) × HasSettledOrHigh task (certificate_of cert)
-    × (limit_told instances max_numbered_atoms task [] ≡ None)
-IsTrueAnswer task states instances (Unknown Instances) = limit_told instances max_numbered_atoms task [] ≡ Some of_instances
-IsTrueAnswer task states instances (Unknown Atoms) = limit_told instances max_numbered_atoms task [] ≡ Some of_atoms
+    × (exceeded_limit instances max_numbered_atoms task [] ≡ None)
+IsTrueAnswer task states instances (Unknown Instances) = exceeded_limit instances max_numbered_atoms task [] ≡ Some of_instances
+IsTrueAnswer task states instances (Unknown Atoms) = exceeded_limit instances max_numbered_atoms task [] ≡ Some of_atoms
 IsTrueAnswer task states instances (Unknown (States least cert)) =
-    AreMoreReachable (system_of task) states × (limit_told instances max_numbered_atoms task [] ≡ None)
+    AreMoreReachable (system_of task) states × (exceeded_limit instances max_numbered_atoms task [] ≡ None)
     × CostsAtLeast (system_of task) least
     × IsShownBy task (bound least) states (certificate_of cert)
     × HasSettledOrHigh task (certificate_of cert)

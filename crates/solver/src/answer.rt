@@ -77,11 +77,11 @@ pub enum Exceeded {
 /// The search goes by fair potentials of the ground task, which are made better first, in at most 8 rounds; the certificate
 /// has them too. Where they are not settled, they give the initial state a value of at least 8. Beside a plan, each state
 /// that the certificate lists as open costs, with its value, no more than the plan. By dead-fair potentials, which the
-/// certificate has beside them, states are told dead ends: they are listed, and the search goes no further from them.
+/// certificate has beside them, states are reported dead ends: they are listed, and the search goes no further from them.
 ///
 /// A certificate then lists at most 100,000 states. Where more would have to be listed, `Unknown(Exceeded::States { .. })` has a
 /// certificate of 100,000, and in it the bound is the least sum of cost and value of a state that is still to be expanded: no
-/// open state has a greater sum. Two limits are told before any potentials are looked for: `Unknown(Exceeded::Instances)`
+/// open state has a greater sum. Two limits are reported before any potentials are looked for: `Unknown(Exceeded::Instances)`
 /// exactly where the task has more than 10,000 kept instances, which are those that its start does not close off, and
 /// `Unknown(Exceeded::Atoms)` exactly where it has no more, and more than 1,048,576 atoms would have numbers.
 pub fn solve(alloc: Global, task: &Task, limits: Limits) -> Result<Answer, NoMemory>

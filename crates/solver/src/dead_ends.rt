@@ -1,4 +1,4 @@
-//! The dead ends that a search is told of.
+//! The dead ends that a search is reported for.
 ghost use Rattle.std.specs.Prelude.{IfOk};
 ghost use Rattle.grounding.specs.Ground.{task_in, atoms_in};
 ghost use Rattle.potential_functions.specs.Fair.{AreDeadFair};
@@ -12,13 +12,13 @@ use std::alloc::Global;
 /// In how many rounds dead-fair potentials are made better, at most.
 const IMPROVING_ROUNDS: u32 = 8;
 
-/// Dead-fair potentials of the ground task, made better from those that are all 0, by which no state is told a dead end.
+/// Dead-fair potentials of the ground task, made better from those that are all 0, by which no state is reported as a dead end.
 pub(crate) fn improved_dead_ends<'g, 't>(
     alloc: Global,
     ground: &'g Ground<'t>,
     tables: &Tables,
 ) -> Result<DeadFair<'g, 't>, NoMemory>
-    ensures tell { IfOk result (λ d. dead.AreOf ground.now (dead.potentials_in d) d) }
+    ensures detect { IfOk result (λ d. dead.AreOf ground.now (dead.potentials_in d) d) }
     ensures dead_fair { IfOk result (λ d. AreDeadFair (task_in ground.now) (atoms_in ground.now) (dead.potentials_in d)) }
 {
     let zero = Potentials::zero(alloc, ground)?;

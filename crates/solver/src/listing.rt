@@ -1,4 +1,4 @@
-//! The certificate that the found states of a search make: each is a line, open where it was expanded, dead where it is told
+//! The certificate that the found states of a search make: each is a line, open where it was expanded, dead where it is reported
 //! a dead end, and cut where it waits, and its atoms are the task's numbered ones; and the potentials by which they were
 //! found. The store of the search is that of the certificate, so that no state is copied.
 //!

@@ -12,7 +12,7 @@ is_line_feed byte = byte == 10
 abbrev pub lines_ended : List ℕ → ℕ
 lines_ended bytes = count_by is_line_feed bytes
 
--- how many bytes stand after the last line feed, and all where there is none
+-- how many bytes come after the last line feed, and all where there is none
 abbrev pub bytes_since : List ℕ → ℕ
 bytes_since bytes = position_or_len is_line_feed (reverse bytes)
 
@@ -28,15 +28,15 @@ pub record IsWithinLine (text : List ℕ) (start end : ℕ) : Type 0 where
   pub within : end ≤ length text
   pub no_end : (k : ℕ) → start ≤ k → k < end → slice_index text k ≡ 10 → ⊥
 
--- a line begins at the offset: it is the text's first, or stands after a line feed
+-- a line begins at the offset: it is the text's first, or comes after a line feed
 abbrev pub BeginsLine : List ℕ → ℕ → Type 0
 BeginsLine text start = (start ≡ 0) ⊎ ((before : ℕ) × (start ≡ before + 1) × (slice_index text before ≡ 10))
 
--- a line ends before the offset: it is the text's last, or a line feed stands there
+-- a line ends before the offset: it is the text's last, or a line feed is there
 abbrev pub EndsLine : List ℕ → ℕ → Type 0
 EndsLine text end = (end ≡ length text) ⊎ (slice_index text end ≡ 10)
 
--- the whole line that an offset within the text stands in, or before whose line feed it stands
+-- the whole line that an offset within the text is in, or before whose line feed it is
 pub record IsLineAt (text : List ℕ) (offset : ℕ) (line : Span) : Type 0 where
   pub before : IsWithinLine text line.start offset
   pub after : IsWithinLine text offset line.end

@@ -4,7 +4,7 @@ use crate::piece::Piece;
 use faults::NoMemory;
 use std::alloc::Global;
 
-/// A name or a variable that is declared, with its types: none where no type stands after it.
+/// A name or a variable that is declared, with its types: none where no type comes after it.
 #[derive(Clone, Copy)]
 pub struct TypedName<'w, 'a> {
     /// The name or variable.
@@ -36,7 +36,7 @@ fn no_pieces<'w, 'a>(pieces: &'w [Piece<'a>]) -> &'w [Piece<'a>] {
     &pieces[..0]
 }
 
-/// The names of the types that stand after a `-`: one, or those of an `(either ..)`.
+/// The names of the types that come after a `-`: one, or those of an `(either ..)`.
 fn types_in<'w, 'a>(node: &'w [Piece<'a>]) -> &'w [Piece<'a>] {
     if node.len() >= 3 {
         &node[2..node.len() - 1]
@@ -45,7 +45,7 @@ fn types_in<'w, 'a>(node: &'w [Piece<'a>]) -> &'w [Piece<'a>] {
     }
 }
 
-/// What a typed list declares. Its names, dashes and types are given with the list that they stand in.
+/// What a typed list declares. Its names, dashes and types are given with the list that they are in.
 fn typed<'w, 'a>(
     alloc: Global,
     list: &'w [Piece<'a>],

@@ -1,5 +1,5 @@
-//! The texts that are handed in, as their writers see them: by files, with lines and columns, and in pieces, as far as these can
-//! be told of a text that may be at fault.
+//! The texts that are given, as their writers see them: by files, with lines and columns, and in pieces, as far as these can
+//! be reported for a text that may be at fault.
 #![tactic(auto)]
 
 mod declarations;

@@ -4,10 +4,10 @@ ghost use Rattle.source_text.specs.Places.{IsLineAt, IsWithinLine, BeginsLine, E
 
 use faults::Span;
 
-/// The line that the byte at an offset stands in, without its LF. An offset past the end is the end.
+/// The line that the byte at an offset is in, without its LF. An offset past the end is the end.
 ///
 /// # Examples
-/// The line of the offset 4 in `ab\ncd\n` is `3..5`, and so is that of 5, where its LF stands; that of 6 is `6..6`.
+/// The line of the offset 4 in `ab\ncd\n` is `3..5`, and so is that of 5, where its LF is; that of 6 is `6..6`.
 pub fn line_at(text: &[u8], offset: usize) -> Span
     ensures { IsLineAt text.now (min offset (length text.now)) result }
 {

@@ -12,7 +12,7 @@ pub fn index_at(pieces: &[Piece<'_>], offset: usize) -> Option<usize>
     pieces.iter().position(|piece| piece.span.start == offset)
 }
 
-/// The index of the `(` of the list in which the piece of this index stands.
+/// The index of the `(` of the list in which the piece of this index is.
 pub fn opening_of(pieces: &[Piece<'_>], at: usize) -> Option<usize>
     ensures { IfSome result (λ opening. opening < at) }
 {
@@ -43,7 +43,7 @@ pub fn list_from<'w, 'a>(pieces: &'w [Piece<'a>], open: usize) -> &'w [Piece<'a>
     &pieces[open.min(pieces.len())..]
 }
 
-/// What stands in a list that is given with its parentheses: runs, each alone, and lists with their parentheses.
+/// What is in a list that is given with its parentheses: runs, each alone, and lists with their parentheses.
 pub fn children<'w, 'a>(
     alloc: Global,
     list: &'w [Piece<'a>],

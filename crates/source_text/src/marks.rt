@@ -21,9 +21,9 @@ const LEAD: usize = 40;
 ///
 /// - Of a line over 100 bytes 100 are shown, with `...` where it is cut, and 40 of these before the span where there are
 ///   so many.
-/// - A tab stands as a tab above and below, so that the mark is under its bytes however wide tabs are. Any other byte that
+/// - A tab is as a tab above and below, so that the mark is under its bytes however wide tabs are. Any other byte that
 ///   is not printable ASCII is shown as `\xNN`. A carriage return at the line's end is left out.
-/// - A span of several lines is marked up to the end of its first. Where nothing is left to mark, one `^` stands.
+/// - A span of several lines is marked up to the end of its first. Where nothing is left to mark, one `^` is.
 ///
 /// # Errors
 /// Memory was refused.
@@ -101,7 +101,7 @@ fn add_shown(bytes: &[u8], out: &mut String) -> Result<(), AllocError> {
     Ok(())
 }
 
-/// Adds what stands below a part of a line: blanks before the span, and marks below it.
+/// Adds what is below a part of a line: blanks before the span, and marks below it.
 fn add_marks(text: &[u8], part: Span, span: Span, out: &mut String) -> Result<(), AllocError>
     requires order { part.start ≤ part.end }
     requires within { part.end ≤ length text.now }

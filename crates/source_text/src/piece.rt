@@ -31,9 +31,9 @@ impl Shape {
 pub struct Piece<'a> {
     /// What it is.
     pub shape: Shape,
-    /// Its bytes, as they stand in the text.
+    /// Its bytes, as they are in the text.
     pub text: &'a [u8],
-    /// Where they stand.
+    /// Where they are.
     pub span: Span,
 }
 

@@ -1,4 +1,4 @@
-//! The texts that are handed in, by files.
+//! The texts that are given, by files.
 use std::fmt;
 
 /// One of the three files.

@@ -1,12 +1,12 @@
 //! Names and terms, with their places.
 use faults::Span;
 
-/// A name or a variable: its bytes as they stand in the file, not folded, and where they stand.
+/// A name or a variable: its bytes as they are in the file, not folded, and where they are.
 #[derive(Clone, Copy, Debug)]
 pub struct Name<'a> {
     /// The bytes of the name. A variable's begin with its `?`.
     pub text: &'a [u8],
-    /// Where they stand in the file.
+    /// Where they are in the file.
     pub span: Span,
 }
 

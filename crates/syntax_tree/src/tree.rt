@@ -1,4 +1,4 @@
-//! What stands in a domain and in a problem, name by name, before any name is resolved.
+//! What is in a domain and in a problem, name by name, before any name is resolved.
 use crate::name::{Name, Term};
 
 /// One of the two files that a task is read from.
@@ -67,7 +67,7 @@ pub enum Effect<'a> {
 pub struct Group<'a> {
     /// The names, in order: at least one.
     pub names: Vec<Name<'a>>,
-    /// The types after their `-`, and none where no type stands after them.
+    /// The types after their `-`, and none where no type comes after them.
     pub types: Vec<Name<'a>>,
 }
 
@@ -85,7 +85,7 @@ pub struct Predicate<'a> {
 pub enum Amount<'a> {
     /// A number, from 0 to 2,147,483,647.
     Number(u32),
-    /// The value of a function of some terms, which stands as an atom does: the function's name in the place of the
+    /// The value of a function of some terms, which is as an atom does: the function's name in the place of the
     /// predicate's.
     Function(Atom<'a>),
 }
@@ -110,7 +110,7 @@ pub struct Action<'a> {
     pub precondition: Formula<'a>,
     /// What it changes: `(and)` where the file has no `:effect`.
     pub effect: Effect<'a>,
-    /// What stands in its effect besides, in order: more than one is a fault.
+    /// What is in its effect besides, in order: more than one is a fault.
     pub increases: Vec<Increase<'a>>,
 }
 
@@ -157,13 +157,13 @@ pub struct InitialCost<'a> {
 /// What `(= (f o ..) N)` in `:init` says.
 #[derive(Debug, Drop)]
 pub struct InitialValue<'a> {
-    /// The function of some objects, which stands as an atom does: the function's name in the place of the predicate's.
+    /// The function of some objects, which is as an atom does: the function's name in the place of the predicate's.
     pub function: GroundAtom<'a>,
     /// Its value, from 0 to 2,147,483,647.
     pub value: u32,
 }
 
-/// What stands in `:init`.
+/// What is in `:init`.
 #[derive(Debug, Drop)]
 pub enum Fact<'a> {
     /// An atom that is true at the start.

@@ -1,4 +1,4 @@
--- A schema of the task, told by its shape: what its parameters have to be, its precondition, its effect and what it increases the
+-- A schema of the task, reported by its shape: what its parameters have to be, its precondition, its effect and what it increases the
 -- total cost by.
 use Rattle.std.specs.Prelude.{◌≡◌, ℕ, ◌≤◌, true, nat_le, List, length, slice_get, IsTrue, Option, None, Some, refl}
 use Rattle.std.proofs.Common.{sym, subst, arith}

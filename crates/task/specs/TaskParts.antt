@@ -37,7 +37,7 @@ schema_id_of s = s.0
 abbrev pub atom_of : Atom → task.Atom
 atom_of a = record { predicate = a.predicate.0; objects = map object_of a.objects.items }
 
--- the atoms ascend in the model's order, so that each stands there once
+-- the atoms ascend in the model's order, so that each is there once
 abbrev pub AreInOrder : List Atom → Type 0
 AreInOrder atoms = IsStrictlySortedBy (λ a b. atom_cmp (atom_of a) (atom_of b)) atoms
 

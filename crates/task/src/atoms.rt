@@ -27,7 +27,7 @@ pub struct PredicateId(pub usize);
 #[derive(Clone, Copy, Debug, PartialEq, Eq)]
 pub struct SchemaId(pub usize);
 
-/// A variable: its place, from 0, in the scope that it stands in, where the parameters of the action come first, and then
+/// A variable: its place, from 0, in the scope that it is in, where the parameters of the action come first, and then
 /// the variables of the quantifiers around, the outermost first.
 #[derive(Clone, Copy, Debug, PartialEq, Eq)]
 pub struct VariableId(pub usize);

@@ -3,7 +3,7 @@ use crate::atoms::{Atom, TypeId};
 use crate::schemas::{Formula, Predicate, Schema};
 use indexmap::IndexMap;
 
-/// The parts of a task. In a table by name, each entry stands in the place of its number; names are in lower case.
+/// The parts of a task. In a table by name, each entry is in the place of its number; names are in lower case.
 #[derive(Drop)]
 pub struct TaskParts {
     /// The types, `object` first, each with all types that its objects are of.
@@ -18,7 +18,7 @@ pub struct TaskParts {
     pub schemas: IndexMap<Vec<u8>, Schema>,
     /// The atoms that are true in the initial state.
     pub init: Vec<Atom>,
-    /// The values of functions of objects: each function's number stands in the place of the predicate's.
+    /// The values of functions of objects: each function's number is in the place of the predicate's.
     pub values: IndexMap<Atom, u32>,
     /// What is to be reached.
     pub goal: Formula,

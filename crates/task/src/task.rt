@@ -37,7 +37,7 @@ impl Task {
         Task { parts }
     }
 
-    /// The initial state's atoms, as they stand in the problem: one may stand there twice.
+    /// The initial state's atoms, as they are in the problem: one may occur there twice.
     pub fn init(&self) -> &[Atom]
         ensures { map atom_of result.now ≡ (task_of self.now).init }
     {
@@ -45,7 +45,7 @@ impl Task {
     }
 
     /// The value that the problem gives to a function of objects, and `None` where it gives it none. The function's number
-    /// stands in the place of the predicate's. No memory is taken.
+    /// is in the place of the predicate's. No memory is taken.
     pub fn value(&self, function: &Atom) -> Option<u32>
         ensures { result ≡ value_in (task_of self.now).values (atom_of function.now) }
     {
@@ -107,7 +107,7 @@ impl Task {
         }
     }
 
-    /// Whether the type is one of these or stands below one of them.
+    /// Whether the type is one of these or is below one of them.
     pub(crate) fn is_below(&self, id: TypeId, types: &TypeUnion) -> bool
         ensures { result ≡ is_below (task_of self.now) (union_of types.now) id.0 }
     {
@@ -182,7 +182,7 @@ impl Task {
         Some(PredicateId(number))
     }
 
-    /// The function of this name, which is given in lower case: its number stands in the place of a predicate's.
+    /// The function of this name, which is given in lower case: its number is in the place of a predicate's.
     pub fn function_named(&self, folded: &[u8]) -> Option<PredicateId>
         ensures { option_map predicate_id_of result ≡ position (is_same folded.now) (map (λ p. p.name) (task_of self.now).functions) }
     {

@@ -1,4 +1,4 @@
-//! What types stand below.
+//! What types are below.
 ghost use Rattle.std.specs.Prelude.{◌≡◌, map};
 ghost use Rattle.std.specs.List.{list_all};
 ghost use Rattle.task.specs.TaskParts.{type_entry_of, type_of, union_of};
@@ -19,14 +19,14 @@ pub fn supertypes(types: &IndexMap<Vec<u8>, Vec<TypeId>>, id: TypeId) -> &[TypeI
     }
 }
 
-/// Whether the type is one of these or stands below one of them.
+/// Whether the type is one of these or is below one of them.
 pub fn is_below(types: &IndexMap<Vec<u8>, Vec<TypeId>>, wanted: &TypeUnion, id: TypeId) -> bool
     ensures { result ≡ is_below_in (map type_entry_of types.now.entries) (union_of wanted.now) id.0 }
 {
     supertypes(types, id).iter().any(|above| wanted.has(*above))
 }
 
-/// Whether each of some types is one of these or stands below one of them.
+/// Whether each of some types is one of these or is below one of them.
 pub fn all_below(
     types: &IndexMap<Vec<u8>, Vec<TypeId>>,
     wanted: &TypeUnion,

@@ -36,7 +36,7 @@ pub found_step : {X : Type 0} (F : X → List TypingFault) (xs : List X) (i : �
 found_step F xs i x l is least new whole finds h =
     ap (λ o. found o (flat_map F (drop (i + 1) xs))) (finds ∙ ap (λ y. found least (F y)) is) ∙ sym (found_more F least xs i x l) ∙ h
 
--- the same, told by the place of the element
+-- the same, reported by the place of the element
 pub found_at : {X : Type 0} (F : X → List TypingFault) (xs : List X) (i : ℕ) (d : X) → i < length xs
     → (least new whole : Option TypingFault) → new ≡ found least (F (get_or xs i d))
     → found least (flat_map F (drop i xs)) ≡ whole → found new (flat_map F (drop (i + 1) xs)) ≡ whole

@@ -3,7 +3,7 @@ pub mod Lists
 pub mod Tables
 pub mod Found
 pub mod Trees
-pub mod Tells
+pub mod Reports
 pub mod Empty
 pub mod Declared
 pub mod Arguments

@@ -12,7 +12,7 @@ pub same_more : {X Z : Type 0} (z : Z) (xs : List X) (i : ℕ) → i < length xs
 same_more z [] i l = absurd (omega (arith, l))
 same_more z (x ∷ xs) i l = map_more (λ _. z) (x ∷ xs) i x l
 
--- some element passes where the first that does stands within the list
+-- some element passes where the first that does is within the list
 pub list_any-position : {X : Type 0} (p : X → Bool) (xs : List X) → list_any p xs ≡ nat_lt (position_or_len p xs) (length xs)
 list_any-position p [] = refl
 list_any-position p (x ∷ xs) = by (p x) (list_any-position p xs)

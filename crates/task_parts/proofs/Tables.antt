@@ -18,15 +18,15 @@ pub use Rattle.task.proofs.Tables.{key_is, keys_in-named, named_at}
 use Rattle.task_parts.proofs.Lists.{position_or_len-map, position_or_len-le, list_any-map, position-found, position-map, position-missing}
 
 -- the number that a name gets by a look-up, and whether it is known
-pub told_of_place : (name : tree.Name) (q : List ℕ) → q ≡ folded name → (keys : List (Vec ℕ)) (count : ℕ) → count ≡ length keys
+pub reported_of_place : (name : tree.Name) (q : List ℕ) → q ≡ folded name → (keys : List (Vec ℕ)) (count : ℕ) → count ≡ length keys
     → (place : Option ℕ) → place ≡ position (key_is q) keys
     → (option_map_or (λ n. n) place count ≡ number_in (names_in keys) name) × (is_some place ≡ is_known (names_in keys) name)
-told_of_place name q is keys count all (Some i) e =
+reported_of_place name q is keys count all (Some i) e =
     let h = position-found (key_is q) keys i e in (
       h.0 ∙ sym (position_or_len-map (is_same q) (λ key. key.items) keys) ∙ ap (λ r. position_or_len (is_same r) (names_in keys)) is,
       sym h.1 ∙ sym (list_any-map (is_same q) (λ key. key.items) keys) ∙ ap (λ r. list_any (is_same r) (names_in keys)) is,
     )
-told_of_place name q is keys count all None e =
+reported_of_place name q is keys count all None e =
     let h = position-missing (key_is q) keys e in (
       all ∙ h.0 ∙ sym (position_or_len-map (is_same q) (λ key. key.items) keys) ∙ ap (λ r. position_or_len (is_same r) (names_in keys)) is,
       sym h.1 ∙ sym (list_any-map (is_same q) (λ key. key.items) keys) ∙ ap (λ r. list_any (is_same r) (names_in keys)) is,
@@ -36,12 +36,12 @@ pub number_in-le : (keys : List (Vec ℕ)) (name : tree.Name) → number_in (nam
 number_in-le keys name = omega (arith, position_or_len-le (is_same (folded name)) (names_in keys), length-map keys (λ (k : Vec ℕ). k.items))
 
 -- the same of a table whose entries show the names of their keys
-pub told_of_entry : {V S : Type 0} (shown : Vec ℕ × V → S) (label : S → task.Name) (named : (e : Vec ℕ × V) → label (shown e) ≡ e.0.items)
+pub reported_of_entry : {V S : Type 0} (shown : Vec ℕ × V → S) (label : S → task.Name) (named : (e : Vec ℕ × V) → label (shown e) ≡ e.0.items)
     → (name : tree.Name) (q : List ℕ) → q ≡ folded name → (entries : List (Vec ℕ × V)) (count : ℕ) → count ≡ length entries
     → (place : Option ℕ) → place ≡ position (key_is q) (keys_of entries)
     → (option_map_or (λ n. n) place count ≡ number_in (map label (map shown entries)) name) × (is_some place ≡ is_known (map label (map shown entries)) name)
-told_of_entry shown label named name q is entries count all place e =
-    let h = told_of_place name q is (keys_of entries) count (all ∙ sym (length-map entries (λ e. e.0))) place e in (
+reported_of_entry shown label named name q is entries count all place e =
+    let h = reported_of_place name q is (keys_of entries) count (all ∙ sym (length-map entries (λ e. e.0))) place e in (
       h.0 ∙ ap (λ ks. number_in ks name) (keys_in-named shown label named entries),
       h.1 ∙ ap (λ ks. is_known ks name) (keys_in-named shown label named entries),
     )

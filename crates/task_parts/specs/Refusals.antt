@@ -1,4 +1,4 @@
--- The faults that typing tells, in the model's terms.
+-- The faults that typing reports, in the model's terms.
 use Rattle.std.specs.Prelude.{List}
 use Rattle.faults.specs.Fault.{number_of}
 use Rattle.syntax_tree.specs.Tree.{file_of}
@@ -7,7 +7,7 @@ use Rattle.faults.specs.declared.refused.Refused.{Refused}
 use Rattle.faults.specs.declared.refused.Refused.TheVariants.{At, NoMemory}
 use Rattle.model.specs.Typing.{TypingFault, IsLeastOf}
 
--- what a refusal tells
+-- what a refusal reports
 abbrev pub refusal_of : TaskRefusal → TypingFault
 refusal_of r = record {
   file = file_of r.file;
@@ -17,7 +17,7 @@ refusal_of r = record {
 abbrev pub TaskFault : Type 0
 TaskFault = Refused TaskRefusal
 
--- the least of these faults is told; want of memory says nothing of them
-abbrev pub TellsLeastOf : List TypingFault → TaskFault → Type 0
-TellsLeastOf faults NoMemory = Unit {0}
-TellsLeastOf faults (At r) = IsLeastOf faults (refusal_of r)
+-- the least of these faults is reported; running out of memory says nothing of them
+abbrev pub ReportsLeastOf : List TypingFault → TaskFault → Type 0
+ReportsLeastOf faults NoMemory = Unit {0}
+ReportsLeastOf faults (At r) = IsLeastOf faults (refusal_of r)

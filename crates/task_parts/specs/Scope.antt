@@ -30,7 +30,7 @@ known_of s = record {
   objects = map object_entry_of s.objects.now.entries;
 }
 
--- the variables that were in scope stand first among those that are
+-- the variables that were in scope are first among those that are
 abbrev pub BeginsWith : List (Vec ℕ × TypeUnion) → List (Vec ℕ × TypeUnion) → Type 0
 BeginsWith before after = (more : List (Vec ℕ × TypeUnion)) × (after ≡ before ++ more)
 

@@ -18,11 +18,11 @@ earlier (Some least) f = if typing.is_before f least then Some f else Some least
 abbrev pub found : Option typing.TypingFault → List typing.TypingFault → Option typing.TypingFault
 found before faults = fold earlier before faults
 
--- the fault is told that was found; want of memory says nothing of it
-abbrev pub TellsFound : Option typing.TypingFault → TaskFault → Type 0
-TellsFound least NoMemory = Unit {0}
-TellsFound None (At r) = ⊥
-TellsFound (Some f) (At r) = refusal_of r ≡ f
+-- the fault is reported that was found; running out of memory says nothing of it
+abbrev pub ReportsFound : Option typing.TypingFault → TaskFault → Type 0
+ReportsFound least NoMemory = Unit {0}
+ReportsFound None (At r) = ⊥
+ReportsFound (Some f) (At r) = refusal_of r ≡ f
 
 -- the walk went on to have found these faults too
 abbrev pub Finds : Walk → Walk → List typing.TypingFault → Type 0

@@ -3,7 +3,7 @@ ghost use Rattle.std.specs.Prelude.{◌≡◌, ◌≤◌, [], ◌∷◌, ◌++�
 ghost use Rattle.task_parts.specs.TypedLists.{declared_of};
 ghost use Rattle.task_parts.specs.Scope.{keys_in, IsAdded};
 ghost use Rattle.syntax_tree.specs.Tree.{file_of};
-ghost use Rattle.task_parts.specs.Refusals.{TellsLeastOf};
+ghost use Rattle.task_parts.specs.Refusals.{ReportsLeastOf};
 ghost use Rattle.task_parts.specs.Walk.{Finds};
 ghost use Rattle.syntax_tree.specs.Tree as read;
 ghost use Rattle.model.specs.Trees.{problem_file};
@@ -111,7 +111,7 @@ fn checked_names(
     ensures ok { IfOk result (λ m.
         (typing.domain_name_faults (read.domain_of domain.now) (read.problem_of problem.now) ++ typing.type_declaration_faults (read.domain_of domain.now) ≡ [])
         × ((keys_in m.entries ≡ typing.type_names (read.domain_of domain.now)) × (length m.entries ≤ 4096))) }
-    ensures err { IfErr result (TellsLeastOf (typing.domain_name_faults (read.domain_of domain.now) (read.problem_of problem.now) ++ typing.type_declaration_faults (read.domain_of domain.now))) }
+    ensures err { IfErr result (ReportsLeastOf (typing.domain_name_faults (read.domain_of domain.now) (read.problem_of problem.now) ++ typing.type_declaration_faults (read.domain_of domain.now))) }
 {
     let mut walk = Walk::new(alloc);
     compare(&mut walk, &domain.name, &problem.domain);
@@ -138,7 +138,7 @@ pub fn names(
     ensures ok { IfOk result (λ t.
         (typing.domain_name_faults (read.domain_of domain.now) (read.problem_of problem.now) ++ typing.type_declaration_faults (read.domain_of domain.now) ≡ [])
         × (keys_in t.by_name.entries ≡ typing.type_names (read.domain_of domain.now))) }
-    ensures err { IfErr result (TellsLeastOf (typing.domain_name_faults (read.domain_of domain.now) (read.problem_of problem.now) ++ typing.type_declaration_faults (read.domain_of domain.now))) }
+    ensures err { IfErr result (ReportsLeastOf (typing.domain_name_faults (read.domain_of domain.now) (read.problem_of problem.now) ++ typing.type_declaration_faults (read.domain_of domain.now))) }
 {
     let by_name = checked_names(alloc, domain, problem, declared)?;
     Ok(TypeTable { by_name })

@@ -6,7 +6,7 @@ ghost use Rattle.model.specs.Typing.{is_before};
 use faults::{Code, Refused, Span};
 use syntax_tree::TaskFile;
 
-/// A pair of a domain and a problem is not well-typed: this file is refused by this code, for what stands at this place
+/// A pair of a domain and a problem is not well-typed: this file is refused by this code, for what is at this place
 /// of it.
 #[derive(Clone, Copy, Debug, PartialEq, Eq)]
 pub struct TaskRefusal {
@@ -14,7 +14,7 @@ pub struct TaskRefusal {
     pub file: TaskFile,
     /// What is wrong.
     pub code: Code,
-    /// Where it stands.
+    /// Where it is.
     pub span: Span,
 }
 
@@ -22,7 +22,7 @@ pub struct TaskRefusal {
 pub type TaskFault = Refused<TaskRefusal>;
 
 impl TaskRefusal {
-    /// Whether this refusal is told rather than the other: the domain comes before the problem, then the least start,
+    /// Whether this refusal is reported rather than the other: the domain comes before the problem, then the least start,
     /// and then the lower number.
     pub(crate) fn is_before(&self, other: &TaskRefusal) -> bool
         ensures { result ≡ is_before (refusal_of self.now) (refusal_of other.now) }

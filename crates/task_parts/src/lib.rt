@@ -1,4 +1,4 @@
-//! The names in formulas become numbers: the names of types, the variables in scope, and what may be named where an atom stands.
+//! The names in formulas become numbers: the names of types, the variables in scope, and what may be named where an atom is.
 //! The least fault is kept on the way.
 #![tactic(auto)]
 

@@ -35,9 +35,9 @@ pub struct Globals<'g> {
     ghost few: { length objects.now.entries ≤ 65535 },
 }
 
-/// What may be named where an atom of a file stands.
+/// What may be named where an atom of a file is.
 ///
-/// A name that is not known gets the number after the last: the fault is told, and no task is made of it.
+/// A name that is not known gets the number after the last: the fault is reported, and no task is made of it.
 #[derive(Drop)]
 pub struct Scope<'s> {
     /// The file.
@@ -99,7 +99,7 @@ impl Scope<'_> {
         declares_cost(self.functions)
     }
 
-    /// What may be named in a function of terms or objects: the functions stand in the place of the predicates.
+    /// What may be named in a function of terms or objects: the functions are in the place of the predicates.
     pub fn in_function(&self) -> Scope<'_>
         ensures file { result.file ≡ self.now.file }
         ensures known { known_of result ≡ in_function (known_of self.now) }
@@ -114,7 +114,7 @@ impl Scope<'_> {
         }
     }
 
-    /// The predicate of this name, which stands with this count of terms.
+    /// The predicate of this name, which is with this count of terms.
     fn predicate(
         &self,
         walk: &mut Walk,
@@ -175,7 +175,7 @@ impl Scope<'_> {
         Ok(ObjectId(number as u32))
     }
 
-    /// The variable or the object that stands in an atom or an equality.
+    /// The variable or the object that is in an atom or an equality.
     pub(crate) fn term(&self, walk: &mut Walk, term: &tree::Term<'_>) -> Result<Term, NoMemory>
         ensures value { IfOk result (λ t. parts.term_of t ≡ term_in (known_of self.now) (read.term_of term.now)) }
         ensures finds { OnOk result (Finds walk.old walk.new (term_faults (file_of self.now.file) (known_of self.now) (read.term_of term.now))) }

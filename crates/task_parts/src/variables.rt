@@ -15,7 +15,7 @@ use indexmap::IndexMap;
 use std::alloc::Global;
 use task::{MAX_VARIABLES, TypeUnion};
 
-/// The variables that stand in the list before are refused.
+/// The variables that are in the list before are refused.
 fn check_repeated(alloc: Global, walk: &mut Walk, declared: &[Declared<'_>]) -> Result<(), NoMemory>
     ensures { OnOk result (Finds walk.old walk.new (typing.refused 16 (typing.repeated (typing.words_of (map declared_of declared.now))))) }
 {

@@ -29,7 +29,7 @@ pub(crate) fn fold(room: &mut Vec<u8>, name: &Name<'_>) -> Result<(), NoMemory>
 }
 
 impl Walk {
-    ghost use Rattle.task_parts.specs.Walk.{least_of, found, TellsFound};
+    ghost use Rattle.task_parts.specs.Walk.{least_of, found, ReportsFound};
     ghost use Rattle.syntax_tree.specs.Tree.{file_of};
     ghost use Rattle.faults.specs.Fault.{number_of};
 
@@ -85,7 +85,7 @@ impl Walk {
     /// The least fault that was found, where one was.
     pub fn finish<T: Drop>(self, made: T) -> Result<T, TaskFault>
         ensures none { IfOk result (λ t. (t ≡ made) × (least_of self ≡ None)) }
-        ensures some { IfErr result (TellsFound (least_of self)) }
+        ensures some { IfErr result (ReportsFound (least_of self)) }
     {
         match self.least {
             None => Ok(made),

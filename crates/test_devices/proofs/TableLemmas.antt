@@ -1,4 +1,4 @@
--- Where the first file of a name stands in a table, and what a table holds once a file was put into it.
+-- Where the first file of a name is in a table, and what a table holds once a file was put into it.
 use Rattle.std.proofs.Common.{◌≡◌, ◌≢◌, ℕ, zero, suc, ◌+◌, ◌<◌, ◌≤◌, nat_lt, Bool, true, false, not, cond, List, [], ◌∷◌, ◌++◌, drop, set, length, Option, None, Some, refl, sym, ◌∙◌, ap, subst, arith, if◌then◌else◌}
 use Rattle.std.proofs.lemmas.Bool.Decides.{nat_tests}
 use Rattle.std.proofs.lemmas.Slice.Eq.{bytes_eq-Decides}
@@ -34,7 +34,7 @@ contents_past (x ∷ rest) zero name h = absurd (omega (arith, h))
 contents_past (x ∷ rest) (suc i) name h = contents_past rest i name (omega (arith, h))
 
 -- What the entries hold where the first file of this name is written anew, or where a file of a name that none has
--- stands at their end.
+-- is at their end.
 one_after : (n : ℕ) → 1 + n ≡ suc n
 one_after n = omega arith
 

@@ -47,7 +47,7 @@ impl Source for Endless {
     fn read(&mut self, into: &mut [u8]) -> Result<usize, DeviceFault>
         ensures bound { ReadsAtMost result into.new }
         ensures unchanged { OnErr result (into.new ≡ into.old) }
-        ensures gives { IfOk result (λ count. IfSome (⟦<Endless as Source>⟧.read_count self.old (length into.old)) (λ told. count ≡ told)) }
+        ensures gives { IfOk result (λ count. IfSome (⟦<Endless as Source>⟧.read_count self.old (length into.old)) (λ reported. count ≡ reported)) }
         ensures bytes { ReadConsumes (⟦<Endless as Source>⟧.remaining self.old) (⟦<Endless as Source>⟧.remaining self.new) result into.new }
         ensures failures { Counts (⟦<Endless as Source>⟧.failures self.old) (⟦<Endless as Source>⟧.failures self.new) result }
         ensures count { result ≡ Ok (min (length into.old) (length (left self.old))) }

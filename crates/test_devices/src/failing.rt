@@ -101,7 +101,7 @@ impl<S: Source> Source for FailsAt<S> {
     fn read(&mut self, into: &mut [u8]) -> Result<usize, DeviceFault>
         ensures bound { ReadsAtMost result into.new }
         ensures unchanged { OnErr result (into.new ≡ into.old) }
-        ensures gives { IfOk result (λ count. IfSome (S.read_count self.old.inner (length into.old)) (λ told. count ≡ told)) }
+        ensures gives { IfOk result (λ count. IfSome (S.read_count self.old.inner (length into.old)) (λ reported. count ≡ reported)) }
         ensures bytes { ReadConsumes (S.remaining self.old.inner) (S.remaining self.new.inner) result into.new }
         ensures failures { Counts (⟦<FailsAt<S> as Source>⟧.failures self.old) (⟦<FailsAt<S> as Source>⟧.failures self.new) result }
         ensures failing { IsTrue (⟦<FailsAt<S> as Source>⟧.is_failing self.old) → IsErr result }
@@ -140,7 +140,7 @@ impl<S: Sink> FailsAt<S> {
         }
     }
 
-    /// How often a write of it has failed. A write that is refused for want of memory has not.
+    /// How often a write of it has failed. A write that is refused for running out of memory has not.
     pub fn failed_writes(&self) -> u64
         ensures { result ≡ ⟦<FailsAt<S> as Sink>⟧.failures self.now }
     {
@@ -168,7 +168,7 @@ impl<S: Sink> Sink for FailsAt<S> {
     fn write(&mut self, piece: &[u8]) -> Result<usize, WriteFault>
         ensures bound { WritesAtMost result piece.now }
         ensures progress { 0 < length piece.now → IfOk result (λ count. 0 < count) }
-        ensures takes { IfOk result (λ count. IfSome (S.write_count self.old.inner (length piece.now)) (λ told. count ≡ told)) }
+        ensures takes { IfOk result (λ count. IfSome (S.write_count self.old.inner (length piece.now)) (λ reported. count ≡ reported)) }
         ensures bytes { WriteAppends (S.taken self.old.inner) (S.taken self.new.inner) result piece.now }
         ensures memory { result ≡ Err WriteFault.NoMemory → IsTrue S.wants_memory }
         ensures failures { CountsDevice (⟦<FailsAt<S> as Sink>⟧.failures self.old) (⟦<FailsAt<S> as Sink>⟧.failures self.new) result }

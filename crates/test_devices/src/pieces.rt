@@ -44,7 +44,7 @@ impl<S: Source> Source for InPieces<S> {
         ensures bound { ReadsAtMost result into.new }
         ensures at_most { IfOk result (λ count. count ≤ piece_length self.old) }
         ensures unchanged { OnErr result (into.new ≡ into.old) }
-        ensures gives { IfOk result (λ count. IfSome (⟦<InPieces<S> as Source>⟧.read_count self.old (length into.old)) (λ told. count ≡ told)) }
+        ensures gives { IfOk result (λ count. IfSome (⟦<InPieces<S> as Source>⟧.read_count self.old (length into.old)) (λ reported. count ≡ reported)) }
         ensures bytes { ReadConsumes (S.remaining self.old.inner) (S.remaining self.new.inner) result into.new }
         ensures failing { IsTrue (S.is_failing self.old.inner) → IsErr result }
         ensures failures { Counts (S.failures self.old.inner) (S.failures self.new.inner) result }
@@ -76,7 +76,7 @@ impl<S: Sink> Sink for InPieces<S> {
         ensures bound { WritesAtMost result piece.now }
         ensures at_most { IfOk result (λ count. count ≤ piece_length self.old) }
         ensures progress { 0 < length piece.now → IfOk result (λ count. 0 < count) }
-        ensures takes { IfOk result (λ count. IfSome (⟦<InPieces<S> as Sink>⟧.write_count self.old (length piece.now)) (λ told. count ≡ told)) }
+        ensures takes { IfOk result (λ count. IfSome (⟦<InPieces<S> as Sink>⟧.write_count self.old (length piece.now)) (λ reported. count ≡ reported)) }
         ensures bytes { WriteAppends (S.taken self.old.inner) (S.taken self.new.inner) result piece.now }
         ensures memory { result ≡ Err WriteFault.NoMemory → IsTrue S.wants_memory }
         ensures failures { CountsDevice (S.failures self.old.inner) (S.failures self.new.inner) result }

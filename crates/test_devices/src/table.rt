@@ -27,7 +27,7 @@ pub struct Table {
     failures: u64,
 }
 
-/// A file of the table that is being written: it stands in the table once it is closed.
+/// A file of the table that is being written: it is in the table once it is closed.
 #[derive(Drop)]
 pub struct Draft {
     name: String,
@@ -108,7 +108,7 @@ impl Table {
         Ok(())
     }
 
-    /// Where the first file of this name stands.
+    /// Where the first file of this name is.
     fn place_of(&self, name: &str) -> Option<usize>
         ensures { result ≡ position (is_named name.now) self.now.entries.items }
     {

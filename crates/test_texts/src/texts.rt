@@ -68,7 +68,7 @@ pub const PAIRS: Texts = [
  (:goal (exists (?s) (and (on ?s) (forall (?t) (or (= ?s ?t) (not (on ?t))))))))",
 ];
 
-/// Two towers of two blocks, of which `b` stands in the way of `c`: `b` is moved twice, `c` and `a` once.
+/// Two towers of two blocks, of which `b` is in the way of `c`: `b` is moved twice, `c` and `a` once.
 pub const FOUR_BLOCKS: Texts = [
     "(define (domain blocks)
  (:predicates (on ?x ?y) (on-table ?x) (clear ?x) (holding ?x) (hand-empty))

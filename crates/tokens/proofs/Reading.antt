@@ -1,7 +1,7 @@
--- What the scanner reads of a list of parts, from what stands before them, and its steps.
+-- What the scanner reads of a list of parts, from what comes before them, and its steps.
 use Rattle.std.proofs.Common.{◌≡◌, ℕ, ◌+◌, ◌-◌, Bool, true, cond, List, [], ◌∷◌, ◌++◌, length, get_or, take, drop, Option, Some, None, refl, sym, ap, ◌∙◌, nat_lt}
 use Rattle.std.specs.Option.{option_to_list}
-use Rattle.model.specs.Fault as told
+use Rattle.model.specs.Fault as reported
 use Rattle.model.specs.Words.{Form, blank, comment, opening, closing, run, stray, form_of, Part, form, bytes, size, Word, kind_by, kind_of_part, open_with}
 use Rattle.tokens.specs.Scanner.{fault_by, fault_at, word_at, closed_with}
 use Rattle.tokens.proofs.Cut.{cut, PartBetween}
@@ -11,12 +11,12 @@ or_else None other = other
 or_else (Some x) other = Some x
 
 -- the fault of an end at `start` where so many lists are open
-abbrev pub fault_of_end : ℕ → ℕ → Option told.Fault
+abbrev pub fault_of_end : ℕ → ℕ → Option reported.Fault
 fault_of_end start open_lists =
     cond (nat_lt 0 open_lists) (Some (record { code = 3; span = record { start = start; end = start } })) None
 
 -- the first fault of the parts from `start` on
-abbrev pub first_fault : ℕ → ℕ → Bool → List Part → Option told.Fault
+abbrev pub first_fault : ℕ → ℕ → Bool → List Part → Option reported.Fault
 first_fault start open_lists has_closed [] = fault_of_end start open_lists
 first_fault start open_lists has_closed (part ∷ parts) =
     or_else (fault_at start (size part) (fault_by open_lists has_closed (form part) (bytes part)))
@@ -53,8 +53,8 @@ module _ (text slice : List ℕ) (start end n : ℕ) (c : Bool) (f : Form) (betw
       ∙ ap (λ k. first_fault k (open_with n (form between.part)) (closed_with n c (form between.part)) (cut (drop end text))) between.size_is
       ∙ ap (λ g. first_fault end (open_with n g) (closed_with n c g) (cut (drop end text))) same_form
 
-  pub fault_told : (g : told.Fault) → Some g ≡ fault_at start (length slice) (fault_by n c f slice) → first_fault start n c (cut (drop start text)) ≡ Some g
-  fault_told g is =
+  pub fault_reported : (g : reported.Fault) → Some g ≡ fault_at start (length slice) (fault_by n c f slice) → first_fault start n c (cut (drop start text)) ≡ Some g
+  fault_reported g is =
       ap (first_fault start n c) between.cut_is
       ∙ ap (λ o. or_else o (first_fault (start + size between.part) (open_with n (form between.part)) (closed_with n c (form between.part)) (cut (drop end text))))
       (ap (λ g. fault_at start (size between.part) (fault_by n c g (bytes between.part))) same_form ∙ ap (λ b. fault_at start (length b) (fault_by n c f b)) same_bytes ∙ sym is)

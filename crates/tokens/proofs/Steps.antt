@@ -4,12 +4,12 @@ use Rattle.std.specs.Option.{option_to_list, option_map}
 use Rattle.std.specs.List.{prefix_len}
 use Rattle.std.proofs.lemmas.List.{append-nil, drop_all, map-append}
 use Rattle.std.proofs.lemmas.Bool.{cond-true, lt-ltb}
-use Rattle.model.specs.Fault as told
-use Rattle.model.specs.Words.{Form, form_of, goes_on, Word, kind_by, open_with, longest_text, IsTold, Reads, ReadsAs}
+use Rattle.model.specs.Fault as reported
+use Rattle.model.specs.Words.{Form, form_of, goes_on, Word, kind_by, open_with, longest_text, IsReported, Reads, ReadsAs}
 use Rattle.tokens.specs.Scanner.{fault_by, fault_at, word_at, closed_with}
 use Rattle.tokens.proofs.Cut.{cut, PartBetween, part_between}
-use Rattle.tokens.proofs.Reading.{first_fault, fault_of_end, words_from, fault_step, fault_told, words_step}
-use Rattle.tokens.proofs.Faults.{first_is_told}
+use Rattle.tokens.proofs.Reading.{first_fault, fault_of_end, words_from, fault_step, fault_reported, words_step}
+use Rattle.tokens.proofs.Faults.{first_is_reported}
 use Rattle.tokens.proofs.Words.{reads_as, read_has_no_fault}
 
 -- what the loop keeps
@@ -24,9 +24,9 @@ module _ (text : List ℕ) (start end n : ℕ) (c : Bool) (f : Form) (inside : s
   part_here : PartBetween text start end
   part_here = part_between text start end inside (longest ∙ ap (λ g. start + 1 + prefix_len (goes_on g) (drop (start + 1) text)) f_is)
 
-  pub fault_here : (o : Option told.Fault) → o ≡ fault_at start (length (take (end - start) (drop start text))) (fault_by n c f (take (end - start) (drop start text)))
-      → (g : told.Fault) → o ≡ Some g → first_fault start n c (cut (drop start text)) ≡ Some g
-  fault_here o told_is g e = fault_told text (take (end - start) (drop start text)) start end n c f part_here f_is refl g (sym e ∙ told_is)
+  pub fault_here : (o : Option reported.Fault) → o ≡ fault_at start (length (take (end - start) (drop start text))) (fault_by n c f (take (end - start) (drop start text)))
+      → (g : reported.Fault) → o ≡ Some g → first_fault start n c (cut (drop start text)) ≡ Some g
+  fault_here o reported_is g e = fault_reported text (take (end - start) (drop start text)) start end n c f part_here f_is refl g (sym e ∙ reported_is)
 
   pub scanned_more : (words more : List Word) → Scanned text start n c words
       → fault_by n c f (take (end - start) (drop start text)) ≡ None
@@ -43,11 +43,11 @@ module _ (text : List ℕ) (start end n : ℕ) (c : Bool) (f : Form) (inside : s
 -- a fault that is found
 module _ (text : List ℕ) (start n : ℕ) (c : Bool) (short : length text ≤ longest_text)
     (faults : first_fault start n c (cut (drop start text)) ≡ first_fault 0 0 false (cut text)) where
-  pub told_here : (o : Option told.Fault) → ((g : told.Fault) → o ≡ Some g → first_fault start n c (cut (drop start text)) ≡ Some g) → IfSome o (IsTold text)
-  told_here None found = tt
-  told_here (Some g) found = first_is_told text g short (sym faults ∙ found g refl)
+  pub reported_here : (o : Option reported.Fault) → ((g : reported.Fault) → o ≡ Some g → first_fault start n c (cut (drop start text)) ≡ Some g) → IfSome o (IsReported text)
+  reported_here None found = tt
+  reported_here (Some g) found = first_is_reported text g short (sym faults ∙ found g refl)
 
-  pub none_if_read : (o : Option told.Fault) → ((g : told.Fault) → o ≡ Some g → first_fault start n c (cut (drop start text)) ≡ Some g) → Reads text → o ≡ None
+  pub none_if_read : (o : Option reported.Fault) → ((g : reported.Fault) → o ≡ Some g → first_fault start n c (cut (drop start text)) ≡ Some g) → Reads text → o ≡ None
   none_if_read None found reads = refl
   none_if_read (Some g) found (words, reads) =
       let impossible : Some g ≡ None = sym (found g refl) ∙ faults ∙ read_has_no_fault text words reads in
@@ -58,12 +58,12 @@ module _ (text : List ℕ) (start n : ℕ) (c : Bool) (at_end : start ≡ length
   nothing_left : drop start text ≡ []
   nothing_left = drop_all start text (omega arith)
 
-  pub fault_at_end : 0 < n → (o : Option told.Fault) → o ≡ Some (record { code = 3; span = record { start = length text; end = length text } })
-      → (g : told.Fault) → o ≡ Some g → first_fault start n c (cut (drop start text)) ≡ Some g
+  pub fault_at_end : 0 < n → (o : Option reported.Fault) → o ≡ Some (record { code = 3; span = record { start = length text; end = length text } })
+      → (g : reported.Fault) → o ≡ Some g → first_fault start n c (cut (drop start text)) ≡ Some g
   fault_at_end left o o_is g e =
       ap (λ rest. first_fault start n c (cut rest)) nothing_left
-      ∙ cond-true (ltb 0 n) (Some (let h : told.Fault = record { code = 3; span = record { start = start; end = start } } in h)) None (lt-ltb 0 n left)
-      ∙ ap (λ k. let h : told.Fault = record { code = 3; span = record { start = k; end = k } } in Some h) at_end
+      ∙ cond-true (ltb 0 n) (Some (let h : reported.Fault = record { code = 3; span = record { start = start; end = start } } in h)) None (lt-ltb 0 n left)
+      ∙ ap (λ k. let h : reported.Fault = record { code = 3; span = record { start = k; end = k } } in Some h) at_end
       ∙ sym o_is ∙ e
 
   pub read_all : (words : List Word) → length text ≤ longest_text → n ≡ 0 → Scanned text start n c words → ReadsAs text words

@@ -2,7 +2,7 @@
 use Rattle.std.proofs.Common.{◌≡◌, ℕ, zero, suc, ◌+◌, ◌-◌, ◌<◌, ◌≤◌, ◌⊎◌, Bool, true, false, cond, IsTrue, List, [], ◌∷◌, ◌++◌, length, Option, Some, None, sym, refl, ap, ◌∙◌, subst, eqb, ltb, inl, inr, ⊎_elim, arith}
 use Rattle.std.specs.Option.{option_to_list}
 use Rattle.std.proofs.lemmas.Bool.{cases_eq, eq-eqb, ne_eqb, lt-ltb, le-ltb, cases_lt, cases_Bool, cond-true, cond-false}
-use Rattle.model.specs.Fault as told
+use Rattle.model.specs.Fault as reported
 use Rattle.model.specs.Words.{Form, blank, comment, opening, closing, run, stray, Part, form, bytes, size, Kind, name, variable, keyword, number, dash, equals, opens, closes, Word, kind_by, kind_of_part, kind_of_run, is_name, is_marked_name, is_number, is_only, open_with, longest_text, is_gap, IsWordAt, AreGapsAndWords, AreNested, kinds_of, ReadsAs}
 use Rattle.tokens.specs.Scanner.{fault_by, fault_of_run, fault_of_word, fault_at, word_at, closed_with}
 use Rattle.tokens.proofs.Cut.{cut, cut_unique, cut_parts}
@@ -111,7 +111,7 @@ sound_part n c run text e = by_kind (kind_of_run text) refl e
     )
 
 -- no fault: none at this part, and none later
-no_fault : (o : Option ℕ) (start size : ℕ) (rest : Option told.Fault) → or_else (fault_at start size o) rest ≡ None → (o ≡ None) × (rest ≡ None)
+no_fault : (o : Option ℕ) (start size : ℕ) (rest : Option reported.Fault) → or_else (fault_at start size o) rest ≡ None → (o ≡ None) × (rest ≡ None)
 no_fault None start size rest e = (refl, e)
 no_fault (Some k) start size rest e = absurd (cc)
 
@@ -178,7 +178,7 @@ nested_part n run text start words shallow e inner over = by_kind (kind_of_run t
 
 nested : (start n : ℕ) (c : Bool) (parts : List Part) → c ≡ false → n ≤ 64 → first_fault start n c parts ≡ None → AreNested n (kinds_of (words_from start parts))
 nested start n c [] is_open shallow e = ⊎_elim
-    (λ (h : 0 < n). absurd (let u = cond-true (ltb 0 n) (Some (let g : told.Fault = record { code = 3; span = record { start = start; end = start } } in g)) None (lt-ltb 0 n h) in cc))
+    (λ (h : 0 < n). absurd (let u = cond-true (ltb 0 n) (Some (let g : reported.Fault = record { code = 3; span = record { start = start; end = start } } in g)) None (lt-ltb 0 n h) in cc))
     (λ (h : n ≤ 0). let none : n ≡ 0 = omega arith in none) (cases_lt 0 n)
 nested start n c (part ∷ parts) is_open shallow e =
     let e' = subst (λ b. first_fault start n b (part ∷ parts) ≡ None) is_open e in

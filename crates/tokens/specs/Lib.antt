@@ -2,4 +2,4 @@ pub mod Form
 pub mod Cut
 pub mod Word
 pub mod Scanner
-pub mod Told
+pub mod Reported

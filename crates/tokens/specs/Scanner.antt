@@ -1,7 +1,7 @@
--- What the scanner tells of one part, from what stands before it: how many lists are open, and whether the first has
+-- What the scanner says of one part, from what comes before it: how many lists are open, and whether the first has
 -- closed.
 use Rattle.std.specs.Prelude.{ℕ, ◌+◌, Bool, ◌||◌, ◌==◌, nat_lt, if◌then◌else◌, List, length, Option, None, Some}
-use Rattle.model.specs.Fault as told
+use Rattle.model.specs.Fault as reported
 use Rattle.model.specs.Words.{Form, blank, comment, opening, closing, run, stray, Kind, Word, kind_of_run, longest_run, deepest}
 
 -- 6 where the first list has closed
@@ -32,6 +32,6 @@ word_at start text None = None
 word_at start text (Some kind) = Some (record { kind = kind; text = text; start = start })
 
 -- the fault of a part of so many bytes that begins at `start`, if it has one
-abbrev pub fault_at : ℕ → ℕ → Option ℕ → Option told.Fault
+abbrev pub fault_at : ℕ → ℕ → Option ℕ → Option reported.Fault
 fault_at start size None = None
 fault_at start size (Some code) = Some (record { code = code; span = record { start = start; end = start + size } })

@@ -2,7 +2,7 @@
 ghost use Rattle.std.specs.Prelude.{◌≡◌, ℕ, List};
 ghost use Rattle.model.specs.Fault.{Fault};
 ghost use Rattle.model.specs.Words as model;
-ghost use Rattle.model.specs.Words.{ReadsAs, IsTold, AreInOrder};
+ghost use Rattle.model.specs.Words.{ReadsAs, IsReported, AreInOrder};
 
 /// A text reads as at most one list of words. They are slices of it, in its order, and do not overlap.
 pub fn one_reading()
@@ -12,10 +12,10 @@ pub fn one_reading()
         → ReadsAs text words → AreInOrder 0 text words }
 {}
 
-/// Of a text at most one fault is told, and none of a text that reads as words.
+/// Of a text at most one fault is reported, and none of a text that reads as words.
 pub fn one_fault()
     ensures one { (text : List ℕ) (fault other : Fault)
-        → IsTold text fault → IsTold text other → fault ≡ other }
+        → IsReported text fault → IsReported text other → fault ≡ other }
     ensures none { (text : List ℕ) (words : List model.Word) (fault : Fault)
-        → ReadsAs text words → IsTold text fault → ⊥ }
+        → ReadsAs text words → IsReported text fault → ⊥ }
 {}

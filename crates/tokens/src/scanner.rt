@@ -2,9 +2,9 @@
 ghost use Rattle.std.specs.Prelude.{◌≡◌, ◌+◌, ◌<◌, ◌≤◌, ◌^◌, false, length, map, IfOk, IfErr, IsErrAnd, IfSome, Some, None};
 ghost use Rattle.std.specs.Option.{option_map};
 ghost use Rattle.faults.specs.Fault.{number_of};
-ghost use Rattle.tokens.specs.Told.{told_by};
+ghost use Rattle.tokens.specs.Reported.{reported_by};
 ghost use Rattle.tokens.specs.Word.{word_of};
-ghost use Rattle.model.specs.Words.{longest_text, ReadsAs, Reads, IsTold};
+ghost use Rattle.model.specs.Words.{longest_text, ReadsAs, Reads, IsReported};
 
 use crate::form::{Form, part_end};
 use crate::run::kind_of_run;
@@ -29,7 +29,7 @@ const DEEPEST: usize = 64;
 /// parenthesis that closes the first list.
 ///
 /// # Errors
-/// `At` tells the first fault: `TooLong` of the whole text, from its byte 16,777,216 to its end, before all others; else
+/// `At` reports the first fault: `TooLong` of the whole text, from its byte 16,777,216 to its end, before all others; else
 /// the fault that begins first, and of those that begin at one byte the one with the lowest number.
 /// - `BadByte`: a byte that is neither blank nor printable, outside comments.
 /// - `BadWord`: a run of no kind.
@@ -55,13 +55,13 @@ const DEEPEST: usize = 64;
 /// `(at a) b` is refused by `Trailing` at `7..8`, and `(at` by `Unbalanced` at `3..3`.
 pub fn scan(alloc: Global, text: &[u8]) -> Result<Vec<Word<'_>>, Fault>
     ensures words { IfOk result (λ words. ReadsAs text.now (map word_of words.items)) }
-    ensures refused { IfErr result (λ fault. IfSome (told_by fault) (IsTold text.now)) }
+    ensures refused { IfErr result (λ fault. IfSome (reported_by fault) (IsReported text.now)) }
 
-    // A text that reads as words is never refused: the only error is want of memory.
-    ensures taken { Reads text.now → IfErr result (λ fault. told_by fault ≡ None) }
+    // A text that reads as words is never refused: the only error is running out of memory.
+    ensures taken { Reads text.now → IfErr result (λ fault. reported_by fault ≡ None) }
 
-    // A text that is too long is refused for that, and never for want of memory.
-    ensures too_long { longest_text < length text.now → IsErrAnd result (λ fault. told_by fault
+    // A text that is too long is refused for that, and never for running out of memory.
+    ensures too_long { longest_text < length text.now → IsErrAnd result (λ fault. reported_by fault
         ≡ Some (record { code = 5; span = record { start = longest_text; end = length text.now } })) }
 {
     if text.len() > LONGEST_TEXT {
@@ -89,7 +89,7 @@ pub fn scan(alloc: Global, text: &[u8]) -> Result<Vec<Word<'_>>, Fault>
 }
 
 fn refusal(code: Code, start: usize, end: usize) -> Fault
-    ensures { told_by result
+    ensures { reported_by result
         ≡ Some (record { code = number_of code; span = record { start = start; end = end } }) }
 {
     Fault::At(TextRefusal {
@@ -98,7 +98,7 @@ fn refusal(code: Code, start: usize, end: usize) -> Fault
     })
 }
 
-/// What stands before a part, as far as faults go.
+/// What comes before a part, as far as faults go.
 #[derive(Clone, Copy, Debug)]
 struct Nesting {
     /// How many lists are open.
@@ -110,7 +110,7 @@ struct Nesting {
 impl Nesting {
     ghost use Rattle.tokens.specs.Form.{view};
     ghost use Rattle.faults.specs.Fault.{number_of};
-    ghost use Rattle.tokens.specs.Told.{told_by};
+    ghost use Rattle.tokens.specs.Reported.{reported_by};
     ghost use Rattle.tokens.specs.Scanner.{fault_by, closed_with, word_at, fault_at};
     ghost use Rattle.tokens.specs.Word.{kind_of, word_of};
     ghost use Rattle.model.specs.Words.{opening, closing, open_with, kind_by};
@@ -164,7 +164,7 @@ impl Nesting {
         ensures word { IfOk result (λ word.
             option_map word_of word ≡ word_at start part.now (kind_by (view form) part.now)) }
         ensures refused { IfErr result (λ fault.
-            told_by fault ≡ fault_at start (length part.now)
+            reported_by fault ≡ fault_at start (length part.now)
             (fault_by self.open_lists self.has_closed (view form) part.now)) }
     {
         match self.word_kind(form, part) {
@@ -178,7 +178,7 @@ impl Nesting {
         }
     }
 
-    /// What stands before the part that comes after one of this form.
+    /// What comes before the part that comes after one of this form.
     fn after(self, form: Form) -> Nesting
         requires opens { view form ≡ opening → self.open_lists < 64 }
         requires closes { view form ≡ closing → 0 < self.open_lists }

@@ -24,7 +24,7 @@ pub enum Kind {
     Close,
 }
 
-/// A word: its kind, its bytes as they stand in the text, and where they stand.
+/// A word: its kind, its bytes as they are in the text, and where they are.
 #[derive(Clone, Copy, Debug)]
 pub struct Word<'a> {
     pub(crate) kind: Kind,
@@ -51,7 +51,7 @@ impl<'a> Word<'a> {
         self.text
     }
 
-    /// Where the word stands in its text.
+    /// Where the word is in its text.
     pub fn span(&self) -> Span
         ensures start { result.start ≡ (word_of self.now).start }
         ensures end { result.end ≡ end_of (word_of self.now) }

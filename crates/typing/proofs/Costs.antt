@@ -43,9 +43,9 @@ cost_declared types qs =
 abbrev pub metric_faults : Bool → Option tree.Name → List TypingFault
 metric_faults has_cost metric = option_map_or (λ n. if has_cost then [] else refused_word problem_file 22 n) metric []
 
-pub metric_told : (has_cost : Bool) (lent : Option (Bor Name)) (metric : Option Name) → option_copied lent ≡ metric
+pub metric_reported : (has_cost : Bool) (lent : Option (Bor Name)) (metric : Option Name) → option_copied lent ≡ metric
     → option_map_or (λ n. if has_cost then [] else refused_word problem_file 22 (name_of n.now)) lent [] ≡ metric_faults has_cost (option_map name_of metric)
-metric_told has_cost lent metric is = by lent ∙ ap (λ o. metric_faults has_cost (option_map name_of o)) is
+metric_reported has_cost lent metric is = by lent ∙ ap (λ o. metric_faults has_cost (option_map name_of o)) is
   where
     by : (o : Option (Bor Name)) → option_map_or (λ n. if has_cost then [] else refused_word problem_file 22 (name_of n.now)) o [] ≡ metric_faults has_cost (option_map name_of (option_copied o))
     by None = refl

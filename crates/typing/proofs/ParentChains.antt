@@ -1,5 +1,5 @@
 -- Chains of parents: where no type comes back on the chain of its own parent, each chain ends in `object`, has just the
--- types that its first one descends from, and what stands above a type stands above all types below it.
+-- types that its first one descends from, and what is above a type is above all types below it.
 use Rattle.std.proofs.Common.{◌≡◌, ℕ, ◌+◌, ◌<◌, ◌≤◌, Bool, true, false, ◌||◌, ◌&&◌, List, [], ◌∷◌, length, slice_index, nat_eq, refl, ap, sym, subst, ◌∙◌, arith, zero, suc, true≢false, ◌⊎◌, inl, inr, Some, slice_get}
 use Rattle.std.specs.Prelude.{◌↔◌, Contains}
 use Rattle.std.specs.List.{list_all, IsDistinct}
@@ -66,7 +66,7 @@ module _ (parents : List ℕ) where
       by (inl same) rest = ap (λ b. b || among x (chain parents most (slice_index parents (suc number)))) same
       by (inr later) rest = or_right (nat_eq x (suc number)) (among x (chain parents most (slice_index parents (suc number)))) (rest later)
 
-  -- what stands on the chain has its chain within it
+  -- what is on the chain has its chain within it
   pub within_chain : (most number above : ℕ) → ends most number ≡ true → among above (chain parents most number) ≡ true
       → (ends most above ≡ true) × ((higher : ℕ) → among higher (chain parents most above) ≡ true → among higher (chain parents most number) ≡ true)
   within_chain zero number above h on = absurd (true≢false (sym h))
@@ -125,7 +125,7 @@ module _ (parents : List ℕ) where
         by (inl same) next = omega (arith, eqb-true x (suc number) same, l)
         by (inr later) next = next later
 
-    -- and none stands there twice
+    -- and none is there twice
     apart : (most number : ℕ) → most ≤ length parents → number < length parents → IsDistinct nat_eq (chain parents most number)
     apart zero number l n = distinct_none
     apart (suc most) zero l n = distinct_more 0 [] refl distinct_none
@@ -154,7 +154,7 @@ module _ (parents : List ℕ) where
             zero_or {q} (inl same) = omega (arith, eqb-true q 0 same, l)
             zero_or {q} (inr on) = below (length parents) number q l on
 
-    -- what stands on a chain is what its first type descends from
+    -- what is on a chain is what its first type descends from
     descends : (most number above : ℕ) → number < length parents → among above (chain parents most number) ≡ true → Descends parents number above
     descends zero number above l on = absurd (true≢false (sym on))
     descends (suc most) zero above l on = by (or_cases (nat_eq above 0) false on)
@@ -195,7 +195,7 @@ module _ (parents : List ℕ) where
     from_zero : (n : ℕ) → n ≡ 0 + n
     from_zero n = omega arith
 
-    -- what stands above a type stands above all types below it
+    -- what is above a type is above all types below it
     whole_at : (names : List task.Name) (number : ℕ) → number < length parents
         → list_all (λ above. list_all (λ higher. among higher (whole_chain parents number)) (supertypes_in (types_from parents 0 names) above)) (whole_chain parents number) ≡ true
     whole_at names number l =

@@ -17,9 +17,9 @@ use Rattle.task_parts.specs.declared.type_names.TypeTable.{TypeTable}
 use Rattle.typing.specs.Names.{type_faults_of, domain_faults, contents_faults, stated_faults_in, AreContents, AreTypesOf}
 use Rattle.task.specs.TaskParts.{task_of_parts}
 use Rattle.task.specs.declared.parts.TaskParts.{TaskParts}
-use Rattle.typing.specs.Task.{TaskFault, TellsLeastOf, TellsLeastFault}
+use Rattle.typing.specs.Task.{TaskFault, ReportsLeastOf, ReportsLeastFault}
 use Rattle.task_parts.specs.Scope.{narrow_atoms_in}
-use Rattle.task_parts.proofs.Tells.{tells_here, tells_later}
+use Rattle.task_parts.proofs.Reports.{reports_here, reports_later}
 use Rattle.task_parts.proofs.Empty.{nil_left, nil_right, not_refused, and_true}
 use Rattle.typing.proofs.ParentChains.{all_whole, descends_on_chain, type_at, among_Contains, Contains_among}
 use Rattle.task_parts.proofs.Declared.{names_are}
@@ -157,7 +157,7 @@ module _ (d : tree.Domain) (p : tree.Problem) (no_type : type_faults_of d p ≡ 
       let here = type_at parents parents_fit none_back 0 (type_names d) number t at in
       let is : t.supertypes ≡ whole_chain parents number = here.0 ∙ ap (whole_chain parents) (omega arith) in
       let both = descends_on_chain parents parents_fit none_back refl number above (omega (arith, here.1, count_types)) in (
-        λ stands. both.0 (Contains_among above (whole_chain parents number) (subst (λ xs. Contains xs above) is stands)),
+        λ occurs. both.0 (Contains_among above (whole_chain parents number) (subst (λ xs. Contains xs above) is occurs)),
         λ up. subst (λ xs. Contains xs above) (sym is) (among_Contains above (whole_chain parents number) (both.1 up)),
       )
 
@@ -202,15 +202,15 @@ parts_of types objects names start has_metric = record {
 }
 
 module _ (d : tree.Domain) (p : tree.Problem) where
-  -- the fault that is told of the types is the pair's
-  pub told_of_types : (e : TaskFault) → TellsLeastOf (type_faults_of d p) e → TellsLeastFault d p e
-  told_of_types e h = subst (λ fs. TellsLeastOf fs e) (sym (faults_by_parts d p)) (tells_here (type_faults_of d p) _ e h)
+  -- the fault that is reported for the types is the pair's
+  pub reported_of_types : (e : TaskFault) → ReportsLeastOf (type_faults_of d p) e → ReportsLeastFault d p e
+  reported_of_types e h = subst (λ fs. ReportsLeastOf fs e) (sym (faults_by_parts d p)) (reports_here (type_faults_of d p) _ e h)
 
   module _ (no_type : type_faults_of d p ≡ []) where
     -- and so is that of what else is declared and stated, where the types have none
-    pub told_of_contents : (e : TaskFault) → TellsLeastOf (contents_faults d p) e → TellsLeastFault d p e
-    told_of_contents e h =
-        subst (λ fs. TellsLeastOf fs e) (sym (faults_by_parts d p)) (tells_later (type_faults_of d p) _ no_type e (tells_here (contents_faults d p) [] e h))
+    pub reported_of_contents : (e : TaskFault) → ReportsLeastOf (contents_faults d p) e → ReportsLeastFault d p e
+    reported_of_contents e h =
+        subst (λ fs. ReportsLeastOf fs e) (sym (faults_by_parts d p)) (reports_later (type_faults_of d p) _ no_type e (reports_here (contents_faults d p) [] e h))
 
     pub made_by_phases : (types : TypeTable) → AreTypesOf d types → (objects : Objects) (names : Names) (start : Start) → AreContents d p objects names start → (has_metric : Bool) → has_metric ≡ is_some p.metric
         → IsMade d p (task_of_parts (parts_of types objects names start has_metric))

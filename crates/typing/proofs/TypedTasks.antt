@@ -8,7 +8,7 @@ use Rattle.model.specs.Typing.{first_filled, phases}
 use Rattle.model.specs.TypingFaults.{IsWellTyped, SupertypesAreThoseAbove}
 use Rattle.model.specs.WellTyped.{is_task}
 use Rattle.model.specs.Files.{IsTaskOf}
-use Rattle.model.proofs.TypingFaultsTold.{well_typed_listed}
+use Rattle.model.proofs.TypingFaultsReported.{well_typed_listed}
 use Rattle.typing.proofs.Tasks.{none_filled, supertypes_above, typed}
 
 -- where the first list with a fault has none, each list is empty

@@ -20,9 +20,9 @@ module _ (values : List task.FunctionValue) (v : task.FunctionValue) where
   pub kept_before : (first : ℕ) → value_in values v.function ≡ Some first → values ≡ with_value values v
   kept_before first is = ap (λ o. if is_some {T = ℕ} o then values else values ++ v ∷ []) (sym is)
 
-  pub told_by_first : (first : ℕ) → value_in values v.function ≡ Some first → (other : List TypingFault)
+  pub reported_by_first : (first : ℕ) → value_in values v.function ≡ Some first → (other : List TypingFault)
       → (if first == v.value then [] else other) ≡ (if differing values v then other else [])
-  told_by_first first is other = turned (first == v.value) ∙ ap (λ o. if option_map_or (λ value. not (value == v.value)) o false then other else []) (sym is)
+  reported_by_first first is other = turned (first == v.value) ∙ ap (λ o. if option_map_or (λ value. not (value == v.value)) o false then other else []) (sym is)
     where
       turned : (b : Bool) → (if b then [] else other) ≡ (if not b then other else [])
       turned true = refl
@@ -32,15 +32,15 @@ module _ (values : List task.FunctionValue) (v : task.FunctionValue) where
   pub put_last : value_in values v.function ≡ None → values ++ v ∷ [] ≡ with_value values v
   put_last is = ap (λ o. if is_some {T = ℕ} o then values else values ++ v ∷ []) (sym is)
 
-  pub not_told : value_in values v.function ≡ None → (other : List TypingFault) → [] ≡ (if differing values v then other else [])
-  not_told is other = ap (λ o. if option_map_or (λ value. not (value == v.value)) o false then other else []) (sym is)
+  pub not_reported : value_in values v.function ≡ None → (other : List TypingFault) → [] ≡ (if differing values v then other else [])
+  not_reported is other = ap (λ o. if option_map_or (λ value. not (value == v.value)) o false then other else []) (sym is)
 
 -- the fault of a value whose names are known
-pub told_of_named : (known : Known) (values : List task.FunctionValue) (v : tree.InitialValue) (function : task.Atom)
+pub reported_of_named : (known : Known) (values : List task.FunctionValue) (v : tree.InitialValue) (function : task.Atom)
     → Some function ≡ (if is_named (in_function known) v.function then Some (atom_in (in_function known) v.function) else None) → (other : List TypingFault)
     → (if differing values (record { function = function; value = v.value }) then other else [])
     ≡ (if list_any (differing values) (values_in known (tree.initial_value v)) then other else [])
-told_of_named known values v function named other = by (is_named (in_function known) v.function) named
+reported_of_named known values v function named other = by (is_named (in_function known) v.function) named
   where
     by : (b : Bool) → Some function ≡ (if b then Some (atom_in (in_function known) v.function) else None)
         → (if differing values (record { function = function; value = v.value }) then other else [])
@@ -63,9 +63,9 @@ module _ {X : Type 0} (known : Known) (seen : X → tree.Fact) (xs : List X) (i 
         ap (λ values. values_after known values (map seen (drop (i + 1) xs))) adds ∙ sym (values_after-append known old (seen x ∷ []) (map seen (drop (i + 1) xs)))
         ∙ ap (λ ys. values_after known old (map seen ys)) (sym split) ∙ h
 
-    pub facts_step : (file : File) (least told whole : Option TypingFault) → told ≡ found least (fact_faults file known (seen x) ++ value_faults file known old (seen x))
-        → found least (facts_faults file known old (map seen (drop i xs))) ≡ whole → found told (facts_faults file known new (map seen (drop (i + 1) xs))) ≡ whole
-    facts_step file least told whole finds h =
+    pub facts_step : (file : File) (least reported whole : Option TypingFault) → reported ≡ found least (fact_faults file known (seen x) ++ value_faults file known old (seen x))
+        → found least (facts_faults file known old (map seen (drop i xs))) ≡ whole → found reported (facts_faults file known new (map seen (drop (i + 1) xs))) ≡ whole
+    facts_step file least reported whole finds h =
         let rest = map seen (drop (i + 1) xs) in
         let own = fact_faults file known (seen x) ++ value_faults file known old (seen x) in
         (λ j. found (finds j) (facts_faults file known (adds j) rest)) ∙ sym (found-append least own (facts_faults file known (values_after known old (seen x ∷ [])) rest))

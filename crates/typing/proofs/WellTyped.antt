@@ -103,7 +103,7 @@ module _ (t : task.Task) (scope : List task.Union) (file : File) (known : Known)
       and_true _ _ (term_fits wanted (tree.object x) (nil_left own misfit (nil_left (own ++ misfit) rest e)) (nil_right own misfit (nil_left (own ++ misfit) rest e)))
       (objects_fit arguments xs (omega (arith, same)) (nil_right (own ++ misfit) rest e))
 
-  -- what fits the arguments of a known predicate stands with it
+  -- what fits the arguments of a known predicate is with it
   with_predicate : {X : Type 0} (may : task.Union → X → Bool) (name : tree.Name) (xs : List X) (p : task.Predicate) → predicate_in_known known name ≡ Some p → pointwise may p.arguments xs ≡ true
       → option_map_or (λ (q : task.Predicate). pointwise may q.arguments xs) (slice_get t.predicates (number_in (names_of_predicates known.predicates) name)) false ≡ true
   with_predicate may name xs p at each =

@@ -2,7 +2,7 @@
 ghost use Rattle.std.specs.Prelude.{◌≡◌, [], map, IfErr, IfOk, OnOk};
 ghost use Rattle.task.specs.TaskParts as parts;
 ghost use Rattle.task_parts.specs.Scope.{known_outside, known_over};
-ghost use Rattle.typing.specs.Task.{file_of, TellsLeastOf};
+ghost use Rattle.typing.specs.Task.{file_of, ReportsLeastOf};
 ghost use Rattle.task_parts.specs.Walk.{Finds};
 ghost use Rattle.syntax_tree.specs.Tree as read;
 ghost use Rattle.model.specs.Trees.{domain_file};
@@ -82,7 +82,7 @@ fn declare_actions(alloc: Global, walk: &mut Walk, actions: &[Action<'_>]) -> Re
     Ok(())
 }
 
-/// The schemas of a list of actions. That one is declared again is not told here.
+/// The schemas of a list of actions. That one is declared again is not reported here.
 fn table(
     alloc: Global,
     walk: &mut Walk,
@@ -110,7 +110,7 @@ pub(crate) fn schemas(
     ensures ok { IfOk result
         (λ m. (typing.action_faults (known_outside globals.now) (read.domain_of domain.now).actions ≡ [])
         × (map parts.schema_of m.entries ≡ map (typing.schema_in (known_outside globals.now)) (read.domain_of domain.now).actions)) }
-    ensures err { IfErr result (TellsLeastOf (typing.action_faults (known_outside globals.now) (read.domain_of domain.now).actions)) }
+    ensures err { IfErr result (ReportsLeastOf (typing.action_faults (known_outside globals.now) (read.domain_of domain.now).actions)) }
 {
     let mut walk = Walk::new(alloc);
     let actions = domain.actions.as_slice();

@@ -3,7 +3,7 @@ ghost use Rattle.std.specs.Prelude.{◌≡◌, ◌≤◌, ◌<◌, ◌+◌, [], 
 ghost use Rattle.task.specs.TaskParts as parts;
 ghost use Rattle.task_parts.specs.TypedLists.{declared_of};
 ghost use Rattle.task_parts.specs.Scope.{keys_in};
-ghost use Rattle.typing.specs.Task.{TellsLeastOf};
+ghost use Rattle.typing.specs.Task.{ReportsLeastOf};
 ghost use Rattle.typing.specs.Chains.{AreTypes, cycles};
 ghost use Rattle.typing.specs.Names.{type_faults_of, AreTypesOf};
 ghost use Rattle.task_parts.specs.Walk.{Finds};
@@ -45,7 +45,7 @@ fn chain(alloc: Global, parents: &[TypeId], id: TypeId) -> Result<Vec<TypeId>, N
     Ok(chain)
 }
 
-/// Whether the type stands on the chain of its own parent.
+/// Whether the type is on the chain of its own parent.
 fn comes_back(alloc: Global, parents: &[TypeId], id: TypeId) -> Result<bool, NoMemory>
     ensures { IfOk result (λ b. b ≡ typing.comes_back (map parts.type_of parents.now) id.0) }
 {
@@ -111,7 +111,7 @@ fn filled(
 ) -> Result<TypeTable, TaskFault>
     requires { length declared.now ≤ 4095 }
     ensures ok { IfOk result (λ t. AreTypes (keys_in names.by_name.entries) (map declared_of declared.now) t.by_name.entries) }
-    ensures err { IfErr result (TellsLeastOf (cycles (keys_in names.by_name.entries) (map declared_of declared.now))) }
+    ensures err { IfErr result (ReportsLeastOf (cycles (keys_in names.by_name.entries) (map declared_of declared.now))) }
 {
     let mut walk = Walk::new(alloc);
     let list = names.parents(alloc, &mut walk.folded, declared)?;
@@ -130,7 +130,7 @@ pub(crate) fn types(
 ) -> Result<TypeTable, TaskFault>
     ensures ok { IfOk result
         (λ t. (type_faults_of (read.domain_of domain.now) (read.problem_of problem.now) ≡ []) × AreTypesOf (read.domain_of domain.now) t) }
-    ensures err { IfErr result (TellsLeastOf (type_faults_of (read.domain_of domain.now) (read.problem_of problem.now))) }
+    ensures err { IfErr result (ReportsLeastOf (type_faults_of (read.domain_of domain.now) (read.problem_of problem.now))) }
 {
     let groups = domain.types.as_slice();
     let list = collect(alloc, TaskFile::Domain, groups)?;

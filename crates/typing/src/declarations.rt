@@ -2,7 +2,7 @@
 ghost use Rattle.std.specs.Prelude.{◌≡◌, [], fold, map, IfErr, IfOk, OnOk};
 ghost use Rattle.task.specs.TaskParts as parts;
 ghost use Rattle.task_parts.specs.Scope.{keys_in};
-ghost use Rattle.typing.specs.Task.{TellsLeastOf};
+ghost use Rattle.typing.specs.Task.{ReportsLeastOf};
 ghost use Rattle.task_parts.specs.Walk.{Finds};
 ghost use Rattle.syntax_tree.specs.Tree as read;
 ghost use Rattle.model.specs.Trees.{domain_file};
@@ -115,7 +115,7 @@ pub(crate) fn predicates(
     ensures ok { IfOk result
         (λ m. (typing.declaration_faults (keys_in types.now.by_name.entries) (read.domain_of domain.now).predicates ≡ [])
         × (map parts.predicate_of m.entries ≡ map (typing.predicate_in (keys_in types.now.by_name.entries)) (read.domain_of domain.now).predicates)) }
-    ensures err { IfErr result (TellsLeastOf (typing.declaration_faults (keys_in types.now.by_name.entries) (read.domain_of domain.now).predicates)) }
+    ensures err { IfErr result (ReportsLeastOf (typing.declaration_faults (keys_in types.now.by_name.entries) (read.domain_of domain.now).predicates)) }
 {
     let mut walk = Walk::new(alloc);
     let predicates = declared(alloc, &mut walk, types, &domain.predicates)?;

@@ -4,7 +4,7 @@ ghost use Rattle.std.specs.List.{flat_map};
 ghost use Rattle.std.specs.Option.{option_map_or};
 ghost use Rattle.task.specs.TaskParts as parts;
 ghost use Rattle.task_parts.specs.Scope.{keys_in, known_over};
-ghost use Rattle.typing.specs.Task.{file_of, TellsLeastOf};
+ghost use Rattle.typing.specs.Task.{file_of, ReportsLeastOf};
 ghost use Rattle.task_parts.specs.Walk.{Finds};
 ghost use Rattle.syntax_tree.specs.Tree as read;
 ghost use Rattle.model.specs.Trees.{problem_file};
@@ -42,7 +42,7 @@ pub(crate) fn functions(
     ensures ok { IfOk result
         (λ m. (typing.function_faults (read.domain_of domain.now) (read.problem_of problem.now) ≡ [])
         × (map parts.predicate_of m.entries ≡ typing.functions_of (read.domain_of domain.now))) }
-    ensures err { IfErr result (TellsLeastOf (typing.function_faults (read.domain_of domain.now) (read.problem_of problem.now))) }
+    ensures err { IfErr result (ReportsLeastOf (typing.function_faults (read.domain_of domain.now) (read.problem_of problem.now))) }
 {
     let mut walk = Walk::new(alloc);
     let functions = declared(alloc, &mut walk, types, &domain.functions)?;

@@ -1,5 +1,5 @@
 //! Names become numbers: a well-typed pair of a domain and a problem is a task, and of any other pair the
-//! first fault is told.
+//! first fault is reported.
 #![tactic(auto)]
 
 mod actions;

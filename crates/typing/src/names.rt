@@ -34,7 +34,7 @@ pub(crate) struct Start {
 }
 
 impl Names {
-    ghost use Rattle.typing.specs.Task.{TellsLeastOf};
+    ghost use Rattle.typing.specs.Task.{ReportsLeastOf};
     ghost use Rattle.typing.specs.Names.{domain_faults, known_by, known_in, stated_faults_in, AreDeclared, AreSchemasOf, AreTypesOf, Starts};
     ghost use Rattle.typing.specs.Objects.{AreObjectsOf};
     ghost use Rattle.syntax_tree.specs.Tree.{domain_of, problem_of};
@@ -53,7 +53,7 @@ impl Names {
         requires objects { AreObjectsOf (domain_of domain.now) (problem_of problem.now) objects.now }
         ensures ok { IfOk result
             (λ n. (domain_faults (domain_of domain.now) (problem_of problem.now) ≡ []) × AreDeclared (domain_of domain.now) n) }
-        ensures err { IfErr result (TellsLeastOf (domain_faults (domain_of domain.now) (problem_of problem.now))) }
+        ensures err { IfErr result (ReportsLeastOf (domain_faults (domain_of domain.now) (problem_of problem.now))) }
     {
         let predicates = declarations::predicates(alloc, types, domain)?;
         let functions = functions::functions(alloc, types, domain, problem)?;
@@ -75,7 +75,7 @@ impl Names {
         domain: &Domain<'_>,
     ) -> Result<IndexMap<Vec<u8>, Schema>, TaskFault>
         ensures ok { IfOk result (λ m. AreSchemasOf (known_in types.now objects.now.constants.entries predicates.now.entries functions.now.entries) (domain_of domain.now) m.entries) }
-        ensures err { IfErr result (TellsLeastOf (action_faults (known_in types.now objects.now.constants.entries predicates.now.entries functions.now.entries) (domain_of domain.now).actions)) }
+        ensures err { IfErr result (ReportsLeastOf (action_faults (known_in types.now objects.now.constants.entries predicates.now.entries functions.now.entries) (domain_of domain.now).actions)) }
     {
         let globals = Globals {
             file: TaskFile::Domain,
@@ -96,7 +96,7 @@ impl Names {
         problem: &Problem<'_>,
     ) -> Result<Start, TaskFault>
         ensures ok { IfOk result (Starts problem_file (known_by types.now objects.now self.now) (problem_of problem.now)) }
-        ensures err { IfErr result (TellsLeastOf (stated_faults_in problem_file (known_by types.now objects.now self.now) (problem_of problem.now))) }
+        ensures err { IfErr result (ReportsLeastOf (stated_faults_in problem_file (known_by types.now objects.now self.now) (problem_of problem.now))) }
     {
         let globals = Globals {
             file: TaskFile::Problem,
@@ -110,7 +110,7 @@ impl Names {
 }
 
 impl Start {
-    ghost use Rattle.typing.specs.Task.{file_of, TellsLeastOf};
+    ghost use Rattle.typing.specs.Task.{file_of, ReportsLeastOf};
     ghost use Rattle.task_parts.specs.Scope.{known_outside};
     ghost use Rattle.typing.specs.Names.{stated_faults_in, Starts};
     ghost use Rattle.syntax_tree.specs.Tree.{problem_of};
@@ -122,7 +122,7 @@ impl Start {
         problem: &Problem<'_>,
     ) -> Result<Start, TaskFault>
         ensures ok { IfOk result (Starts (file_of globals.now.file) (known_outside globals.now) (problem_of problem.now)) }
-        ensures err { IfErr result (TellsLeastOf (stated_faults_in (file_of globals.now.file) (known_outside globals.now) (problem_of problem.now))) }
+        ensures err { IfErr result (ReportsLeastOf (stated_faults_in (file_of globals.now.file) (known_outside globals.now) (problem_of problem.now))) }
     {
         let variables = IndexMap::new(alloc);
         let init = statements::init(alloc, globals, &variables, problem)?;

@@ -4,7 +4,7 @@ ghost use Rattle.task.specs.TaskParts as parts;
 ghost use Rattle.task_parts.specs.TypedLists.{declared_of};
 ghost use Rattle.typing.specs.Objects.{AreMade, AreObjects};
 ghost use Rattle.task_parts.specs.Scope.{keys_in};
-ghost use Rattle.typing.specs.Task.{TellsLeastOf};
+ghost use Rattle.typing.specs.Task.{ReportsLeastOf};
 ghost use Rattle.task_parts.specs.Walk.{Finds};
 ghost use Rattle.syntax_tree.specs.Tree as read;
 ghost use Rattle.model.specs.Trees.{domain_file, problem_file};
@@ -49,7 +49,7 @@ fn all(
 ) -> Result<IndexMap<Vec<u8>, TypeId>, TaskFault>
     ensures ok { IfOk result (λ m. (typing.objects_faults (keys_in types.now.by_name.entries) (map declared_of declared.now) ≡ [])
         × ((map parts.object_entry_of m.entries ≡ map (typing.object_in (keys_in types.now.by_name.entries)) (map declared_of declared.now)) × (length m.entries ≤ 65535))) }
-    ensures err { IfErr result (TellsLeastOf (typing.objects_faults (keys_in types.now.by_name.entries) (map declared_of declared.now))) }
+    ensures err { IfErr result (ReportsLeastOf (typing.objects_faults (keys_in types.now.by_name.entries) (map declared_of declared.now))) }
 {
     let mut walk = Walk::new(alloc);
     check_all(&mut walk, &types.by_name, declared)?;
@@ -67,7 +67,7 @@ fn made(
 ) -> Result<Objects, TaskFault>
     requires { count ≤ length declared.now }
     ensures ok { IfOk result (AreMade (keys_in types.now.by_name.entries) (take count (map declared_of declared.now)) (map declared_of declared.now)) }
-    ensures err { IfErr result (TellsLeastOf (typing.objects_faults (keys_in types.now.by_name.entries) (map declared_of declared.now))) }
+    ensures err { IfErr result (ReportsLeastOf (typing.objects_faults (keys_in types.now.by_name.entries) (map declared_of declared.now))) }
 {
     let all = all(alloc, types, declared)?;
     let (first, _) = declared.split_at(count);
@@ -84,7 +84,7 @@ fn of_lists<'t>(
 ) -> Result<Objects, TaskFault>
     ensures ok { IfOk result (AreMade (keys_in types.now.by_name.entries) (typing.declared domain_file (map read.group_of constants.now))
         (typing.declared domain_file (map read.group_of constants.now) ++ typing.declared problem_file (map read.group_of objects.now))) }
-    ensures err { IfErr result (TellsLeastOf (typing.objects_faults (keys_in types.now.by_name.entries)
+    ensures err { IfErr result (ReportsLeastOf (typing.objects_faults (keys_in types.now.by_name.entries)
         (typing.declared domain_file (map read.group_of constants.now) ++ typing.declared problem_file (map read.group_of objects.now)))) }
 {
     let mut list = Vec::new(alloc);
@@ -102,7 +102,7 @@ pub(crate) fn of_pair(
     problem: &Problem<'_>,
 ) -> Result<Objects, TaskFault>
     ensures ok { IfOk result (AreObjects (keys_in types.now.by_name.entries) (read.domain_of domain.now) (read.problem_of problem.now)) }
-    ensures err { IfErr result (TellsLeastOf (typing.objects_faults (keys_in types.now.by_name.entries) (typing.declared_objects (read.domain_of domain.now) (read.problem_of problem.now)))) }
+    ensures err { IfErr result (ReportsLeastOf (typing.objects_faults (keys_in types.now.by_name.entries) (typing.declared_objects (read.domain_of domain.now) (read.problem_of problem.now)))) }
 {
     let constants = domain.constants.as_slice();
     let objects = problem.objects.as_slice();

@@ -1,7 +1,7 @@
 //! The task of a domain and a problem.
 ghost use Rattle.std.specs.Prelude.{◌≡◌, IfErr, IfOk, OnOk};
 ghost use Rattle.task.specs.Task.{task_of};
-ghost use Rattle.typing.specs.Task.{TellsFault, TellsLeastFault};
+ghost use Rattle.typing.specs.Task.{ReportsFault, ReportsLeastFault};
 ghost use Rattle.model.specs.Task as task;
 ghost use Rattle.model.specs.TypingFaults as typing_faults;
 ghost use Rattle.syntax_tree.specs.Tree.{domain_of, problem_of};
@@ -36,7 +36,7 @@ pub trait FromTrees: Sized {
     fn new(alloc: Global, domain: Domain<'_>, problem: Problem<'_>) -> Result<Self, TaskFault>
         ensures well_typed { OnOk result (typing_faults.IsWellTyped (domain_of domain.entry) (problem_of problem.entry)) }
         ensures task { IfOk result (λ t. task_in t ≡ task_of_trees (domain_of domain.entry) (problem_of problem.entry)) }
-        ensures least { IfErr result (TellsFault (domain_of domain.entry) (problem_of problem.entry)) };
+        ensures least { IfErr result (ReportsFault (domain_of domain.entry) (problem_of problem.entry)) };
 }
 
 impl FromTrees for Task {
@@ -51,7 +51,7 @@ impl FromTrees for Task {
 fn of_trees(alloc: Global, domain: &Domain<'_>, problem: &Problem<'_>) -> Result<Task, TaskFault>
     ensures well_typed { OnOk result (ListsNoFault (domain_of domain.now) (problem_of problem.now)) }
     ensures task { IfOk result (λ t. task_of t ≡ task_of_trees (domain_of domain.now) (problem_of problem.now)) }
-    ensures least { IfErr result (TellsLeastFault (domain_of domain.now) (problem_of problem.now)) }
+    ensures least { IfErr result (ReportsLeastFault (domain_of domain.now) (problem_of problem.now)) }
 {
     let types = chains::types(alloc, domain, problem)?;
     let objects = objects::of_pair(alloc, &types, domain, problem)?;

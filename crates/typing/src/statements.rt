@@ -1,7 +1,7 @@
 //! What a problem states: its initial state and its goal.
 ghost use Rattle.std.specs.Prelude.{◌≡◌, [], ◌∷◌, ◌++◌, drop, if◌then◌else◌, map, IfErr, IfOk, OnOk};
 ghost use Rattle.task.specs.TaskParts as parts;
-ghost use Rattle.typing.specs.Task.{file_of, TellsLeastOf};
+ghost use Rattle.typing.specs.Task.{file_of, ReportsLeastOf};
 ghost use Rattle.task_parts.specs.Scope.{known_of, known_outside, known_over, narrow_atoms_in};
 ghost use Rattle.task_parts.specs.Walk.{found, least_of, Finds};
 ghost use Rattle.syntax_tree.specs.Tree as read;
@@ -111,7 +111,7 @@ fn add_fact(
     }
 }
 
-/// What a list of facts states: its atoms as they stand, and its values, each function of the same objects once.
+/// What a list of facts states: its atoms as they are, and its values, each function of the same objects once.
 fn stated(
     alloc: Global,
     walk: &mut Walk,
@@ -167,7 +167,7 @@ pub(crate) fn init(
         (λ s. (typing.init_faults (file_of globals.now.file) (known_over globals.now variables.now.entries) (read.problem_of problem.now).init ≡ [])
         × ((map parts.atom_of s.atoms.items ≡ flat_map (narrow_atoms_in (known_over globals.now variables.now.entries)) (read.problem_of problem.now).init)
         × (map parts.value_of s.values.entries ≡ typing.values_after (known_over globals.now variables.now.entries) [] (read.problem_of problem.now).init))) }
-    ensures err { IfErr result (TellsLeastOf (typing.init_faults (file_of globals.now.file) (known_over globals.now variables.now.entries) (read.problem_of problem.now).init)) }
+    ensures err { IfErr result (ReportsLeastOf (typing.init_faults (file_of globals.now.file) (known_over globals.now variables.now.entries) (read.problem_of problem.now).init)) }
 {
     let mut walk = Walk::new(alloc);
     let facts = problem.init.as_slice();
@@ -186,7 +186,7 @@ pub(crate) fn goal(
     ensures ok { IfOk result
         (λ f. (typing.formula_faults (file_of globals.now.file) (known_outside globals.now) (read.problem_of problem.now).goal ≡ [])
         × (parts.formula_of f ≡ typing.formula_in (file_of globals.now.file) (known_outside globals.now) (read.problem_of problem.now).goal)) }
-    ensures err { IfErr result (TellsLeastOf (typing.formula_faults (file_of globals.now.file) (known_outside globals.now) (read.problem_of problem.now).goal)) }
+    ensures err { IfErr result (ReportsLeastOf (typing.formula_faults (file_of globals.now.file) (known_outside globals.now) (read.problem_of problem.now).goal)) }
 {
     let mut walk = Walk::new(alloc);
     let mut variables = IndexMap::new(alloc);

@@ -12,7 +12,7 @@ module _ {S A : Type 0} (t : System S A) where
     before : S
     next : A
     runs : run t s (take i plan) ≡ Some before
-    stands_there : slice_get plan i ≡ Some next
+    found_there : slice_get plan i ≡ Some next
     blocked : t.step before next ≡ None
 
   -- a list runs, or one of its actions is not applicable in its turn
@@ -20,7 +20,7 @@ module _ {S A : Type 0} (t : System S A) where
   runs_or_halts s [] = inl (s, refl)
   runs_or_halts s (a ∷ rest) =
       elim (t.step s a) as (λ o. t.step s a ≡ o → ((last : S) × (run t s (a ∷ rest) ≡ Some last)) ⊎ ((i : ℕ) × Halts s (a ∷ rest) i)) [
-        | None ↦ λ e. inr (0, record { before = s; next = a; runs = refl; stands_there = refl; blocked = e })
+        | None ↦ λ e. inr (0, record { before = s; next = a; runs = refl; found_there = refl; blocked = e })
         | Some n ↦ λ e. elim (runs_or_halts n rest) [
           | inl w ↦ inl (w.0, ap (option_and_then (λ m. run t m rest)) e ∙ w.1)
           | inr w ↦ inr (
@@ -29,7 +29,7 @@ module _ {S A : Type 0} (t : System S A) where
               before = w.1.before;
               next = w.1.next;
               runs = ap (option_and_then (λ m. run t m (take w.0 rest))) e ∙ w.1.runs;
-              stands_there = w.1.stands_there;
+              found_there = w.1.found_there;
               blocked = w.1.blocked;
             },
           )
@@ -42,7 +42,7 @@ module _ {S A : Type 0} (t : System S A) where
 
   blocked_at_once : (s : S) (a : A) (rest : List A) → Halts s (a ∷ rest) 0 → t.step s a ≡ None
   blocked_at_once s a rest h =
-      (λ i. t.step (same_Some s h.before h.runs i) (same_Some a h.next h.stands_there i)) ∙ h.blocked
+      (λ i. t.step (same_Some s h.before h.runs i) (same_Some a h.next h.found_there i)) ∙ h.blocked
 
   -- what is known after a first action that is applicable
   after_first : (s n : S) (a : A) (rest : List A) (i : ℕ) → t.step s a ≡ Some n → Halts s (a ∷ rest) (suc i) → Halts n rest i
@@ -50,12 +50,12 @@ module _ {S A : Type 0} (t : System S A) where
     before = h.before;
     next = h.next;
     runs = sym (ap (option_and_then (λ m. run t m (take i rest))) e) ∙ h.runs;
-    stands_there = h.stands_there;
+    found_there = h.found_there;
     blocked = h.blocked;
   }
 
   never_both : (s last : S) (plan : List A) (i : ℕ) → run t s plan ≡ Some last → Halts s plan i → ⊥
-  never_both s last [] i runs h = none-some h.next h.stands_there
+  never_both s last [] i runs h = none-some h.next h.found_there
   never_both s last (a ∷ rest) zero runs h = nothing_after s last a rest (blocked_at_once s a rest h) runs
   never_both s last (a ∷ rest) (suc i) runs h =
       elim (t.step s a) as (λ o. t.step s a ≡ o → ⊥) [
@@ -64,7 +64,7 @@ module _ {S A : Type 0} (t : System S A) where
       ] refl
 
   halts_once : (s : S) (plan : List A) (i j : ℕ) → Halts s plan i → Halts s plan j → i ≡ j
-  halts_once s [] i j h g = absurd (none-some h.next h.stands_there)
+  halts_once s [] i j h g = absurd (none-some h.next h.found_there)
   halts_once s (a ∷ rest) zero zero h g = refl
   halts_once s (a ∷ rest) zero (suc j) h g = absurd (nothing_after s g.before a (take j rest) (blocked_at_once s a rest h) g.runs)
   halts_once s (a ∷ rest) (suc i) zero h g = absurd (nothing_after s h.before a (take i rest) (blocked_at_once s a rest g) h.runs)
@@ -75,7 +75,7 @@ module _ {S A : Type 0} (t : System S A) where
       ] refl
 
   halts_of : (plan : List A) (n : ℕ) → StopsAt t plan n → Halts t.initial plan (n - 1)
-  halts_of plan n h = record { before = h.before; next = h.next; runs = h.runs; stands_there = h.stands_there; blocked = h.is_not_applicable }
+  halts_of plan n h = record { before = h.before; next = h.next; runs = h.runs; found_there = h.found_there; blocked = h.is_not_applicable }
 
   -- a list that runs, to this state: the goal alone decides
   of_run : (plan : List A) (last : S) → run t t.initial plan ≡ Some last → (v : Verdict) × IsVerdict t plan v × ((w : Verdict) → IsVerdict t plan w → w ≡ v)
@@ -100,7 +100,7 @@ module _ {S A : Type 0} (t : System S A) where
 
   -- a list that halts, at this place
   of_halt : (plan : List A) (i : ℕ) → Halts t.initial plan i → (v : Verdict) × IsVerdict t plan v × ((w : Verdict) → IsVerdict t plan w → w ≡ v)
-  of_halt plan i h = (not_applicable (i + 1), stops t plan i h.next h.stands_there h.before h.runs h.blocked, only)
+  of_halt plan i h = (not_applicable (i + 1), stops t plan i h.next h.found_there h.before h.runs h.blocked, only)
     where
       only : (w : Verdict) → IsVerdict t plan w → w ≡ not_applicable (i + 1)
       only (valid cost) is = absurd (never_both t.initial is.0.0 plan i is.0.1 h)

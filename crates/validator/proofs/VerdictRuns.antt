@@ -10,10 +10,10 @@ use Rattle.formulas.specs.State.{instance_of}
 use Rattle.model.specs.Task as task
 use Rattle.model.specs.Runs.{System, run, StopsAt, cost_of_all}
 
--- the instance that stands at a place of the code's list stands there in the model's
-pub stands : (items : List Instance) (plan : List task.Instance) (i : ℕ) (item : Instance) → map instance_of items ≡ plan → i < length items → item ≡ get_or items i item
+-- the instance that is at a place of the code's list is there in the model's
+pub occurs : (items : List Instance) (plan : List task.Instance) (i : ℕ) (item : Instance) → map instance_of items ≡ plan → i < length items → item ≡ get_or items i item
     → slice_get plan i ≡ Some (instance_of item)
-stands items plan i item same lt at =
+occurs items plan i item same lt at =
     ap (λ l. slice_get l i) (sym same) ∙ slice_get-map instance_of items i ∙ ap (option_map instance_of) (slice_get_read items (length items) i item refl lt at)
 
 sum_by-one : {X : Type 0} (f : X → ℕ) (x : X) → sum_by f (x ∷ []) ≡ f x
@@ -53,7 +53,7 @@ module _ {S A : Type 0} (t : System S A) where
           before = before;
           next = a;
           runs = run_before plan i before runs;
-          stands_there = subst (λ k. slice_get plan k ≡ Some a) same here;
+          found_there = subst (λ k. slice_get plan k ≡ Some a) same here;
           is_not_applicable = blocked;
         }
 

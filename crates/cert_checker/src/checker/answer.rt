@@ -1,4 +1,4 @@
-//! What a closed certificate shows, with the plan that was handed in.
+//! What a closed certificate shows, with the plan that was given.
 ghost use Rattle.std.specs.Prelude.{◌≡◌, ℕ, None, IsTrue, IfErr, IfOk};
 ghost use Rattle.std.specs.List.{list_all};
 ghost use Rattle.std.specs.Option.{ForSome, option_map};
@@ -8,7 +8,7 @@ ghost use Rattle.certificate_reader.specs.Lines.{claim_of};
 ghost use Rattle.cert_checker.specs.CertChecker.{Answers, IsFirstRefusal, IsShown, IsTrueRefusal};
 ghost use Rattle.model.specs.Meaning.{is_instance, system_of};
 ghost use Rattle.model.specs.Limits.{max_numbered_atoms};
-ghost use Rattle.model.specs.Grounding.{limit_told};
+ghost use Rattle.model.specs.Grounding.{exceeded_limit};
 ghost use Rattle.model.specs.Claims.{ClaimHolds};
 ghost use Rattle.certificate_definitions.specs.Certificates.{Certificate, IsClosedFor};
 
@@ -20,7 +20,7 @@ use std::alloc::Global;
 use task::Task;
 use validator::{Verdict, validate};
 
-/// What a certificate's claim, which is true, shows: of all plans, or that the plan handed in, if it costs no more, is
+/// What a certificate's claim, which is true, shows: of all plans, or that the plan given, if it costs no more, is
 /// optimal.
 pub(super) fn answer(
     alloc: Global,
@@ -35,7 +35,7 @@ pub(super) fn answer(
     ensures wrong { IfErr result (λ e. (c : Certificate) (most : ℕ) → c.claim ≡ claim_of claim
         → IsTrueRefusal (task_of task.now) c (option_map (λ p. plan_of p.now) plan.entry) most e) }
     ensures first { IfErr result (λ e. (c : Certificate) (most : ℕ) → c.claim ≡ claim_of claim
-        → IsClosedFor (task_of task.now) c → limit_told most max_numbered_atoms (task_of task.now) c.atoms ≡ None
+        → IsClosedFor (task_of task.now) c → exceeded_limit most max_numbered_atoms (task_of task.now) c.atoms ≡ None
         → IsFirstRefusal (task_of task.now) c (option_map (λ p. plan_of p.now) plan.entry) most e) }
 {
     let Some(plan) = plan else {

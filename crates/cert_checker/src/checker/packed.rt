@@ -30,7 +30,7 @@ impl<'a, 't> PackedListing<'a, 't> {
     ghost use Rattle.model.specs.Claims.{Mark};
     ghost use Rattle.packed_state.specs.PooledView.{pooled_width};
     ghost use Rattle.cert_checker.specs.FluentAtoms.{AreFluent};
-    ghost use Rattle.cert_checker.specs.CheckedLines.{HasCost, IsListedAt, Stands};
+    ghost use Rattle.cert_checker.specs.CheckedLines.{HasCost, IsListedAt, IsListedAs};
     ghost use Rattle.cert_checker.specs.PackedListing.{task_at, certificate_at, state_at, IsPacked};
     ghost use Rattle.model.specs.NumberedAtoms.{numbered_atoms};
     ghost use Rattle.certificate_definitions.specs.Certificates.{is_dead_end_of, lines_of, value_of};
@@ -64,7 +64,7 @@ impl<'a, 't> PackedListing<'a, 't> {
         requires packed { IsPacked self.now into.old }
         ensures packed { IsPacked self.now into.new }
         ensures state { (cost : ℕ) (mark : Mark) → HasCost (certificate_at self.now) place cost mark
-            → Stands (task_at self.now) (certificate_at self.now) place (state_at self.now into.new) cost mark }
+            → IsListedAs (task_at self.now) (certificate_at self.now) place (state_at self.now into.new) cost mark }
     {
         self.cert.sets().get(place as u32, into);
     }
@@ -90,7 +90,7 @@ impl<'a, 't> PackedListing<'a, 't> {
         self.potentials.value(state)
     }
 
-    /// Whether the certificate's second potentials tell that the state is a dead end.
+    /// Whether the certificate's second potentials say that the state is a dead end.
     pub(super) fn is_dead_end(&self, state: &Packed) -> bool
         requires { IsPacked self.now state.now }
         ensures { result ≡ is_dead_end_of (certificate_at self.now) (state_at self.now state.now) }

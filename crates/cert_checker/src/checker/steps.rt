@@ -7,7 +7,7 @@ ghost use Rattle.certificate_reader.specs.Lines.{claim_of};
 ghost use Rattle.certificate.specs.Certificate.{certificate_of};
 ghost use Rattle.cert_checker.specs.CertChecker.{IsFirstRefusal, IsTrueRefusal};
 ghost use Rattle.cert_checker.specs.FluentAtoms.{AreFluent};
-ghost use Rattle.cert_checker.specs.CheckedLines.{AreFairFor, CutsAreAllowed, IsCutClosed, IsFirstGrounded, IsLineClosed, IsOpenClosed, IsRightGrounded, IsRightUpTo, IsTrueAnyway, Stands};
+ghost use Rattle.cert_checker.specs.CheckedLines.{AreFairFor, CutsAreAllowed, IsCutClosed, IsFirstGrounded, IsLineClosed, IsOpenClosed, IsRightGrounded, IsRightUpTo, IsTrueAnyway, IsListedAs};
 ghost use Rattle.cert_checker.specs.PackedListing.{task_at, atoms_at, certificate_at, state_at, IsPacked};
 ghost use Rattle.model.specs.Task as model_task;
 ghost use Rattle.model.specs.Meaning.{system_of};
@@ -170,7 +170,7 @@ fn check_open(
     requires within { place < length (certificate_at listing.now).lines }
     requires state { IsPacked listing.now state.now }
     requires next { IsPacked listing.now next.old }
-    requires listed { Stands (task_at listing.now) (certificate_at listing.now) place (state_at listing.now state.now) cost opened }
+    requires listed { IsListedAs (task_at listing.now) (certificate_at listing.now) place (state_at listing.now state.now) cost opened }
     requires small { cost < 1152921504606846976 }
     ensures next { IsPacked listing.now next.new }
     ensures right { OnOk result (IsOpenClosed (task_at listing.now) (certificate_at listing.now) (state_at listing.now state.now) cost) }
@@ -192,7 +192,7 @@ fn check_goal(
 ) -> Result<(), Refusal>
     requires within { place < length (certificate_at listing.now).lines }
     requires state { IsPacked listing.now state.now }
-    requires listed { Stands (task_at listing.now) (certificate_at listing.now) place (state_at listing.now state.now) cost opened }
+    requires listed { IsListedAs (task_at listing.now) (certificate_at listing.now) place (state_at listing.now state.now) cost opened }
     ensures right { OnOk result (IsTrue (meaning.meets_goal (task_at listing.now) (state_at listing.now state.now)) → Allows (certificate_at listing.now).claim cost) }
     ensures wrong { IfErr result (IsTrueAnyway (task_at listing.now) (certificate_at listing.now)) }
     ensures first { IfErr result (λ e. (plan : Option (List model_task.Instance)) (most : ℕ) → IsRightUpTo (task_at listing.now) (certificate_at listing.now) most place
@@ -218,7 +218,7 @@ fn check_successors(
     requires within { place < length (certificate_at listing.now).lines }
     requires state { IsPacked listing.now state.now }
     requires next { IsPacked listing.now next.old }
-    requires listed { Stands (task_at listing.now) (certificate_at listing.now) place (state_at listing.now state.now) cost opened }
+    requires listed { IsListedAs (task_at listing.now) (certificate_at listing.now) place (state_at listing.now state.now) cost opened }
     requires small { cost < 1152921504606846976 }
     requires numbers { numbers.now ≡ applicable_numbers (task_at listing.now) (atoms_at listing.now) (bits_of state.now) }
     requires goal { IsTrue (meaning.meets_goal (task_at listing.now) (state_at listing.now state.now)) → Allows (certificate_at listing.now).claim cost }
@@ -240,7 +240,7 @@ fn check_successors(
     Ok(())
 }
 
-/// Checks the cut of this state, which is listed at this place and this cost, and told to have at least `rest` still to
+/// Checks the cut of this state, which is listed at this place and this cost, and reported to have at least `rest` still to
 /// pay.
 fn check_cut(
     listing: &PackedListing,
@@ -251,7 +251,7 @@ fn check_cut(
 ) -> Result<(), Refusal>
     requires within { place < length (certificate_at listing.now).lines }
     requires state { IsPacked listing.now state.now }
-    requires listed { Stands (task_at listing.now) (certificate_at listing.now) place (state_at listing.now state.now) cost (cut rest) }
+    requires listed { IsListedAs (task_at listing.now) (certificate_at listing.now) place (state_at listing.now state.now) cost (cut rest) }
     requires small { (cost < 1152921504606846976) × (rest < 1152921504606846976) }
     ensures right { OnOk result (IsCutClosed (certificate_at listing.now) (state_at listing.now state.now) cost rest) }
     ensures wrong { IfErr result (IsTrueAnyway (task_at listing.now) (certificate_at listing.now)) }
@@ -269,7 +269,7 @@ fn check_cut(
 fn check_dead(listing: &PackedListing, place: usize, state: &Packed) -> Result<(), Refusal>
     requires within { place < length (certificate_at listing.now).lines }
     requires state { IsPacked listing.now state.now }
-    requires listed { (cost : ℕ) × Stands (task_at listing.now) (certificate_at listing.now) place (state_at listing.now state.now) cost dead }
+    requires listed { (cost : ℕ) × IsListedAs (task_at listing.now) (certificate_at listing.now) place (state_at listing.now state.now) cost dead }
     ensures right { OnOk result (IsTrue (is_dead_end_of (certificate_at listing.now) (state_at listing.now state.now))) }
     ensures wrong { IfErr result (IsTrueAnyway (task_at listing.now) (certificate_at listing.now)) }
     ensures first { IfErr result (λ e. (plan : Option (List model_task.Instance)) (most : ℕ) → IsRightUpTo (task_at listing.now) (certificate_at listing.now) most place

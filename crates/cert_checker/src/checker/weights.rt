@@ -2,7 +2,7 @@
 ghost use Rattle.std.specs.Prelude.{◌≡◌, ◌<◌, ◌≤◌, ◌↔◌, pos, All, IsTrue, Some, IfErr, IfOk, OnOk, length, slice_get};
 ghost use Rattle.formulas.specs.State.{instance_of};
 ghost use Rattle.grounding.specs.Ground.{task_in, atoms_in};
-ghost use Rattle.potentials.specs.Fairness.{TellsDead};
+ghost use Rattle.potentials.specs.Fairness.{DetectsDead};
 ghost use Rattle.potentials.specs.Potentials.{potentials_of};
 ghost use Rattle.certificate.specs.Certificate.{certificate_of};
 ghost use Rattle.cert_checker.specs.FluentAtoms.{AreFluent};
@@ -78,7 +78,7 @@ fn dead_fairness(
     grounded: &Ground<'_>,
 ) -> Result<Fairness, NoMemory>
     requires { length (potentials_of potentials.now).weights ≡ length (atoms_in grounded.now) }
-    ensures { IfOk result (TellsDead (task_in grounded.now) (atoms_in grounded.now) (potentials_of potentials.now)) }
+    ensures { IfOk result (DetectsDead (task_in grounded.now) (atoms_in grounded.now) (potentials_of potentials.now)) }
 {
     if potentials.constant() == 0 && are_zero(potentials.weights()) {
         Ok(Fairness::Fair)

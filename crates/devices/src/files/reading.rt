@@ -49,7 +49,7 @@ fn read_text<S: Source>(alloc: Global, source: &mut S) -> Result<Vec<u8>, WriteF
     Ok(text)
 }
 
-/// Reads once, to the end of the text, and tells how many bytes came.
+/// Reads once, to the end of the text, and says how many bytes came.
 fn read_some<S: Source>(
     source: &mut S,
     room: &mut [u8],

@@ -20,7 +20,7 @@ pub trait Document {
         ensures name { S.name sink.new ≡ S.name sink.old };
 }
 
-/// A text that stands in memory.
+/// A text that is in memory.
 #[derive(Clone, Copy)]
 pub struct Bytes<'a>(pub &'a [u8]);
 

@@ -12,7 +12,7 @@ ghost use Rattle.model.specs.Meaning.{is_instance, system_of};
 use crate::explaining::of_fault::explain_refused;
 use crate::explanation::{Explanation, Subject};
 use crate::files::plan_of_file;
-use explained_plans::{PlanExplanation, explain_plan, step_place, tell_details, tell_verdict};
+use explained_plans::{PlanExplanation, explain_plan, step_place, report_details, report_verdict};
 use faults::NoMemory;
 use formulas::Plan;
 use source_text::{NamedText, NamedTexts, marked, place_of};
@@ -65,7 +65,7 @@ fn verdict_in(explained: &PlanExplanation<'_>) -> Verdict
     }
 }
 
-/// The lines that say it. A step that is not applicable is told with its place in the file, and with its line and a mark.
+/// The lines that say it. A step that is not applicable is reported with its place in the file, and with its line and a mark.
 fn text_of(
     alloc: Global,
     task: &Task,
@@ -73,8 +73,8 @@ fn text_of(
     plan: &Plan,
     explained: &PlanExplanation<'_>,
 ) -> Result<String, NoMemory> {
-    let verdict = tell_verdict(alloc, task, plan, explained)?;
-    let details = tell_details(alloc, task, plan, explained)?;
+    let verdict = report_verdict(alloc, task, plan, explained)?;
+    let details = report_details(alloc, task, plan, explained)?;
     let mut text = String::new(alloc);
     match explained {
         PlanExplanation::Solves { .. } => {

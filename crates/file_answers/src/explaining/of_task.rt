@@ -1,4 +1,4 @@
-//! What is said of a task that no plan is handed in for.
+//! What is said of a task that no plan is given for.
 ghost use Rattle.std.specs.Prelude.{IfOk};
 ghost use Rattle.task.specs.Task.{task_of};
 ghost use Rattle.file_answers.specs.Explanations.{IsGrounded, IsOfGrounded};

@@ -6,14 +6,14 @@ ghost use Rattle.certificate_reader.specs.Reader.{source_of};
 ghost use Rattle.file_answers.specs.Inputs.{IsInputFault};
 ghost use Rattle.file_answers.specs.Files.{text_in};
 ghost use Rattle.file_answers.specs.declared.checking.Checked.{Checked};
-ghost use Rattle.planner_main.specs.declared.telling.reports.Report.TheVariants.{Check};
+ghost use Rattle.planner_main.specs.declared.printing.reports.Report.TheVariants.{Check};
 ghost use Rattle.devices.specs.Texts.{AreKept, items_in};
 ghost use Rattle.planner_main.specs.Program.{CountsFailure, IsCheckOn, IsCheckedIn, IsOneOf, IsUnread, OnInputs, fault_in, if_named};
 ghost use Rattle.devices.specs.Devices.{IsKept};
 
 use crate::failures::Failure;
 use crate::program::inputs::{Pair, read_named, read_pair};
-use crate::telling::{Report, failure_of};
+use crate::printing::{Report, failure_of};
 use certificate::CertReader;
 use devices::{Files, Source};
 use file_answers::check_files;

@@ -7,7 +7,7 @@ ghost use Rattle.file_answers.specs.Explanations as explanations;
 
 use crate::failures::Failure;
 use crate::program::inputs::{read_named, read_pair};
-use crate::telling::Report;
+use crate::printing::Report;
 use devices::Files;
 use file_answers::{NamedText, explain_files};
 use std::alloc::Global;

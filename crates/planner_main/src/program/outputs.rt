@@ -1,12 +1,12 @@
-//! How a report is told, and which files are written of it.
+//! How a report is reported, and which files are written of it.
 ghost use Rattle.std.specs.Prelude.{◌≡◌, None};
 ghost use Rattle.command_line.specs.View.{wanted_of};
 ghost use Rattle.planner_main.specs.Asked.{is_json, outputs_in, outputs_of};
 
-use crate::telling::Format;
+use crate::printing::Format;
 use command_line::Order;
 
-/// How a report is told, and where beside the standard output.
+/// How a report is reported, and where beside the standard output.
 #[derive(Clone, Copy)]
 pub(super) struct Outputs<'a> {
     /// What the standard output takes.
@@ -17,7 +17,7 @@ pub(super) struct Outputs<'a> {
     pub(super) plan: Option<&'a str>,
 }
 
-/// How the order wants its report told.
+/// How the order wants its report reported.
 pub(super) fn outputs_of(order: Order<'_>) -> Outputs<'_>
     ensures { outputs_in result ≡ outputs_of (wanted_of order.entry) }
 {
@@ -31,13 +31,13 @@ pub(super) fn outputs_of(order: Order<'_>) -> Outputs<'_>
             let format = format_of(json);
             Outputs { format, cert, plan }
         }
-        Order::Validate { json, .. } | Order::Check { json, .. } => only_told(format_of(json)),
-        Order::Explain { .. } => only_told(Format::Text),
+        Order::Validate { json, .. } | Order::Check { json, .. } => only_reported(format_of(json)),
+        Order::Explain { .. } => only_reported(Format::Text),
     }
 }
 
 /// A report of which no file is written.
-fn only_told<'a>(format: Format) -> Outputs<'a>
+fn only_reported<'a>(format: Format) -> Outputs<'a>
     ensures { outputs_in result ≡ record { json = is_json format; cert = None; plan = None } }
 {
     Outputs {

@@ -6,7 +6,7 @@ ghost use Rattle.model.specs.Files.{IsTaskFault};
 
 use crate::failures::Failure;
 use crate::program::inputs::read_pair;
-use crate::telling::Report;
+use crate::printing::Report;
 use devices::Files;
 use file_answers::solve_files;
 use solver::Limits;

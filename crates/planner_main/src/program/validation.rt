@@ -6,7 +6,7 @@ ghost use Rattle.model.specs.Files.{IsFileFault};
 
 use crate::failures::Failure;
 use crate::program::inputs::read_pair;
-use crate::telling::Report;
+use crate::printing::Report;
 use devices::{Files, read_file};
 use file_answers::validate_files;
 use std::alloc::Global;

@@ -3,9 +3,9 @@ ghost use Rattle.std.specs.Prelude.{◌≡◌, IfErr, IfOk, IsErr, IsTrue, None,
 ghost use Rattle.std.specs.Option.{option_map};
 ghost use Rattle.planner_main.specs.Asked.{outputs_in};
 ghost use Rattle.planner_main.specs.Reported as reported;
-ghost use Rattle.planner_main.specs.Program.{CountsEither, HasNotFailed, IsTold, IsToldPartly, fault_in};
+ghost use Rattle.planner_main.specs.Program.{CountsEither, HasNotFailed, IsReported, IsReportedPartly, fault_in};
 ghost use Rattle.file_answers.specs.Files.{text_in};
-ghost use Rattle.planner_main.specs.Solution.{IsBegun, TellsReport, cert_of, cert_text, in_file, plan_text};
+ghost use Rattle.planner_main.specs.Solution.{IsBegun, WritesReport, cert_of, cert_text, in_file, plan_text};
 ghost use Rattle.devices.specs.Written.{AreWritten};
 ghost use Rattle.devices.specs.Devices.{CountsDevice};
 ghost use Rattle.task.specs.Task.{task_of};
@@ -14,16 +14,16 @@ ghost use Rattle.certificate_definitions.specs.CertificateNames.{certificate_tex
 
 use crate::failures::Failure;
 use crate::program::outputs::Outputs;
-use crate::telling::{Report, json_text, report_text, status_of, told};
+use crate::printing::{Report, json_text, report_text, status_of, said};
 use certificate::{Cert, write_cert};
 use devices::{Bytes, Document, Files, Sink, WriteFault, write_all, write_file};
 use solver::{Answer, Exceeded};
 use std::alloc::Global;
 use task::Task;
 
-/// Writes the files that are wanted of a report, first that of the certificate, and then what it is told as to the standard output:
-/// the status. What is told is made before any file is written.
-pub(super) fn tell_report<F: Files, O: Sink>(
+/// Writes the files that are wanted of a report, first that of the certificate, and then what it is reported as to the standard output:
+/// the status. What is reported is made before any file is written.
+pub(super) fn write_report<F: Files, O: Sink>(
     alloc: Global,
     report: &Report,
     outputs: Outputs<'_>,
@@ -31,9 +31,9 @@ pub(super) fn tell_report<F: Files, O: Sink>(
     out: &mut O,
 ) -> Result<u8, Failure>
     requires { reported.HasText report.now }
-    ensures told { IfOk result (IsTold (TellsReport report.now (outputs_in outputs.entry))
+    ensures said { IfOk result (IsReported (WritesReport report.now (outputs_in outputs.entry))
         F.is_known (F.contents files.old) (F.contents files.new) (O.taken out.old) (O.taken out.new)) }
-    ensures partly { IfErr result (λ _. IsToldPartly (TellsReport report.now (outputs_in outputs.entry))
+    ensures partly { IfErr result (λ _. IsReportedPartly (WritesReport report.now (outputs_in outputs.entry))
         F.is_known (F.contents files.old) (F.contents files.new) (O.taken out.old) (O.taken out.new)) }
     ensures unfailed { IfOk result (λ _. HasNotFailed (F.failures files.old) (F.failures files.new) (O.failures out.old) (O.failures out.new)) }
     ensures failures { IfErr result (CountsEither (F.failures files.old) (F.failures files.new) (O.failures out.old) (O.failures out.new)) }
@@ -45,7 +45,7 @@ pub(super) fn tell_report<F: Files, O: Sink>(
     save(files, outputs.cert, &cert)?;
     let plan = plan_text(report, &text);
     save(files, outputs.plan, &plan)?;
-    write_all(out, told(&json, &text))?;
+    write_all(out, said(&json, &text))?;
     Ok(status_of(report))
 }
 

@@ -12,7 +12,7 @@ use Rattle.certificate.specs.CertificateParts.{listed_of}
 use Rattle.cert_checker.specs.CertFaults.{refusal_of}
 use Rattle.cert_checker.specs.Taking.{heading_of}
 use Rattle.cert_checker.specs.Reading.{IsLineRefusal, IsListedSoFar, IsRead}
-use Rattle.cert_checker.proofs.ReadingLemmas.{fault_told, one_read, wrong_counts, wrong_told}
+use Rattle.cert_checker.proofs.ReadingLemmas.{fault_reported, one_read, wrong_counts, wrong_reported}
 use Rattle.cert_checker.proofs.ListingLemmas.{as_many_listed, few_begun, fewer_left, fit_next, read_whole, so_far_next}
 use Rattle.certificate.specs.CertificateParts.{certificate_with}
 use Rattle.cert_checker.proofs.AcceptedLemmas.{limits_kept}
@@ -37,30 +37,30 @@ pub returns-in_err-take_line-clause-refused : goal.returns-in_err-take_line-clau
 returns-in_err-take_line-clause-refused g c =
     let task = task_of c.args.task.now in
     let line = text_line_of c.in-Some.line in
-    let (before, at, told, have, body) = rw c.in-Some.is at c.states.invariant.so_far in
+    let (before, at, reported, have, body) = rw c.in-Some.is at c.states.invariant.so_far in
     passed_on (IsLineRefusal g.R.Source.remaining task c.args.reader.now c.states.reader) c.from_residual-in_err-take_line.result c.in_err-take_line.field-0.0 c.from_residual-in_err-take_line.ensures.1
-    (wrong_told g.R.Source.remaining c.args.reader.now c.states.reader task before line at told.right c.in_err-take_line.field-0.0
-    (c.in_err-take_line.ensures.wrong task before (heading_of c.in_ok-header.header) refl (c.lines.ensures ∙ one_read c.states.reader before line at.read) told have))
+    (wrong_reported g.R.Source.remaining c.args.reader.now c.states.reader task before line at reported.right c.in_err-take_line.field-0.0
+    (c.in_err-take_line.ensures.wrong task before (heading_of c.in_ok-header.header) refl (c.lines.ensures ∙ one_read c.states.reader before line at.read) reported have))
 
 pub returns-in_err-take_line-clause-failures : goal.returns-in_err-take_line-clause-failures
 returns-in_err-take_line-clause-failures g c =
     let task = task_of c.args.task.now in
     let line = text_line_of c.in-Some.line in
-    let (before, at, told, have, body) = rw c.in-Some.is at c.states.invariant.so_far in
+    let (before, at, reported, have, body) = rw c.in-Some.is at c.states.invariant.so_far in
     wrong_counts task before line (g.R.Source.failures (source_of c.args.reader.now)) (g.R.Source.failures (source_of c.states.reader))
     c.from_residual-in_err-take_line.result c.in_err-take_line.field-0.0 c.from_residual-in_err-take_line.ensures.1
-    (c.in_err-take_line.ensures.wrong task before (heading_of c.in_ok-header.header) refl (c.lines.ensures ∙ one_read c.states.reader before line at.read) told have)
+    (c.in_err-take_line.ensures.wrong task before (heading_of c.in_ok-header.header) refl (c.lines.ensures ∙ one_read c.states.reader before line at.read) reported have)
     c.states.invariant.failures
 
 pub returns-in_err-next-clause-refused : goal.returns-in_err-next-clause-refused
 returns-in_err-next-clause-refused g c =
     let task = task_of c.args.task.now in
     let line = text_line_of c.in-Some.line in
-    let (before, at, told, have, body) = rw c.in-Some.is at c.states.invariant.so_far in
-    let taken = c.in_ok-take_line.ensures.taken task before (heading_of c.in_ok-header.header) refl body told have in
+    let (before, at, reported, have, body) = rw c.in-Some.is at c.states.invariant.so_far in
+    let taken = c.in_ok-take_line.ensures.taken task before (heading_of c.in_ok-header.header) refl body reported have in
     passed_on (IsLineRefusal g.R.Source.remaining task c.args.reader.now c.next_line.new.self) c.from_residual-in_err-next.result (refusal_of c.in_err-next.field-0.0) c.from_residual-in_err-next.ensures.1
-    (fault_told g.R.Source.remaining c.args.reader.now c.states.reader (before ++ line ∷ []) at task taken.0.right c.next_line.new.self c.in_err-next.field-0.0
-    (c.in_err-next.ensures.told (before ++ line ∷ []) at.read at.going))
+    (fault_reported g.R.Source.remaining c.args.reader.now c.states.reader (before ++ line ∷ []) at task taken.0.right c.next_line.new.self c.in_err-next.field-0.0
+    (c.in_err-next.ensures.reported (before ++ line ∷ []) at.read at.going))
 
 pub states-smaller : goal.states-smaller
 states-smaller g c =
@@ -68,12 +68,12 @@ states-smaller g c =
     let header = c.in_ok-header.header in
     let line = text_line_of c.in-Some.line in
     let states = c.take_line.new.states in
-    let (before, at, told, have, body) = rw c.in-Some.is at c.states.invariant.so_far in
-    let taken = c.in_ok-take_line.ensures.taken task before (heading_of header) refl body told have in
+    let (before, at, reported, have, body) = rw c.in-Some.is at c.states.invariant.so_far in
+    let taken = c.in_ok-take_line.ensures.taken task before (heading_of header) refl body reported have in
     subst (λ next. (20000000 - lines_read c.next_line.new.self) + option_map_or (λ (line : CertLine). 1) c.in_ok-next.next 0 < (20000000 - lines_read c.states.reader) + option_map_or (λ (line : CertLine). 1) next 0)
     (sym c.in-Some.is)
     (fewer_left g.R.Source.remaining task c.args.reader.now c.states.reader header (pooled_width c.states.states.sets) (map listed_of states.marks.items) (pooled_states states.sets)
-    before line at taken.0 taken.1 body c.next_line.new.self c.in_ok-next.ensures.failed c.in_ok-next.next (c.in_ok-next.ensures.told (before ++ line ∷ []) at.read at.going))
+    before line at taken.0 taken.1 body c.next_line.new.self c.in_ok-next.ensures.failed c.in_ok-next.next (c.in_ok-next.ensures.reported (before ++ line ∷ []) at.read at.going))
 
 pub states-preserved : goal.states-preserved
 states-preserved g c =
@@ -81,13 +81,13 @@ states-preserved g c =
     let header = c.in_ok-header.header in
     let line = text_line_of c.in-Some.line in
     let states = c.take_line.new.states in
-    let (before, at, told, have, body) = rw c.in-Some.is at c.states.invariant.so_far in
-    let taken = c.in_ok-take_line.ensures.taken task before (heading_of header) refl body told have in
+    let (before, at, reported, have, body) = rw c.in-Some.is at c.states.invariant.so_far in
+    let taken = c.in_ok-take_line.ensures.taken task before (heading_of header) refl body reported have in
     record {
       so_far = subst (λ width. IsListedSoFar g.R.Source.remaining task c.args.reader.now c.next_line.new.self header width (map listed_of states.marks.items) (pooled_states states.sets) c.in_ok-next.next)
           (sym c.in_ok-take_line.ensures.width)
           (so_far_next g.R.Source.remaining task c.args.reader.now c.states.reader header (pooled_width c.states.states.sets) (map listed_of states.marks.items) (pooled_states states.sets)
-          before line at taken.0 taken.1 body c.next_line.new.self c.in_ok-next.ensures.failed c.in_ok-next.next (c.in_ok-next.ensures.told (before ++ line ∷ []) at.read at.going));
+          before line at taken.0 taken.1 body c.next_line.new.self c.in_ok-next.ensures.failed c.in_ok-next.next (c.in_ok-next.ensures.reported (before ++ line ∷ []) at.read at.going));
       width = c.in_ok-take_line.ensures.width ∙ c.states.invariant.width;
       failures = c.in_ok-next.ensures.failures ∙ c.states.invariant.failures;
     }

@@ -10,7 +10,7 @@ use Rattle.certificate.specs.Certificate.{certificate_of, store_in}
 use Rattle.model.specs.Meaning.{system_of}
 use Rattle.model.specs.Claims.{ClaimHolds}
 use Rattle.model.specs.Limits.{max_numbered_atoms}
-use Rattle.model.specs.Grounding.{limit_told}
+use Rattle.model.specs.Grounding.{exceeded_limit}
 use Rattle.certificate_definitions.specs.Certificates.{Certificate, IsClosedFor}
 use Rattle.cert_checker.specs.CertChecker.{Answers, IsFirstRefusal, IsTrueRefusal}
 use Rattle.cert_checker.proofs.StaysLemmas.{closed_holds}
@@ -55,7 +55,7 @@ returns-clause-first c =
     let claim = claim_of c.claim-claim.result in
     let right = c.in_ok-check_cert.ensures.right in
     IfErr-weaker c.answer.result
-    (λ e. (k : Certificate) (most : ℕ) → k.claim ≡ claim → IsClosedFor task k → limit_told most max_numbered_atoms task k.atoms ≡ None → IsFirstRefusal task k plan most e)
+    (λ e. (k : Certificate) (most : ℕ) → k.claim ≡ claim → IsClosedFor task k → exceeded_limit most max_numbered_atoms task k.atoms ≡ None → IsFirstRefusal task k plan most e)
     (IsFirstRefusal task cert plan c.args.max_instances)
     (λ e first. first cert c.args.max_instances (sym c.claim-claim.ensures) (closed_for task cert c.args.max_instances right) right.within) c.answer.ensures.first
 

@@ -8,25 +8,25 @@ use Rattle.certificate_reader.specs.Lines.{claim_of, named_atom_of, version_of, 
 use Rattle.certificate_definitions.specs.CertificateText.{WeightedAtom, atom}
 use Rattle.certificate_definitions.specs.CertificateChecking.{not_fluent}
 use Rattle.certificate_definitions.specs.CertificateNames.{of_dead_end_or_zero}
-use Rattle.cert_checker.specs.Told.{Heading, HaveTold}
+use Rattle.cert_checker.specs.Given.{Heading, HaveGiven}
 use Rattle.cert_checker.specs.Taking.{heading_of}
-use Rattle.cert_checker.proofs.AtomsLemmas.{new_is_told, again_is_wrong}
+use Rattle.cert_checker.proofs.AtomsLemmas.{new_is_reported, again_is_wrong}
 use Rattle.cert_checker.proofs.header.add_atom.Goals as goal
 
 pub returns-in_default-clause-wrong : goal.returns-in_default-clause-wrong
-returns-in_default-clause-wrong c = λ before at told. (at, not_fluent (record { weights = weights_of c.args.weights; atom = named_atom_of c.args.name.now }) c.in_default.ensures.none)
+returns-in_default-clause-wrong c = λ before at reported. (at, not_fluent (record { weights = weights_of c.args.weights; atom = named_atom_of c.args.name.now }) c.in_default.ensures.none)
 
 pub returns-then-not-branch-clause-wrong : goal.returns-then-not-branch-clause-wrong
-returns-then-not-branch-clause-wrong c = λ before at told.
+returns-then-not-branch-clause-wrong c = λ before at reported.
     let header = c.args.header.now in (
       at,
-      again_is_wrong (task_of c.args.task.now) before (heading_of header) header.atoms.keys refl told
+      again_is_wrong (task_of c.args.task.now) before (heading_of header) header.atoms.keys refl reported
           (record { weights = weights_of c.args.weights; atom = named_atom_of c.args.name.now }) c.in-Some.atom
           c.in-Some.ensures.names c.in-Some.ensures.typed c.in-Some.ensures.fluent c.in_ok-insert.field-0 c.in_ok-insert.ensures.added c.if-not-branch.true,
     )
 
-pub returns-clause-told : goal.returns-clause-told
-returns-clause-told c = λ before told.
+pub returns-clause-reported : goal.returns-clause-reported
+returns-clause-reported c = λ before reported.
     let task = task_of c.args.task.now in
     let header = c.args.header.now in
     let said : WeightedAtom = record { weights = weights_of c.args.weights; atom = named_atom_of c.args.name.now } in
@@ -43,6 +43,6 @@ returns-clause-told c = λ before told.
       potentials = record { constant = header.bounds.values.constant; weights = values };
       dead_ends = record { constant = header.bounds.dead_ends.constant; weights = dead_ends };
     } in
-    subst (HaveTold task (before ++ atom said ∷ [])) (λ i. heading (sym values_are i) (sym dead_ends_are i))
-    (new_is_told task before (heading_of header) header.atoms.keys refl told said c.in-Some.atom
+    subst (HaveGiven task (before ++ atom said ∷ [])) (λ i. heading (sym values_are i) (sym dead_ends_are i))
+    (new_is_reported task before (heading_of header) header.atoms.keys refl reported said c.in-Some.atom
     c.in-Some.ensures.names c.in-Some.ensures.typed c.in-Some.ensures.fluent c.in_ok-insert.field-0 c.in_ok-insert.ensures.added c.if-not-branch.false c.insert.new.self.keys c.in_ok-insert.ensures.keys)

@@ -1,9 +1,9 @@
--- some lines were read, and have told what is kept of them, and no state
+-- some lines were read, and have reported what is kept of them, and no state
 use Rattle.std.proofs.Common.{◌≡◌, ◌-◌, List, []}
 use Rattle.task.specs.Task.{task_of}
 use Rattle.certificate_definitions.specs.CertificateText.{TextLine}
 use Rattle.certificate_reader.specs.Reader.{lines_read, source_of}
-use Rattle.cert_checker.specs.Told.{states_told}
+use Rattle.cert_checker.specs.Given.{states_given}
 use Rattle.cert_checker.specs.Taking.{HasTaken}
 use Rattle.cert_checker.specs.Reading.{IsAt}
 use Rattle.cert_checker.proofs.header.read_header.Given as goal
@@ -12,8 +12,8 @@ abbrev pub invariant-lines : goal.invariant-lines
 invariant-lines g l = record {
   lines : List TextLine;
   at : IsAt g.R.Source.remaining l.initial.reader l.reader lines;
-  told : HasTaken (task_of l.task) lines l.header;
-  no_state : states_told lines ≡ [];
+  reported : HasTaken (task_of l.task) lines l.header;
+  no_state : states_given lines ≡ [];
   failures : g.R.Source.failures (source_of l.reader) ≡ g.R.Source.failures (source_of l.initial.reader);
 }
 

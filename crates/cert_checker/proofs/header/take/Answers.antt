@@ -9,7 +9,7 @@ use Rattle.certificate_definitions.specs.CertificateText.{TextLine, BeginCertifi
 use Rattle.certificate_definitions.specs.CertificateNames.{of_dead_end_or_zero}
 use Rattle.certificate.specs.declared.header.Header.{Header}
 use Rattle.cert_checker.specs.Taking.{HasTaken, IsTaken, IsWrongNow, heading_of}
-use Rattle.cert_checker.proofs.ToldLemmas.{told_version, told_claim, told_constant}
+use Rattle.cert_checker.proofs.GivenLemmas.{reported_version, reported_claim, reported_constant}
 use Rattle.cert_checker.proofs.header.take.Goals as goal
 
 pub returns-in-Version-clause-taken : goal.returns-in-Version-clause-taken
@@ -18,7 +18,7 @@ returns-in-Version-clause-taken c =
     let header = c.args.header.now in
     let after : Header = record { version = c.in-Version.version; claim = header.claim; atoms = header.atoms; bounds = header.bounds } in
     subst (λ line. (before : List TextLine) → BeginCertificate (before ++ text_line_of line ∷ []) → HasTaken task before header → IsTaken task before (text_line_of line) after None)
-    (sym c.in-Version.is) (λ before begun told. (told_version task before (heading_of header) told (version_of c.in-Version.version) begun, refl))
+    (sym c.in-Version.is) (λ before begun reported. (reported_version task before (heading_of header) reported (version_of c.in-Version.version) begun, refl))
 
 pub returns-in-Claim-clause-taken : goal.returns-in-Claim-clause-taken
 returns-in-Claim-clause-taken c =
@@ -26,7 +26,7 @@ returns-in-Claim-clause-taken c =
     let header = c.args.header.now in
     let after : Header = record { version = header.version; claim = c.in-Claim.claim; atoms = header.atoms; bounds = header.bounds } in
     subst (λ line. (before : List TextLine) → BeginCertificate (before ++ text_line_of line ∷ []) → HasTaken task before header → IsTaken task before (text_line_of line) after None)
-    (sym c.in-Claim.is) (λ before begun told. (told_claim task before (heading_of header) told (claim_of c.in-Claim.claim) begun, refl))
+    (sym c.in-Claim.is) (λ before begun reported. (reported_claim task before (heading_of header) reported (claim_of c.in-Claim.claim) begun, refl))
 
 pub returns-in-Constants-clause-taken : goal.returns-in-Constants-clause-taken
 returns-in-Constants-clause-taken c =
@@ -48,13 +48,13 @@ returns-in-Constants-clause-taken c =
     (λ i. with_constants (sym value_is i) (sym dead_end_is i))
     (subst (λ line. (before : List TextLine) → BeginCertificate (before ++ text_line_of line ∷ []) → HasTaken task before header
     → IsTaken task before (text_line_of line) (with_constants constants.of_value (of_dead_end_or_zero (weights_of constants))) None)
-    (sym c.in-Constants.is) (λ before begun told. (told_constant task before (heading_of header) told (weights_of constants) begun, refl)))
+    (sym c.in-Constants.is) (λ before begun reported. (reported_constant task before (heading_of header) reported (weights_of constants) begun, refl)))
 
 pub returns-in_ok-add_atom-in-Weight-clause-taken : goal.returns-in_ok-add_atom-in-Weight-clause-taken
 returns-in_ok-add_atom-in-Weight-clause-taken c =
     let task = task_of c.args.task.now in
     subst (λ line. (before : List TextLine) → BeginCertificate (before ++ text_line_of line ∷ []) → HasTaken task before c.args.header.now → IsTaken task before (text_line_of line) c.add_atom.new.header None)
-    (sym c.in-Weight.is) (λ before begun told. (c.in_ok-add_atom-in-Weight.ensures.told before told, refl))
+    (sym c.in-Weight.is) (λ before begun reported. (c.in_ok-add_atom-in-Weight.ensures.reported before reported, refl))
 
 pub returns-in_err-add_atom-in-Weight-clause-wrong : goal.returns-in_err-add_atom-in-Weight-clause-wrong
 returns-in_err-add_atom-in-Weight-clause-wrong c =

@@ -3,14 +3,14 @@ use Rattle.std.proofs.lemmas.Result.{err_from_is_err_and}
 use Rattle.certificate_reader.specs.Lines.{text_line_of}
 use Rattle.certificate_reader.specs.Stages.{IsReadAt, place_of}
 use Rattle.certificate_reader.specs.Waiting.{waiting_of}
-use Rattle.certificate_reader.proofs.NextLemmas.{line_told, taken}
+use Rattle.certificate_reader.proofs.NextLemmas.{line_reported, taken}
 use Rattle.certificate_reader.proofs.next.take_line.Goals as goal
 
 pub returns-in_err-read : goal.returns-in_err-read
 returns-in_err-read c =
-    let told = subst (λ bytes. IsReadAt (place_of c.args.stage) (take c.args.end bytes) (Err c.in_err-read.field-0.0)) c.bytes.ensures c.in_err-read.ensures in
+    let reported = subst (λ bytes. IsReadAt (place_of c.args.stage) (take c.args.end bytes) (Err c.in_err-read.field-0.0)) c.bytes.ensures c.in_err-read.ensures in
     let p = err_from_is_err_and c.from_residual.result c.from_residual.ensures.1 in
-    rw (p.1, p.2) (line_told (place_of c.args.stage) (waiting_of c.args.waiting.now) c.args.end c.requires.line c.in_err-read.field-0.0 told (waiting_of c.args.waiting.now))
+    rw (p.1, p.2) (line_reported (place_of c.args.stage) (waiting_of c.args.waiting.now) c.args.end c.requires.line c.in_err-read.field-0.0 reported (waiting_of c.args.waiting.now))
 
 pub returns : goal.returns
 returns c =

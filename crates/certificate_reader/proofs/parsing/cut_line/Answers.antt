@@ -1,7 +1,7 @@
 use Rattle.std.proofs.Common.{ap, codes, refl}
 use Rattle.std.proofs.lemmas.Result.{err_from_is_err_and}
 use Rattle.certificate_reader.specs.Words.{text_in}
-use Rattle.certificate_reader.proofs.LinesRead.{cut_is_read, is_cut, no_cut_alone, no_cut_behind, no_cut_cost}
+use Rattle.certificate_reader.proofs.LinesRead.{cut_is_read, is_cut, no_cut_alone, no_cut_after, no_cut_cost}
 use Rattle.certificate_reader.proofs.ParseLemmas.{malformed}
 use Rattle.certificate_reader.proofs.parsing.cut_line.Goals as goal
 
@@ -12,21 +12,21 @@ pub returns-in_default : goal.returns-in_default
 returns-in_default c = λ v.
     malformed (codes "cut") c.args.rest.now v c.args.atom_count refl (no_cut_cost c.args.rest.now c.args.atom_count _ _ c.first_word.ensures c.in_default.ensures.none v)
 
-pub returns-in_default-behind : goal.returns-in_default-behind
-returns-in_default-behind c = λ v.
+pub returns-in_default-following : goal.returns-in_default-following
+returns-in_default-following c = λ v.
     malformed (codes "cut") c.args.rest.now v c.args.atom_count refl
-    (no_cut_alone c.args.rest.now c.args.atom_count _ _ c.first_word.ensures (ap text_in c.in_default-behind.is) v)
+    (no_cut_alone c.args.rest.now c.args.atom_count _ _ c.first_word.ensures (ap text_in c.in_default-following.is) v)
 
 pub returns-in-Some-2 : goal.returns-in-Some-2
 returns-in-Some-2 c =
     let read = rw c.in-Some-2.is at c.in_ok-least.ensures.some in
     let cost = c.in-Some.ensures.some in
     cut_is_read c.args.rest.now c.args.atom_count c.in-Some.cost c.in-Some-2.least c.in-Some-2.atoms.items
-    (is_cut c.args.rest.now c.args.atom_count _ _ c.first_word.ensures c.in-Some-behind.behind.now (ap text_in c.in-Some-behind.is)
+    (is_cut c.args.rest.now c.args.atom_count _ _ c.first_word.ensures c.in-Some-following.following.now (ap text_in c.in-Some-following.is)
     c.in-Some.cost c.in-Some-2.least c.in-Some-2.atoms.items cost.0 cost.1 read)
 
 pub returns-in-None : goal.returns-in-None
 returns-in-None c = λ v.
     let never = rw c.in-None.is at c.in_ok-least.ensures.none in
     malformed (codes "cut") c.args.rest.now v c.args.atom_count refl
-    (no_cut_behind c.args.rest.now c.args.atom_count _ _ c.first_word.ensures c.in-Some-behind.behind.now (ap text_in c.in-Some-behind.is) never v)
+    (no_cut_after c.args.rest.now c.args.atom_count _ _ c.first_word.ensures c.in-Some-following.following.now (ap text_in c.in-Some-following.is) never v)

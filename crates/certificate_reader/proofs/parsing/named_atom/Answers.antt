@@ -1,5 +1,5 @@
 use Rattle.std.proofs.Common.{sym, ◌∙◌}
-use Rattle.certificate_reader.proofs.LinesRead.{no_lower_predicate, no_names_behind, is_atom_line}
+use Rattle.certificate_reader.proofs.LinesRead.{no_lower_predicate, no_names_after, is_atom_line}
 use Rattle.certificate_reader.proofs.parsing.named_atom.Goals as goal
 
 pub returns-then-not-is_lower_name-clause-none : goal.returns-then-not-is_lower_name-clause-none
@@ -15,4 +15,4 @@ returns-in_ok-copy-in-Some-2-clause-some c =
 pub returns-in-None-clause-none : goal.returns-in-None-clause-none
 returns-in-None-clause-none c =
     let never = rw c.in-None.is at c.in_ok-objects.ensures.none in
-    no_names_behind c.args.rest.now c.in-Some.inner.now c.in-Some.ensures.some _ _ c.first_word.ensures never
+    no_names_after c.args.rest.now c.in-Some.inner.now c.in-Some.ensures.some _ _ c.first_word.ensures never

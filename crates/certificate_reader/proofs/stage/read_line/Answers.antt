@@ -4,13 +4,13 @@ use Rattle.certificate_reader.specs.declared.fault.TextFault.TheVariants.{Versio
 use Rattle.certificate_reader.specs.Lines.{text_line_of, version_of}
 use Rattle.certificate_definitions.specs.CertificateText.{is_line}
 use Rattle.certificate_reader.specs.Stages.{atoms_at, place_of}
-use Rattle.certificate_reader.proofs.PlaceRead.{told_after, told_at}
+use Rattle.certificate_reader.proofs.PlaceRead.{reported_after, reported_at}
 use Rattle.certificate_reader.proofs.stage.read_line.Goals.{in_default-via-in-Text+in_default, in_default-via-in_default}
 use Rattle.certificate_reader.proofs.stage.read_line.Goals as goal
 
 pub returns-in-Err-after : goal.returns-in-Err-after
 returns-in-Err-after c =
-    told_after (place_of c.args.stage) c.requires.within (text_line_of c.in-Ok.line)
+    reported_after (place_of c.args.stage) c.requires.within (text_line_of c.in-Ok.line)
     (subst (λ v. IsTrue (is_line v (atoms_at (place_of c.args.stage)) (text_line_of c.in-Ok.line))) c.version.ensures
     (subst (λ n. IsTrue (is_line (version_of c.version.result) n (text_line_of c.in-Ok.line))) c.atoms.ensures c.in-Ok.ensures.1)) c.args.bytes.now c.in-Ok.ensures.0
     c.in-Err-after.fault c.in-Err-after.ensures
@@ -18,5 +18,5 @@ returns-in-Err-after c =
 pub returns-in_default : goal.returns-in_default
 returns-in_default c =
     let not_other : c.in-Err.fault ≢ Text Version = elim c.in_default.branch [ in_default-via-in-Text+in_default w ↦ search rules | in_default-via-in_default w ↦ search rules ] in
-    told_at (place_of c.args.stage) c.requires.within c.args.bytes.now (version_of c.version.result) c.atoms.result c.version.ensures c.atoms.ensures c.in-Err.fault not_other
+    reported_at (place_of c.args.stage) c.requires.within c.args.bytes.now (version_of c.version.result) c.atoms.result c.version.ensures c.atoms.ensures c.in-Err.fault not_other
     c.in-Err.ensures

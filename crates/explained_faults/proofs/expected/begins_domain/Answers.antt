@@ -11,5 +11,5 @@ returns-in-Ok c = λ is. whole_begins domain_file (map word_of c.args.words.now)
 
 pub returns : goal.returns
 returns c =
-    refused_begins domain_file (map word_of c.args.words.now) c.in-Err.fault c.tells_end.result (all_have c.args.words.now c.requires)
-    c.in-Err.ensures.refused c.tells_end.ensures
+    refused_begins domain_file (map word_of c.args.words.now) c.in-Err.fault c.reports_end.result (all_have c.args.words.now c.requires)
+    c.in-Err.ensures.refused c.reports_end.ensures

@@ -20,7 +20,7 @@ returns c =
     record {
       state = state_of c.args.state.now;
       runs = c.requires.leads;
-      parts = c.in_ok-parts.ensures.told;
+      parts = c.in_ok-parts.ensures.reported;
       one_each = c.in_ok-histories.ensures.one_each ∙ ap length same;
       histories = subst (λ l. AreHistories (task_of c.args.task.now) (map instance_of c.args.steps.now) l c.in_ok-histories.histories.items) same c.in_ok-histories.ensures.since;
     }

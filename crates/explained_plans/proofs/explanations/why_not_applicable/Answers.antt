@@ -4,7 +4,7 @@ use Rattle.task.specs.Task.{task_of}
 use Rattle.task.specs.TaskParts.{object_of, shape_of}
 use Rattle.formulas.specs.State.{plan_of, state_of}
 use Rattle.formulas.proofs.Instances.{precondition_fits}
-use Rattle.explained_plans.proofs.Stopping.{before_all, before_leads, schema_is_some, step_is_one, told, turned}
+use Rattle.explained_plans.proofs.Stopping.{before_all, before_leads, schema_is_some, step_is_one, reported, turned}
 use Rattle.explained_plans.proofs.explanations.why_not_applicable.Goals as goal
 
 pub unwrap-schema-requires : goal.unwrap-schema-requires
@@ -34,7 +34,7 @@ why_false-requires-clause-leads c =
 pub returns-clause-explained : goal.returns-clause-explained
 returns-clause-explained c =
     let task = task_of c.args.task.now in
-    told task c.steps-steps.result.now (plan_of c.args.plan.now) c.steps-steps.ensures.steps c.args.step c.requires.stops c.requires.instances
+    reported task c.steps-steps.result.now (plan_of c.args.plan.now) c.steps-steps.ensures.steps c.args.step c.requires.stops c.requires.instances
     c.index-steps-step.result c.index-steps-step.is (shape_of c.unwrap-schema.result.now)
     (ap (option_map (λ s. shape_of s.now)) (sym c.unwrap-schema.ensures) ∙ c.schema.ensures.shape)
     c.amount.result c.amount.ensures c.is_none-lacks_cost.result (turned _ _ c.is_none-lacks_cost.ensures) c.in_ok-reasons.reasons

@@ -3,7 +3,7 @@ use Rattle.task.specs.Task.{task_of}
 use Rattle.model.proofs.TaskNames.{task_has_names}
 use Rattle.file_answers.specs.Files.{text_in}
 use Rattle.file_answers.proofs.FilesRead.{task_input}
-use Rattle.file_answers.proofs.CheckedLemmas.{none_told_of_inputs, none_told_of_inputs_in}
+use Rattle.file_answers.proofs.CheckedLemmas.{none_reported_of_inputs, none_reported_of_inputs_in}
 use Rattle.file_answers.proofs.checking.check_files.Goals as goal
 
 pub returns-in_err-task-clause-refused : goal.returns-in_err-task-clause-refused
@@ -15,7 +15,7 @@ pub returns-in_err-task-clause-taken : goal.returns-in_err-task-clause-taken
 returns-in_err-task-clause-taken g c = λ task steps is handed.
     let p = err_from_is_err_and c.from_residual.result c.from_residual.ensures.1 in
     rw (p.1, p.2)
-    (none_told_of_inputs c.args.domain.now c.args.problem.now (text_in c.args.plan) _ (task_input c.args.domain.now c.args.problem.now (text_in c.args.plan) _ c.in_err-task.ensures.refused) task steps is handed)
+    (none_reported_of_inputs c.args.domain.now c.args.problem.now (text_in c.args.plan) _ (task_input c.args.domain.now c.args.problem.now (text_in c.args.plan) _ c.in_err-task.ensures.refused) task steps is handed)
 
 pub returns-clause-task : goal.returns-clause-task
 returns-clause-task g c = c.check_task.ensures.task c.args.domain.now c.args.problem.now c.in_ok-task.ensures.task
@@ -28,7 +28,7 @@ returns-clause-refused g c = c.check_task.ensures.refused c.args.domain.now c.ar
 
 pub returns-clause-taken : goal.returns-clause-taken
 returns-clause-taken g c = λ task steps is handed.
-    none_told_of_inputs_in c.args.domain.now c.args.problem.now (text_in c.args.plan) c.check_task.result
+    none_reported_of_inputs_in c.args.domain.now c.args.problem.now (text_in c.args.plan) c.check_task.result
     (c.check_task.ensures.refused c.args.domain.now c.args.problem.now c.in_ok-task.ensures.task) task steps is handed
 
 pub returns-clause-names : goal.returns-clause-names

@@ -1,7 +1,7 @@
 use Rattle.std.proofs.Common.{sym, ap, subst}
 use Rattle.std.specs.Prelude.{IfOk}
 use Rattle.task.specs.Task.{task_of}
-use Rattle.file_answers.specs.Files.{told_in}
+use Rattle.file_answers.specs.Files.{reported_in}
 use Rattle.file_answers.proofs.FilesRead.{task_input}
 use Rattle.file_answers.specs.Explanations.{IsTrueOf, text_in}
 use Rattle.file_answers.proofs.ExplanationLemmas.{files_headed, refused_explained, task_explained, task_headed}
@@ -12,7 +12,7 @@ returns-in-Err-clause-subject c =
     let domain = c.args.domain.text.now in
     let problem = c.args.problem.text.now in
     refused_explained domain problem c.args.max_instances (text_in c.args.plan) c.in-Err.fault c.explain_refused.result
-    (task_input domain problem (text_in c.args.plan) (told_in c.in-Err.fault) c.in-Err.ensures.refused) c.explain_refused.ensures.fault
+    (task_input domain problem (text_in c.args.plan) (reported_in c.in-Err.fault) c.in-Err.ensures.refused) c.explain_refused.ensures.fault
 
 pub returns-in-Some-clause-subject : goal.returns-in-Some-clause-subject
 returns-in-Some-clause-subject c =

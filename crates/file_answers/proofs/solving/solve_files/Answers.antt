@@ -2,7 +2,7 @@ use Rattle.std.proofs.lemmas.Result.{err_from_is_err_and, IfOk-weaker}
 use Rattle.task.specs.Task.{task_of}
 use Rattle.model.proofs.TaskNames.{task_has_names}
 use Rattle.model.specs.Files.{IsTaskFault}
-use Rattle.file_answers.proofs.FilesRead.{none_told_of_task, none_refused}
+use Rattle.file_answers.proofs.FilesRead.{none_reported_of_task, none_refused}
 use Rattle.file_answers.proofs.solving.solve_files.Goals as goal
 
 pub returns-in_err-task-clause-refused : goal.returns-in_err-task-clause-refused
@@ -13,7 +13,7 @@ returns-in_err-task-clause-refused c =
 pub returns-in_err-task-clause-taken : goal.returns-in_err-task-clause-taken
 returns-in_err-task-clause-taken c = λ task is.
     let p = err_from_is_err_and c.from_residual.result c.from_residual.ensures.1 in
-    rw (p.1, p.2) (none_told_of_task c.args.domain.now c.args.problem.now _ c.in_err-task.ensures.refused task is)
+    rw (p.1, p.2) (none_reported_of_task c.args.domain.now c.args.problem.now _ c.in_err-task.ensures.refused task is)
 
 pub returns-clause-task : goal.returns-clause-task
 returns-clause-task c = c.solve_task.ensures.task c.args.domain.now c.args.problem.now c.in_ok-task.ensures.task

@@ -7,8 +7,8 @@ use Rattle.grounding_kept.proofs.atoms.number.Goals as goal
 pub returns-then-contains-clause-numbered : goal.returns-then-contains-clause-numbered
 returns-then-contains-clause-numbered c = numbered-there c.args.atom.now c.args.atoms.now.keys (sym c.contains.ensures ∙ c.if-contains.true)
 
-pub returns-then-len-ge-MAX_ATOMS-clause-told : goal.returns-then-len-ge-MAX_ATOMS-clause-told
-returns-then-len-ge-MAX_ATOMS-clause-told c =
+pub returns-then-len-ge-MAX_ATOMS-clause-reported : goal.returns-then-len-ge-MAX_ATOMS-clause-reported
+returns-then-len-ge-MAX_ATOMS-clause-reported c =
     numbered-full c.args.atom.now c.args.atoms.now.keys (sym c.contains.ensures ∙ c.if-contains.false) (subst (λ n. 1048576 ≤ n) c.len.ensures.len c.if-len-ge-MAX_ATOMS.true)
 
 pub returns-clause-numbered : goal.returns-clause-numbered

@@ -4,21 +4,21 @@ use Rattle.task.specs.declared.atoms.Atom.{Atom}
 use Rattle.task.specs.TaskParts.{atom_of}
 use Rattle.model.specs.NumberedAtoms.{with_atoms}
 use Rattle.model.proofs.NumberingLemmas.{numbered-end}
-use Rattle.grounding_kept.specs.Atoms.{TellsAtoms}
-use Rattle.grounding_kept.proofs.NumberLists.{item-told, next-numbered, got-item, singles}
+use Rattle.grounding_kept.specs.Atoms.{ReportsAtoms}
+use Rattle.grounding_kept.proofs.NumberLists.{item-reported, next-numbered, got-item, singles}
 use Rattle.grounding_kept.proofs.atoms.number_all.Goals as goal
 
 pub loop-atom-init : goal.loop-atom-init
 loop-atom-init c = record { all = ap (with_atoms (map atom_of c.args.atoms.now.keys)) (singles atom_of c.args.list.now); few = c.requires }
 
-pub returns-in_err-number-clause-told : goal.returns-in_err-number-clause-told
-returns-in_err-number-clause-told c =
+pub returns-in_err-number-clause-reported : goal.returns-in_err-number-clause-reported
+returns-in_err-number-clause-reported c =
     let now = map atom_of c.loop-atom.atoms.keys in
     let whole = with_atoms (map atom_of c.args.atoms.now.keys) (map atom_of c.args.list.now) in
     let e = c.in_err-number.field-0.0 in
-    passed_on (TellsAtoms whole) c.from_residual.result e c.from_residual.ensures.1
-    (item-told (λ (a : Atom). atom_of a ∷ []) c.args.list.now c.loop-atom.atom-index c.atom-item.result (got-item c.args.list.now c.loop-atom.atom-index c.atom-item.result c.loop-atom-test.true c.atom-item.is)
-    now whole c.loop-atom.invariant.all e c.in_err-number.ensures.told)
+    passed_on (ReportsAtoms whole) c.from_residual.result e c.from_residual.ensures.1
+    (item-reported (λ (a : Atom). atom_of a ∷ []) c.args.list.now c.loop-atom.atom-index c.atom-item.result (got-item c.args.list.now c.loop-atom.atom-index c.atom-item.result c.loop-atom-test.true c.atom-item.is)
+    now whole c.loop-atom.invariant.all e c.in_err-number.ensures.reported)
 
 pub loop-atom-preserved : goal.loop-atom-preserved
 loop-atom-preserved c =

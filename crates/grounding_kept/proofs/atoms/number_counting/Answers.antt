@@ -7,8 +7,8 @@ use Rattle.formulas.specs.Effects.{change_of}
 use Rattle.model.specs.ClosedOff.{counts}
 use Rattle.model.specs.NumberedAtoms.{with_atoms}
 use Rattle.model.proofs.NumberingLemmas.{numbered-end}
-use Rattle.grounding_kept.specs.Atoms.{TellsAtoms, atoms_changed}
-use Rattle.grounding_kept.proofs.NumberLists.{item-told, next-numbered, got-item, got-mapped, if_counting, counting-atoms}
+use Rattle.grounding_kept.specs.Atoms.{ReportsAtoms, atoms_changed}
+use Rattle.grounding_kept.proofs.NumberLists.{item-reported, next-numbered, got-item, got-mapped, if_counting, counting-atoms}
 use Rattle.grounding_kept.proofs.atoms.number_counting.Goals as goal
 
 pub loop-change-init : goal.loop-change-init
@@ -21,16 +21,16 @@ number_if_counting-requires-clause-fits c =
     c.requires.fit c.loop-change.change-index (change_of c.change-item.result)
     (got-mapped change_of c.args.changes.now c.loop-change.change-index c.change-item.result c.loop-change-test.true c.change-item.is)
 
-pub returns-in_err-number_if_counting-clause-told : goal.returns-in_err-number_if_counting-clause-told
-returns-in_err-number_if_counting-clause-told c =
+pub returns-in_err-number_if_counting-clause-reported : goal.returns-in_err-number_if_counting-clause-reported
+returns-in_err-number_if_counting-clause-reported c =
     let t = task_of c.args.statics.now.task.now in
     let items = c.args.changes.now in
     let now = map atom_of c.loop-change.atoms.keys in
     let whole = with_atoms (map atom_of c.args.atoms.now.keys) (atoms_changed (filter (counts t) (map change_of c.args.changes.now))) in
     let e = c.in_err-number_if_counting.field-0.0 in
-    passed_on (TellsAtoms whole) c.from_residual.result e c.from_residual.ensures.1
-    (item-told (if_counting t) items c.loop-change.change-index c.change-item.result (got-item items c.loop-change.change-index c.change-item.result c.loop-change-test.true c.change-item.is)
-    now whole c.loop-change.invariant.all e c.in_err-number_if_counting.ensures.told)
+    passed_on (ReportsAtoms whole) c.from_residual.result e c.from_residual.ensures.1
+    (item-reported (if_counting t) items c.loop-change.change-index c.change-item.result (got-item items c.loop-change.change-index c.change-item.result c.loop-change-test.true c.change-item.is)
+    now whole c.loop-change.invariant.all e c.in_err-number_if_counting.ensures.reported)
 
 pub loop-change-preserved : goal.loop-change-preserved
 loop-change-preserved c =

@@ -4,8 +4,8 @@ use Rattle.task.specs.Task.{task_of}
 use Rattle.task.specs.TaskParts.{atom_of}
 use Rattle.model.specs.NumberedAtoms.{with_atoms, initial_fluent_atoms}
 use Rattle.model.proofs.NumberingLemmas.{numbered-end}
-use Rattle.grounding_kept.specs.Atoms.{TellsAtoms}
-use Rattle.grounding_kept.proofs.NumberLists.{item-told, next-numbered, got-item, if_fluent, initial-atoms}
+use Rattle.grounding_kept.specs.Atoms.{ReportsAtoms}
+use Rattle.grounding_kept.proofs.NumberLists.{item-reported, next-numbered, got-item, if_fluent, initial-atoms}
 use Rattle.grounding_kept.proofs.atoms.number_initial.Goals as goal
 
 pub loop-atom-init : goal.loop-atom-init
@@ -13,16 +13,16 @@ loop-atom-init c =
     let t = task_of c.args.statics.now.task.now in
     record { all = ap (with_atoms (map atom_of c.args.atoms.now.keys)) (initial-atoms t c.init-atom-items.result.now c.init-atom-items.ensures); few = c.requires }
 
-pub returns-in_err-number_if_fluent-clause-told : goal.returns-in_err-number_if_fluent-clause-told
-returns-in_err-number_if_fluent-clause-told c =
+pub returns-in_err-number_if_fluent-clause-reported : goal.returns-in_err-number_if_fluent-clause-reported
+returns-in_err-number_if_fluent-clause-reported c =
     let t = task_of c.args.statics.now.task.now in
     let items = c.init-atom-items.result.now in
     let now = map atom_of c.loop-atom.atoms.keys in
     let whole = with_atoms (map atom_of c.args.atoms.now.keys) (initial_fluent_atoms t) in
     let e = c.in_err-number_if_fluent.field-0.0 in
-    passed_on (TellsAtoms whole) c.from_residual.result e c.from_residual.ensures.1
-    (item-told (if_fluent t) items c.loop-atom.atom-index c.atom-item.result (got-item items c.loop-atom.atom-index c.atom-item.result c.loop-atom-test.true c.atom-item.is)
-    now whole c.loop-atom.invariant.all e c.in_err-number_if_fluent.ensures.told)
+    passed_on (ReportsAtoms whole) c.from_residual.result e c.from_residual.ensures.1
+    (item-reported (if_fluent t) items c.loop-atom.atom-index c.atom-item.result (got-item items c.loop-atom.atom-index c.atom-item.result c.loop-atom-test.true c.atom-item.is)
+    now whole c.loop-atom.invariant.all e c.in_err-number_if_fluent.ensures.reported)
 
 pub loop-atom-preserved : goal.loop-atom-preserved
 loop-atom-preserved c =

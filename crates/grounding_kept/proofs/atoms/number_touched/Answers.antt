@@ -9,8 +9,8 @@ use Rattle.model.specs.Meaning.{is_instance}
 use Rattle.model.specs.NumberedAtoms.{with_atoms, touched_by}
 use Rattle.model.proofs.Tests.{passes_at, passes_map}
 use Rattle.model.proofs.NumberingLemmas.{numbered-end, flat_map-map}
-use Rattle.grounding_kept.specs.Atoms.{TellsAtoms}
-use Rattle.grounding_kept.proofs.NumberLists.{item-told, next-numbered, got-item}
+use Rattle.grounding_kept.specs.Atoms.{ReportsAtoms}
+use Rattle.grounding_kept.proofs.NumberLists.{item-reported, next-numbered, got-item}
 use Rattle.grounding_kept.proofs.atoms.number_touched.Goals as goal
 
 pub loop-instance-init : goal.loop-instance-init
@@ -24,16 +24,16 @@ number_instance-requires-clause-instance c =
     passes_at (λ (i : Instance). is_instance t (instance_of i)) c.args.instances.now c.loop-instance.instance-index c.instance-item.result c.loop-instance-test.true c.instance-item.is
     (sym (passes_map (is_instance t) instance_of c.args.instances.now) ∙ c.requires.instances)
 
-pub returns-in_err-number_instance-clause-told : goal.returns-in_err-number_instance-clause-told
-returns-in_err-number_instance-clause-told c =
+pub returns-in_err-number_instance-clause-reported : goal.returns-in_err-number_instance-clause-reported
+returns-in_err-number_instance-clause-reported c =
     let t = task_of c.args.statics.now.task.now in
     let items = c.args.instances.now in
     let now = map atom_of c.loop-instance.atoms.keys in
     let whole = with_atoms (map atom_of c.args.atoms.now.keys) (flat_map (touched_by t) (map instance_of c.args.instances.now)) in
     let e = c.in_err-number_instance.field-0.0 in
-    passed_on (TellsAtoms whole) c.from_residual.result e c.from_residual.ensures.1
-    (item-told (λ (i : Instance). touched_by t (instance_of i)) items c.loop-instance.instance-index c.instance-item.result (got-item items c.loop-instance.instance-index c.instance-item.result c.loop-instance-test.true c.instance-item.is)
-    now whole c.loop-instance.invariant.all e c.in_err-number_instance.ensures.told)
+    passed_on (ReportsAtoms whole) c.from_residual.result e c.from_residual.ensures.1
+    (item-reported (λ (i : Instance). touched_by t (instance_of i)) items c.loop-instance.instance-index c.instance-item.result (got-item items c.loop-instance.instance-index c.instance-item.result c.loop-instance-test.true c.instance-item.is)
+    now whole c.loop-instance.invariant.all e c.in_err-number_instance.ensures.reported)
 
 pub loop-instance-preserved : goal.loop-instance-preserved
 loop-instance-preserved c =

@@ -8,8 +8,8 @@ use Rattle.model.specs.Meaning.{is_instance}
 use Rattle.model.specs.ClosedOff.{kept_instances}
 use Rattle.model.specs.NumberedAtoms as numbered
 use Rattle.model.specs.NumberedAtoms.{with_atoms, touched_by, initial_fluent_atoms}
-use Rattle.grounding_kept.specs.Atoms.{TellsAtoms}
-use Rattle.grounding_kept.proofs.NumberLists.{three-parts, told-first, told-second, told-third, kept-are}
+use Rattle.grounding_kept.specs.Atoms.{ReportsAtoms}
+use Rattle.grounding_kept.proofs.NumberLists.{three-parts, reported-first, reported-second, reported-third, kept-are}
 use Rattle.grounding_kept.proofs.atoms.numbered_atoms.Goals as goal
 
 pub number_touched-requires-clause-instances : goal.number_touched-requires-clause-instances
@@ -17,36 +17,36 @@ number_touched-requires-clause-instances c =
     let t = task_of c.args.statics.now.task.now in
     ap (list_all (is_instance t)) c.requires ∙ kept-are t
 
-pub returns-in_err-number_all-clause-told : goal.returns-in_err-number_all-clause-told
-returns-in_err-number_all-clause-told c =
+pub returns-in_err-number_all-clause-reported : goal.returns-in_err-number_all-clause-reported
+returns-in_err-number_all-clause-reported c =
     let t = task_of c.args.statics.now.task.now in
     let more = map atom_of c.args.more.now in
     let e = c.in_err-number_all.field-0.0 in
     let none : map atom_of c.new-atoms.result.keys ≡ [] = ap (map atom_of) c.new-atoms.ensures.empty in
-    passed_on (TellsAtoms (numbered.numbered_atoms t more)) c.from_residual.result e c.from_residual.ensures.1
-    (told-first more (initial_fluent_atoms t) (flat_map (touched_by t) (kept_instances t)) e
-    (subst (λ (l : List Atom). TellsAtoms (with_atoms l more) e) none c.in_err-number_all.ensures.told))
+    passed_on (ReportsAtoms (numbered.numbered_atoms t more)) c.from_residual.result e c.from_residual.ensures.1
+    (reported-first more (initial_fluent_atoms t) (flat_map (touched_by t) (kept_instances t)) e
+    (subst (λ (l : List Atom). ReportsAtoms (with_atoms l more) e) none c.in_err-number_all.ensures.reported))
 
-pub returns-in_err-number_initial-clause-told : goal.returns-in_err-number_initial-clause-told
-returns-in_err-number_initial-clause-told c =
+pub returns-in_err-number_initial-clause-reported : goal.returns-in_err-number_initial-clause-reported
+returns-in_err-number_initial-clause-reported c =
     let t = task_of c.args.statics.now.task.now in
     let more = map atom_of c.args.more.now in
     let e = c.in_err-number_initial.field-0.0 in
     let first : map atom_of c.number_all.new.atoms.keys ≡ with_atoms [] more = c.in_ok-number_all.ensures.numbered ∙ ap (λ l. with_atoms l more) (ap (map atom_of) c.new-atoms.ensures.empty) in
-    passed_on (TellsAtoms (numbered.numbered_atoms t more)) c.from_residual-in_err-number_initial.result e c.from_residual-in_err-number_initial.ensures.1
-    (told-second more (initial_fluent_atoms t) (flat_map (touched_by t) (kept_instances t)) e
-    (subst (λ (l : List Atom). TellsAtoms (with_atoms l (initial_fluent_atoms t)) e) first c.in_err-number_initial.ensures.told))
+    passed_on (ReportsAtoms (numbered.numbered_atoms t more)) c.from_residual-in_err-number_initial.result e c.from_residual-in_err-number_initial.ensures.1
+    (reported-second more (initial_fluent_atoms t) (flat_map (touched_by t) (kept_instances t)) e
+    (subst (λ (l : List Atom). ReportsAtoms (with_atoms l (initial_fluent_atoms t)) e) first c.in_err-number_initial.ensures.reported))
 
-pub returns-in_err-number_touched-clause-told : goal.returns-in_err-number_touched-clause-told
-returns-in_err-number_touched-clause-told c =
+pub returns-in_err-number_touched-clause-reported : goal.returns-in_err-number_touched-clause-reported
+returns-in_err-number_touched-clause-reported c =
     let t = task_of c.args.statics.now.task.now in
     let more = map atom_of c.args.more.now in
     let e = c.in_err-number_touched.field-0.0 in
     let first : map atom_of c.number_all.new.atoms.keys ≡ with_atoms [] more = c.in_ok-number_all.ensures.numbered ∙ ap (λ l. with_atoms l more) (ap (map atom_of) c.new-atoms.ensures.empty) in
     let second : map atom_of c.number_initial.new.atoms.keys ≡ with_atoms (with_atoms [] more) (initial_fluent_atoms t) = c.in_ok-number_initial.ensures.numbered ∙ ap (λ l. with_atoms l (initial_fluent_atoms t)) first in
-    passed_on (TellsAtoms (numbered.numbered_atoms t more)) c.from_residual-in_err-number_touched.result e c.from_residual-in_err-number_touched.ensures.1
-    (told-third more (initial_fluent_atoms t) (flat_map (touched_by t) (kept_instances t)) e
-    (subst (λ (l : List Atom). TellsAtoms l e) (λ i. with_atoms (second i) (flat_map (touched_by t) (c.requires i))) c.in_err-number_touched.ensures.told))
+    passed_on (ReportsAtoms (numbered.numbered_atoms t more)) c.from_residual-in_err-number_touched.result e c.from_residual-in_err-number_touched.ensures.1
+    (reported-third more (initial_fluent_atoms t) (flat_map (touched_by t) (kept_instances t)) e
+    (subst (λ (l : List Atom). ReportsAtoms l e) (λ i. with_atoms (second i) (flat_map (touched_by t) (c.requires i))) c.in_err-number_touched.ensures.reported))
 
 pub returns-clause-numbered : goal.returns-clause-numbered
 returns-clause-numbered c =

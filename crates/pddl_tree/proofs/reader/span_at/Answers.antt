@@ -1,5 +1,5 @@
 use Rattle.std.proofs.Common.{◌∙◌, sym, ap}
-use Rattle.pddl_tree.proofs.Told.{past_end}
+use Rattle.pddl_tree.proofs.Reported.{past_end}
 use Rattle.pddl_tree.proofs.reader.span_at.Goals as goal
 
 pub returns-in-Some-clause-start : goal.returns-in-Some-clause-start

@@ -2,7 +2,7 @@ use Rattle.std.proofs.Common.{rules, arith, ◌≡◌, ◌++◌, ◌∷◌, [], 
 use Rattle.std.proofs.lemmas.Result.{err_from_is_err_and}
 use Rattle.task.specs.Task.{task_of}
 use Rattle.formulas.specs.State.{instance_of}
-use Rattle.tokens.specs.Told.{told_by}
+use Rattle.tokens.specs.Reported.{reported_by}
 use Rattle.faults.proofs.Results.{if_ok, if_err}
 use Rattle.model.specs.PlanMachine.{turn, goes, ends, open_at, at_end, refuses}
 use Rattle.model.specs.PlanText.{Step}
@@ -66,7 +66,7 @@ returns-in-Outside-clause-refused c =
     let place = place_of c.words.place c.words.objects.items in
     let is_outside = ap (λ p. place_of p c.words.objects.items) c.in-Outside.is in
     if_err c.into_instances.result
-    (λ fault first. fault_read (task_of c.args.task.now) c.args.text.now c.words.at place c.words.meaning short (c.in_default.ensures.word place) c.words.invariant.so_far is_outside (told_by fault) first)
+    (λ fault first. fault_read (task_of c.args.task.now) c.args.text.now c.words.at place c.words.meaning short (c.in_default.ensures.word place) c.words.invariant.so_far is_outside (reported_by fault) first)
     c.into_instances.ensures.refused
 
 pub returns : goal.returns
@@ -81,7 +81,7 @@ returns c =
     ⊎_elim (λ (e : c.words.place ≡ Opened). ap (λ p. at_end end (place_of p objects)) e) (λ (x : (action : Word) × (c.words.place ≡ Inside action)). ap (λ p. at_end end (place_of p objects)) x.1) c.in-Opened.is in
     record {
       plan = tt;
-      refused = form_refused (task_of c.args.task.now) text (told_by c.refusal-in-Opened.result)
-          (end_refused text c.words.at place so_far.steps short (c.in_default.ensures.word place) so_far.keeps left (told_by c.refusal-in-Opened.result) c.refusal-in-Opened.ensures);
+      refused = form_refused (task_of c.args.task.now) text (reported_by c.refusal-in-Opened.result)
+          (end_refused text c.words.at place so_far.steps short (c.in_default.ensures.word place) so_far.keeps left (reported_by c.refusal-in-Opened.result) c.refusal-in-Opened.ensures);
       too_long = λ long. absurd (omega (arith, short));
     }

@@ -2,7 +2,7 @@ use Rattle.std.proofs.Common.{◌≡◌, ◌≢◌, ◌∙◌, sym, ap, map, len
 use Rattle.std.specs.Option.{option_map}
 use Rattle.std.proofs.lemmas.List.{length-map}
 use Rattle.std.proofs.lemmas.Result.{err_from_is_err_and}
-use Rattle.tokens.specs.Told.{told_by}
+use Rattle.tokens.specs.Reported.{reported_by}
 use Rattle.task.specs.Task.{task_of}
 use Rattle.task.specs.TaskParts.{schema_id_of, union_of}
 use Rattle.formulas.specs.State as view
@@ -19,7 +19,7 @@ returns-then-names-parameters-clause-refused c =
     let is : IsNumberOf (schema_names task) (name_of c.args.action) c.in-Some.schema.0 = sym c.in_ok-schema.ensures ∙ ap (option_map schema_id_of) c.in-Some.is in
     let differs : length (map name_of objects) ≢ length unions =
     λ h. c.if-names-parameters.true (sym (length-map objects name_of) ∙ h ∙ length-map c.parameters_of-parameters.result.now union_of) in
-    count_refused task (step_of c.args.action c.args.names.now) c.in-Some.schema.0 unions is c.parameters_of-parameters.ensures.types differs (told_by c.refused-then-names-parameters.result) c.refused-then-names-parameters.ensures
+    count_refused task (step_of c.args.action c.args.names.now) c.in-Some.schema.0 unions is c.parameters_of-parameters.ensures.types differs (reported_by c.refused-then-names-parameters.result) c.refused-then-names-parameters.ensures
 
 pub returns-in_err-objects-clause-refused : goal.returns-in_err-objects-clause-refused
 returns-in_err-objects-clause-refused c =

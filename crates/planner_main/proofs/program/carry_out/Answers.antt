@@ -5,51 +5,51 @@ use Rattle.command_line.specs.View.{wanted_of}
 use Rattle.devices.specs.Texts.{AreKept}
 use Rattle.faults.proofs.Results.{passed_on}
 use Rattle.planner_main.specs.Program.{HasNotFailed, IsAnswerTo, IsFaultFor, fault_in}
-use Rattle.planner_main.specs.Solution.{TellsReport}
-use Rattle.planner_main.proofs.ProgramWords.{can_be_told, either_since, refused_and, without_fault}
-use Rattle.planner_main.proofs.ProgramTold.{told_as, partly_as, report_told}
+use Rattle.planner_main.specs.Solution.{WritesReport}
+use Rattle.planner_main.proofs.ProgramWords.{can_be_reported, either_since, refused_and, without_fault}
+use Rattle.planner_main.proofs.ProgramReported.{reported_as, partly_as, report_written}
 use Rattle.planner_main.proofs.program.carry_out.Goals as goal
 
-pub tell_report-requires : goal.tell_report-requires
-tell_report-requires g c = can_be_told (g.F.Files.contents c.args.files.now) (wanted_of c.args.order) c.in_ok-report.report c.in_ok-report.ensures.found.report
+pub write_report-requires : goal.write_report-requires
+write_report-requires g c = can_be_reported (g.F.Files.contents c.args.files.now) (wanted_of c.args.order) c.in_ok-report.report c.in_ok-report.ensures.found.report
 
-pub returns-clause-told : goal.returns-clause-told
-returns-clause-told g c =
+pub returns-clause-said : goal.returns-clause-said
+returns-clause-said g c =
     let contents = g.F.Files.contents c.args.files.now in
     let wanted = wanted_of c.args.order in
     let found = c.in_ok-report.report in
-    IfOk-weaker c.tell_report.result _ _
-    (told_as (TellsReport found _) (IsAnswerTo contents wanted) (report_told contents wanted found c.in_ok-report.ensures.found.report _ c.outputs_of.ensures)
+    IfOk-weaker c.write_report.result _ _
+    (reported_as (WritesReport found _) (IsAnswerTo contents wanted) (report_written contents wanted found c.in_ok-report.ensures.found.report _ c.outputs_of.ensures)
     g.F.Files.is_known contents _ _ c.in_ok-report.ensures.kept _ _)
-    c.tell_report.ensures.told
+    c.write_report.ensures.said
 
 pub returns-clause-partly : goal.returns-clause-partly
 returns-clause-partly g c =
     let contents = g.F.Files.contents c.args.files.now in
     let wanted = wanted_of c.args.order in
     let found = c.in_ok-report.report in
-    IfErr-weaker c.tell_report.result _ _
-    (λ _. partly_as (TellsReport found _) (IsAnswerTo contents wanted) (report_told contents wanted found c.in_ok-report.ensures.found.report _ c.outputs_of.ensures)
+    IfErr-weaker c.write_report.result _ _
+    (λ _. partly_as (WritesReport found _) (IsAnswerTo contents wanted) (report_written contents wanted found c.in_ok-report.ensures.found.report _ c.outputs_of.ensures)
     g.F.Files.is_known contents _ _ c.in_ok-report.ensures.kept _ _)
-    c.tell_report.ensures.partly
+    c.write_report.ensures.partly
 
 pub returns-clause-refused : goal.returns-clause-refused
 returns-clause-refused g c =
-    IfErr-weaker c.tell_report.result _ _ (λ failure is. without_fault failure _ is) c.tell_report.ensures.no_text
+    IfErr-weaker c.write_report.result _ _ (λ failure is. without_fault failure _ is) c.write_report.ensures.no_text
 
 pub returns-clause-failures : goal.returns-clause-failures
 returns-clause-failures g c =
-    IfErr-weaker c.tell_report.result _ _
-    (λ failure. either_since (g.F.Files.failures c.args.files.now) _ (g.F.Files.failures c.tell_report.new.files) (g.O.Sink.failures c.args.out.now) (g.O.Sink.failures c.tell_report.new.out)
+    IfErr-weaker c.write_report.result _ _
+    (λ failure. either_since (g.F.Files.failures c.args.files.now) _ (g.F.Files.failures c.write_report.new.files) (g.O.Sink.failures c.args.out.now) (g.O.Sink.failures c.write_report.new.out)
     failure c.in_ok-report.ensures.unfailed)
-    c.tell_report.ensures.failures
+    c.write_report.ensures.failures
 
 pub returns-clause-unfailed : goal.returns-clause-unfailed
 returns-clause-unfailed g c =
-    IfOk-weaker c.tell_report.result _ _
-    (λ _. subst (λ files. HasNotFailed files (g.F.Files.failures c.tell_report.new.files) (g.O.Sink.failures c.args.out.now) (g.O.Sink.failures c.tell_report.new.out))
+    IfOk-weaker c.write_report.result _ _
+    (λ _. subst (λ files. HasNotFailed files (g.F.Files.failures c.write_report.new.files) (g.O.Sink.failures c.args.out.now) (g.O.Sink.failures c.write_report.new.out))
     c.in_ok-report.ensures.unfailed)
-    c.tell_report.ensures.unfailed
+    c.write_report.ensures.unfailed
 
 pub returns-clause-unread : goal.returns-clause-unread
 returns-clause-unread g c = λ name named missing. absurd (c.in_ok-report.ensures.found.unread name named missing)

@@ -2,29 +2,29 @@ use Rattle.std.proofs.Common.{inl, inr, refl, arith}
 use Rattle.devices.specs.Devices.{IsWritten}
 use Rattle.command_line.specs.View.{texts, wanted_of}
 use Rattle.planner_main.specs.Program.{inputs_of, nothing, texts_of}
-use Rattle.planner_main.proofs.ProgramWords.{refuses_of_words, no_failure, failed_status, device_told, memory_told, unread_status, files_named, device_has_failed, others_have_not_failed, words_failed, words_status, words_told, words_memory, words_refuse_no_text, words_fail_no_device, unread_words}
-use Rattle.planner_main.proofs.ProgramTold.{told_of_words, partly_of_words, told_status}
+use Rattle.planner_main.proofs.ProgramWords.{refuses_of_words, no_failure, failed_status, device_reported, memory_reported, unread_status, files_named, device_has_failed, others_have_not_failed, words_failed, words_status, words_reported, words_memory, words_refuse_no_text, words_fail_no_device, unread_words}
+use Rattle.planner_main.proofs.ProgramReported.{reported_of_words, partly_of_words, reported_status}
 use Rattle.planner_main.proofs.program.run.Goals as goal
 
 pub returns-in-Err-clause-status : goal.returns-in-Err-clause-status
 returns-in-Err-clause-status g c =
-    inl (words_failed c.in-Err.fault (IsWritten g.E.Sink.wants_memory (g.E.Sink.failures c.args.err.now) (g.E.Sink.failures c.tell_words.new.err) (g.E.Sink.taken c.args.err.now) (g.E.Sink.taken c.tell_words.new.err)) _ c.tell_words.ensures)
+    inl (words_failed c.in-Err.fault (IsWritten g.E.Sink.wants_memory (g.E.Sink.failures c.args.err.now) (g.E.Sink.failures c.report_words.new.err) (g.E.Sink.taken c.args.err.now) (g.E.Sink.taken c.report_words.new.err)) _ c.report_words.ensures)
 
 pub returns-in-Err-clause-words : goal.returns-in-Err-clause-words
 returns-in-Err-clause-words g c =
-    λ same. c.in-Err.ensures.refused (words_told c.in-Err.fault (IsWritten g.E.Sink.wants_memory (g.E.Sink.failures c.args.err.now) (g.E.Sink.failures c.tell_words.new.err) (g.E.Sink.taken c.args.err.now) (g.E.Sink.taken c.tell_words.new.err)) _ c.tell_words.ensures same).0
+    λ same. c.in-Err.ensures.refused (words_reported c.in-Err.fault (IsWritten g.E.Sink.wants_memory (g.E.Sink.failures c.args.err.now) (g.E.Sink.failures c.report_words.new.err) (g.E.Sink.taken c.args.err.now) (g.E.Sink.taken c.report_words.new.err)) _ c.report_words.ensures same).0
 
 pub returns-in-Err-clause-no_command : goal.returns-in-Err-clause-no_command
 returns-in-Err-clause-no_command g c =
-    λ none. words_status c.in-Err.fault (IsWritten g.E.Sink.wants_memory (g.E.Sink.failures c.args.err.now) (g.E.Sink.failures c.tell_words.new.err) (g.E.Sink.taken c.args.err.now) (g.E.Sink.taken c.tell_words.new.err)) _ c.tell_words.ensures
+    λ none. words_status c.in-Err.fault (IsWritten g.E.Sink.wants_memory (g.E.Sink.failures c.args.err.now) (g.E.Sink.failures c.report_words.new.err) (g.E.Sink.taken c.args.err.now) (g.E.Sink.taken c.report_words.new.err)) _ c.report_words.ensures
 
 pub returns-in-Err-clause-usage : goal.returns-in-Err-clause-usage
 returns-in-Err-clause-usage g c =
-    λ same. (refl, (λ name. refl), (words_told c.in-Err.fault (IsWritten g.E.Sink.wants_memory (g.E.Sink.failures c.args.err.now) (g.E.Sink.failures c.tell_words.new.err) (g.E.Sink.taken c.args.err.now) (g.E.Sink.taken c.tell_words.new.err)) _ c.tell_words.ensures same).1)
+    λ same. (refl, (λ name. refl), (words_reported c.in-Err.fault (IsWritten g.E.Sink.wants_memory (g.E.Sink.failures c.args.err.now) (g.E.Sink.failures c.report_words.new.err) (g.E.Sink.taken c.args.err.now) (g.E.Sink.taken c.report_words.new.err)) _ c.report_words.ensures same).1)
 
 pub returns-in-Err-clause-refused : goal.returns-in-Err-clause-refused
 returns-in-Err-clause-refused g c =
-    λ same. absurd (words_refuse_no_text c.in-Err.fault (IsWritten g.E.Sink.wants_memory (g.E.Sink.failures c.args.err.now) (g.E.Sink.failures c.tell_words.new.err) (g.E.Sink.taken c.args.err.now) (g.E.Sink.taken c.tell_words.new.err)) _ c.tell_words.ensures same)
+    λ same. absurd (words_refuse_no_text c.in-Err.fault (IsWritten g.E.Sink.wants_memory (g.E.Sink.failures c.args.err.now) (g.E.Sink.failures c.report_words.new.err) (g.E.Sink.taken c.args.err.now) (g.E.Sink.taken c.report_words.new.err)) _ c.report_words.ensures same)
 
 pub returns-in-Err-clause-unfailed : goal.returns-in-Err-clause-unfailed
 returns-in-Err-clause-unfailed g c =
@@ -32,40 +32,40 @@ returns-in-Err-clause-unfailed g c =
 
 pub returns-in-Err-clause-device : goal.returns-in-Err-clause-device
 returns-in-Err-clause-device g c =
-    λ same. absurd (words_fail_no_device c.in-Err.fault (IsWritten g.E.Sink.wants_memory (g.E.Sink.failures c.args.err.now) (g.E.Sink.failures c.tell_words.new.err) (g.E.Sink.taken c.args.err.now) (g.E.Sink.taken c.tell_words.new.err)) _ c.tell_words.ensures same)
+    λ same. absurd (words_fail_no_device c.in-Err.fault (IsWritten g.E.Sink.wants_memory (g.E.Sink.failures c.args.err.now) (g.E.Sink.failures c.report_words.new.err) (g.E.Sink.taken c.args.err.now) (g.E.Sink.taken c.report_words.new.err)) _ c.report_words.ensures same)
 
 pub returns-in-Err-clause-memory : goal.returns-in-Err-clause-memory
 returns-in-Err-clause-memory g c =
-    λ same. (nothing refl (λ name. refl), words_memory c.in-Err.fault (IsWritten g.E.Sink.wants_memory (g.E.Sink.failures c.args.err.now) (g.E.Sink.failures c.tell_words.new.err) (g.E.Sink.taken c.args.err.now) (g.E.Sink.taken c.tell_words.new.err)) _ c.tell_words.ensures same)
+    λ same. (nothing refl (λ name. refl), words_memory c.in-Err.fault (IsWritten g.E.Sink.wants_memory (g.E.Sink.failures c.args.err.now) (g.E.Sink.failures c.report_words.new.err) (g.E.Sink.taken c.args.err.now) (g.E.Sink.taken c.report_words.new.err)) _ c.report_words.ensures same)
 
 -- words that name a file are a command, so that memory was refused
 pub returns-in-Err-clause-unread : goal.returns-in-Err-clause-unread
 returns-in-Err-clause-unread g c =
-    λ name named missing. unread_words c.in-Err.fault (IsWritten g.E.Sink.wants_memory (g.E.Sink.failures c.args.err.now) (g.E.Sink.failures c.tell_words.new.err) (g.E.Sink.taken c.args.err.now) (g.E.Sink.taken c.tell_words.new.err)) _ (texts c.args.words.now) c.tell_words.ensures c.in-Err.ensures.refused (named.0, named.1)
+    λ name named missing. unread_words c.in-Err.fault (IsWritten g.E.Sink.wants_memory (g.E.Sink.failures c.args.err.now) (g.E.Sink.failures c.report_words.new.err) (g.E.Sink.taken c.args.err.now) (g.E.Sink.taken c.report_words.new.err)) _ (texts c.args.words.now) c.report_words.ensures c.in-Err.ensures.refused (named.0, named.1)
 
 pub returns-in-Ok-carry_out-clause-status : goal.returns-in-Ok-carry_out-clause-status
 returns-in-Ok-carry_out-clause-status g c =
-    inr (told_of_words (texts c.args.words.now) (wanted_of c.in-Ok.order) c.in-Ok.ensures.asks g.F.Files.is_known (g.F.Files.contents c.args.files.now) (g.F.Files.contents c.carry_out.new.files) (g.O.Sink.taken c.args.out.now) (g.O.Sink.taken c.carry_out.new.out) _ c.in-Ok-carry_out.ensures.told)
+    inr (reported_of_words (texts c.args.words.now) (wanted_of c.in-Ok.order) c.in-Ok.ensures.asks g.F.Files.is_known (g.F.Files.contents c.args.files.now) (g.F.Files.contents c.carry_out.new.files) (g.O.Sink.taken c.args.out.now) (g.O.Sink.taken c.carry_out.new.out) _ c.in-Ok-carry_out.ensures.said)
 
 pub returns-in-Ok-carry_out-clause-words : goal.returns-in-Ok-carry_out-clause-words
 returns-in-Ok-carry_out-clause-words g c =
-    λ same. absurd (no_failure 2 _ (told_status (texts c.args.words.now) (wanted_of c.in-Ok.order) c.in-Ok.ensures.asks g.F.Files.is_known (g.F.Files.contents c.args.files.now) (g.F.Files.contents c.carry_out.new.files) (g.O.Sink.taken c.args.out.now) (g.O.Sink.taken c.carry_out.new.out) _ c.in-Ok-carry_out.ensures.told) refl (λ is. absurd (omega arith)) same)
+    λ same. absurd (no_failure 2 _ (reported_status (texts c.args.words.now) (wanted_of c.in-Ok.order) c.in-Ok.ensures.asks g.F.Files.is_known (g.F.Files.contents c.args.files.now) (g.F.Files.contents c.carry_out.new.files) (g.O.Sink.taken c.args.out.now) (g.O.Sink.taken c.carry_out.new.out) _ c.in-Ok-carry_out.ensures.said) refl (λ is. absurd (omega arith)) same)
 
 pub returns-in-Ok-carry_out-clause-usage : goal.returns-in-Ok-carry_out-clause-usage
 returns-in-Ok-carry_out-clause-usage g c =
-    λ same. absurd (no_failure 2 _ (told_status (texts c.args.words.now) (wanted_of c.in-Ok.order) c.in-Ok.ensures.asks g.F.Files.is_known (g.F.Files.contents c.args.files.now) (g.F.Files.contents c.carry_out.new.files) (g.O.Sink.taken c.args.out.now) (g.O.Sink.taken c.carry_out.new.out) _ c.in-Ok-carry_out.ensures.told) refl (λ is. absurd (omega arith)) same)
+    λ same. absurd (no_failure 2 _ (reported_status (texts c.args.words.now) (wanted_of c.in-Ok.order) c.in-Ok.ensures.asks g.F.Files.is_known (g.F.Files.contents c.args.files.now) (g.F.Files.contents c.carry_out.new.files) (g.O.Sink.taken c.args.out.now) (g.O.Sink.taken c.carry_out.new.out) _ c.in-Ok-carry_out.ensures.said) refl (λ is. absurd (omega arith)) same)
 
 pub returns-in-Ok-carry_out-clause-refused : goal.returns-in-Ok-carry_out-clause-refused
 returns-in-Ok-carry_out-clause-refused g c =
-    λ same. inr (told_of_words (texts c.args.words.now) (wanted_of c.in-Ok.order) c.in-Ok.ensures.asks g.F.Files.is_known (g.F.Files.contents c.args.files.now) (g.F.Files.contents c.carry_out.new.files) (g.O.Sink.taken c.args.out.now) (g.O.Sink.taken c.carry_out.new.out) _ c.in-Ok-carry_out.ensures.told, refl)
+    λ same. inr (reported_of_words (texts c.args.words.now) (wanted_of c.in-Ok.order) c.in-Ok.ensures.asks g.F.Files.is_known (g.F.Files.contents c.args.files.now) (g.F.Files.contents c.carry_out.new.files) (g.O.Sink.taken c.args.out.now) (g.O.Sink.taken c.carry_out.new.out) _ c.in-Ok-carry_out.ensures.said, refl)
 
 pub returns-in-Ok-carry_out-clause-device : goal.returns-in-Ok-carry_out-clause-device
 returns-in-Ok-carry_out-clause-device g c =
-    λ same. absurd (no_failure 21 _ (told_status (texts c.args.words.now) (wanted_of c.in-Ok.order) c.in-Ok.ensures.asks g.F.Files.is_known (g.F.Files.contents c.args.files.now) (g.F.Files.contents c.carry_out.new.files) (g.O.Sink.taken c.args.out.now) (g.O.Sink.taken c.carry_out.new.out) _ c.in-Ok-carry_out.ensures.told) refl (λ is. absurd (omega arith)) same)
+    λ same. absurd (no_failure 21 _ (reported_status (texts c.args.words.now) (wanted_of c.in-Ok.order) c.in-Ok.ensures.asks g.F.Files.is_known (g.F.Files.contents c.args.files.now) (g.F.Files.contents c.carry_out.new.files) (g.O.Sink.taken c.args.out.now) (g.O.Sink.taken c.carry_out.new.out) _ c.in-Ok-carry_out.ensures.said) refl (λ is. absurd (omega arith)) same)
 
 pub returns-in-Ok-carry_out-clause-memory : goal.returns-in-Ok-carry_out-clause-memory
 returns-in-Ok-carry_out-clause-memory g c =
-    λ same. absurd (no_failure 22 _ (told_status (texts c.args.words.now) (wanted_of c.in-Ok.order) c.in-Ok.ensures.asks g.F.Files.is_known (g.F.Files.contents c.args.files.now) (g.F.Files.contents c.carry_out.new.files) (g.O.Sink.taken c.args.out.now) (g.O.Sink.taken c.carry_out.new.out) _ c.in-Ok-carry_out.ensures.told) refl (λ is. absurd (omega arith)) same)
+    λ same. absurd (no_failure 22 _ (reported_status (texts c.args.words.now) (wanted_of c.in-Ok.order) c.in-Ok.ensures.asks g.F.Files.is_known (g.F.Files.contents c.args.files.now) (g.F.Files.contents c.carry_out.new.files) (g.O.Sink.taken c.args.out.now) (g.O.Sink.taken c.carry_out.new.out) _ c.in-Ok-carry_out.ensures.said) refl (λ is. absurd (omega arith)) same)
 
 pub returns-in-Ok-carry_out-clause-no_command : goal.returns-in-Ok-carry_out-clause-no_command
 returns-in-Ok-carry_out-clause-no_command g c =
@@ -78,7 +78,7 @@ returns-in-Ok-carry_out-clause-unread g c =
 
 pub returns-in-Err-carry_out-clause-words : goal.returns-in-Err-carry_out-clause-words
 returns-in-Err-carry_out-clause-words g c =
-    λ same. absurd (failed_status _ _ c.in-Err-carry_out.failure c.tell.ensures.told same)
+    λ same. absurd (failed_status _ _ c.in-Err-carry_out.failure c.report_failure.ensures.said same)
 
 pub returns-in-Err-carry_out-clause-no_command : goal.returns-in-Err-carry_out-clause-no_command
 returns-in-Err-carry_out-clause-no_command g c =
@@ -86,36 +86,36 @@ returns-in-Err-carry_out-clause-no_command g c =
 
 pub returns-in-Err-carry_out-clause-usage : goal.returns-in-Err-carry_out-clause-usage
 returns-in-Err-carry_out-clause-usage g c =
-    λ same. absurd (failed_status _ _ c.in-Err-carry_out.failure c.tell.ensures.told same)
+    λ same. absurd (failed_status _ _ c.in-Err-carry_out.failure c.report_failure.ensures.said same)
 
 pub returns-in-Err-carry_out-clause-refused : goal.returns-in-Err-carry_out-clause-refused
 returns-in-Err-carry_out-clause-refused g c =
     λ same.
-    inl (refuses_of_words (g.F.Files.contents c.args.files.now) (texts c.args.words.now) (wanted_of c.in-Ok.order) c.in-Ok.ensures.asks (g.F.Files.contents c.carry_out.new.files) (g.O.Sink.taken c.args.out.now) (g.O.Sink.taken c.carry_out.new.out) (IsWritten g.E.Sink.wants_memory (g.E.Sink.failures c.args.err.now) (g.E.Sink.failures c.tell.new.err) (g.E.Sink.taken c.args.err.now) (g.E.Sink.taken c.tell.new.err)) c.in-Err-carry_out.failure _ c.tell.ensures.told same c.in-Err-carry_out.ensures.refused)
+    inl (refuses_of_words (g.F.Files.contents c.args.files.now) (texts c.args.words.now) (wanted_of c.in-Ok.order) c.in-Ok.ensures.asks (g.F.Files.contents c.carry_out.new.files) (g.O.Sink.taken c.args.out.now) (g.O.Sink.taken c.carry_out.new.out) (IsWritten g.E.Sink.wants_memory (g.E.Sink.failures c.args.err.now) (g.E.Sink.failures c.report_failure.new.err) (g.E.Sink.taken c.args.err.now) (g.E.Sink.taken c.report_failure.new.err)) c.in-Err-carry_out.failure _ c.report_failure.ensures.said same c.in-Err-carry_out.ensures.refused)
 
 pub returns-in-Err-carry_out-clause-device : goal.returns-in-Err-carry_out-clause-device
 returns-in-Err-carry_out-clause-device g c =
     λ same.
-    let (is, line) = device_told _ _ c.in-Err-carry_out.failure c.tell.ensures.told same in
+    let (is, line) = device_reported _ _ c.in-Err-carry_out.failure c.report_failure.ensures.said same in
     (device_has_failed _ _ _ _ c.in-Err-carry_out.failure is c.in-Err-carry_out.ensures.failures, partly_of_words (texts c.args.words.now) (wanted_of c.in-Ok.order) c.in-Ok.ensures.asks g.F.Files.is_known (g.F.Files.contents c.args.files.now) (g.F.Files.contents c.carry_out.new.files) (g.O.Sink.taken c.args.out.now) (g.O.Sink.taken c.carry_out.new.out) c.in-Err-carry_out.ensures.partly, line)
 
 pub returns-in-Err-carry_out-clause-memory : goal.returns-in-Err-carry_out-clause-memory
 returns-in-Err-carry_out-clause-memory g c =
     λ same.
-    (partly_of_words (texts c.args.words.now) (wanted_of c.in-Ok.order) c.in-Ok.ensures.asks g.F.Files.is_known (g.F.Files.contents c.args.files.now) (g.F.Files.contents c.carry_out.new.files) (g.O.Sink.taken c.args.out.now) (g.O.Sink.taken c.carry_out.new.out) c.in-Err-carry_out.ensures.partly, memory_told _ _ c.in-Err-carry_out.failure c.tell.ensures.told same)
+    (partly_of_words (texts c.args.words.now) (wanted_of c.in-Ok.order) c.in-Ok.ensures.asks g.F.Files.is_known (g.F.Files.contents c.args.files.now) (g.F.Files.contents c.carry_out.new.files) (g.O.Sink.taken c.args.out.now) (g.O.Sink.taken c.carry_out.new.out) c.in-Err-carry_out.ensures.partly, memory_reported _ _ c.in-Err-carry_out.failure c.report_failure.ensures.said same)
 
 pub returns-in-Err-carry_out-clause-unfailed : goal.returns-in-Err-carry_out-clause-unfailed
 returns-in-Err-carry_out-clause-unfailed g c =
-    others_have_not_failed _ _ _ _ _ _ c.in-Err-carry_out.failure c.tell.ensures.told c.in-Err-carry_out.ensures.failures
+    others_have_not_failed _ _ _ _ _ _ c.in-Err-carry_out.failure c.report_failure.ensures.said c.in-Err-carry_out.ensures.failures
 
 pub returns-in-Err-carry_out-clause-unread : goal.returns-in-Err-carry_out-clause-unread
 returns-in-Err-carry_out-clause-unread g c =
     λ name named missing.
-    unread_status _ _ c.in-Err-carry_out.failure (c.in-Err-carry_out.ensures.unread name (files_named inputs_of (texts c.args.words.now) (wanted_of c.in-Ok.order) name c.in-Ok.ensures.asks named) missing) c.tell.ensures.told
+    unread_status _ _ c.in-Err-carry_out.failure (c.in-Err-carry_out.ensures.unread name (files_named inputs_of (texts c.args.words.now) (wanted_of c.in-Ok.order) name c.in-Ok.ensures.asks named) missing) c.report_failure.ensures.said
 
 pub returns-in-Err-clause-unreadable : goal.returns-in-Err-clause-unreadable
 returns-in-Err-clause-unreadable g c =
-    λ name named missing. unread_words c.in-Err.fault (IsWritten g.E.Sink.wants_memory (g.E.Sink.failures c.args.err.now) (g.E.Sink.failures c.tell_words.new.err) (g.E.Sink.taken c.args.err.now) (g.E.Sink.taken c.tell_words.new.err)) _ (texts c.args.words.now) c.tell_words.ensures c.in-Err.ensures.refused (named.0, named.1)
+    λ name named missing. unread_words c.in-Err.fault (IsWritten g.E.Sink.wants_memory (g.E.Sink.failures c.args.err.now) (g.E.Sink.failures c.report_words.new.err) (g.E.Sink.taken c.args.err.now) (g.E.Sink.taken c.report_words.new.err)) _ (texts c.args.words.now) c.report_words.ensures c.in-Err.ensures.refused (named.0, named.1)
 
 pub returns-in-Ok-carry_out-clause-unreadable : goal.returns-in-Ok-carry_out-clause-unreadable
 returns-in-Ok-carry_out-clause-unreadable g c =
@@ -125,4 +125,4 @@ returns-in-Ok-carry_out-clause-unreadable g c =
 pub returns-in-Err-carry_out-clause-unreadable : goal.returns-in-Err-carry_out-clause-unreadable
 returns-in-Err-carry_out-clause-unreadable g c =
     λ name named missing.
-    unread_status _ _ c.in-Err-carry_out.failure (c.in-Err-carry_out.ensures.unreadable name (files_named texts_of (texts c.args.words.now) (wanted_of c.in-Ok.order) name c.in-Ok.ensures.asks named) missing) c.tell.ensures.told
+    unread_status _ _ c.in-Err-carry_out.failure (c.in-Err-carry_out.ensures.unreadable name (files_named texts_of (texts c.args.words.now) (wanted_of c.in-Ok.order) name c.in-Ok.ensures.asks named) missing) c.report_failure.ensures.said

@@ -8,7 +8,7 @@ use Rattle.search.specs.Progress.{AreWide}
 use Rattle.model.specs.Claims.{bound}
 use Rattle.model.specs.Runs.{System}
 use Rattle.search.specs.Estimates.{IsConsistent, value_by}
-use Rattle.search.specs.DeadEnds.{TellsDeadEnds}
+use Rattle.search.specs.DeadEnds.{DetectsDeadEnds}
 use Rattle.search.specs.Outcome.{AreFound, AreExpandedWithin}
 use Rattle.search.specs.Nodes.{Found, found_of, expanded_count, IsEntryOf}
 use Rattle.search.proofs.Linked.{length-found_of}
@@ -46,7 +46,7 @@ pub into_plan-requires : goal.into_plan-requires
 into_plan-requires g c =
     let search = c.loop-turn.invariant.search in
     let next = at_turn _ _ _ _ _ _ search.one_each search.nodes _ c.in-Some.turn c.in-Some.ensures.some in
-    rw c.in-Some.ensures.nodes (reached_in _ _ _ _ _ search.one_each _ search.nodes _ next.found next.stands)
+    rw c.in-Some.ensures.nodes (reached_in _ _ _ _ _ search.one_each _ search.nodes _ next.found next.occurs)
 
 pub returns-then-meets_goal : goal.returns-then-meets_goal
 returns-then-meets_goal g c =
@@ -67,9 +67,9 @@ returns-then-meets_goal g c =
     let path = rw c.in-Some.ensures.nodes at c.in_ok-steps.ensures.path in
     let short = rw c.in-Some.ensures.nodes at c.in_ok-steps.ensures.short in
     let consistent = subst (λ (u : System (List Bool) ℕ). IsConsistent u value) c.requires.made_for (g.met.E.Estimate.is_consistent c.args.estimate.now) in
-    let tells = subst (λ (u : System (List Bool) ℕ). TellsDeadEnds u is_dead) c.requires.dead_for (g.met.D.DeadEnd.tells_dead_ends c.args.dead_ends.now) in
-    let best = optimal _ _ _ _ _ search.one_each _ search.nodes consistent tells id next.found c.in_ok-steps.steps.items c.args.max_states
-    c.loop-turn.invariant.are_open next.stands next.least meets path short c.loop-turn.invariant.within in (
+    let reports = subst (λ (u : System (List Bool) ℕ). DetectsDeadEnds u is_dead) c.requires.dead_for (g.met.D.DeadEnd.detects_dead_ends c.args.dead_ends.now) in
+    let best = optimal _ _ _ _ _ search.one_each _ search.nodes consistent reports id next.found c.in_ok-steps.steps.items c.args.max_states
+    c.loop-turn.invariant.are_open next.occurs next.least meets path short c.loop-turn.invariant.within in (
       best.0,
       best.1 ∙ same_cost,
       rw (c.in_ok-steps.ensures.store, c.in-Some.ensures.store, c.in_ok-steps.ensures.nodes, c.in-Some.ensures.nodes)
@@ -89,7 +89,7 @@ expand-requires-clause-turn g c =
       nodes = rw (c.in-Some.ensures.store, c.in-Some.ensures.nodes) search.nodes;
       heap = c.in-Some.ensures.heap;
       found = next.found;
-      stands = rw (c.in-Some.ensures.store, c.in-Some.ensures.nodes) next.stands;
+      occurs = rw (c.in-Some.ensures.store, c.in-Some.ensures.nodes) next.occurs;
       waits = next.waits;
       sum = next.sum;
       least = rw (c.in-Some.ensures.store, c.in-Some.ensures.nodes) next.least;
@@ -145,7 +145,7 @@ returns g c =
     let value = value_by (g.E.Estimate.score_of c.args.estimate.now) in
     let is_dead = g.D.DeadEnd.is_dead c.args.dead_ends.now in
     let consistent = subst (λ (u : System (List Bool) ℕ). IsConsistent u value) c.requires.made_for (g.met.E.Estimate.is_consistent c.args.estimate.now) in
-    let tells = subst (λ (u : System (List Bool) ℕ). TellsDeadEnds u is_dead) c.requires.dead_for (g.met.D.DeadEnd.tells_dead_ends c.args.dead_ends.now) in
-    let result = unsolvable _ _ _ _ _ search.one_each _ search.nodes consistent tells c.args.max_states c.loop-turn.invariant.are_open
+    let reports = subst (λ (u : System (List Bool) ℕ). DetectsDeadEnds u is_dead) c.requires.dead_for (g.met.D.DeadEnd.detects_dead_ends c.args.dead_ends.now) in
+    let result = unsolvable _ _ _ _ _ search.one_each _ search.nodes consistent reports c.args.max_states c.loop-turn.invariant.are_open
     (none_waits _ _ _ _ _ _ search.one_each search.nodes c.in_default.ensures.none) c.loop-turn.invariant.within in
     (result.0, rw (c.into_states-2.ensures.store, c.in_default.ensures.store, c.into_states-2.ensures.nodes, c.in_default.ensures.nodes) result.1)

@@ -43,7 +43,7 @@ cert_of-requires-clause-claim c =
     let q = dead.potentials_in c.args.dead_ends.now in
     let found = outcome_by (ground_system (task_in g) (atoms_in g)) p (is_dead_by q) pooled_states c.states.result _ _ c.in-Found.is c.in_ok-outcome.ensures in
     claim_allowed (task_in g) (atoms_in g) c.requires.ground.atoms p q c.in-Found.cost c.states.result (pooled_states c.in-Found.states.store) c.in-Found.states.nodes.items c.in-Found.steps.items found.0.0 found.2
-    (record { constant = f.potentials.constant_in_range; weights = f.potentials.weights_in_range }) c.requires.fair.bounds c.requires.dead_ends.tell
+    (record { constant = f.potentials.constant_in_range; weights = f.potentials.weights_in_range }) c.requires.fair.bounds c.requires.dead_ends.detect
     (omega (arith, g.numbering.few_atoms, length-map g.numbering.atoms.keys atom_of))
     (omega (arith, c.states.ensures, most_of_limit c.args.limits.states c.args.limits.states_within))
 
@@ -162,8 +162,8 @@ cert_of-requires-in-States-clause-claim c =
     let f = c.args.estimate.now in
     let p = potentials_in f in
     let q = dead.potentials_in c.args.dead_ends.now in
-    let told = outcome_by (ground_system (task_in g) (atoms_in g)) p (is_dead_by q) pooled_states c.states.result _ _ c.in-States.is c.in_ok-outcome.ensures in
-    limit_allowed (task_in g) (atoms_in g) c.requires.ground.atoms p q c.in-States.bound c.states.result (pooled_states c.in-States.states.store) c.in-States.states.nodes.items told.1
+    let reported = outcome_by (ground_system (task_in g) (atoms_in g)) p (is_dead_by q) pooled_states c.states.result _ _ c.in-States.is c.in_ok-outcome.ensures in
+    limit_allowed (task_in g) (atoms_in g) c.requires.ground.atoms p q c.in-States.bound c.states.result (pooled_states c.in-States.states.store) c.in-States.states.nodes.items reported.1
     (record { constant = f.potentials.constant_in_range; weights = f.potentials.weights_in_range })
     (omega (arith, g.numbering.few_atoms, length-map g.numbering.atoms.keys atom_of))
     (omega (arith, c.states.ensures, most_of_limit c.args.limits.states c.args.limits.states_within))
@@ -176,10 +176,10 @@ cert_of-requires-in-States-clause-found c =
     let g = c.args.ground.now in
     let p = potentials_in c.args.estimate.now in
     let q = dead.potentials_in c.args.dead_ends.now in
-    let told = outcome_by (ground_system (task_in g) (atoms_in g)) p (is_dead_by q) pooled_states c.states.result _ _ c.in-States.is c.in_ok-outcome.ensures in
+    let reported = outcome_by (ground_system (task_in g) (atoms_in g)) p (is_dead_by q) pooled_states c.states.result _ _ c.in-States.is c.in_ok-outcome.ensures in
     subst (λ (h : Ground). AreFound (ground_system (task_in h) (atoms_in h)) (value p) (is_dead_by q) (bound c.in-States.bound) 16777216 (pooled_states c.in-States.states.store) c.in-States.states.nodes.items)
     (sym c.requires.fair.ground)
-    (found_among_more told.1.found (omega (arith, c.states.ensures, most_of_limit c.args.limits.states c.args.limits.states_within)))
+    (found_among_more reported.1.found (omega (arith, c.states.ensures, most_of_limit c.args.limits.states c.args.limits.states_within)))
 
 pub returns-in_ok-cert-in-States : goal.returns-in_ok-cert-in-States
 returns-in_ok-cert-in-States c =
@@ -196,8 +196,8 @@ returns-in_ok-cert-in-States c =
     let least = c.in-States.bound in
     let cert = certificate_of c.in_ok-cert-in-States.cert in
     let numbered = c.requires.ground.atoms in
-    let told = outcome_by (ground_system task atoms) p (is_dead_by q) pooled_states most _ _ c.in-States.is c.in_ok-outcome.ensures in
-    let more = subst (λ (count : ℕ). AreMoreReachable (ground_system task atoms) (value p) (is_dead_by q) count) c.states.ensures told.0 in
+    let reported = outcome_by (ground_system task atoms) p (is_dead_by q) pooled_states most _ _ c.in-States.is c.in_ok-outcome.ensures in
+    let more = subst (λ (count : ℕ). AreMoreReachable (ground_system task atoms) (value p) (is_dead_by q) count) c.states.ensures reported.0 in
     let many : length p.weights ≡ length atoms = subst (λ (h : Ground). length p.weights ≡ length (atoms_in h)) c.requires.fair.ground f.width in
     let dead_many : length q.weights ≡ length atoms = subst (λ (h : Ground). length q.weights ≡ length (atoms_in h)) c.requires.dead_ends.ground d.width in
     let fair : AreFair task atoms p = subst (λ (h : Ground). AreFair (task_in h) (atoms_in h) p) c.requires.fair.ground f.fair in
@@ -205,9 +205,9 @@ returns-in_ok-cert-in-States c =
     c.in_ok-cert-in-States.ensures ∙ ap (λ (h : Ground). found_certificate (bound least) (atoms_in h) p q states nodes) c.requires.fair.ground in (
       more_of_task task atoms numbered (value p) (is_dead_by q) c.args.limits.states more,
       c.requires.ground.within,
-      task_costs_at_least task atoms numbered least told.1.costs_at_least,
-      shown task (bound least) most p q states nodes atoms numbered told.1.found cert made c.args.limits.states (omega (arith, told.1.found.within_limit, c.states.ensures)) c.requires.typed many dead_many fair c.requires.dead_fair
+      task_costs_at_least task atoms numbered least reported.1.costs_at_least,
+      shown task (bound least) most p q states nodes atoms numbered reported.1.found cert made c.args.limits.states (omega (arith, reported.1.found.within_limit, c.states.ensures)) c.requires.typed many dead_many fair c.requires.dead_fair
           c.in_ok-cert-in-States.cert.within_limits,
-      settled_or_high task (bound least) most p q states nodes atoms numbered told.1.found cert made c.requires.improved,
-      at_limit_of task least most p q states nodes atoms numbered told.1 cert made c.args.limits.states c.states.ensures,
+      settled_or_high task (bound least) most p q states nodes atoms numbered reported.1.found cert made c.requires.improved,
+      at_limit_of task least most p q states nodes atoms numbered reported.1 cert made c.args.limits.states c.states.ensures,
     )

@@ -19,8 +19,8 @@ improve_dead_by-requires-clause-dead_fair c =
 pub known-requires-clause-width : goal.known-requires-clause-width
 known-requires-clause-width c = c.in_ok-potentials.ensures.as_many ∙ zero-width (potentials_of c.in_ok-zero.zero) (length (atoms_in c.args.ground.now)) c.in_ok-zero.ensures.zero
 
-pub returns-clause-tell : goal.returns-clause-tell
-returns-clause-tell c = subst (λ p. dead.AreOf c.args.ground.now p c.known.result) (sym c.known.ensures.potentials) c.known.ensures
+pub returns-clause-detect : goal.returns-clause-detect
+returns-clause-detect c = subst (λ p. dead.AreOf c.args.ground.now p c.known.result) (sym c.known.ensures.potentials) c.known.ensures
 
 pub returns-clause-dead_fair : goal.returns-clause-dead_fair
 returns-clause-dead_fair c = subst (AreDeadFair (task_in c.args.ground.now) (atoms_in c.args.ground.now)) (sym c.known.ensures.potentials) c.in_ok-potentials.ensures.dead_fair

@@ -6,7 +6,7 @@ use Rattle.task_parts.specs.Walk.{found, least_of}
 use Rattle.syntax_tree.specs.Tree as read
 use Rattle.model.specs.Typing as typing
 use Rattle.task_parts.proofs.Found as finding
-use Rattle.task_parts.proofs.Tells as telling
+use Rattle.task_parts.proofs.Reports as printing
 use Rattle.task_parts.proofs.Empty as empty
 use Rattle.task_parts.proofs.Declared.{names_are}
 use Rattle.task_parts.proofs.domain.checked_names.Goals as goal
@@ -35,6 +35,6 @@ returns c =
     let count = ap length (are ∙ names_are xs once) in
     omega (arith, count, low, length-map names.entries (λ e. e.0), length-map (keys_of names.entries) (λ k. k.items), length-map (typing.names_of xs) typing.folded, length-map xs (λ (y : typing.Declared). y.name), length-map xs (λ (y : typing.Declared). typing.placed y.file y.name)) in
     record {
-      ok = telling.given (λ m. (keys_in m.entries ≡ typing.type_names d) × (length m.entries ≤ 4096)) names faults _ total (λ none. (are, few none)) c.finish.result c.finish.ensures.none;
-      err = telling.tells_result faults _ total c.finish.result c.finish.ensures.some;
+      ok = printing.given (λ m. (keys_in m.entries ≡ typing.type_names d) × (length m.entries ≤ 4096)) names faults _ total (λ none. (are, few none)) c.finish.result c.finish.ensures.none;
+      err = printing.reports_result faults _ total c.finish.result c.finish.ensures.some;
     }

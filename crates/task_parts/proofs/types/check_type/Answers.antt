@@ -10,7 +10,7 @@ use Rattle.task_parts.proofs.types.check_type.Goals as goal
 
 pub returns : goal.returns
 returns c =
-    let told = λ (b : Bool). if b then [] else refused_word (file_of c.args.file) 14 (name_of c.args.name.now) in
-    c.refuse_unless.ensures ∙ ap (λ o. found (option_map refusal_of o) (told c.contains_key-known.result)) c.fold.ensures.least
-    ∙ ap (λ b. found (least_of c.args.walk.now) (told b)) (c.contains_key-known.ensures ∙ lookup-any (key_is c.as_slice.result.now) c.args.names.now.entries
+    let reported = λ (b : Bool). if b then [] else refused_word (file_of c.args.file) 14 (name_of c.args.name.now) in
+    c.refuse_unless.ensures ∙ ap (λ o. found (option_map refusal_of o) (reported c.contains_key-known.result)) c.fold.ensures.least
+    ∙ ap (λ b. found (least_of c.args.walk.now) (reported b)) (c.contains_key-known.ensures ∙ lookup-any (key_is c.as_slice.result.now) c.args.names.now.entries
     ∙ sym (is_known-shown (λ e. e.0) (λ k. k.items) (λ e. refl) (name_of c.args.name.now) _ (c.as_slice.ensures.value ∙ c.in_ok-fold.ensures.folded) c.args.names.now.entries))

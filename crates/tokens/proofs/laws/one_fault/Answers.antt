@@ -1,5 +1,5 @@
-use Rattle.tokens.proofs.Order.{told_once, read_is_told_nothing}
+use Rattle.tokens.proofs.Order.{reported_once, read_is_reported_nothing}
 use Rattle.tokens.proofs.laws.one_fault.Goals as goal
 
 pub returns : goal.returns
-returns c = record { one = told_once; none = read_is_told_nothing }
+returns c = record { one = reported_once; none = read_is_reported_nothing }

@@ -3,7 +3,7 @@ use Rattle.std.specs.Option.{option_to_list}
 use Rattle.std.proofs.lemmas.Result.{err_from_is_err_and}
 use Rattle.model.specs.Words.{kind_by}
 use Rattle.tokens.proofs.Nesting.{may_open, may_close, stays_shallow}
-use Rattle.tokens.proofs.Steps.{kept_some, kept_none, fault_here, scanned_more, told_here, none_if_read, fault_at_end, read_all}
+use Rattle.tokens.proofs.Steps.{kept_some, kept_none, fault_here, scanned_more, reported_here, none_if_read, fault_at_end, read_all}
 use Rattle.tokens.specs.Form.{view}
 use Rattle.tokens.specs.Word.{word_of}
 use Rattle.tokens.specs.Scanner.{word_at}
@@ -37,7 +37,7 @@ pub returns-in_err-word-clause-refused : goal.returns-in_err-word-clause-refused
 returns-in_err-word-clause-refused c =
     let p = err_from_is_err_and c.from_residual.result c.from_residual.ensures.1 in
     let found = fault_here c.args.text.now c.loop-start.start c.part_end-end.result c.loop-start.nesting.open_lists c.loop-start.nesting.has_closed (view c.of-form.result) c.loop-start-test.true c.of-form.ensures c.part_end-end.ensures.longest _ c.in_err-word.ensures.refused in
-    rw (p.1, p.2) (told_here c.args.text.now c.loop-start.start c.loop-start.nesting.open_lists c.loop-start.nesting.has_closed (omega arith) c.loop-start.invariant.scanned.faults _ found)
+    rw (p.1, p.2) (reported_here c.args.text.now c.loop-start.start c.loop-start.nesting.open_lists c.loop-start.nesting.has_closed (omega arith) c.loop-start.invariant.scanned.faults _ found)
 
 pub returns-in_err-word-clause-taken : goal.returns-in_err-word-clause-taken
 returns-in_err-word-clause-taken c = λ reads.
@@ -47,7 +47,7 @@ returns-in_err-word-clause-taken c = λ reads.
 
 pub returns-then-nesting-gt0-clause-refused : goal.returns-then-nesting-gt0-clause-refused
 returns-then-nesting-gt0-clause-refused c =
-    told_here c.args.text.now c.loop-start.start c.loop-start.nesting.open_lists c.loop-start.nesting.has_closed (omega arith) c.loop-start.invariant.scanned.faults _
+    reported_here c.args.text.now c.loop-start.start c.loop-start.nesting.open_lists c.loop-start.nesting.has_closed (omega arith) c.loop-start.invariant.scanned.faults _
     (fault_at_end c.args.text.now c.loop-start.start c.loop-start.nesting.open_lists c.loop-start.nesting.has_closed (omega arith) c.if-nesting-gt0.true _ c.refusal-then-nesting-gt0.ensures)
 
 pub returns-then-nesting-gt0-clause-taken : goal.returns-then-nesting-gt0-clause-taken

@@ -7,7 +7,7 @@ use Rattle.syntax_tree.specs.Tree as read
 use Rattle.model.specs.Trees.{domain_file}
 use Rattle.model.specs.Typing as typing
 use Rattle.task_parts.proofs.Found.{found_after}
-use Rattle.task_parts.proofs.Tells.{on_ok_weaker}
+use Rattle.task_parts.proofs.Reports.{on_ok_weaker}
 use Rattle.typing.proofs.actions.schema.Goals.{In_ok-parameters}
 use Rattle.typing.proofs.actions.schema.Goals as goal
 

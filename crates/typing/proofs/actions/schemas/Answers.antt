@@ -7,7 +7,7 @@ use Rattle.syntax_tree.specs.Tree as read
 use Rattle.model.specs.Trees.{domain_file}
 use Rattle.model.specs.Typing as typing
 use Rattle.task_parts.proofs.Found as finding
-use Rattle.task_parts.proofs.Tells as telling
+use Rattle.task_parts.proofs.Reports as printing
 use Rattle.task_parts.proofs.Empty as empty
 use Rattle.syntax_tree.specs.declared.tree.Action.{Action}
 use Rattle.model.specs.Trees as tree
@@ -36,6 +36,6 @@ returns c =
     c.in_ok-schemas.ensures.table (ap (λ zs. typing.repeated (map placed_as zs)) c.as_slice-actions.ensures.value ∙ once)
     ∙ ap (map (λ (a : Action). typing.schema_in known (read.action_of a))) c.as_slice-actions.ensures.value ∙ sym (finding.map-map (typing.schema_in known) read.action_of ys) in
     record {
-      ok = telling.given (λ m. map parts.schema_of m.entries ≡ whole) schemas faults _ total table c.finish.result c.finish.ensures.none;
-      err = telling.tells_result faults _ total c.finish.result c.finish.ensures.some;
+      ok = printing.given (λ m. map parts.schema_of m.entries ≡ whole) schemas faults _ total table c.finish.result c.finish.ensures.none;
+      err = printing.reports_result faults _ total c.finish.result c.finish.ensures.some;
     }

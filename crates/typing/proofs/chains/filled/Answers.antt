@@ -6,7 +6,7 @@ use Rattle.task_parts.specs.Scope.{keys_in}
 use Rattle.task_parts.specs.Walk.{found, least_of}
 use Rattle.model.specs.Typing as typing
 use Rattle.typing.specs.Chains.{AreTypes, cycles}
-use Rattle.task_parts.proofs.Tells as telling
+use Rattle.task_parts.proofs.Reports as printing
 use Rattle.typing.proofs.chains.filled.Goals as goal
 
 pub fill-requires : goal.fill-requires
@@ -24,6 +24,6 @@ returns c =
     let types = c.in_ok-fill.ensures.types ∙ ap (λ ps. typing.types_from ps 0 names) parents in
     record {
       ok = IfOk-weaker c.finish.result _ (λ t. AreTypes names xs t.by_name.entries) (λ t h. record { right = h.0; names_are = h.1.0; types = h.1.1 })
-          (telling.given (λ t. (keys_in t.by_name.entries ≡ names) × (map parts.type_entry_of t.by_name.entries ≡ typing.types_from (typing.parents_in names xs) 0 names)) _ faults _ total (λ none. (c.in_ok-fill.ensures.names, types)) c.finish.result c.finish.ensures.none);
-      err = telling.tells_result faults _ total c.finish.result c.finish.ensures.some;
+          (printing.given (λ t. (keys_in t.by_name.entries ≡ names) × (map parts.type_entry_of t.by_name.entries ≡ typing.types_from (typing.parents_in names xs) 0 names)) _ faults _ total (λ none. (c.in_ok-fill.ensures.names, types)) c.finish.result c.finish.ensures.none);
+      err = printing.reports_result faults _ total c.finish.result c.finish.ensures.some;
     }

@@ -4,7 +4,7 @@ use Rattle.task.specs.TaskParts as parts
 use Rattle.task_parts.specs.Scope.{keys_in}
 use Rattle.syntax_tree.specs.Tree as read
 use Rattle.model.specs.Typing as typing
-use Rattle.task_parts.proofs.Tells as telling
+use Rattle.task_parts.proofs.Reports as printing
 use Rattle.typing.proofs.declarations.predicates.Goals as goal
 
 pub returns : goal.returns
@@ -20,6 +20,6 @@ returns c =
     λ none. c.in_ok-predicates.ensures.table (ap (λ zs. typing.declaration_faults names (map read.predicate_of zs)) c.deref.ensures.value ∙ none)
     ∙ ap (λ zs. map (typing.predicate_in names) (map read.predicate_of zs)) c.deref.ensures.value in
     record {
-      ok = telling.given (λ m. map parts.predicate_of m.entries ≡ whole) predicates faults _ total table c.finish.result c.finish.ensures.none;
-      err = telling.tells_result faults _ total c.finish.result c.finish.ensures.some;
+      ok = printing.given (λ m. map parts.predicate_of m.entries ≡ whole) predicates faults _ total table c.finish.result c.finish.ensures.none;
+      err = printing.reports_result faults _ total c.finish.result c.finish.ensures.some;
     }

@@ -10,8 +10,8 @@ use Rattle.model.specs.Trees.{problem_file}
 use Rattle.model.specs.Typing as typing
 use Rattle.task_parts.proofs.Empty as empty
 use Rattle.task_parts.proofs.Found as finding
-use Rattle.task_parts.proofs.Tells as telling
-use Rattle.typing.proofs.Costs.{cost_declared, metric_faults, metric_told}
+use Rattle.task_parts.proofs.Reports as printing
+use Rattle.typing.proofs.Costs.{cost_declared, metric_faults, metric_reported}
 use Rattle.typing.proofs.functions.functions.Goals as goal
 
 pub returns : goal.returns
@@ -25,7 +25,7 @@ returns c =
     c.declares_cost-has_cost.ensures ∙ ap (list_any (typing.is_same typing.total_cost)) c.in_ok-functions.ensures.names
     ∙ ap (λ zs. list_any (typing.is_same typing.total_cost) (fold typing.with_name [] (map (λ (q : tree.Predicate). q.name) (map read.predicate_of zs)))) c.deref.ensures.value
     ∙ cost_declared (typing.type_names d) d.functions in
-    let metric = metric_told has c.as_ref.result c.args.problem.now.metric c.as_ref.ensures.value ∙ ap (λ b. metric_faults b p.metric) is in
+    let metric = metric_reported has c.as_ref.result c.args.problem.now.metric c.as_ref.ensures.value ∙ ap (λ b. metric_faults b p.metric) is in
     let total : least_of c.check_metric.new.walk ≡ found None (typing.function_faults d p) =
     finding.found_after (least_of c.new-walk.result) (least_of c.declared.new.walk) _
     (typing.declaration_faults (keys_in c.args.types.now.by_name.entries) (map read.predicate_of c.deref.result.now))
@@ -35,6 +35,6 @@ returns c =
     λ none. c.in_ok-functions.ensures.table (declared ∙ empty.nil_left (typing.declaration_faults (typing.type_names d) d.functions) (metric_faults (typing.declares_cost d) p.metric) none)
     ∙ (λ i. map (typing.predicate_in (c.requires i)) (map read.predicate_of (c.deref.ensures.value i))) in
     record {
-      ok = telling.given (λ m. map parts.predicate_of m.entries ≡ typing.functions_of d) functions (typing.function_faults d p) _ total table c.finish.result c.finish.ensures.none;
-      err = telling.tells_result (typing.function_faults d p) _ total c.finish.result c.finish.ensures.some;
+      ok = printing.given (λ m. map parts.predicate_of m.entries ≡ typing.functions_of d) functions (typing.function_faults d p) _ total table c.finish.result c.finish.ensures.none;
+      err = printing.reports_result (typing.function_faults d p) _ total c.finish.result c.finish.ensures.some;
     }

@@ -9,7 +9,7 @@ use Rattle.syntax_tree.specs.Tree as read
 use Rattle.model.specs.Trees as tree
 use Rattle.model.specs.Typing as typing
 use Rattle.task_parts.proofs.Found.{found_after}
-use Rattle.task_parts.proofs.Tells.{on_ok_weaker}
+use Rattle.task_parts.proofs.Reports.{on_ok_weaker}
 use Rattle.typing.proofs.functions.increase.Goals as goal
 
 pub returns-clause-finds : goal.returns-clause-finds

@@ -6,7 +6,7 @@ use Rattle.task_parts.specs.Scope.{keys_in}
 use Rattle.model.specs.Typing as typing
 use Rattle.std.proofs.lemmas.List.{length-map}
 use Rattle.task_parts.proofs.Found as finding
-use Rattle.task_parts.proofs.Tells as telling
+use Rattle.task_parts.proofs.Reports as printing
 use Rattle.task_parts.proofs.Empty as empty
 use Rattle.typing.proofs.objects.all.Goals as goal
 
@@ -30,6 +30,6 @@ returns c =
     let count = ap length (table none) in
     omega (arith, count, low, length-map objects.entries parts.object_entry_of, length-map ys (typing.object_in names), length-map ys (λ (y : typing.Declared). typing.placed y.file y.name)) in
     record {
-      ok = telling.given (λ m. (map parts.object_entry_of m.entries ≡ whole) × (length m.entries ≤ 65535)) objects faults _ total (λ none. (table none, few none)) c.finish.result c.finish.ensures.none;
-      err = telling.tells_result faults _ total c.finish.result c.finish.ensures.some;
+      ok = printing.given (λ m. (map parts.object_entry_of m.entries ≡ whole) × (length m.entries ≤ 65535)) objects faults _ total (λ none. (table none, few none)) c.finish.result c.finish.ensures.none;
+      err = printing.reports_result faults _ total c.finish.result c.finish.ensures.some;
     }

@@ -1,7 +1,7 @@
 use Rattle.std.proofs.Common.{◌≡◌, List, [], ◌∙◌, map, ap, sym, subst}
 use Rattle.syntax_tree.specs.Tree.{domain_of, problem_of, name_of}
 use Rattle.task.specs.TaskParts.{task_of_parts}
-use Rattle.typing.specs.Task.{TellsLeastFault, TellsLeastOf}
+use Rattle.typing.specs.Task.{ReportsLeastFault, ReportsLeastOf}
 use Rattle.typing.specs.Names.{domain_faults, known_by, stated_faults_in, AreContents, AreDeclared, AreTypesOf, Starts}
 use Rattle.typing.specs.Objects.{AreObjects, AreObjectsOf}
 use Rattle.typing.specs.declared.names.Names.{Names}
@@ -10,8 +10,8 @@ use Rattle.task_parts.specs.declared.type_names.TypeTable.{TypeTable}
 use Rattle.model.specs.Task.{Name}
 use Rattle.model.specs.Trees.{problem_file, Domain, Problem}
 use Rattle.model.specs.Typing.{object_faults, objects_faults, declared_objects, declared_constants, known_in_problem, object_in, type_names}
-use Rattle.task_parts.proofs.Tells.{tells_here, tells_later}
-use Rattle.typing.proofs.Tasks.{made_by_phases, told_of_types, told_of_contents, parts_of, IsMade}
+use Rattle.task_parts.proofs.Reports.{reports_here, reports_later}
+use Rattle.typing.proofs.Tasks.{made_by_phases, reported_of_types, reported_of_contents, parts_of, IsMade}
 use Rattle.typing.proofs.Costs.{is_some-map}
 use Rattle.faults.proofs.Results.{passed_on}
 use Rattle.typing.proofs.resolver.of_trees.Goals.{After-is_some}
@@ -40,14 +40,14 @@ known types objects names = λ i. record {
 pub returns-in_err-types-clause-least : goal.returns-in_err-types-clause-least
 returns-in_err-types-clause-least c =
     let d = domain_of c.args.domain.now in let p = problem_of c.args.problem.now in let e = c.in_err-types.field-0.0 in
-    passed_on (TellsLeastFault d p) c.from_residual.result e c.from_residual.ensures.1 (told_of_types d p e c.in_err-types.ensures.err)
+    passed_on (ReportsLeastFault d p) c.from_residual.result e c.from_residual.ensures.1 (reported_of_types d p e c.in_err-types.ensures.err)
 
 pub returns-in_err-objects-clause-least : goal.returns-in_err-objects-clause-least
 returns-in_err-objects-clause-least c =
     let d = domain_of c.args.domain.now in let p = problem_of c.args.problem.now in let e = c.in_err-objects.field-0.0 in
-    let told = subst (λ ns. TellsLeastOf (objects_faults ns (declared_objects d p)) e) c.in_ok-types.ensures.ok.1.names c.in_err-objects.ensures.err in
-    passed_on (TellsLeastFault d p) c.from_residual-in_err-objects.result e c.from_residual-in_err-objects.ensures.1
-    (told_of_contents d p c.in_ok-types.ensures.ok.0 e (tells_here (object_faults d p) _ e told))
+    let reported = subst (λ ns. ReportsLeastOf (objects_faults ns (declared_objects d p)) e) c.in_ok-types.ensures.ok.1.names c.in_err-objects.ensures.err in
+    passed_on (ReportsLeastFault d p) c.from_residual-in_err-objects.result e c.from_residual-in_err-objects.ensures.1
+    (reported_of_contents d p c.in_ok-types.ensures.ok.0 e (reports_here (object_faults d p) _ e reported))
 
 pub declared-requires : goal.declared-requires
 declared-requires c = record { types = c.in_ok-types.ensures.ok.1; objects = objects_named c.in_ok-objects.ensures.ok c.in_ok-types.ensures.ok.1.names }
@@ -55,19 +55,19 @@ declared-requires c = record { types = c.in_ok-types.ensures.ok.1; objects = obj
 pub returns-in_err-names-clause-least : goal.returns-in_err-names-clause-least
 returns-in_err-names-clause-least c =
     let d = domain_of c.args.domain.now in let p = problem_of c.args.problem.now in let e = c.in_err-names.field-0.0 in
-    passed_on (TellsLeastFault d p) c.from_residual-in_err-names.result e c.from_residual-in_err-names.ensures.1
-    (told_of_contents d p c.in_ok-types.ensures.ok.0 e
-    (tells_later (object_faults d p) _ (no_object c.in_ok-objects.ensures.ok c.in_ok-types.ensures.ok.1.names) e (tells_here (domain_faults d p) _ e c.in_err-names.ensures.err)))
+    passed_on (ReportsLeastFault d p) c.from_residual-in_err-names.result e c.from_residual-in_err-names.ensures.1
+    (reported_of_contents d p c.in_ok-types.ensures.ok.0 e
+    (reports_later (object_faults d p) _ (no_object c.in_ok-objects.ensures.ok c.in_ok-types.ensures.ok.1.names) e (reports_here (domain_faults d p) _ e c.in_err-names.ensures.err)))
 
 pub returns-in_err-start-clause-least : goal.returns-in_err-start-clause-least
 returns-in_err-start-clause-least c =
     let d = domain_of c.args.domain.now in let p = problem_of c.args.problem.now in let e = c.in_err-start.field-0.0 in
     let types = c.in_ok-types.ensures.ok.1 in
-    let told = subst (λ k. TellsLeastOf (stated_faults_in problem_file k p) e) (known types (objects_named c.in_ok-objects.ensures.ok types.names) c.in_ok-names.ensures.ok.1) c.in_err-start.ensures.err in
-    passed_on (TellsLeastFault d p) c.from_residual-in_err-start.result e c.from_residual-in_err-start.ensures.1
-    (told_of_contents d p c.in_ok-types.ensures.ok.0 e
-    (tells_later (object_faults d p) _ (no_object c.in_ok-objects.ensures.ok types.names) e
-    (tells_later (domain_faults d p) _ c.in_ok-names.ensures.ok.0 e (tells_here (stated_faults_in problem_file (known_in_problem d p) p) [] e told))))
+    let reported = subst (λ k. ReportsLeastOf (stated_faults_in problem_file k p) e) (known types (objects_named c.in_ok-objects.ensures.ok types.names) c.in_ok-names.ensures.ok.1) c.in_err-start.ensures.err in
+    passed_on (ReportsLeastFault d p) c.from_residual-in_err-start.result e c.from_residual-in_err-start.ensures.1
+    (reported_of_contents d p c.in_ok-types.ensures.ok.0 e
+    (reports_later (object_faults d p) _ (no_object c.in_ok-objects.ensures.ok types.names) e
+    (reports_later (domain_faults d p) _ c.in_ok-names.ensures.ok.0 e (reports_here (stated_faults_in problem_file (known_in_problem d p) p) [] e reported))))
 
 made : (c : After-is_some) → IsMade (domain_of c.args.domain.now) (problem_of c.args.problem.now) (task_of_parts (parts_of c.in_ok-types.types c.in_ok-objects.objects c.in_ok-names.names c.in_ok-start.start c.is_some.result))
 made c =

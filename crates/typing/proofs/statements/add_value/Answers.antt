@@ -7,8 +7,8 @@ use Rattle.syntax_tree.specs.Tree as read
 use Rattle.model.specs.Trees as tree
 use Rattle.model.specs.Typing as typing
 use Rattle.task_parts.proofs.Found.{found_after}
-use Rattle.task_parts.proofs.Tells.{on_ok_weaker}
-use Rattle.typing.proofs.Values.{told_of_named}
+use Rattle.task_parts.proofs.Reports.{on_ok_weaker}
+use Rattle.typing.proofs.Values.{reported_of_named}
 use Rattle.typing.proofs.statements.add_value.Goals as goal
 
 pub returns-in-Some-clause-finds : goal.returns-in-Some-clause-finds
@@ -26,4 +26,4 @@ returns-in-Some-clause-finds c =
     c.in_ok-function.ensures.finds ∙ (λ i. found (least_of c.args.walk.now) (typing.ground_atom_faults (ap read.file_of c.in_function-functions.ensures.file i) (is_known i) v.function)) in
     on_ok_weaker c.put_value.result
     (λ finds. found_after (least_of c.args.walk.now) (least_of c.named_atom.new.walk) _ own (typing.value_faults file known values (tree.initial_value v)) first
-    (finds ∙ ap (found (least_of c.named_atom.new.walk)) (told_of_named known values v (parts.atom_of c.in-Some.function) named other))) c.put_value.ensures.finds
+    (finds ∙ ap (found (least_of c.named_atom.new.walk)) (reported_of_named known values v (parts.atom_of c.in-Some.function) named other))) c.put_value.ensures.finds

@@ -5,7 +5,7 @@ use Rattle.task_parts.specs.Walk.{found, least_of}
 use Rattle.task.specs.TaskParts as parts
 use Rattle.syntax_tree.specs.Tree as read
 use Rattle.model.specs.Typing as typing
-use Rattle.task_parts.proofs.Tells as telling
+use Rattle.task_parts.proofs.Reports as printing
 use Rattle.typing.proofs.statements.goal.Goals as goal
 
 pub returns : goal.returns
@@ -17,6 +17,6 @@ returns c =
     let total : least_of c.formula.new.walk ≡ found None faults =
     c.in_ok-goal.ensures.finds ∙ ap (λ k. found (least_of c.new-walk.result) (typing.formula_faults file k read_goal)) is ∙ ap (λ o. found o faults) c.new-walk.ensures in
     record {
-      ok = telling.given (λ f. parts.formula_of f ≡ typing.formula_in file (known_outside g) read_goal) c.in_ok-goal.goal faults _ total (λ _. c.in_ok-goal.ensures.value ∙ ap (λ k. typing.formula_in file k read_goal) is) c.finish.result c.finish.ensures.none;
-      err = telling.tells_result faults _ total c.finish.result c.finish.ensures.some;
+      ok = printing.given (λ f. parts.formula_of f ≡ typing.formula_in file (known_outside g) read_goal) c.in_ok-goal.goal faults _ total (λ _. c.in_ok-goal.ensures.value ∙ ap (λ k. typing.formula_in file k read_goal) is) c.finish.result c.finish.ensures.none;
+      err = printing.reports_result faults _ total c.finish.result c.finish.ensures.some;
     }

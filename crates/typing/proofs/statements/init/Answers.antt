@@ -7,7 +7,7 @@ use Rattle.task.specs.TaskParts as parts
 use Rattle.syntax_tree.specs.Tree as read
 use Rattle.model.specs.Typing as typing
 use Rattle.task_parts.proofs.Found.{found_after}
-use Rattle.task_parts.proofs.Tells as telling
+use Rattle.task_parts.proofs.Reports as printing
 use Rattle.typing.proofs.statements.init.Goals as goal
 
 pub returns : goal.returns
@@ -28,7 +28,7 @@ returns c =
     let values : map parts.value_of c.in_ok-init.init.values.entries ≡ typing.values_after known [] ys =
     c.in_ok-init.ensures.values ∙ (λ i. typing.values_after (is i) [] (map read.fact_of (facts i))) in
     record {
-      ok = telling.given (λ s. (map parts.atom_of s.atoms.items ≡ flat_map (narrow_atoms_in known) ys) × (map parts.value_of s.values.entries ≡ typing.values_after known [] ys))
+      ok = printing.given (λ s. (map parts.atom_of s.atoms.items ≡ flat_map (narrow_atoms_in known) ys) × (map parts.value_of s.values.entries ≡ typing.values_after known [] ys))
           c.in_ok-init.init all _ total (λ _. (atoms, values)) c.finish.result c.finish.ensures.none;
-      err = telling.tells_result all _ total c.finish.result c.finish.ensures.some;
+      err = printing.reports_result all _ total c.finish.result c.finish.ensures.some;
     }

@@ -8,7 +8,7 @@ use Rattle.model.specs.Task as task
 use Rattle.model.specs.Meaning.{value_in}
 use Rattle.model.specs.Typing as typing
 use Rattle.task.proofs.AtomEquality.{atom_eq, value-alike}
-use Rattle.typing.proofs.Values.{kept_before, told_by_first, put_last, not_told}
+use Rattle.typing.proofs.Values.{kept_before, reported_by_first, put_last, not_reported}
 use Rattle.typing.proofs.statements.put_value.Goals.{After-copied}
 use Rattle.typing.proofs.statements.put_value.Goals as goal
 
@@ -32,7 +32,7 @@ returns-in-Some-clause-finds c =
     let s = (goal.at.returns-in-Some-clause-finds c).After-copied in
     c.refuse_unless.ensures
     ∙ ap (found (least_of c.args.walk.now))
-    (told_by_first (map parts.value_of c.args.values.now.entries) (value s) c.in-Some.first (looked s ∙ c.in-Some.is) (typing.refused_word (file_of c.args.file) 16 (name_of c.args.given.now.function.predicate)))
+    (reported_by_first (map parts.value_of c.args.values.now.entries) (value s) c.in-Some.first (looked s ∙ c.in-Some.is) (typing.refused_word (file_of c.args.file) 16 (name_of c.args.given.now.function.predicate)))
 
 pub returns-in_ok-insert-in-None-clause-value : goal.returns-in_ok-insert-in-None-clause-value
 unfolding value
@@ -49,4 +49,4 @@ unfolding value
 returns-in_ok-insert-in-None-clause-finds c =
     let s = (goal.at.returns-in_ok-insert-in-None-clause-finds c).After-copied in
     ap (found (least_of c.args.walk.now))
-    (not_told (map parts.value_of c.args.values.now.entries) (value s) (looked s ∙ c.in-None.is) (typing.refused_word (file_of c.args.file) 16 (name_of c.args.given.now.function.predicate)))
+    (not_reported (map parts.value_of c.args.values.now.entries) (value s) (looked s ∙ c.in-None.is) (typing.refused_word (file_of c.args.file) 16 (name_of c.args.given.now.function.predicate)))

@@ -5,7 +5,7 @@ use Rattle.task.specs.Task.{task_of}
 use Rattle.formulas.specs.State.{state_of, instance_of, plan_of}
 use Rattle.model.specs.Meaning.{is_instance, system_of}
 use Rattle.model.proofs.Tests.{passes_got}
-use Rattle.validator.proofs.VerdictRuns.{stands, run_before, run_more, run_whole, cost_more, cost_whole, stops}
+use Rattle.validator.proofs.VerdictRuns.{occurs, run_before, run_more, run_whole, cost_more, cost_whole, stops}
 use Rattle.validator.proofs.verdict.run_plan.Goals as goal
 
 pub loop-index-init : goal.loop-index-init
@@ -14,7 +14,7 @@ loop-index-init c = record { runs = ap Some (sym c.in_ok-state.ensures); costs =
 pub apply-requires : goal.apply-requires
 apply-requires c =
     passes_got (is_instance (task_of c.args.task.now)) (plan_of c.args.plan.now) c.loop-index.index (instance_of c.instance-item.result)
-    (stands c.steps-instance-items.result.now (plan_of c.args.plan.now) c.loop-index.index c.instance-item.result c.steps-instance-items.ensures.steps c.loop-index-test.true c.instance-item.is)
+    (occurs c.steps-instance-items.result.now (plan_of c.args.plan.now) c.loop-index.index c.instance-item.result c.steps-instance-items.ensures.steps c.loop-index-test.true c.instance-item.is)
     c.requires
 
 pub overflow_add-total : goal.overflow_add-total
@@ -24,7 +24,7 @@ pub loop-index-preserved : goal.loop-index-preserved
 loop-index-preserved c =
     let system = system_of (task_of c.args.task.now) in
     let plan = plan_of c.args.plan.now in
-    let here = stands c.steps-instance-items.result.now plan c.loop-index.index c.instance-item.result c.steps-instance-items.ensures.steps c.loop-index-test.true c.instance-item.is in
+    let here = occurs c.steps-instance-items.result.now plan c.loop-index.index c.instance-item.result c.steps-instance-items.ensures.steps c.loop-index-test.true c.instance-item.is in
     record {
       runs = run_more system plan c.loop-index.index (instance_of c.instance-item.result) here
           system.initial (state_of c.loop-index.state) (state_of c.in-Some.next) c.loop-index.invariant.runs (sym c.in_ok-next.ensures ∙ ap (option_map state_of) c.in-Some.is);
@@ -35,7 +35,7 @@ loop-index-preserved c =
 pub returns-in-None-clause-verdict : goal.returns-in-None-clause-verdict
 returns-in-None-clause-verdict c =
     stops (system_of (task_of c.args.task.now)) (plan_of c.args.plan.now) c.loop-index.index (instance_of c.instance-item.result)
-    (stands c.steps-instance-items.result.now (plan_of c.args.plan.now) c.loop-index.index c.instance-item.result c.steps-instance-items.ensures.steps c.loop-index-test.true c.instance-item.is)
+    (occurs c.steps-instance-items.result.now (plan_of c.args.plan.now) c.loop-index.index c.instance-item.result c.steps-instance-items.ensures.steps c.loop-index-test.true c.instance-item.is)
     (state_of c.loop-index.state) c.loop-index.invariant.runs (sym c.in_ok-next.ensures ∙ ap (option_map state_of) c.in-None.is)
 
 pub returns-in-None-clause-state : goal.returns-in-None-clause-state

@@ -3,8 +3,8 @@ use Rattle.cert_checker.specs.PackedListing.{task_at, certificate_at, state_at}
 use Rattle.cert_checker.specs.declared.refusal.RefusalCode.TheVariants.{NotDead}
 use Rattle.certificate_definitions.specs.CertificateRefusals.{not_dead, state_line}
 use Rattle.cert_checker.proofs.OrderLemmas.{first_in_line}
-use Rattle.cert_checker.proofs.FirstLemmas.{told_first}
-use Rattle.cert_checker.proofs.RefusalsLemmas.{told, wrong_dead}
+use Rattle.cert_checker.proofs.FirstLemmas.{reported_first}
+use Rattle.cert_checker.proofs.RefusalsLemmas.{reported, wrong_dead}
 use Rattle.cert_checker.proofs.checker.steps.check_dead.Goals as goal
 
 pub returns-then-is_dead_end-clause-right : goal.returns-then-is_dead_end-clause-right
@@ -14,7 +14,7 @@ pub returns-else-is_dead_end-clause-wrong : goal.returns-else-is_dead_end-clause
 returns-else-is_dead_end-clause-wrong c =
     let listing = c.args.listing.now in
     let cert = certificate_at listing in
-    told (task_at listing) cert c.state_line.result NotDead (state_line cert c.args.place) c.state_line.ensures
+    reported (task_at listing) cert c.state_line.result NotDead (state_line cert c.args.place) c.state_line.ensures
     (wrong_dead (task_at listing) cert c.args.place (state_at listing c.args.state.now) c.requires.listed.0 c.requires.listed.1 (sym c.is_dead_end.ensures ∙ c.if-is_dead_end.false))
 
 pub returns-else-is_dead_end-clause-first : goal.returns-else-is_dead_end-clause-first
@@ -22,5 +22,5 @@ returns-else-is_dead_end-clause-first c =
     λ plan most right.
     let listing = c.args.listing.now in
     let cert = certificate_at listing in
-    told_first (task_at listing) cert plan most c.state_line.result NotDead (state_line cert c.args.place) c.state_line.ensures
+    reported_first (task_at listing) cert plan most c.state_line.result NotDead (state_line cert c.args.place) c.state_line.ensures
     (first_in_line (task_at listing) cert plan most c.args.place not_dead right refl (λ r stage rank wrong. omega arith)) tt

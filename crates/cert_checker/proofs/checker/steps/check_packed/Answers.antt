@@ -2,7 +2,7 @@ use Rattle.std.proofs.Common.{◌≡◌, ℕ, List, None, Option, length}
 use Rattle.std.proofs.lemmas.Result.{IfErr-weaker, on_ok_weaker}
 use Rattle.faults.proofs.Results.{passed_on}
 use Rattle.model.specs.Limits.{max_numbered_atoms}
-use Rattle.model.specs.Grounding.{limit_told}
+use Rattle.model.specs.Grounding.{exceeded_limit}
 use Rattle.model.specs.Task.{Instance}
 use Rattle.certificate_definitions.specs.Certificates.{lines_of}
 use Rattle.cert_checker.specs.CertChecker.{IsFirstRefusal}
@@ -21,7 +21,7 @@ returns-in_err-check_initial-clause-first c =
 -- all is right up to the first state line
 begun : (c : In_ok-check_initial) (most : ℕ) → AreApart (task_at c.args.listing.now) (certificate_at c.args.listing.now)
     → CutsAreAllowed (task_at c.args.listing.now) (certificate_at c.args.listing.now) (length (lines_of (task_at c.args.listing.now) (certificate_at c.args.listing.now)))
-    → limit_told most max_numbered_atoms (task_at c.args.listing.now) (certificate_at c.args.listing.now).atoms ≡ None
+    → exceeded_limit most max_numbered_atoms (task_at c.args.listing.now) (certificate_at c.args.listing.now).atoms ≡ None
     → IsRightUpTo (task_at c.args.listing.now) (certificate_at c.args.listing.now) most 0
 begun c most distinct allowed within =
     let listing = c.args.listing.now in

@@ -18,8 +18,8 @@ use Rattle.model.proofs.GroundTaskLemmas.{length-step}
 use Rattle.cert_checker.proofs.GroundSuccessors.{leads_by, applies_at, next_by, cost_by}
 use Rattle.cert_checker.proofs.PackedListingLemmas.{listed_apart, successors_there}
 use Rattle.cert_checker.proofs.OrderLemmas.{first_in_line, open_here}
-use Rattle.cert_checker.proofs.FirstLemmas.{told_first, first_to_leave}
-use Rattle.cert_checker.proofs.RefusalsLemmas.{told, leads_there, wrong_missing, wrong_dearer, listed_somewhere, not_within}
+use Rattle.cert_checker.proofs.FirstLemmas.{reported_first, first_to_leave}
+use Rattle.cert_checker.proofs.RefusalsLemmas.{reported, leads_there, wrong_missing, wrong_dearer, listed_somewhere, not_within}
 use Rattle.cert_checker.proofs.checker.steps.check_successors.Goals.{After-successor}
 use Rattle.cert_checker.proofs.checker.steps.check_successors.Goals as goal
 
@@ -112,7 +112,7 @@ returns-in_default-clause-wrong c =
     let task = task_at listing in
     let cert = certificate_at listing in
     let here = (goal.at.returns-in_default-clause-wrong c).After-successor in
-    told task cert c.state_line.result SuccessorMissing (state_line cert c.args.place) c.state_line.ensures
+    reported task cert c.state_line.result SuccessorMissing (state_line cert c.args.place) c.state_line.ensures
     (wrong_missing task cert c.args.place (state_at listing c.args.state.now) c.args.cost (there here).0 (there here).1 c.requires.listed (leads here)
     (subst (λ s. ¬ IsListed (lines_of task cert) s) (sym (is_there here)) c.in_default.ensures))
 
@@ -124,7 +124,7 @@ returns-then-listed-cost-clause-wrong c =
     let here = (goal.at.returns-then-listed-cost-clause-wrong c).After-successor in
     let step = cost_there here in
     let listed = subst (λ s. IsListedAt (lines_of task cert) s c.in-Some.listed) (sym (is_there here)) c.in-Some.ensures in
-    told task cert c.state_line-then-listed-cost.result SuccessorDearer (state_line cert c.args.place) c.state_line-then-listed-cost.ensures
+    reported task cert c.state_line-then-listed-cost.result SuccessorDearer (state_line cert c.args.place) c.state_line-then-listed-cost.ensures
     (wrong_dearer task cert c.args.place (state_at listing c.args.state.now) c.args.cost (there here).0 (there here).1 c.in-Some.listed
     (listed_apart task (atoms_at listing) cert (store_in listing.cert.now) listing.listed) c.requires.listed (leads here) listed (omega (arith, step, c.from.ensures, c.cost.ensures, c.if-listed-cost.true)))
 
@@ -140,7 +140,7 @@ returns-in_default-clause-first c =
     let cert = certificate_at listing in
     let line : Line State = record { state = state_at listing c.args.state.now; cost = c.args.cost; mark = opened } in
     let here = (goal.at.returns-in_default-clause-first c).After-successor in
-    told_first task cert plan most c.state_line.result SuccessorMissing (state_line cert c.args.place) c.state_line.ensures
+    reported_first task cert plan most c.state_line.result SuccessorMissing (state_line cert c.args.place) c.state_line.ensures
     (first_in_line task cert plan most c.args.place successor_missing right refl (open_here task cert c.args.place line c.requires.listed refl c.requires.goal))
     (line, (there here).0, (there here).1, leaves here, subst (λ s. ¬ IsListed (lines_of task cert) s) (sym (is_there here)) c.in_default.ensures)
 
@@ -154,7 +154,7 @@ returns-then-listed-cost-clause-first c =
     let here = (goal.at.returns-then-listed-cost-clause-first c).After-successor in
     let step = cost_there here in
     let listed = subst (λ s. IsListedAt (lines_of task cert) s c.in-Some.listed) (sym (is_there here)) c.in-Some.ensures in
-    told_first task cert plan most c.state_line-then-listed-cost.result SuccessorDearer (state_line cert c.args.place) c.state_line-then-listed-cost.ensures
+    reported_first task cert plan most c.state_line-then-listed-cost.result SuccessorDearer (state_line cert c.args.place) c.state_line-then-listed-cost.ensures
     (first_in_line task cert plan most c.args.place successor_dearer right refl (open_here task cert c.args.place line c.requires.listed refl c.requires.goal)) (
       line,
       (there here).0,

@@ -7,14 +7,14 @@ use Rattle.grounding.specs.Ground.{task_in, atoms_in}
 use Rattle.potential_functions.specs.PotentialFunctions.{PotentialFunction, AreInRange}
 use Rattle.potential_functions.specs.Fair.{nothing}
 use Rattle.potentials.specs.Potentials.{potentials_of}
-use Rattle.potentials.specs.Fairness.{TellsDead}
+use Rattle.potentials.specs.Fairness.{DetectsDead}
 use Rattle.certificate.specs.Certificate.{certificate_of}
 use Rattle.model.specs.ClosedOff.{kept_instances}
 use Rattle.certificate_definitions.specs.CertificateRefusals.{dead_unfair, dead_unfair_goal}
 use Rattle.cert_checker.specs.Weights.{HasItsWeights}
 use Rattle.cert_checker.proofs.OrderLemmas.{atoms_right, dead_instances_asked, values_asked, states_right_all, first_asked}
 use Rattle.cert_checker.proofs.PackedListingLemmas.{numbered_after}
-use Rattle.cert_checker.proofs.WeightsLemmas.{fair_told, first_told, goals_told, instances_told, said_in_range, unfair_told}
+use Rattle.cert_checker.proofs.WeightsLemmas.{fair_reported, first_reported, goals_reported, instances_reported, said_in_range, unfair_reported}
 use Rattle.cert_checker.proofs.checker.weights.dead_fair_potentials.Goals as goal
 use Rattle.cert_checker.proofs.checker.weights.dead_fair_potentials.Goals.{In_ok-potentials}
 
@@ -43,7 +43,7 @@ pub kept_instance-requires : goal.kept_instance-requires
 kept_instance-requires c =
     let task = task_in c.args.grounded.now in
     let p = potentials_of c.in_ok-potentials.potentials in
-    let first = subst (TellsDead task (atoms_in c.args.grounded.now) p) c.in-Instance.is c.in_ok-dead_fairness.ensures in
+    let first = subst (DetectsDead task (atoms_in c.args.grounded.now) p) c.in-Instance.is c.in_ok-dead_fairness.ensures in
     slice_get_within (kept_instances task) c.in-Instance.number first.instance first.named
 
 pub returns-in-Fair-clause-dead_fair : goal.returns-in-Fair-clause-dead_fair
@@ -52,8 +52,8 @@ returns-in-Fair-clause-dead_fair c =
     let atoms = atoms_in c.args.grounded.now in
     let cert = certificate_of c.args.cert.now in
     let p = potentials_of c.in_ok-potentials.potentials in
-    fair_told nothing task cert cert.dead_ends atoms p c.requires.numbered (has (goal.at.returns-in-Fair-clause-dead_fair c).In_ok-potentials)
-    (subst (TellsDead task atoms p) c.in-Fair.is c.in_ok-dead_fairness.ensures)
+    fair_reported nothing task cert cert.dead_ends atoms p c.requires.numbered (has (goal.at.returns-in-Fair-clause-dead_fair c).In_ok-potentials)
+    (subst (DetectsDead task atoms p) c.in-Fair.is c.in_ok-dead_fairness.ensures)
 
 pub returns-in-Fair-clause-weights : goal.returns-in-Fair-clause-weights
 returns-in-Fair-clause-weights c = has (goal.at.returns-in-Fair-clause-weights c).In_ok-potentials
@@ -65,8 +65,8 @@ returns-in-Instance-clause-wrong c =
     let atoms = atoms_in c.args.grounded.now in
     let cert = certificate_of c.args.cert.now in
     let p = potentials_of c.in_ok-potentials.potentials in
-    unfair_told nothing task cert cert.dead_ends atoms p c.requires.numbered (has (goal.at.returns-in-Instance-clause-wrong c).In_ok-potentials) c.in-Instance.number (instance_of c.kept_instance.result)
-    (subst (TellsDead task atoms p) c.in-Instance.is c.in_ok-dead_fairness.ensures) c.kept_instance.ensures
+    unfair_reported nothing task cert cert.dead_ends atoms p c.requires.numbered (has (goal.at.returns-in-Instance-clause-wrong c).In_ok-potentials) c.in-Instance.number (instance_of c.kept_instance.result)
+    (subst (DetectsDead task atoms p) c.in-Instance.is c.in_ok-dead_fairness.ensures) c.kept_instance.ensures
 
 pub returns-in-Instance-clause-first : goal.returns-in-Instance-clause-first
 returns-in-Instance-clause-first c =
@@ -76,8 +76,8 @@ returns-in-Instance-clause-first c =
     let cert = certificate_of c.args.cert.now in
     let p = potentials_of c.in_ok-potentials.potentials in (
       first_asked task cert dead_unfair plan most refl (atoms_right task cert c.requires.fluent) (states_right_all task cert distinct allowed) within (values_asked task cert c.requires.fair),
-      first_told nothing task cert cert.dead_ends atoms p c.requires.numbered (has (goal.at.returns-in-Instance-clause-first c).In_ok-potentials) c.in-Instance.number
-          (instance_of c.kept_instance.result) (subst (TellsDead task atoms p) c.in-Instance.is c.in_ok-dead_fairness.ensures) c.kept_instance.ensures,
+      first_reported nothing task cert cert.dead_ends atoms p c.requires.numbered (has (goal.at.returns-in-Instance-clause-first c).In_ok-potentials) c.in-Instance.number
+          (instance_of c.kept_instance.result) (subst (DetectsDead task atoms p) c.in-Instance.is c.in_ok-dead_fairness.ensures) c.kept_instance.ensures,
     )
 
 pub returns-in-Goal-clause-wrong : goal.returns-in-Goal-clause-wrong
@@ -87,7 +87,7 @@ returns-in-Goal-clause-wrong c =
     let atoms = atoms_in c.args.grounded.now in
     let cert = certificate_of c.args.cert.now in
     let p = potentials_of c.in_ok-potentials.potentials in
-    goals_told nothing task cert cert.dead_ends atoms p c.requires.numbered (has (goal.at.returns-in-Goal-clause-wrong c).In_ok-potentials) (subst (TellsDead task atoms p) c.in-Goal.is c.in_ok-dead_fairness.ensures).1
+    goals_reported nothing task cert cert.dead_ends atoms p c.requires.numbered (has (goal.at.returns-in-Goal-clause-wrong c).In_ok-potentials) (subst (DetectsDead task atoms p) c.in-Goal.is c.in_ok-dead_fairness.ensures).1
 
 pub returns-in-Goal-clause-first : goal.returns-in-Goal-clause-first
 returns-in-Goal-clause-first c =
@@ -98,4 +98,4 @@ returns-in-Goal-clause-first c =
     let p = potentials_of c.in_ok-potentials.potentials in
     first_asked task cert dead_unfair_goal plan most refl (atoms_right task cert c.requires.fluent) (states_right_all task cert distinct allowed) within
     (dead_instances_asked task cert c.requires.fair
-    (instances_told nothing task cert cert.dead_ends atoms p c.requires.numbered (has (goal.at.returns-in-Goal-clause-first c).In_ok-potentials) (subst (TellsDead task atoms p) c.in-Goal.is c.in_ok-dead_fairness.ensures).0))
+    (instances_reported nothing task cert cert.dead_ends atoms p c.requires.numbered (has (goal.at.returns-in-Goal-clause-first c).In_ok-potentials) (subst (DetectsDead task atoms p) c.in-Goal.is c.in_ok-dead_fairness.ensures).0))

@@ -1,15 +1,15 @@
 use Rattle.std.proofs.Common.{◌∷◌, [], Some, refl, sym, ap, ◌∙◌, subst, length-append, arith}
 use Rattle.certificate_reader.specs.Lines.{text_line_of}
-use Rattle.certificate_definitions.proofs.Machine.{ends, stands}
+use Rattle.certificate_definitions.proofs.Machine.{ends, occurs}
 use Rattle.certificate_reader.specs.Stages.{place_of}
 use Rattle.certificate_reader.specs.Reader.{waits_in}
 use Rattle.certificate_reader.specs.Ready.{IsPrompt, come_at}
-use Rattle.certificate_reader.proofs.FaultsRead.{one_line_behind}
-use Rattle.certificate_reader.proofs.ReaderLemmas.{come_unless_ended, few_lines, leads_within, prompt_unless_ended, trailing_told}
+use Rattle.certificate_reader.proofs.FaultsRead.{one_line_after}
+use Rattle.certificate_reader.proofs.ReaderLemmas.{come_unless_ended, few_lines, leads_within, prompt_unless_ended, trailing_reported}
 use Rattle.certificate_reader.proofs.reader.CertReader.advance.Goals as goal
 
-pub returns-then-branch-clause-told : goal.returns-then-branch-clause-told
-returns-then-branch-clause-told g c = λ before read.
+pub returns-then-branch-clause-reported : goal.returns-then-branch-clause-reported
+returns-then-branch-clause-reported g c = λ before read.
     let over = rw c.if-branch.true at c.in_ok-is_at_end.ensures.end in
     record {
       whole = ends before (read.place ∙ ap (λ stage. Some (place_of stage)) c.in-Ended.is);
@@ -20,12 +20,12 @@ returns-then-branch-clause-told g c = λ before read.
       read = record { place = read.place; count = read.count };
     }
 
-pub returns-in-Ended-clause-told : goal.returns-in-Ended-clause-told
-returns-in-Ended-clause-told g c = λ before read.
+pub returns-in-Ended-clause-reported : goal.returns-in-Ended-clause-reported
+returns-in-Ended-clause-reported g c = λ before read.
     let more = rw c.if-branch.false at c.in_ok-is_at_end.ensures.end in (
       more.0,
       more.1,
-      trailing_told before (ends before (read.place ∙ ap (λ stage. Some (place_of stage)) c.in-Ended.is)) _ more.0 _ more.2 more.3,
+      trailing_reported before (ends before (read.place ∙ ap (λ stage. Some (place_of stage)) c.in-Ended.is)) _ more.0 _ more.2 more.3,
       subst (λ at. IsPrompt (come_at (place_of at)) (waits_in c.args.self.now) more.0) (sym c.in-Ended.is) more.4,
     )
 
@@ -35,19 +35,19 @@ invariant_of-self g c =
 
 pub returns : goal.returns
 returns g c = record {
-  told = λ before read.
+  reported = λ before read.
       let next = c.in_ok-line.ensures.next in
       record {
         bytes = next.0;
         consumed = next.1;
         splits = next.2;
         read = record {
-          place = one_line_behind before (place_of c.args.self.now.position.stage) (place_of c.in_ok-line.stage) (text_line_of c.in_ok-line.line) read.place next.3;
+          place = one_line_after before (place_of c.args.self.now.position.stage) (place_of c.in_ok-line.stage) (text_line_of c.in_ok-line.line) read.place next.3;
           count = omega (
             arith,
             c.saturating_add.ensures,
             read.count,
-            few_lines before (place_of c.args.self.now.position.stage) (stands before (place_of c.args.self.now.position.stage) read.place),
+            few_lines before (place_of c.args.self.now.position.stage) (occurs before (place_of c.args.self.now.position.stage) read.place),
             length-append before (text_line_of c.in_ok-line.line ∷ []),
           );
         };

@@ -16,7 +16,7 @@ returns-clause-bytes c =
     let count = c.fill-count.result in
     let rest = from_place _ _ next c.as_slice.ensures.value in
     let counted : count ≡ min (length into) (length (drop next bytes)) = c.fill-count.ensures.count ∙ ap (λ l. min (length into) (length l)) rest in
-    let (front, behind) = past into (drop next bytes) c.fill-count.new.into count counted (c.fill-count.ensures.room ∙ ap (λ l. take (length into) l ++ drop (length l) into) rest) in (
+    let (front, following) = past into (drop next bytes) c.fill-count.new.into count counted (c.fill-count.ensures.room ∙ ap (λ l. take (length into) l ++ drop (length l) into) rest) in (
       sym (take-append-drop (length into) (drop next bytes)) ∙ ap (λ l. l ++ drop (length into) (drop next bytes)) (sym front)
           ∙ ap (λ l. take count c.fill-count.new.into ++ l) (sym (rest_of bytes next count (length into) counted)),
       λ none room. at_end bytes into c.fill-count.new.into next count counted c.fill-count.auto.into none room,

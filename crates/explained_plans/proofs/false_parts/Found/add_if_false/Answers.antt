@@ -7,12 +7,12 @@ use Rattle.formulas.specs.State.{state_of, FitsFormula}
 use Rattle.explained_plans.proofs.FoundLemmas.{as_part, finds_no_room, finds_itself}
 use Rattle.explained_plans.proofs.false_parts.Found.add_if_false.Goals as goal
 
-pub returns-then-len-eq-MOST_TOLD : goal.returns-then-len-eq-MOST_TOLD
-returns-then-len-eq-MOST_TOLD c =
+pub returns-then-len-eq-MOST_REPORTED : goal.returns-then-len-eq-MOST_REPORTED
+returns-then-len-eq-MOST_REPORTED c =
     let old = c.args.self.now in
     let count : c.len.result ≡ length old.parts.items = omega (arith, c.len.ensures, old.parts.ok.0) in
     finds_no_room (task_of c.args.task.now) (state_of c.args.state.now) (formula_of c.args.formula.now) (map object_of c.args.objects.now.items)
-    old (record { parts = old.parts; more = true }) (sym c.holds.ensures ∙ c.if-holds.false) refl refl (sym count ∙ c.if-len-eq-MOST_TOLD.true)
+    old (record { parts = old.parts; more = true }) (sym c.holds.ensures ∙ c.if-holds.false) refl refl (sym count ∙ c.if-len-eq-MOST_REPORTED.true)
 
 pub returns : goal.returns
 returns c =
@@ -24,5 +24,5 @@ returns c =
     finds_itself task (state_of c.args.state.now) formula (map object_of c.args.objects.now.items)
     p old (record { parts = c.push.new.self; more = old.more }) (sym c.holds.ensures ∙ c.if-holds.false)
     (ap (λ (l : List ObjectId). as_part formula (map object_of l)) c.copied.ensures)
-    c.in_ok-push.ensures.items refl (λ e. c.if-len-eq-MOST_TOLD.false (count ∙ e))
+    c.in_ok-push.ensures.items refl (λ e. c.if-len-eq-MOST_REPORTED.false (count ∙ e))
     (subst (λ (l : List ObjectId). FitsFormula task formula (map object_of l)) (sym c.copied.ensures) c.requires)

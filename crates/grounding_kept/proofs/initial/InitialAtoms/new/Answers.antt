@@ -3,12 +3,12 @@ use Rattle.std.specs.List.{each_same}
 use Rattle.task.specs.Task.{task_of}
 use Rattle.task.specs.TaskParts.{atom_of}
 use Rattle.formulas.proofs.States.{copied}
-use Rattle.model.specs.NumberedAtoms.{stands_in}
+use Rattle.model.specs.NumberedAtoms.{occurs_in}
 use Rattle.grounding_kept.proofs.HashedAtoms.{hashed-more, hashed-all}
 use Rattle.grounding_kept.proofs.initial.InitialAtoms.new.Goals as goal
 
 pub loop-atom-init : goal.loop-atom-init
-loop-atom-init c = λ q. ap (λ l. stands_in (map atom_of l) q) c.new-atoms.ensures.empty
+loop-atom-init c = λ q. ap (λ l. occurs_in (map atom_of l) q) c.new-atoms.ensures.empty
 
 pub loop-atom-preserved : goal.loop-atom-preserved
 loop-atom-preserved c =

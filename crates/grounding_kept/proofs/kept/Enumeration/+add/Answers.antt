@@ -9,8 +9,8 @@ use Rattle.model.specs.ClosedOff.{is_kept}
 use Rattle.model.proofs.EnumerationLemmas.{begun}
 use Rattle.grounding_kept.specs.Parameters.{choice_of, lent_formula, ranges_of}
 use Rattle.grounding_kept.specs.Joins.{AreJoined}
-use Rattle.grounding_kept.specs.Kept.{IsBegun, TellsInstances}
-use Rattle.grounding_kept.proofs.ChosenObjects.{pruned, literals-fit, whole-instance, one-chosen, begun_from, begun-here, begun-candidates, candidate-place, part-more, part-told}
+use Rattle.grounding_kept.specs.Kept.{IsBegun, ReportsInstances}
+use Rattle.grounding_kept.proofs.ChosenObjects.{pruned, literals-fit, whole-instance, one-chosen, begun_from, begun-here, begun-candidates, candidate-place, part-more, part-reported}
 use Rattle.grounding_kept.proofs.ObjectLists.{there_is, chosen-more, number-at, no-choices}
 use Rattle.grounding_kept.proofs.kept.Enumeration.+add.Goals as goal
 
@@ -81,8 +81,8 @@ add-requires t c =
       ),
     )
 
-pub returns-in_err-add-clause-told : goal.returns-in_err-add-clause-told
-returns-in_err-add-clause-told t c =
+pub returns-in_err-add-clause-reported : goal.returns-in_err-add-clause-reported
+returns-in_err-add-clause-reported t c =
     let keep = is_kept (task_of c.args.self.now.statics.now.task.now) in
     let schema = c.args.self.now.schema.0 in
     let objects = map object_of c.args.objects.items in
@@ -96,10 +96,10 @@ returns-in_err-add-clause-told t c =
     let whole = map instance_of c.args.found.now.items ++ filter keep (begun schema objects (ranges_of (map choice_of c.args.left.now))) in
     let max = c.args.self.now.max in
     let e = c.in_err-add.field-0.0 in
-    passed_on (TellsInstances max whole) c.from_residual-in_err-add.result e c.from_residual-in_err-add.ensures.1
-    (part-told keep now (begun schema (objects ++ number ∷ []) ranges) (begun_from schema objects ranges (drop (place + 1) (map object_of firsts))) (begun_from schema objects ranges (drop place (map object_of firsts))) whole
+    passed_on (ReportsInstances max whole) c.from_residual-in_err-add.result e c.from_residual-in_err-add.ensures.1
+    (part-reported keep now (begun schema (objects ++ number ∷ []) ranges) (begun_from schema objects ranges (drop (place + 1) (map object_of firsts))) (begun_from schema objects ranges (drop place (map object_of firsts))) whole
     (begun-here schema objects ranges (map object_of firsts) place number (number-at firsts place first.0 first.1)) c.loop-object.invariant.all max e
-    (subst (λ (os : List ℕ). TellsInstances max (now ++ filter keep (begun schema os ranges)) e) chosen c.in_err-add.ensures.told))
+    (subst (λ (os : List ℕ). ReportsInstances max (now ++ filter keep (begun schema os ranges)) e) chosen c.in_err-add.ensures.reported))
 
 pub loop-object-preserved : goal.loop-object-preserved
 loop-object-preserved t c =

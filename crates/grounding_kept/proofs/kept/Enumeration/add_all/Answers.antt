@@ -6,7 +6,7 @@ use Rattle.formulas.specs.State.{instance_of}
 use Rattle.model.specs.Task.{Instance}
 use Rattle.model.specs.ClosedOff.{is_kept}
 use Rattle.grounding_kept.specs.Parameters.{choice_of}
-use Rattle.grounding_kept.specs.Kept.{TellsInstances}
+use Rattle.grounding_kept.specs.Kept.{ReportsInstances}
 use Rattle.grounding_kept.proofs.ChosenObjects.{begun-all}
 use Rattle.grounding_kept.proofs.ObjectLists.{few-choices}
 use Rattle.grounding_kept.proofs.kept.Enumeration.add_all.Goals as goal
@@ -26,10 +26,10 @@ returns-clause-kept c =
     (ap (map choice_of) c.as_slice.ensures.value ∙ c.in_ok-parameters.ensures.choices) (map object_of c.new.result.items) (ap (map object_of) c.new.ensures))
     c.add.ensures.kept
 
-pub returns-clause-told : goal.returns-clause-told
-returns-clause-told c =
+pub returns-clause-reported : goal.returns-clause-reported
+returns-clause-reported c =
     let t = task_of c.args.self.now.statics.now.task.now in
-    subst (λ (l : List Instance). IfErr c.add.result (TellsInstances c.args.self.now.max (map instance_of c.args.found.now.items ++ filter (is_kept t) l)))
+    subst (λ (l : List Instance). IfErr c.add.result (ReportsInstances c.args.self.now.max (map instance_of c.args.found.now.items ++ filter (is_kept t) l)))
     (begun-all t c.args.self.now.schema.0 (shape_of c.in-Some.schema.now) c.in-Some.ensures.shape (map choice_of c.as_slice.result.now)
     (ap (map choice_of) c.as_slice.ensures.value ∙ c.in_ok-parameters.ensures.choices) (map object_of c.new.result.items) (ap (map object_of) c.new.ensures))
-    c.add.ensures.told
+    c.add.ensures.reported

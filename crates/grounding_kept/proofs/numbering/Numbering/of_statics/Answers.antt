@@ -6,30 +6,30 @@ use Rattle.task.specs.TaskParts.{atom_of}
 use Rattle.formulas.specs.State.{instance_of}
 use Rattle.model.specs.ClosedOff as closed_off
 use Rattle.model.specs.Limits.{max_numbered_atoms}
-use Rattle.model.proofs.GroundTaskLemmas.{told_none}
-use Rattle.grounding_kept.specs.Numbering.{TellsLimit}
+use Rattle.model.proofs.GroundTaskLemmas.{reported_none}
+use Rattle.grounding_kept.specs.Numbering.{ReportsLimit}
 use Rattle.grounding_kept.proofs.NumberedFacts.{atoms-fluent, atoms-distinct}
-use Rattle.grounding_kept.proofs.LimitsTold.{first-told, second-told}
+use Rattle.grounding_kept.proofs.LimitsReported.{first-reported, second-reported}
 use Rattle.grounding_kept.proofs.numbering.Numbering.of_statics.Goals as goal
 
 pub numbered_atoms-requires : goal.numbered_atoms-requires
 numbered_atoms-requires c = ap (map instance_of) c.as_slice.ensures.value ∙ c.in_ok-instances.ensures.kept
 
-pub returns-in_err-instances-clause-told : goal.returns-in_err-instances-clause-told
-returns-in_err-instances-clause-told c =
+pub returns-in_err-instances-clause-reported : goal.returns-in_err-instances-clause-reported
+returns-in_err-instances-clause-reported c =
     let t = task_of c.args.statics.task.now in
     let more = map atom_of c.args.more.now in
     let e = c.in_err-instances.field-0.0 in
-    passed_on (TellsLimit t more c.args.max_instances) c.from_residual.result e c.from_residual.ensures.1 (first-told t more c.args.max_instances e c.in_err-instances.ensures.told)
+    passed_on (ReportsLimit t more c.args.max_instances) c.from_residual.result e c.from_residual.ensures.1 (first-reported t more c.args.max_instances e c.in_err-instances.ensures.reported)
 
-pub returns-in_err-atoms-clause-told : goal.returns-in_err-atoms-clause-told
-returns-in_err-atoms-clause-told c =
+pub returns-in_err-atoms-clause-reported : goal.returns-in_err-atoms-clause-reported
+returns-in_err-atoms-clause-reported c =
     let t = task_of c.args.statics.task.now in
     let more = map atom_of c.args.more.now in
     let e = c.in_err-atoms.field-0.0 in
     let few : length (closed_off.kept_instances t) ≤ c.args.max_instances = omega (arith, c.in_ok-instances.ensures.few, ap length c.in_ok-instances.ensures.kept, length-map c.in_ok-instances.instances.items instance_of) in
-    passed_on (TellsLimit t more c.args.max_instances) c.from_residual-in_err-atoms.result e c.from_residual-in_err-atoms.ensures.1
-    (second-told t more c.args.max_instances e few c.in_err-atoms.ensures.told)
+    passed_on (ReportsLimit t more c.args.max_instances) c.from_residual-in_err-atoms.result e c.from_residual-in_err-atoms.ensures.1
+    (second-reported t more c.args.max_instances e few c.in_err-atoms.ensures.reported)
 
 pub returns-clause-numbering : goal.returns-clause-numbering
 returns-clause-numbering c =
@@ -41,7 +41,7 @@ returns-clause-numbering c =
       task = refl;
       instances = c.in_ok-instances.ensures.kept;
       atoms = c.in_ok-atoms.ensures.numbered;
-      within = told_none t more c.args.max_instances max_numbered_atoms
+      within = reported_none t more c.args.max_instances max_numbered_atoms
           (omega (arith, c.in_ok-instances.ensures.few, ap length c.in_ok-instances.ensures.kept, length-map instances instance_of))
           (omega (arith, c.in_ok-atoms.ensures.few, ap length c.in_ok-atoms.ensures.numbered, length-map atoms atom_of));
     }

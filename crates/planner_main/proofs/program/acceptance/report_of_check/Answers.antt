@@ -3,7 +3,7 @@ use Rattle.devices.specs.Devices.{IsKept}
 use Rattle.certificate_reader.specs.Reader.{source_of}
 use Rattle.file_answers.specs.Files.{text_in}
 use Rattle.planner_main.proofs.ProgramWords.{text_if_named_kept}
-use Rattle.planner_main.proofs.CertificateTold.{check_on_inputs}
+use Rattle.planner_main.proofs.CertificateReported.{check_on_inputs}
 use Rattle.planner_main.proofs.program.acceptance.report_of_check.Goals as goal
 
 pub returns-clause-report : goal.returns-clause-report

@@ -1,5 +1,5 @@
 use Rattle.devices.proofs.WrittenFiles.{written_alone, partly_alone}
-use Rattle.planner_main.proofs.ProgramTold.{one_file}
+use Rattle.planner_main.proofs.ProgramReported.{one_file}
 use Rattle.planner_main.proofs.program.writing.save.Goals as goal
 
 pub returns-clause-written : goal.returns-clause-written

@@ -7,13 +7,13 @@ use Rattle.model.proofs.ListLemmas.{Contains-here}
 use Rattle.packed_state.specs.Packed.{bits_of}
 use Rattle.model.specs.Runs.{System}
 use Rattle.search.specs.Estimates.{IsConsistent, value_by}
-use Rattle.search.specs.DeadEnds.{TellsDeadEnds}
+use Rattle.search.specs.DeadEnds.{DetectsDeadEnds}
 use Rattle.search.specs.declared.nodes.Node.{Node}
 use Rattle.search.specs.Nodes.{Found, found_of, total_of, marked_as, marked}
 use Rattle.search.proofs.Linked.{found_of-get}
 use Rattle.search.proofs.Marked.{open_all}
 use Rattle.search.proofs.Stopped.{at_limit}
-use Rattle.search.proofs.Steps.{HasBegun, turn_begins, left_start, left_more, left_end, stands_still, continues_same, continues_trans}
+use Rattle.search.proofs.Steps.{HasBegun, turn_begins, left_start, left_more, left_end, occurs_still, continues_same, continues_trans}
 use Rattle.search.proofs.progress.Progress.expand.Given.{Over}
 use Rattle.search.proofs.progress.Progress.expand.Goals.{After-deref-action-items}
 use Rattle.search.proofs.progress.Progress.expand.Goals as goal
@@ -22,16 +22,16 @@ use Rattle.search.proofs.progress.Progress.expand.Goals as goal
 is_state : (g : Over) (c : After-deref-action-items g) → bits_of c.args.buffers.now.state ≡ c.requires.turn.found.state
 is_state g c =
     let turn = c.requires.turn in
-    same_Some _ turn.found.state (sym c.requires.state ∙ (found_of-get (g.S.StateStore.states c.args.self.now.store) c.args.self.now.nodes.items c.args.turn.id.0 turn.found turn.stands).0)
+    same_Some _ turn.found.state (sym c.requires.state ∙ (found_of-get (g.S.StateStore.states c.args.self.now.store) c.args.self.now.nodes.items c.args.turn.id.0 turn.found turn.occurs).0)
 
 -- what guides the search keeps its laws
 consistent : (g : Over) (c : After-deref-action-items g) → IsConsistent (g.T.TransitionSystem.means c.args.system.now) (value_by (g.E.Estimate.score_of c.args.guide.now.estimate.now))
 consistent g c =
     subst (λ (u : System (List Bool) ℕ). IsConsistent u (value_by (g.E.Estimate.score_of c.args.guide.now.estimate.now))) c.requires.made_for (g.met.E.Estimate.is_consistent c.args.guide.now.estimate.now)
 
-tells : (g : Over) (c : After-deref-action-items g) → TellsDeadEnds (g.T.TransitionSystem.means c.args.system.now) (g.D.DeadEnd.is_dead c.args.guide.now.dead_ends.now)
-tells g c =
-    subst (λ (u : System (List Bool) ℕ). TellsDeadEnds u (g.D.DeadEnd.is_dead c.args.guide.now.dead_ends.now)) c.requires.dead_for (g.met.D.DeadEnd.tells_dead_ends c.args.guide.now.dead_ends.now)
+reports : (g : Over) (c : After-deref-action-items g) → DetectsDeadEnds (g.T.TransitionSystem.means c.args.system.now) (g.D.DeadEnd.is_dead c.args.guide.now.dead_ends.now)
+reports g c =
+    subst (λ (u : System (List Bool) ℕ). DetectsDeadEnds u (g.D.DeadEnd.is_dead c.args.guide.now.dead_ends.now)) c.requires.dead_for (g.met.D.DeadEnd.detects_dead_ends c.args.guide.now.dead_ends.now)
 
 has_begun : (g : Over) (c : After-deref-action-items g) → HasBegun (g.T.TransitionSystem.means c.args.system.now) (value_by (g.E.Estimate.score_of c.args.guide.now.estimate.now)) (g.D.DeadEnd.is_dead c.args.guide.now.dead_ends.now)
     (found_of (g.S.StateStore.states c.args.self.now.store) c.args.self.now.nodes.items) (g.S.StateStore.states c.mark.new.self.store) c.mark.new.self.nodes.items
@@ -41,10 +41,10 @@ has_begun g c =
     let t = g.T.TransitionSystem.means c.args.system.now in
     let states = g.S.StateStore.states c.args.self.now.store in
     let all = c.args.self.now.nodes.items in
-    turn_begins t _ _ (consistent g c) (tells g c) states all
-    turn.queue _ turn.one_each turn.nodes _ turn.found turn.stands turn.waits turn.least turn.rest turn.entries
+    turn_begins t _ _ (consistent g c) (reports g c) states all
+    turn.queue _ turn.one_each turn.nodes _ turn.found turn.occurs turn.waits turn.least turn.rest turn.entries
     (subst (λ x. t.meets_goal x ≡ false) (is_state g c) c.requires.no_goal) c.requires.open _ _ (ap g.S.StateStore.states c.mark.ensures.store)
-    (c.mark.ensures.nodes turn.found.node (found_of-get states all _ turn.found turn.stands).1)
+    (c.mark.ensures.nodes turn.found.node (found_of-get states all _ turn.found turn.occurs).1)
 
 pub loop-action-init : goal.loop-action-init
 loop-action-init g c =
@@ -64,9 +64,9 @@ loop-action-init g c =
       state = c.requires.buffers.state;
       score = search rules;
       next = c.requires.buffers.next;
-      stands = rw c.mark.ensures.store c.requires.state;
+      occurs = rw c.mark.ensures.store c.requires.state;
       left = rw c.deref-action-items.ensures.value
-          (left_start (g.T.TransitionSystem.means c.args.system.now) nodes c.args.turn.id.0 (marked true turn.found) begins.stands (bits_of c.args.buffers.now.state) c.applicable.new.into.items
+          (left_start (g.T.TransitionSystem.means c.args.system.now) nodes c.args.turn.id.0 (marked true turn.found) begins.occurs (bits_of c.args.buffers.now.state) c.applicable.new.into.items
           (is_state g (goal.at.loop-action-init g c).After-deref-action-items) c.in_ok-applicable.ensures.ok);
     }
 
@@ -76,13 +76,13 @@ successor-requires-clause-applicable g c =
     let e = inv.expanding in
     let t = g.T.TransitionSystem.means c.args.system.now in
     let states = g.S.StateStore.states c.loop-action.self.store in
-    let parts = found_of-get states c.loop-action.self.nodes.items c.args.turn.id.0 e.turn.found e.turn.stands in
+    let parts = found_of-get states c.loop-action.self.nodes.items c.args.turn.id.0 e.turn.found e.turn.occurs in
     let numbers = c.deref-action-items.result.now in
     let a = get_or numbers c.loop-action.action-index 0 in
     let s = bits_of c.loop-action.buffers.1.0 in
     let left = rw (drop_more numbers c.loop-action.action-index 0 c.loop-action-test.true) at inv.left in
-    subst (λ x. IsTrue (is_some (t.step x a))) (same_Some e.turn.found.state s (sym parts.0 ∙ inv.stands))
-    (left.sound e.turn.found e.turn.stands a (Contains-here a (drop (c.loop-action.action-index + 1) numbers)))
+    subst (λ x. IsTrue (is_some (t.step x a))) (same_Some e.turn.found.state s (sym parts.0 ∙ inv.occurs))
+    (left.sound e.turn.found e.turn.occurs a (Contains-here a (drop (c.loop-action.action-index + 1) numbers)))
 
 pub loop-action-preserved : goal.loop-action-preserved
 loop-action-preserved g c =
@@ -94,12 +94,12 @@ loop-action-preserved g c =
     let nodes = found_of states c.loop-action.self.nodes.items in
     let after = found_of states' c.reach.new.self.nodes.items in
     let begun = found_of (g.S.StateStore.states c.mark.new.self.store) c.mark.new.self.nodes.items in
-    let parts = found_of-get states c.loop-action.self.nodes.items c.args.turn.id.0 e.turn.found e.turn.stands in
+    let parts = found_of-get states c.loop-action.self.nodes.items c.args.turn.id.0 e.turn.found e.turn.occurs in
     let numbers = c.deref-action-items.result.now in
     let a = get_or numbers c.loop-action.action-index 0 in
     let s = bits_of c.loop-action.buffers.1.0 in
     let next = bits_of c.successor.new.into in
-    let leads = subst (λ x. t.step x a ≡ Some next) (same_Some s e.turn.found.state (sym inv.stands ∙ parts.0)) c.successor.ensures.step in
+    let leads = subst (λ x. t.step x a ≡ Some next) (same_Some s e.turn.found.state (sym inv.occurs ∙ parts.0)) c.successor.ensures.step in
     let left = rw (drop_more numbers c.loop-action.action-index 0 c.loop-action-test.true) at inv.left in
     let listed : c.in_ok-reach.field-0 ≡ true = c.if-not-branch.false in
     let reaches = rw listed at c.in_ok-reach.ensures.listed in
@@ -111,8 +111,8 @@ loop-action-preserved g c =
       state = inv.state;
       score = inv.score;
       next = c.successor.ensures.width;
-      stands = stands_still states states' c.loop-action.self.nodes.items c.reach.new.self.nodes.items c.args.turn.id.0 e.turn.found s e.turn.stands reaches.continues inv.stands;
-      left = left_more t nodes c.args.turn.id.0 e.turn.found e.turn.stands after a next (drop (c.loop-action.action-index + 1) numbers) left leads reaches.continues reaches.listed;
+      occurs = occurs_still states states' c.loop-action.self.nodes.items c.reach.new.self.nodes.items c.args.turn.id.0 e.turn.found s e.turn.occurs reaches.continues inv.occurs;
+      left = left_more t nodes c.args.turn.id.0 e.turn.found e.turn.occurs after a next (drop (c.loop-action.action-index + 1) numbers) left leads reaches.continues reaches.listed;
     }
 
 pub returns-then-not-branch-clause-listed : goal.returns-then-not-branch-clause-listed
@@ -128,16 +128,16 @@ returns-then-not-branch-clause-listed g c =
     let full = rw stopped at c.in_ok-reach.ensures.listed in
     let here = (goal.at.returns-then-not-branch-clause-listed g c).After-deref-action-items in
     let one : Found (List Bool) = marked true c.requires.turn.found in
-    let same : one ≡ e.turn.found = same_Some one e.turn.found (sym (inv.continues.stays one (has_begun g here).stands) ∙ e.turn.stands) in
+    let same : one ≡ e.turn.found = same_Some one e.turn.found (sym (inv.continues.stays one (has_begun g here).occurs) ∙ e.turn.occurs) in
     let sum : c.args.turn.sum ≡ total_of value e.turn.found = c.requires.turn.sum ∙ ap (total_of value) same in
     let back = c.mark-then-not-branch.new.self in
     let stored : g.S.StateStore.states back.store ≡ states = ap g.S.StateStore.states c.mark-then-not-branch.ensures.store ∙ full.store in
-    let stood : slice_get c.reach.new.self.nodes.items i ≡ Some e.turn.found.node = ap (λ (ns : List Node). slice_get ns i) full.nodes ∙ (found_of-get states all i e.turn.found e.turn.stands).1 in
+    let stood : slice_get c.reach.new.self.nodes.items i ≡ Some e.turn.found.node = ap (λ (ns : List Node). slice_get ns i) full.nodes ∙ (found_of-get states all i e.turn.found e.turn.occurs).1 in
     let taken_back : back.nodes.items ≡ set all i (marked_as false e.turn.found.node) =
     c.mark-then-not-branch.ensures.nodes e.turn.found.node stood ∙ ap (λ (ns : List Node). set ns i (marked_as false e.turn.found.node)) full.nodes in (
       full.more,
       at_limit (g.T.TransitionSystem.means c.args.system.now) value is_dead states all (waiting_in c.loop-action.self.queue) e.search.one_each e.search.nodes i e.turn e.others_open
-          (consistent g here) (tells g here) (g.S.StateStore.states back.store) back.nodes.items c.args.max_states c.args.turn.sum stored taken_back full.full sum,
+          (consistent g here) (reports g here) (g.S.StateStore.states back.store) back.nodes.items c.args.max_states c.args.turn.sum stored taken_back full.full sum,
     )
 
 pub returns-clause-listed : goal.returns-clause-listed
@@ -150,7 +150,7 @@ returns-clause-listed g c =
     let none = drop_all c.loop-action.action-index numbers (omega (arith, c.loop-action-test.false)) in
     record {
       search = e.search;
-      are_open = open_all t nodes c.args.turn.id.0 e.turn.found e.turn.stands (left_end t nodes c.args.turn.id.0 e.turn.found e.turn.stands (drop c.loop-action.action-index numbers) none inv.left) e.others_open;
+      are_open = open_all t nodes c.args.turn.id.0 e.turn.found e.turn.occurs (left_end t nodes c.args.turn.id.0 e.turn.found e.turn.occurs (drop c.loop-action.action-index numbers) none inv.left) e.others_open;
       within = inv.within;
       count = inv.continues.count ∙ (has_begun g (goal.at.returns-clause-listed g c).After-deref-action-items).count;
     }

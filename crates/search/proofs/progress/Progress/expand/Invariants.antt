@@ -17,7 +17,7 @@ invariant-loop-action g l =
       width : g.S.StateStore.width_of l.self.store ≡ g.T.TransitionSystem.width_of l.system;
       state : length (bits_of l.buffers.1.0) ≡ g.T.TransitionSystem.width_of l.system;
       next : length (bits_of l.buffers.1.1.0) ≡ g.T.TransitionSystem.width_of l.system;
-      stands : slice_get (states_of l.self.store) l.turn.id.0 ≡ Some (bits_of l.buffers.1.0);
+      occurs : slice_get (states_of l.self.store) l.turn.id.0 ≡ Some (bits_of l.buffers.1.0);
       score : l.score ≡ g.E.Estimate.score_of l.guide.estimate.now (bits_of l.buffers.1.0);
       left : AreLeft t (nodes_in states_of l.self) l.turn.id.0 (drop l.action-index l.action-items);
     }

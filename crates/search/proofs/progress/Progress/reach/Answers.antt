@@ -24,7 +24,7 @@ read_parent g c =
     let i = c.args.parent.now.id.0 in
     let read : c.index-before.result.now ≡ get_or all i c.index-before.result.now = c.index-before.ensures in
     read ∙ get_or_from_slice_get all i turn.found.node c.index-before.result.now
-    (found_of-get (g.S.StateStore.states c.args.self.now.store) all i turn.found turn.stands).1
+    (found_of-get (g.S.StateStore.states c.args.self.now.store) all i turn.found turn.occurs).1
 
 -- what it costs leaves room for one step more
 limits : (g : Over) (c : After-from g) → c.index-before.result.now.cost + 4294967295 ≤ 72057594021150720
@@ -41,7 +41,7 @@ leads g c =
     let turn = c.requires.expanding.turn in
     let states = g.S.StateStore.states c.args.self.now.store in
     leads_from (g.T.TransitionSystem.means c.args.system.now) states _ turn.found.state _ c.args.parent.now.id.0 c.args.action c.requires.parent
-    (found_of-get states c.args.self.now.nodes.items c.args.parent.now.id.0 turn.found turn.stands).0 c.requires.leads
+    (found_of-get states c.args.self.now.nodes.items c.args.parent.now.id.0 turn.found turn.occurs).0 c.requires.leads
 
 -- and the estimate falls there by no more than what it costs
 falls : (g : Over) (c : After-from g) → value_by (g.E.Estimate.score_of c.args.guide.now.estimate.now) c.requires.expanding.turn.found.state
@@ -65,7 +65,7 @@ pub index-before-requires : goal.index-before-requires
 index-before-requires g c =
     let e = c.requires.expanding in
     let states = g.S.StateStore.states c.args.self.now.store in
-    let parts = found_of-get states c.args.self.now.nodes.items c.args.parent.now.id.0 e.turn.found e.turn.stands in
+    let parts = found_of-get states c.args.self.now.nodes.items c.args.parent.now.id.0 e.turn.found e.turn.occurs in
     omega (arith, slice_get_within c.args.self.now.nodes.items c.args.parent.now.id.0 e.turn.found.node parts.1, c.args.self.now.nodes.ok.0)
 
 pub overflow_add-cost : goal.overflow_add-cost
@@ -76,7 +76,7 @@ pub new-requires : goal.new-requires
 new-requires g c =
     let e = c.requires.expanding in
     let states = g.S.StateStore.states c.args.self.now.store in
-    let parts = found_of-get states c.args.self.now.nodes.items c.args.parent.now.id.0 e.turn.found e.turn.stands in
+    let parts = found_of-get states c.args.self.now.nodes.items c.args.parent.now.id.0 e.turn.found e.turn.occurs in
     omega (arith, slice_get_within states c.args.parent.now.id.0 e.turn.found.state parts.0, c.requires.within, c.requires.limit)
 
 pub returns-in_default-clause-listed : goal.returns-in_default-clause-listed

@@ -7,7 +7,7 @@ use Rattle.std.proofs.lemmas.List.Sorted.{All-permutation}
 use Rattle.std.specs.declared.cmp.Reverse.{Reverse}
 use Rattle.search.specs.Nodes.{Waiting, sum_of}
 use Rattle.search.specs.Queue.{by_word, entry_of}
-use Rattle.search.proofs.QueueLemmas.{leaves_near, leaves_far, first_near, first_far, none_told, some_told}
+use Rattle.search.proofs.QueueLemmas.{leaves_near, leaves_far, first_near, first_far, none_reported, some_reported}
 use Rattle.search.proofs.waiting.Queue.pop.Goals.{In-None}
 use Rattle.search.proofs.waiting.Queue.pop.Goals as goal
 
@@ -38,13 +38,13 @@ pub returns-in-None-clause-none : goal.returns-in-None-clause-none
 returns-in-None-clause-none c =
     let far = heap_items c.args.self.now.far in
     let near = none_near (goal.at.returns-in-None-clause-none c).In-None in
-    none_told (λ empty. ap (λ (ns : List (Reverse ℕ)). map entry_of ns ++ far) near ∙ nil_from_length far (omega (arith, empty, c.args.self.now.far.data.ok.0)))
+    none_reported (λ empty. ap (λ (ns : List (Reverse ℕ)). map entry_of ns ++ far) near ∙ nil_from_length far (omega (arith, empty, c.args.self.now.far.data.ok.0)))
     c.pop-in-None.result c.pop-in-None.ensures.none
 
 pub returns-in-None-clause-permutation : goal.returns-in-None-clause-permutation
 returns-in-None-clause-permutation c =
     let q = c.args.self.now in
-    some_told (λ w moved _. leaves_far (heap_items q.near) (heap_items q.far) (heap_items c.pop.new.self) (heap_items c.pop-in-None.new.self) w c.in-None.ensures.unchanged.0 moved)
+    some_reported (λ w moved _. leaves_far (heap_items q.near) (heap_items q.far) (heap_items c.pop.new.self) (heap_items c.pop-in-None.new.self) w c.in-None.ensures.unchanged.0 moved)
     c.pop-in-None.result c.pop-in-None.ensures.permutation c.pop-in-None.ensures.permutation
 
 pub returns-in-None-clause-order : goal.returns-in-None-clause-order
@@ -55,7 +55,7 @@ returns-in-None-clause-order c =
     let same = sym c.in-None.ensures.unchanged.0 in
     let none = none_near (goal.at.returns-in-None-clause-order c).In-None in
     let P : Waiting → Type 0 = λ w. 1048576 ≤ sum_of w in
-    some_told (λ w moved pops was.
+    some_reported (λ w moved pops was.
     let popped = pops was.far_heap in (
       record {
         near_heap = subst (λ (ns : List (Reverse ℕ)). IsHeap by_word ns) same was.near_heap;

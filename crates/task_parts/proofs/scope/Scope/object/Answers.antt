@@ -8,25 +8,25 @@ use Rattle.syntax_tree.specs.Tree.{file_of}
 use Rattle.task_parts.specs.Refusals.{refusal_of}
 use Rattle.task.specs.TaskParts.{object_entry_of}
 use Rattle.task_parts.specs.Walk.{found, least_of}
-use Rattle.task_parts.proofs.Tables.{told_of_entry, number_in-le, keys_in-named}
+use Rattle.task_parts.proofs.Tables.{reported_of_entry, number_in-le, keys_in-named}
 use Rattle.task_parts.proofs.scope.Scope.object.Goals.{After-number-number}
 use Rattle.task_parts.proofs.scope.Scope.object.Goals as goal
 
 -- what the look-up says of the number and of whether the name is known
-told : (c : After-number-number) → (option_map_or (λ n. n) c.get_index_of-place.result c.len.result ≡ number_in (names_of_objects (map object_entry_of c.args.self.now.objects.now.entries)) (name_of c.args.name.now))
+reported : (c : After-number-number) → (option_map_or (λ n. n) c.get_index_of-place.result c.len.result ≡ number_in (names_of_objects (map object_entry_of c.args.self.now.objects.now.entries)) (name_of c.args.name.now))
     × (is_some c.get_index_of-place.result ≡ is_known (names_of_objects (map object_entry_of c.args.self.now.objects.now.entries)) (name_of c.args.name.now))
-told c =
-    told_of_entry object_entry_of (λ x. x.name) (λ e. refl) (name_of c.args.name.now) _ (c.as_slice.ensures.value ∙ c.in_ok-fold.ensures.folded) c.args.self.now.objects.now.entries c.len.result c.len.ensures.len c.get_index_of-place.result c.get_index_of-place.ensures.index
+reported c =
+    reported_of_entry object_entry_of (λ x. x.name) (λ e. refl) (name_of c.args.name.now) _ (c.as_slice.ensures.value ∙ c.in_ok-fold.ensures.folded) c.args.self.now.objects.now.entries c.len.result c.len.ensures.len c.get_index_of-place.result c.get_index_of-place.ensures.index
 
 pub returns-clause-value : goal.returns-clause-value
-returns-clause-value c = c.number-number.ensures.value ∙ (told c).0
+returns-clause-value c = c.number-number.ensures.value ∙ (reported c).0
 
 pub returns-clause-finds : goal.returns-clause-finds
 returns-clause-finds c =
     let refusals = λ (b : Bool). if b then [] else refused_word (file_of c.args.self.now.file) 17 (name_of c.args.name.now) in
-    c.number-number.ensures.finds ∙ ap (λ o. found (option_map refusal_of o) (refusals (is_some c.get_index_of-place.result))) c.fold.ensures.least ∙ ap (λ b. found (least_of c.args.walk.now) (refusals b)) (told c).1
+    c.number-number.ensures.finds ∙ ap (λ o. found (option_map refusal_of o) (refusals (is_some c.get_index_of-place.result))) c.fold.ensures.least ∙ ap (λ b. found (least_of c.args.walk.now) (refusals b)) (reported c).1
 
 pub overflow_cast-result : goal.overflow_cast-result
 overflow_cast-result c =
     let entries = c.args.self.now.objects.now.entries in
-    omega (arith, c.number-number.ensures.value, (told c).0, ap (λ ks. number_in ks (name_of c.args.name.now)) (keys_in-named object_entry_of (λ o. o.name) (λ e. refl) entries), number_in-le (keys_of entries) (name_of c.args.name.now), length-map entries (λ e. e.0), c.args.self.now.few)
+    omega (arith, c.number-number.ensures.value, (reported c).0, ap (λ ks. number_in ks (name_of c.args.name.now)) (keys_in-named object_entry_of (λ o. o.name) (λ e. refl) entries), number_in-le (keys_of entries) (name_of c.args.name.now), length-map entries (λ e. e.0), c.args.self.now.few)

@@ -13,21 +13,21 @@ use Rattle.task_parts.proofs.scope.Scope.predicate.Goals.{In-Some}
 use Rattle.task_parts.proofs.scope.Scope.predicate.Goals as goal
 
 -- the faults, by whether the count is that of the declaration
-told : In-Some → Bool → List TypingFault
-told c fits = if fits then [] else refused_word (file_of c.args.self.now.file) 18 (name_of c.args.name.now)
+reported : In-Some → Bool → List TypingFault
+reported c fits = if fits then [] else refused_word (file_of c.args.self.now.file) 18 (name_of c.args.name.now)
 
 -- what the look-up says of the number and of the faults
 there : (c : In-Some) → (c.in-Some.number ≡ number_in (names_of_predicates (map predicate_of c.args.self.now.predicates.now.entries)) (name_of c.args.name.now))
-    × (predicate_faults (file_of c.args.self.now.file) (known_of c.args.self.now) (name_of c.args.name.now) c.args.count ≡ told c (c.args.count == length (map union_of c.in-Some.predicate.now.arguments.items)))
-unfolding told
+    × (predicate_faults (file_of c.args.self.now.file) (known_of c.args.self.now) (name_of c.args.name.now) c.args.count ≡ reported c (c.args.count == length (map union_of c.in-Some.predicate.now.arguments.items)))
+unfolding reported
 there c =
     found_predicate predicate_of (λ e. refl) (file_of c.args.self.now.file) (name_of c.args.name.now) _ (c.as_slice.ensures.value ∙ c.in_ok-fold.ensures.folded) c.args.self.now.predicates.now.entries c.args.count c.in-Some.number _ _ c.in-Some.ensures.index c.in-Some.ensures.entry
 
 pub returns-then-len-count : goal.returns-then-len-count
-unfolding told
+unfolding reported
 returns-then-len-count c =
     let s = (goal.at.returns-then-len-count c).In-Some in
-    let faults = (there s).1 ∙ ap (told s) (other_count (length (map union_of c.in-Some.predicate.now.arguments.items)) c.args.count (λ same. c.if-len-count.true (omega (arith, same, c.len.ensures, length-map c.in-Some.predicate.now.arguments.items union_of)))) in
+    let faults = (there s).1 ∙ ap (reported s) (other_count (length (map union_of c.in-Some.predicate.now.arguments.items)) c.args.count (λ same. c.if-len-count.true (omega (arith, same, c.len.ensures, length-map c.in-Some.predicate.now.arguments.items union_of)))) in
     record {
       value = (there s).0;
       finds = c.refuse.ensures ∙ ap (λ o. found (option_map refusal_of o) (refused_word (file_of c.args.self.now.file) 18 (name_of c.args.name.now))) c.fold.ensures.least
@@ -35,10 +35,10 @@ returns-then-len-count c =
     }
 
 pub returns-else-len-count : goal.returns-else-len-count
-unfolding told
+unfolding reported
 returns-else-len-count c =
     let s = (goal.at.returns-else-len-count c).In-Some in
-    let faults = (there s).1 ∙ ap (told s) (same_count (length (map union_of c.in-Some.predicate.now.arguments.items)) c.args.count (omega (arith, c.if-len-count.false, c.len.ensures, length-map c.in-Some.predicate.now.arguments.items union_of))) in
+    let faults = (there s).1 ∙ ap (reported s) (same_count (length (map union_of c.in-Some.predicate.now.arguments.items)) c.args.count (omega (arith, c.if-len-count.false, c.len.ensures, length-map c.in-Some.predicate.now.arguments.items union_of))) in
     record { value = (there s).0; finds = ap (option_map refusal_of) c.fold.ensures.least ∙ ap (found (least_of c.args.walk.now)) (sym faults) }
 
 pub returns-in-None : goal.returns-in-None

@@ -6,20 +6,20 @@ use Rattle.syntax_tree.specs.Tree.{file_of}
 use Rattle.task_parts.specs.Refusals.{refusal_of}
 use Rattle.task_parts.specs.Scope.{variable_entry_of}
 use Rattle.task_parts.specs.Walk.{found, least_of}
-use Rattle.task_parts.proofs.Tables.{told_of_entry}
+use Rattle.task_parts.proofs.Tables.{reported_of_entry}
 use Rattle.task_parts.proofs.scope.Scope.variable.Goals.{After-number-number}
 use Rattle.task_parts.proofs.scope.Scope.variable.Goals as goal
 
 -- what the look-up says of the number and of whether the name is known
-told : (c : After-number-number) → (option_map_or (λ n. n) c.get_index_of-place.result c.len.result ≡ number_in (names_of_variables (map variable_entry_of c.args.self.now.variables.now.entries)) (name_of c.args.name.now))
+reported : (c : After-number-number) → (option_map_or (λ n. n) c.get_index_of-place.result c.len.result ≡ number_in (names_of_variables (map variable_entry_of c.args.self.now.variables.now.entries)) (name_of c.args.name.now))
     × (is_some c.get_index_of-place.result ≡ is_known (names_of_variables (map variable_entry_of c.args.self.now.variables.now.entries)) (name_of c.args.name.now))
-told c =
-    told_of_entry variable_entry_of (λ x. x.name) (λ e. refl) (name_of c.args.name.now) _ (c.as_slice.ensures.value ∙ c.in_ok-fold.ensures.folded) c.args.self.now.variables.now.entries c.len.result c.len.ensures.len c.get_index_of-place.result c.get_index_of-place.ensures.index
+reported c =
+    reported_of_entry variable_entry_of (λ x. x.name) (λ e. refl) (name_of c.args.name.now) _ (c.as_slice.ensures.value ∙ c.in_ok-fold.ensures.folded) c.args.self.now.variables.now.entries c.len.result c.len.ensures.len c.get_index_of-place.result c.get_index_of-place.ensures.index
 
 pub returns-clause-value : goal.returns-clause-value
-returns-clause-value c = c.number-number.ensures.value ∙ (told c).0
+returns-clause-value c = c.number-number.ensures.value ∙ (reported c).0
 
 pub returns-clause-finds : goal.returns-clause-finds
 returns-clause-finds c =
     let refusals = λ (b : Bool). if b then [] else refused_word (file_of c.args.self.now.file) 17 (name_of c.args.name.now) in
-    c.number-number.ensures.finds ∙ ap (λ o. found (option_map refusal_of o) (refusals (is_some c.get_index_of-place.result))) c.fold.ensures.least ∙ ap (λ b. found (least_of c.args.walk.now) (refusals b)) (told c).1
+    c.number-number.ensures.finds ∙ ap (λ o. found (option_map refusal_of o) (refusals (is_some c.get_index_of-place.result))) c.fold.ensures.least ∙ ap (λ b. found (least_of c.args.walk.now) (refusals b)) (reported c).1

@@ -1,12 +1,12 @@
 use Rattle.std.proofs.Common.{◌∙◌, Some, None, refl}
 use Rattle.syntax_tree.specs.Tree.{name_of}
-use Rattle.task_parts.proofs.Tables.{told_of_entry}
+use Rattle.task_parts.proofs.Tables.{reported_of_entry}
 use Rattle.task_parts.proofs.type_names.TypeTable.number.Goals as goal
 
 pub returns-in-Some : goal.returns-in-Some
 returns-in-Some c =
-    (told_of_entry (λ e. e.0) (λ k. k.items) (λ e. refl) (name_of c.args.name.now) _ (c.as_slice.ensures.value ∙ c.in_ok-fold.ensures) c.args.self.now.by_name.entries _ refl (Some c.in-Some.number) c.in-Some.ensures.index).0
+    (reported_of_entry (λ e. e.0) (λ k. k.items) (λ e. refl) (name_of c.args.name.now) _ (c.as_slice.ensures.value ∙ c.in_ok-fold.ensures) c.args.self.now.by_name.entries _ refl (Some c.in-Some.number) c.in-Some.ensures.index).0
 
 pub returns-in-None : goal.returns-in-None
 returns-in-None c =
-    c.len.ensures.len ∙ (told_of_entry (λ e. e.0) (λ k. k.items) (λ e. refl) (name_of c.args.name.now) _ (c.as_slice.ensures.value ∙ c.in_ok-fold.ensures) c.args.self.now.by_name.entries _ refl None c.in-None.ensures.index).0
+    c.len.ensures.len ∙ (reported_of_entry (λ e. e.0) (λ k. k.items) (λ e. refl) (name_of c.args.name.now) _ (c.as_slice.ensures.value ∙ c.in_ok-fold.ensures) c.args.self.now.by_name.entries _ refl None c.in-None.ensures.index).0

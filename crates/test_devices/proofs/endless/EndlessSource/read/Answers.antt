@@ -20,17 +20,17 @@ drop_of_both (suc n) (x ∷ front) rest =
     let less : n - length front ≡ suc n - length (x ∷ front) = omega arith in
     drop_of_both n front rest ∙ ap (λ k. drop n front ++ drop k rest) less
 
--- what two calls put into some room, one behind the other, is what one puts there of both lists
+-- what two calls put into some room, one after the other, is what one puts there of both lists
 filled : (into text again first second : List ℕ) (of_text : ℕ) → of_text ≡ min (length into) (length text)
     → first ≡ take (length into) text ++ drop (length text) into
     → second ≡ take (length (drop of_text first)) again ++ drop (length again) (drop of_text first)
     → take of_text first ++ second ≡ take (length into) (text ++ again) ++ drop (length (text ++ again)) into
-filled into text again first second of_text count room behind =
+filled into text again first second of_text count room following =
     let (front, left) = past into text first of_text count room in
     let rest = drop (length again) (drop (length text) into) in
     let room_left : length (drop of_text first) ≡ length into - length text = ap length left ∙ length-drop (length text) into in
     let second_is : second ≡ take (length into - length text) again ++ rest =
-    behind ∙ ap (λ k. take k again ++ drop (length again) (drop of_text first)) room_left
+    following ∙ ap (λ k. take k again ++ drop (length again) (drop of_text first)) room_left
     ∙ ap (λ l. take (length into - length text) again ++ drop (length again) l) left in
     let rest_is : rest ≡ drop (length (text ++ again)) into =
     drop-drop (length again) (length text) into ∙ ap (λ k. drop k into) (sym (length-append text again)) in
@@ -71,12 +71,12 @@ left_over text bytes text_read place of_text gone room in_bytes count more =
     let rest = drop text_read text in
     let again = drop place bytes in
     let front = rest_of text text_read of_text room count in
-    let behind = rest_of bytes place gone (room - length rest) more in
+    let following = rest_of bytes place gone (room - length rest) more in
     let long = length-drop place bytes in
     let used : place + gone ≡ length bytes → drop room rest ≡ [] = λ all. drop_all room rest (omega (arith, all, more, long, in_bytes)) in
     ap (λ l. l ++ drop ((place + gone) % length bytes) bytes) front
     ∙ turned bytes (drop room rest) place gone (omega (arith, more, long, in_bytes)) used (omega (arith, in_bytes))
-    ∙ ap (λ l. or_anew (drop room rest ++ l) bytes) behind ∙ ap (λ l. or_anew l bytes) (sym (drop_of_both room rest again))
+    ∙ ap (λ l. or_anew (drop room rest ++ l) bytes) following ∙ ap (λ l. or_anew l bytes) (sym (drop_of_both room rest again))
 
 pub returns-clause-room : goal.returns-clause-room
 returns-clause-room c =
@@ -90,7 +90,7 @@ returns-clause-room c =
     let text = drop self.text_read self.text.items in
     let again = drop self.again_read self.again.items in
     let room = take_rest first of_text in
-    let behind : second ≡ take (length (drop of_text first)) again ++ drop (length again) (drop of_text first) =
+    let following : second ≡ take (length (drop of_text first)) again ++ drop (length again) (drop of_text first) =
     c.fill-of_again.ensures.room ∙ ap (λ l. take (length (take (length first - of_text) (drop of_text first))) l ++ drop (length l) (take (length first - of_text) (drop of_text first))) again_rest
     ∙ ap (λ l. take (length l) again ++ drop (length again) l) room in
     let none : drop (length first - of_text) (drop of_text first) ≡ [] =
@@ -99,7 +99,7 @@ returns-clause-room c =
     ∙ filled into text again first second of_text
     (c.fill-of_text.ensures.count ∙ ap (λ l. min (length into) (length l)) text_rest)
     (c.fill-of_text.ensures.room ∙ ap (λ l. take (length into) l ++ drop (length l) into) text_rest)
-    behind
+    following
 
 pub returns-clause-left : goal.returns-clause-left
 returns-clause-left c =

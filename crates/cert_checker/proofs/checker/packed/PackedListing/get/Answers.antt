@@ -4,12 +4,12 @@ use Rattle.packed_state.specs.Packed.{bits_of}
 use Rattle.packed_state.specs.PooledView.{pooled_states}
 use Rattle.certificate.specs.Certificate.{store_in}
 use Rattle.cert_checker.specs.PackedListing.{task_at, atoms_at, certificate_at}
-use Rattle.cert_checker.proofs.PackedListingLemmas.{stands_there}
+use Rattle.cert_checker.proofs.PackedListingLemmas.{found_there}
 use Rattle.cert_checker.proofs.checker.packed.PackedListing.get.Goals as goal
 
 pub returns-clause-state : goal.returns-clause-state
 returns-clause-state c =
     let listing = c.args.self.now in
     let bits = bits_of c.get.new.into in
-    stands_there (task_at listing) (atoms_at listing) (certificate_at listing) (store_in listing.cert.now) listing.listed c.args.place bits
+    found_there (task_at listing) (atoms_at listing) (certificate_at listing) (store_in listing.cert.now) listing.listed c.args.place bits
     (subst (λ store. slice_get (pooled_states store) c.args.place ≡ Some bits) c.sets.ensures c.get.ensures.set)

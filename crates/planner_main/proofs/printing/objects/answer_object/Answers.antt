@@ -1,0 +1,14 @@
+use Rattle.std.proofs.Common.{◌≡◌, [], ◌∷◌, refl}
+use Rattle.planner_main.specs.Members.{members_of}
+use Rattle.task.specs.Task.{task_of}
+use Rattle.planner_main.specs.Objects.{of_answer}
+use Rattle.planner_main.proofs.JsonReported.{reported_as_meant}
+use Rattle.planner_main.proofs.printing.objects.answer_object.Goals as goal
+
+pub object_text-requires : goal.object_text-requires
+object_text-requires c = rw (c.text.ensures, c.text-in-Unsolvable.ensures) refl
+
+pub returns-in-Unsolvable : goal.returns-in-Unsolvable
+returns-in-Unsolvable c =
+    let same : members_of (c.text.result ∷ c.text-in-Unsolvable.result ∷ []) ≡ of_answer (task_of c.args.task.now) c.args.answer.now = rw (c.text.ensures, c.text-in-Unsolvable.ensures, c.in-Unsolvable.is) refl in
+    reported_as_meant c.object_text.result (members_of (c.text.result ∷ c.text-in-Unsolvable.result ∷ [])) (of_answer (task_of c.args.task.now) c.args.answer.now) same c.object_text.ensures.text

@@ -1,0 +1,81 @@
+//! The statuses that the program ends with.
+ghost use Rattle.std.specs.Prelude.{◌≡◌};
+ghost use Rattle.planner_main.specs.Reported.{status_of};
+ghost use Rattle.validator.specs.Verdict.{verdict_of};
+ghost use Rattle.planner_main.specs.AnswerReported as answers;
+ghost use Rattle.planner_main.specs.VerdictReported as verdicts;
+ghost use Rattle.planner_main.specs.ExplanationReported as explanations;
+
+use crate::printing::reports::Report;
+use file_answers::{Grounded, Subject};
+use solver::Answer;
+use validator::Verdict;
+
+/// A plan is reported, the plan solves the task, the certificate is accepted, or nothing is wrong with the files.
+const YES: u8 = 0;
+
+/// The words are no command.
+pub(crate) const WRONG_WORDS: u8 = 2;
+
+/// There is no plan.
+const UNSOLVABLE: u8 = 10;
+
+/// A limit was exceeded.
+const UNKNOWN: u8 = 11;
+
+/// The plan does not solve the task, or the certificate is not accepted.
+const NO: u8 = 12;
+
+/// A file's text is refused.
+pub(crate) const REFUSED: u8 = 20;
+
+/// A file or the standard output could not be opened, read or written.
+pub(crate) const DEVICE: u8 = 21;
+
+/// Memory was refused.
+pub(crate) const NO_MEMORY: u8 = 22;
+
+/// The status beside what is reported.
+pub(crate) fn status_of(report: &Report) -> u8
+    ensures { result ≡ status_of report.now }
+{
+    match report {
+        Report::Solve(solved) => answer_status(&solved.answer),
+        Report::Validate(verdict) => verdict_status(*verdict),
+        Report::Check(checked) => match &checked.answer {
+            Ok(_) => YES,
+            Err(_) => NO,
+        },
+        Report::Explain(explanation) => explanation_status(explanation.subject),
+    }
+}
+
+fn answer_status(answer: &Answer) -> u8
+    ensures { result ≡ answers.status_of answer.now }
+{
+    match answer {
+        Answer::Plan { .. } => YES,
+        Answer::Unsolvable { .. } => UNSOLVABLE,
+        Answer::Unknown(_) => UNKNOWN,
+    }
+}
+
+fn verdict_status(verdict: Verdict) -> u8
+    ensures { result ≡ verdicts.status_of (verdict_of verdict) }
+{
+    match verdict {
+        Verdict::Valid { .. } => YES,
+        Verdict::NotApplicable { .. } | Verdict::GoalMissed => NO,
+    }
+}
+
+fn explanation_status(subject: Subject) -> u8
+    ensures { result ≡ explanations.status_of subject }
+{
+    match subject {
+        Subject::Fault { .. } => REFUSED,
+        Subject::Plan(verdict) => verdict_status(verdict),
+        Subject::Task(Grounded::Within { .. }) => YES,
+        Subject::Task(Grounded::Beyond(_)) => UNKNOWN,
+    }
+}
