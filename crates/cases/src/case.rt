@@ -2,7 +2,7 @@
 use crate::files::CaseFiles;
 use crate::follow_up::FollowUp;
 use crate::holdings::Holdings;
-use crate::section::{Section, Turn};
+use crate::section::{Section, Escapes};
 use crate::stream::Stream;
 use faults::NoMemory;
 use std::alloc::{AllocError, Global};
@@ -97,7 +97,7 @@ impl<'a> Case<'a> {
         byte: Option<u8>,
     ) -> Result<(), CaseFault> {
         for text in text.split("\n--- ").skip(1) {
-            self.take_section(alloc, Section::of(text), Turn { number: 0, byte })?;
+            self.take_section(alloc, Section::of(text), Escapes { number: 0, byte })?;
         }
         Ok(())
     }
@@ -106,7 +106,7 @@ impl<'a> Case<'a> {
         &mut self,
         alloc: Global,
         section: Section<'a>,
-        turn: Turn,
+        turn: Escapes,
     ) -> Result<(), CaseFault> {
         match section.name {
             // the bytes for which the case is run
@@ -132,7 +132,7 @@ impl<'a> Case<'a> {
         &mut self,
         alloc: Global,
         section: Section<'a>,
-        turn: Turn,
+        turn: Escapes,
     ) -> Result<(), CaseFault> {
         self.then = Some(FollowUp::of(alloc, section, turn)?);
         Ok(())
@@ -144,7 +144,7 @@ fn want_file<'a>(
     alloc: Global,
     holdings: &mut Holdings<'a>,
     section: Section<'a>,
-    turn: Turn,
+    turn: Escapes,
 ) -> Result<(), CaseFault> {
     let bytes = section.bytes(alloc, turn)?;
     Ok(holdings.want(section.words, Some(bytes))?)
@@ -163,7 +163,7 @@ fn take_file(
     alloc: Global,
     files: &mut Table,
     section: Section<'_>,
-    turn: Turn,
+    turn: Escapes,
 ) -> Result<(), CaseFault> {
     let (verb, count) = section.verb();
     match verb {
@@ -179,7 +179,7 @@ fn put_file(
     alloc: Global,
     files: &mut Table,
     section: Section<'_>,
-    turn: Turn,
+    turn: Escapes,
 ) -> Result<(), CaseFault> {
     let bytes = section.bytes(alloc, turn)?;
     Ok(files.put(section.name, &bytes)?)
@@ -190,7 +190,7 @@ fn add_to(
     alloc: Global,
     files: &mut Table,
     section: Section<'_>,
-    turn: Turn,
+    turn: Escapes,
     count: &str,
 ) -> Result<(), CaseFault> {
     let mut times = 1;
@@ -206,7 +206,7 @@ fn add_to(
 fn add_section(
     alloc: Global,
     section: Section<'_>,
-    turn: Turn,
+    turn: Escapes,
     count: u32,
     bytes: &mut Vec<u8>,
 ) -> Result<(), AllocError> {
@@ -221,12 +221,12 @@ fn add_section(
 fn add_numbered(
     alloc: Global,
     section: Section<'_>,
-    turn: Turn,
+    turn: Escapes,
     count: u32,
     bytes: &mut Vec<u8>,
 ) -> Result<(), AllocError> {
     for number in 0..count {
-        section.add_bytes(alloc, Turn { number, ..turn }, bytes)?;
+        section.add_bytes(alloc, Escapes { number, ..turn }, bytes)?;
     }
     Ok(())
 }

@@ -1,5 +1,5 @@
 //! The bytes for each of which a case is run.
-use crate::section::{Section, Turn};
+use crate::section::{Section, Escapes};
 use std::alloc::{AllocError, Global};
 
 /// The section `each` of a case, if it has one.
@@ -16,7 +16,7 @@ fn each_section(text: &str) -> Option<Section<'_>> {
 /// The bytes that the case lists in a section `each`, and `None` where it has no such section.
 pub fn listed_bytes(alloc: Global, text: &str) -> Result<Option<Vec<u8>>, AllocError> {
     match each_section(text) {
-        Some(section) => Ok(Some(section.bytes(alloc, Turn::default())?)),
+        Some(section) => Ok(Some(section.bytes(alloc, Escapes::default())?)),
         None => Ok(None),
     }
 }

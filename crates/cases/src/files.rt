@@ -1,5 +1,5 @@
 //! The files of a case.
-use devices::{Files, Memory, WriteFault};
+use devices::{Files, Memory, IoFault};
 use std::alloc::Global;
 use test_devices::{FailsAt, InPieces, Table};
 
@@ -35,7 +35,7 @@ impl Files for CaseFiles {
 
     ghost is_known = { ⟦<Table as Files>⟧.is_known };
 
-    fn open(&mut self, name: &str) -> Result<InPieces<FailsAt<Memory>>, WriteFault> {
+    fn open(&mut self, name: &str) -> Result<InPieces<FailsAt<Memory>>, IoFault> {
         let input = self.table.open(name)?;
         Ok(InPieces::new(input, self.piece.max(1) as usize))
     }
@@ -44,11 +44,11 @@ impl Files for CaseFiles {
         self.table.finish(input.inner);
     }
 
-    fn create(&mut self, name: &str) -> Result<<Table as Files>::Output, WriteFault> {
+    fn create(&mut self, name: &str) -> Result<<Table as Files>::Output, IoFault> {
         self.table.create(name)
     }
 
-    fn close(&mut self, output: <Table as Files>::Output) -> Result<(), WriteFault> {
+    fn close(&mut self, output: <Table as Files>::Output) -> Result<(), IoFault> {
         self.table.close(output)
     }
 }

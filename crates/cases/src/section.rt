@@ -13,7 +13,7 @@ enum Content<'a> {
 
 /// What the two escapes that change stand for.
 #[derive(Clone, Copy, Default)]
-pub struct Turn {
+pub struct Escapes {
     /// How often the bytes came before: `\#`.
     pub number: u32,
     /// The byte for which the case is run, if it lists some: `\@`.
@@ -63,7 +63,7 @@ impl<'a> Section<'a> {
     }
 
     /// The bytes that the section stands for.
-    pub fn bytes(&self, alloc: Global, turn: Turn) -> Result<Vec<u8>, AllocError> {
+    pub fn bytes(&self, alloc: Global, turn: Escapes) -> Result<Vec<u8>, AllocError> {
         let mut bytes = Vec::new(alloc);
         self.add_bytes(alloc, turn, &mut bytes)?;
         Ok(bytes)
@@ -73,7 +73,7 @@ impl<'a> Section<'a> {
     pub fn add_bytes(
         &self,
         alloc: Global,
-        turn: Turn,
+        turn: Escapes,
         bytes: &mut Vec<u8>,
     ) -> Result<(), AllocError> {
         match self.content {

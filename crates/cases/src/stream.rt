@@ -1,6 +1,6 @@
 //! The standard output and the standard error of a case.
 use crate::case::{CaseFault, number_of, read_number};
-use crate::section::{Section, Turn};
+use crate::section::{Section, Escapes};
 use devices::Memory;
 use std::alloc::{AllocError, Global};
 use test_devices::{FailsAt, InPieces};
@@ -54,7 +54,7 @@ impl Stream {
         &mut self,
         alloc: Global,
         section: Section<'_>,
-        turn: Turn,
+        turn: Escapes,
     ) -> Result<(), CaseFault> {
         let (verb, number) = section.verb();
         match verb {
@@ -73,7 +73,7 @@ impl Stream {
         &mut self,
         alloc: Global,
         section: Section<'_>,
-        turn: Turn,
+        turn: Escapes,
         part: Part,
     ) -> Result<(), CaseFault> {
         self.wanted = section.bytes(alloc, turn)?;

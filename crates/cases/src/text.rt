@@ -1,5 +1,5 @@
 //! The bytes that the lines of a section stand for.
-use crate::section::Turn;
+use crate::section::Escapes;
 use std::alloc::{AllocError, Global};
 
 /// Adds the lines, each with its end, without the blank ones at the end.
@@ -17,7 +17,7 @@ pub fn add_lines(lines: &str, bytes: &mut Vec<u8>) -> Result<(), AllocError> {
 pub fn add_unescaped(
     alloc: Global,
     line: &str,
-    turn: Turn,
+    turn: Escapes,
     bytes: &mut Vec<u8>,
 ) -> Result<(), AllocError> {
     let mut state = State::Plain;

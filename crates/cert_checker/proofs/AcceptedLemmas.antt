@@ -19,7 +19,7 @@ use Rattle.model.proofs.ListLemmas.{Contains-cases, Contains-filter_map, Contain
 use Rattle.certificate_definitions.specs.CertificateText.{NamedAtom, Weights, WeightedAtom, NamedCertificate, TextLine, version, claims, constant, atom, listed, last, AreWhole, BeginCertificate, HasLine, IsFaultAfter, IsOneTooMany, IsOtherVersion, other_version, malformed, too_long, trailing, cut_short, too_many, are_weights, is_line, keeps_text_limits, line_text, longest_line, most_atoms, most_states, text_lines, text_of, version_number, whole_line}
 use Rattle.certificate_definitions.specs.CertificateNames.{AllName, IsTextOf, Names, dead_ends_said, of_dead_end_or_zero, potentials_said}
 use Rattle.certificate_definitions.specs.CertificateChecking.{HasAtom, IsAccepted, IsCut, IsLineFault, IsWrongAfter, IsWrongHere, not_fluent, repeated_atom, repeated_state, cut_not_allowed}
-use Rattle.certificate_definitions.specs.CertificateMachine.{Place, at_version, at_claim, at_constant, in_body, ended, next_place}
+use Rattle.certificate_definitions.specs.CertificateMachine.{CertificatePlace, at_version, at_claim, at_constant, in_body, ended, next_place}
 use Rattle.certificate_definitions.proofs.Machine.{ComesBefore, end_of_whole, followed, never, only_where, place_of_beginning, occurs}
 use Rattle.certificate_definitions.proofs.TooMany.{IsTooManyAt, too_many_at}
 use Rattle.certificate_reader.specs.Words.{are_lower}
@@ -255,7 +255,7 @@ module _ (task : Task) (c : Certificate) (closed : IsClosedFor task c) (said : N
 no_line : (bytes line : List ℕ) → bytes ≡ [] → HasLine bytes line → ⊥
 no_line bytes line nothing (following, splits, single, few) = nothing_there line following (sym nothing ∙ splits ∙ append_assoc line (10 ∷ []) following)
 
-nothing_after : (line : TextLine) (next : Place) → next_place ended line ≡ Some next → ⊥
+nothing_after : (line : TextLine) (next : CertificatePlace) → next_place ended line ≡ Some next → ⊥
 nothing_after (version v) next leads = never next leads
 nothing_after (claims claim) next leads = never next leads
 nothing_after (constant k) next leads = never next leads
@@ -264,7 +264,7 @@ nothing_after (listed l) next leads = never next leads
 nothing_after (last count) next leads = never next leads
 
 -- a line that leads on is within the limits
-within_limits : (before : List TextLine) (place next : Place) (line : TextLine) (w : Version) → ComesBefore place before → ((v : Version) (n m : ℕ) → ComesBefore (in_body v n m) before → w ≡ v)
+within_limits : (before : List TextLine) (place next : CertificatePlace) (line : TextLine) (w : Version) → ComesBefore place before → ((v : Version) (n m : ℕ) → ComesBefore (in_body v n m) before → w ≡ v)
     → IsTrue (is_line w most_atoms line) → next_place place line ≡ Some next → IsTooManyAt place (line_text line) → ⊥
 within_limits before (in_body v n m) next line w body versions is leads (inl (empty, full, (a, a_is, same))) =
     let line_is = subst (λ v. IsTrue (is_line v most_atoms line)) (versions v n m body) is in

@@ -14,7 +14,7 @@ use Rattle.potential_functions.specs.PotentialFunctions.{PotentialFunction}
 use Rattle.certificate_definitions.specs.Certificates.{Version, one}
 use Rattle.certificate_definitions.specs.CertificateText.{NamedAtom, Weights, WeightedAtom, TextLine, version, claims, constant, atom, listed, last, BeginCertificate, AreWhole}
 use Rattle.certificate_definitions.specs.CertificateNames.{AllName, Names, of_dead_end_or_zero}
-use Rattle.certificate_definitions.specs.CertificateMachine.{Place, at_version, at_claim, at_constant, in_body, ended, next_place, place_after}
+use Rattle.certificate_definitions.specs.CertificateMachine.{CertificatePlace, at_version, at_claim, at_constant, in_body, ended, next_place, place_after}
 use Rattle.certificate_definitions.specs.CertificateChecking.{AreRight, IsWrongAfter, not_fluent, repeated_atom, repeated_state, cut_not_allowed}
 use Rattle.certificate_definitions.proofs.Machine.{ComesBefore, never, occurs, followed, place_of_beginning}
 use Rattle.cert_checker.specs.Given.{Heading, HaveGiven, atom_in, atoms_given, dead_ends_given, names_given, state_in, states_given, values_given}
@@ -43,10 +43,10 @@ pub begin_front : (before : List TextLine) (line : TextLine) → BeginCertificat
 begin_front before line (rest, whole) = (line ∷ rest, subst AreWhole (append_assoc before (line ∷ []) rest) whole)
 
 pub record IsPlaced (before : List TextLine) (line : TextLine) : Type 0 where
-  pub place : Place
+  pub place : CertificatePlace
   pub at : place_after before ≡ Some place
   pub occurs : ComesBefore place before
-  pub next : Place
+  pub next : CertificatePlace
   pub leads : next_place place line ≡ Some next
 
 pub placed : (before : List TextLine) (line : TextLine) → BeginCertificate (before ++ line ∷ []) → IsPlaced before line
@@ -59,7 +59,7 @@ placed before line begun =
 nothing_first : (before : List TextLine) (v : Version) (line : TextLine) → BeginCertificate (before ++ version v ∷ []) → Contains before line → ⊥
 nothing_first before v line begun there = let at = placed before (version v) begun in by_place at.place at.occurs at.next at.leads
   where
-    by_place : (place : Place) → ComesBefore place before → (next : Place) → next_place place (version v) ≡ Some next → ⊥
+    by_place : (place : CertificatePlace) → ComesBefore place before → (next : CertificatePlace) → next_place place (version v) ≡ Some next → ⊥
     by_place at_version are next leads = Contains-none line (subst (λ lines. Contains lines line) are there)
     by_place (at_claim w) are next leads = never next leads
     by_place (at_constant w) are next leads = never next leads
@@ -70,7 +70,7 @@ nothing_first before v line begun there = let at = placed before (version v) beg
 only_claim : (before : List TextLine) (c d : Claim) → BeginCertificate (before ++ claims c ∷ []) → Contains before (claims d) → ⊥
 only_claim before c d begun there = let at = placed before (claims c) begun in by_place at.place at.occurs at.next at.leads
   where
-    by_place : (place : Place) → ComesBefore place before → (next : Place) → next_place place (claims c) ≡ Some next → ⊥
+    by_place : (place : CertificatePlace) → ComesBefore place before → (next : CertificatePlace) → next_place place (claims c) ≡ Some next → ⊥
     by_place at_version are next leads = never next leads
     by_place (at_claim v) are next leads = no_claim (subst (λ lines. Contains lines (claims d)) are there)
       where
@@ -90,7 +90,7 @@ only_constant before k d begun there = let at = placed before (constant k) begun
         (λ later. ⊎_elim (λ same. absurd (cc same)) (λ none. Contains-none (constant d) none) (Contains-cases (claims claim) [] (constant d) later))
         (Contains-cases (version v) (claims claim ∷ []) (constant d) there)
 
-    by_place : (place : Place) → ComesBefore place before → (next : Place) → next_place place (constant k) ≡ Some next → ⊥
+    by_place : (place : CertificatePlace) → ComesBefore place before → (next : CertificatePlace) → next_place place (constant k) ≡ Some next → ⊥
     by_place at_version are next leads = never next leads
     by_place (at_claim v) are next leads = never next leads
     by_place (at_constant v) (claim, is, are) next leads = no_constant v claim (subst (λ lines. Contains lines (constant d)) are there)

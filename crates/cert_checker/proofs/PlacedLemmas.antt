@@ -10,7 +10,7 @@ use Rattle.certificate_definitions.specs.Certificates.{Version, StateLine, is_ma
 use Rattle.certificate_definitions.specs.CertificateChecking.{IsCut}
 use Rattle.certificate_definitions.specs.CertificateText.{NamedAtom, WeightedAtom, NamedCertificate, TextLine, version, claims, constant, atom, listed, last, is_line, most_atoms, most_states, text_lines, AreWhole, BeginCertificate}
 use Rattle.certificate_definitions.specs.CertificateNames.{AllName}
-use Rattle.certificate_definitions.specs.CertificateMachine.{Place, at_version, at_claim, at_constant, in_body, ended, next_place}
+use Rattle.certificate_definitions.specs.CertificateMachine.{CertificatePlace, at_version, at_claim, at_constant, in_body, ended, next_place}
 use Rattle.certificate_definitions.proofs.Machine.{ComesBefore, never, only_where, place_of_beginning, place_same, occurs}
 use Rattle.certificate_reader.proofs.FaultsRead.{one_line_after}
 use Rattle.cert_checker.specs.Given.{Heading, HaveGiven, atom_in, atoms_given, is_body, state_in, states_given}
@@ -64,7 +64,7 @@ pub fit_there : (before : List TextLine) (line : TextLine) → BeginCertificate 
     → IsFit (length (atoms_given before)) sets line
 fit_there before line begun sets = let at = placed before line begun in by_line line at.place at.occurs at.next at.leads
   where
-    by_line : (line : TextLine) (place : Place) → ComesBefore place before → (next : Place) → next_place place line ≡ Some next → length sets ≡ length (states_given before)
+    by_line : (line : TextLine) (place : CertificatePlace) → ComesBefore place before → (next : CertificatePlace) → next_place place line ≡ Some next → length sets ≡ length (states_given before)
         → IsFit (length (atoms_given before)) sets line
     by_line (version v) place occurs next leads count = tt
     by_line (claims claim) place occurs next leads count = tt
@@ -90,7 +90,7 @@ body_follows before line next begun body =
     let same : second.place ≡ first.next = place_same second.place first.next (sym second.at ∙ one_line_after before first.place first.next line first.at first.leads) in
     by_line line first.place first.next first.leads body next second.next (subst (λ place. next_place place next ≡ Some second.next) same second.leads)
   where
-    after_state : (v : Version) (n m : ℕ) (next : TextLine) (after : Place) → next_place (in_body v n (m + 1)) next ≡ Some after → is_body next ≡ true
+    after_state : (v : Version) (n m : ℕ) (next : TextLine) (after : CertificatePlace) → next_place (in_body v n (m + 1)) next ≡ Some after → is_body next ≡ true
     after_state v n m (version w) after leads = never after leads
     after_state v n m (claims claim) after leads = never after leads
     after_state v n m (constant k) after leads = never after leads
@@ -101,7 +101,7 @@ body_follows before line next begun body =
     after_state v n m (listed l) after leads = refl
     after_state v n m (last count) after leads = refl
 
-    after_last : (next : TextLine) (after : Place) → next_place ended next ≡ Some after → is_body next ≡ true
+    after_last : (next : TextLine) (after : CertificatePlace) → next_place ended next ≡ Some after → is_body next ≡ true
     after_last (version v) after leads = never after leads
     after_last (claims claim) after leads = never after leads
     after_last (constant k) after leads = never after leads
@@ -109,7 +109,7 @@ body_follows before line next begun body =
     after_last (listed l) after leads = never after leads
     after_last (last count) after leads = never after leads
 
-    by_line : (line : TextLine) (place then : Place) → next_place place line ≡ Some then → is_body line ≡ true → (next : TextLine) (after : Place) → next_place then next ≡ Some after → is_body next ≡ true
+    by_line : (line : TextLine) (place then : CertificatePlace) → next_place place line ≡ Some then → is_body line ≡ true → (next : TextLine) (after : CertificatePlace) → next_place then next ≡ Some after → is_body next ≡ true
     by_line (version v) place then leads body next after leads_on = absurd (true≢false (sym body))
     by_line (claims claim) place then leads body next after leads_on = absurd (true≢false (sym body))
     by_line (constant k) place then leads body next after leads_on = absurd (true≢false (sym body))
@@ -160,7 +160,7 @@ few_atoms_reported lines begun = let (place, leads) = place_of_beginning lines b
         let atoms : length (atoms_given lines) ≡ length c.atoms = ap (λ lines. length (atoms_given lines)) (sym are) ∙ ap length (atoms_of_text c) in
         omega (arith, atoms, few)
 
-    by_place : (place : Place) → ComesBefore place lines → length (atoms_given lines) ≤ most_atoms
+    by_place : (place : CertificatePlace) → ComesBefore place lines → length (atoms_given lines) ≤ most_atoms
     by_place at_version are = omega (arith, ap (λ lines. length (atoms_given lines)) are)
     by_place (at_claim v) are = omega (arith, ap (λ lines. length (atoms_given lines)) are)
     by_place (at_constant v) (claim, is, are) = omega (arith, ap (λ lines. length (atoms_given lines)) are)

@@ -11,7 +11,7 @@ ghost use Rattle.certificate.specs.Gathering.{IsPassedOn, atom_line, atoms_weigh
 use crate::cert::Cert;
 use crate::line_text::{add_atom, add_head, add_last, add_state, weights_in};
 use certificate_reader::{Mark, StateLine};
-use devices::{Sink, WriteFault, write_all};
+use devices::{Sink, IoFault, write_all};
 use packed_state::{Packed, StateStore};
 use std::alloc::Global;
 use task::Task;
@@ -36,7 +36,7 @@ pub fn write_cert<W: Sink>(
     task: &Task,
     cert: &Cert,
     out: &mut W,
-) -> Result<(), WriteFault>
+) -> Result<(), IoFault>
     ensures text { OnOk result (Appends (W.taken out.old) (W.taken out.new) (certificate_text (task_of task.now) (certificate_of cert.now))) }
     ensures beginning { AppendsBeginning (W.taken out.old) (W.taken out.new) (certificate_text (task_of task.now) (certificate_of cert.now)) }
     ensures failures { CountsDevice (W.failures out.old) (W.failures out.new) result }
@@ -58,7 +58,7 @@ fn write_atoms<W: Sink>(
     cert: &Cert,
     held: &mut Vec<u8>,
     out: &mut W,
-) -> Result<(), WriteFault>
+) -> Result<(), IoFault>
     ensures text { OnOk result (IsPassedOn (W.taken out.old) (W.taken out.new) held.old.items held.new.items (flat_map (atom_line (task_of task.now) (certificate_of cert.now).version) (atoms_weighed (certificate_of cert.now)))) }
     ensures beginning { AppendsBeginning (W.taken out.old) (W.taken out.new) (held.old.items ++ flat_map (atom_line (task_of task.now) (certificate_of cert.now).version) (atoms_weighed (certificate_of cert.now))) }
     ensures failures { CountsDevice (W.failures out.old) (W.failures out.new) result }
@@ -83,14 +83,14 @@ fn write_states<W: Sink>(
     cert: &Cert,
     held: &mut Vec<u8>,
     out: &mut W,
-) -> Result<(), WriteFault>
+) -> Result<(), IoFault>
     ensures text { OnOk result (IsPassedOn (W.taken out.old) (W.taken out.new) held.old.items held.new.items (flat_map state_line (certificate_of cert.now).lines)) }
     ensures beginning { AppendsBeginning (W.taken out.old) (W.taken out.new) (held.old.items ++ flat_map state_line (certificate_of cert.now).lines) }
     ensures failures { CountsDevice (W.failures out.old) (W.failures out.new) result }
     ensures name { W.name out.new ≡ W.name out.old }
 {
     let Ok(mut set) = Packed::empty(alloc, cert.sets().width()) else {
-        return Err(WriteFault::NoMemory);
+        return Err(IoFault::NoMemory);
     };
     let mut line = StateLine {
         cost: 0,
@@ -99,7 +99,7 @@ fn write_states<W: Sink>(
     };
     for place in 0..cert.line_count() {
         let Ok(()) = cert.read_line(place, &mut set, &mut line) else {
-            return Err(WriteFault::NoMemory);
+            return Err(IoFault::NoMemory);
         };
         add_state(&line, held)?;
         pass_on(held, out)?;
@@ -108,7 +108,7 @@ fn write_states<W: Sink>(
 }
 
 /// Writes the bytes that are held, where they are many.
-fn pass_on<W: Sink>(held: &mut Vec<u8>, out: &mut W) -> Result<(), WriteFault>
+fn pass_on<W: Sink>(held: &mut Vec<u8>, out: &mut W) -> Result<(), IoFault>
     ensures text { OnOk result (IsPassedOn (W.taken out.old) (W.taken out.new) held.old.items held.new.items []) }
     ensures beginning { AppendsBeginning (W.taken out.old) (W.taken out.new) held.old.items }
     ensures failures { CountsDevice (W.failures out.old) (W.failures out.new) result }

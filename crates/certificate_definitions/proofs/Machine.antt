@@ -11,7 +11,7 @@ use Rattle.model.specs.Claims.{Claim, none}
 use Rattle.certificate_definitions.specs.Certificates.{Version, one, two, StateLine, is_number, is_claim, is_state_line}
 use Rattle.certificate_definitions.specs.CertificateText.{Weights, WeightedAtom, NamedCertificate, TextLine, version, claims, constant, atom, listed, last, are_weights, is_line, most_atoms, most_states, text_lines, keeps_text_limits, AreWhole, BeginCertificate, head_lines}
 use Rattle.certificate_definitions.specs.CertificateNames.{weights_in}
-use Rattle.certificate_definitions.specs.CertificateMachine.{Place, at_version, at_claim, at_constant, in_body, ended, only_if, next_place, place_from, place_after}
+use Rattle.certificate_definitions.specs.CertificateMachine.{CertificatePlace, at_version, at_claim, at_constant, in_body, ended, only_if, next_place, place_from, place_after}
 
 -- ---- what comes before a place
 
@@ -30,7 +30,7 @@ pub record IsBody (v : Version) (atom_count state_count : ℕ) (lines : List Tex
   pub few_states : state_count ≤ most_states
   pub lines_are : lines ≡ head_lines v claim constant atoms states
 
-abbrev pub ComesBefore : Place → List TextLine → Type 0
+abbrev pub ComesBefore : CertificatePlace → List TextLine → Type 0
 ComesBefore at_version lines = lines ≡ []
 ComesBefore (at_claim v) lines = lines ≡ version v ∷ []
 ComesBefore (at_constant v) lines = (claim : Claim) × IsTrue (is_claim claim) × (lines ≡ version v ∷ claims claim ∷ [])
@@ -39,14 +39,14 @@ ComesBefore ended lines = AreWhole lines
 
 -- ---- one line more
 
-pub only_where : (holds : Bool) (place next : Place) → only_if holds place ≡ Some next → (holds ≡ true) × (place ≡ next)
+pub only_where : (holds : Bool) (place next : CertificatePlace) → only_if holds place ≡ Some next → (holds ≡ true) × (place ≡ next)
 only_where true place next same = (refl, cc same)
 only_where false place next same = absurd (cc same)
 
-pub place_same : (p q : Place) → ◌≡◌ {A = Option Place} (Some p) (Some q) → p ≡ q
+pub place_same : (p q : CertificatePlace) → ◌≡◌ {A = Option CertificatePlace} (Some p) (Some q) → p ≡ q
 place_same p q same = cc
 
-pub never : {A : Type 0} (place : Place) → ◌≡◌ {A = Option Place} None (Some place) → A
+pub never : {A : Type 0} (place : CertificatePlace) → ◌≡◌ {A = Option CertificatePlace} None (Some place) → A
 never place same = absurd (cc same)
 
 all_more : {X : Type 0} (test : X → Bool) (xs : List X) (x : X) → list_all test xs ≡ true → test x ≡ true → list_all test (xs ++ x ∷ []) ≡ true
@@ -136,7 +136,7 @@ whole_body v n m lines body =
     )
 
 -- one line more leads to the next place
-step : (place : Place) (line : TextLine) (next : Place) (lines : List TextLine) → ComesBefore place lines → next_place place line ≡ Some next
+step : (place : CertificatePlace) (line : TextLine) (next : CertificatePlace) (lines : List TextLine) → ComesBefore place lines → next_place place line ≡ Some next
     → ComesBefore next (lines ++ line ∷ [])
 step at_version (version v) next lines occurs leads = subst (λ q. ComesBefore q (lines ++ version v ∷ [])) (place_same (at_claim v) next leads) (ap (λ lines. lines ++ version v ∷ []) occurs)
 step at_version (claims claim) next lines occurs leads = never next leads
@@ -200,15 +200,15 @@ step ended (listed l) next lines occurs leads = never next leads
 step ended (last count) next lines occurs leads = never next leads
 
 -- and so many lines lead to the place after them
-pub comes_after : (lines done : List TextLine) (place after : Place) → ComesBefore place done → place_from place lines ≡ Some after
+pub comes_after : (lines done : List TextLine) (place after : CertificatePlace) → ComesBefore place done → place_from place lines ≡ Some after
     → ComesBefore after (done ++ lines)
 comes_after [] done place after occurs leads =
     subst (λ q. ComesBefore q (done ++ [])) (place_same place after leads) (subst (ComesBefore place) (sym (append-nil done)) occurs)
 comes_after (line ∷ lines) done place after occurs leads =
     by_next (λ next is more. comes_after lines (done ++ line ∷ []) next after (step place line next done occurs is) more) (next_place place line) refl leads
   where
-    by_next : ((next : Place) → next_place place line ≡ Some next → place_from next lines ≡ Some after → ComesBefore after ((done ++ line ∷ []) ++ lines))
-        → (next : Option Place) → next_place place line ≡ next → option_and_then (λ next. place_from next lines) next ≡ Some after
+    by_next : ((next : CertificatePlace) → next_place place line ≡ Some next → place_from next lines ≡ Some after → ComesBefore after ((done ++ line ∷ []) ++ lines))
+        → (next : Option CertificatePlace) → next_place place line ≡ next → option_and_then (λ next. place_from next lines) next ≡ Some after
         → ComesBefore after (done ++ line ∷ lines)
     by_next rest None is leads = never after leads
     by_next rest (Some next) is leads = subst (ComesBefore after) (append_assoc done (line ∷ []) lines) (rest next is leads)
@@ -234,7 +234,7 @@ begin_constant v lines occurs =
 begin_claim : (v : Version) (lines : List TextLine) → ComesBefore (at_claim v) lines → BeginCertificate lines
 begin_claim v lines occurs = begins_before lines (claims none) (begin_constant v (lines ++ claims none ∷ []) (step (at_claim v) (claims none) (at_constant v) lines occurs refl))
 
-begin : (place : Place) (lines : List TextLine) → ComesBefore place lines → BeginCertificate lines
+begin : (place : CertificatePlace) (lines : List TextLine) → ComesBefore place lines → BeginCertificate lines
 begin at_version lines occurs = begins_before lines (version one) (begin_claim one (lines ++ version one ∷ []) (step at_version (version one) (at_claim one) lines occurs refl))
 begin (at_claim v) lines occurs = begin_claim v lines occurs
 begin (at_constant v) lines occurs = begin_constant v lines occurs
@@ -243,10 +243,10 @@ begin ended lines occurs = ([], subst AreWhole (sym (append-nil lines)) occurs)
 
 -- where a place comes after lines, they begin a certificate, and are one after its end
 module _ (lines : List TextLine) where
-  pub occurs : (place : Place) → place_after lines ≡ Some place → ComesBefore place lines
+  pub occurs : (place : CertificatePlace) → place_after lines ≡ Some place → ComesBefore place lines
   occurs place leads = comes_after lines [] at_version place refl leads
 
-  pub begins : (place : Place) → place_after lines ≡ Some place → BeginCertificate lines
+  pub begins : (place : CertificatePlace) → place_after lines ≡ Some place → BeginCertificate lines
   begins place leads = begin place lines (occurs place leads)
 
   pub ends : place_after lines ≡ Some ended → AreWhole lines
@@ -321,34 +321,34 @@ pub end_of_whole : (lines : List TextLine) → AreWhole lines → place_after li
 end_of_whole lines (c, keeps, are) = subst (λ lines. place_after lines ≡ Some ended) are (lines_read c keeps)
 
 -- the place after the first of some lines
-pub front_leads : (front rest : List TextLine) (place after : Place) → place_from place (front ++ rest) ≡ Some after
-    → (between : Place) × (place_from place front ≡ Some between) × (place_from between rest ≡ Some after)
+pub front_leads : (front rest : List TextLine) (place after : CertificatePlace) → place_from place (front ++ rest) ≡ Some after
+    → (between : CertificatePlace) × (place_from place front ≡ Some between) × (place_from between rest ≡ Some after)
 front_leads [] rest place after leads = (place, refl, leads)
 front_leads (line ∷ front) rest place after leads =
     by_next (λ next. front_leads front rest next after) (next_place place line) leads
   where
-    by_next : ((next : Place) → place_from next (front ++ rest) ≡ Some after → (between : Place) × (place_from next front ≡ Some between) × (place_from between rest ≡ Some after))
-        → (next : Option Place) → option_and_then (λ next. place_from next (front ++ rest)) next ≡ Some after
-        → (between : Place) × (option_and_then (λ next. place_from next front) next ≡ Some between) × (place_from between rest ≡ Some after)
+    by_next : ((next : CertificatePlace) → place_from next (front ++ rest) ≡ Some after → (between : CertificatePlace) × (place_from next front ≡ Some between) × (place_from between rest ≡ Some after))
+        → (next : Option CertificatePlace) → option_and_then (λ next. place_from next (front ++ rest)) next ≡ Some after
+        → (between : CertificatePlace) × (option_and_then (λ next. place_from next front) next ≡ Some between) × (place_from between rest ≡ Some after)
     by_next more None leads = never after leads
     by_next more (Some next) leads = more next leads
 
-pub place_of_beginning : (lines : List TextLine) → BeginCertificate lines → (place : Place) × (place_after lines ≡ Some place)
+pub place_of_beginning : (lines : List TextLine) → BeginCertificate lines → (place : CertificatePlace) × (place_after lines ≡ Some place)
 place_of_beginning lines (rest, whole) =
     let (between, leads, more) = front_leads lines rest at_version ended (end_of_whole (lines ++ rest) whole) in
     (between, leads)
 
 -- ---- what may follow
 
-there_is : (next : Option Place) (after : Place) → option_and_then (λ next. place_from next []) next ≡ Some after → (place : Place) × (next ≡ Some place)
+there_is : (next : Option CertificatePlace) (after : CertificatePlace) → option_and_then (λ next. place_from next []) next ≡ Some after → (place : CertificatePlace) × (next ≡ Some place)
 there_is None after leads = never after leads
 there_is (Some next) after leads = (next, refl)
 
-module _ (before : List TextLine) (place : Place) (leads : place_after before ≡ Some place) where
-  pub follows : (line : TextLine) (next : Place) → next_place place line ≡ Some next → BeginCertificate (before ++ line ∷ [])
+module _ (before : List TextLine) (place : CertificatePlace) (leads : place_after before ≡ Some place) where
+  pub follows : (line : TextLine) (next : CertificatePlace) → next_place place line ≡ Some next → BeginCertificate (before ++ line ∷ [])
   follows line next is = begin next (before ++ line ∷ []) (step place line next before (occurs before place leads) is)
 
-  pub followed : (line : TextLine) → BeginCertificate (before ++ line ∷ []) → (next : Place) × (next_place place line ≡ Some next)
+  pub followed : (line : TextLine) → BeginCertificate (before ++ line ∷ []) → (next : CertificatePlace) × (next_place place line ≡ Some next)
   followed line begun =
       let (after, all) = place_of_beginning (before ++ line ∷ []) begun in
       let (between, first, second) = front_leads before (line ∷ []) at_version after all in

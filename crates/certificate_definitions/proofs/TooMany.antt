@@ -4,11 +4,11 @@ use Rattle.std.specs.Prelude.{IsTrue}
 use Rattle.model.specs.Claims.{Claim}
 use Rattle.certificate_definitions.specs.Certificates.{Version, StateLine}
 use Rattle.certificate_definitions.specs.CertificateText.{Weights, WeightedAtom, TextLine, version, claims, constant, atom, listed, last, is_line, line_text, most_atoms, most_states, IsOneTooMany, atoms, states, head_lines}
-use Rattle.certificate_definitions.specs.CertificateMachine.{Place, at_version, at_claim, at_constant, in_body, ended, place_after}
+use Rattle.certificate_definitions.specs.CertificateMachine.{CertificatePlace, at_version, at_claim, at_constant, in_body, ended, place_after}
 use Rattle.certificate_definitions.proofs.Machine.{ComesBefore, occurs}
 
 -- The bytes are a line that may not occur at this place for the limit alone.
-abbrev pub IsTooManyAt : Place → List ℕ → Type 0
+abbrev pub IsTooManyAt : CertificatePlace → List ℕ → Type 0
 IsTooManyAt (in_body v n m) bytes =
     ((m ≡ 0) × (n ≡ most_atoms) × ((a : WeightedAtom) × IsTrue (is_line v n (atom a)) × (bytes ≡ line_text (atom a))))
     ⊎ ((m ≡ most_states) × ((l : StateLine) × IsTrue (is_line v n (listed l)) × (bytes ≡ line_text (listed l))))
@@ -89,7 +89,7 @@ one_version : (v w : Version) (lines others : List TextLine) → version v ∷ l
 one_version v w lines others same = cc
 
 -- the place after such lines is after so many atoms and states
-place_past : (v : Version) (claim : Claim) (k : Weights) (all : List WeightedAtom) (lines : List StateLine) (place : Place) → ComesBefore place (head_lines v claim k all lines)
+place_past : (v : Version) (claim : Claim) (k : Weights) (all : List WeightedAtom) (lines : List StateLine) (place : CertificatePlace) → ComesBefore place (head_lines v claim k all lines)
     → place ≡ in_body v (length all) (length lines)
 place_past v claim k all lines at_version occurs = absurd (cc occurs)
 place_past v claim k all lines (at_claim w) occurs = absurd (cc occurs)
@@ -110,7 +110,7 @@ place_past v claim k all lines ended (c, keeps, are) =
 
 -- ---- the limit, by the place
 
-module _ (before : List TextLine) (place : Place) (leads : place_after before ≡ Some place) (bytes : List ℕ) where
+module _ (before : List TextLine) (place : CertificatePlace) (leads : place_after before ≡ Some place) (bytes : List ℕ) where
   pub too_many_at : IsOneTooMany before bytes → IsTooManyAt place bytes
   too_many_at (atoms v claim k all a are full is same) =
       let here : place ≡ in_body v (length all) 0 = place_past v claim k all [] place (subst (ComesBefore place) are (occurs before place leads)) in
@@ -124,7 +124,7 @@ no_states : (lines : List StateLine) → length lines ≡ 0 → lines ≡ []
 no_states [] empty = refl
 no_states (l ∷ lines) empty = absurd (omega (arith, empty))
 
-pub too_many_of : (before : List TextLine) (bytes : List ℕ) (place : Place) → ComesBefore place before → IsTooManyAt place bytes → IsOneTooMany before bytes
+pub too_many_of : (before : List TextLine) (bytes : List ℕ) (place : CertificatePlace) → ComesBefore place before → IsTooManyAt place bytes → IsOneTooMany before bytes
 too_many_of before bytes at_version occurs over = absurd over
 too_many_of before bytes (at_claim v) occurs over = absurd over
 too_many_of before bytes (at_constant v) occurs over = absurd over

@@ -5,14 +5,14 @@ use Rattle.std.specs.Option.{option_and_then}
 use Rattle.std.specs.Fmt.{decimal}
 use Rattle.certificate_definitions.specs.Certificates.{is_number}
 use Rattle.certificate_definitions.specs.CertificateText.{TextLine, version, claims, constant, atom, listed, last, is_line, line_text, MayFollow, IsOtherVersion, IsOneTooMany, HasLine, IsFaultAfter, other_version, malformed, too_many}
-use Rattle.certificate_definitions.specs.CertificateMachine.{Place, at_version, at_claim, at_constant, in_body, ended, next_place, place_from, place_after}
+use Rattle.certificate_definitions.specs.CertificateMachine.{CertificatePlace, at_version, at_claim, at_constant, in_body, ended, next_place, place_from, place_after}
 use Rattle.certificate_definitions.proofs.Machine.{ComesBefore, occurs, followed, place_same}
 use Rattle.certificate_definitions.proofs.TooMany.{IsTooManyAt, too_many_at, too_many_of}
 use Rattle.certificate_reader.specs.Stages.{IsOver, atoms_at, version_at}
 
 -- ---- limits, in both words
 
-over_is : (place : Place) (line : TextLine) (bytes : List ℕ) → IsTrue (is_line (version_at place) (atoms_at place) line) → IsOver place line → line_text line ≡ bytes → IsTooManyAt place bytes
+over_is : (place : CertificatePlace) (line : TextLine) (bytes : List ℕ) → IsTrue (is_line (version_at place) (atoms_at place) line) → IsOver place line → line_text line ≡ bytes → IsTooManyAt place bytes
 over_is (in_body v n m) (atom a) bytes is (empty, full) same = inl (empty, full, (a, is, sym same))
 over_is (in_body v n m) (listed l) bytes is full same = inr (full, (l, is, sym same))
 over_is (in_body v n m) (version w) bytes is over same = absurd over
@@ -24,7 +24,7 @@ over_is (at_claim v) line bytes is over same = absurd over
 over_is (at_constant v) line bytes is over same = absurd over
 over_is ended line bytes is over same = absurd over
 
-over_of : (place : Place) (bytes : List ℕ) → IsTooManyAt place bytes → (line : TextLine) × IsTrue (is_line (version_at place) (atoms_at place) line) × IsOver place line × (line_text line ≡ bytes)
+over_of : (place : CertificatePlace) (bytes : List ℕ) → IsTooManyAt place bytes → (line : TextLine) × IsTrue (is_line (version_at place) (atoms_at place) line) × IsOver place line × (line_text line ≡ bytes)
 over_of (in_body v n m) bytes (inl (empty, full, (a, is, same))) = (atom a, is, (empty, full), sym same)
 over_of (in_body v n m) bytes (inr (full, (l, is, same))) = (listed l, is, full, sym same)
 over_of at_version bytes over = absurd over
@@ -34,7 +34,7 @@ over_of ended bytes over = absurd over
 
 -- ---- the faults
 
-module _ (before : List TextLine) (place : Place) (leads : place_after before ≡ Some place) (text line : List ℕ) (has : HasLine text line) where
+module _ (before : List TextLine) (place : CertificatePlace) (leads : place_after before ≡ Some place) (text line : List ℕ) (has : HasLine text line) where
   nothing_before : place ≡ at_version → before ≡ []
   nothing_before at = subst (λ place. ComesBefore place before) at (occurs before place leads)
 
@@ -45,7 +45,7 @@ module _ (before : List TextLine) (place : Place) (leads : place_after before �
   pub reported_too_many : (over : TextLine) → IsTrue (is_line (version_at place) (atoms_at place) over) → IsOver place over → line_text over ≡ line → IsFaultAfter before text 55
   reported_too_many over is limit same = too_many line has (too_many_of before line place (occurs before place leads) (over_is place over line is limit same))
 
-  pub reported_malformed : ((other : TextLine) (next : Place) → next_place place other ≡ Some next → line_text other ≢ line)
+  pub reported_malformed : ((other : TextLine) (next : CertificatePlace) → next_place place other ≡ Some next → line_text other ≢ line)
       → ((other : TextLine) → IsTrue (is_line (version_at place) (atoms_at place) other) → IsOver place other → line_text other ≢ line)
       → (place ≡ at_version → (number : ℕ) → IsTrue (is_number number) → number ≢ 1 → number ≢ 2 → codes "pddl-cert " ++ decimal number ≢ line)
       → IsFaultAfter before text 40
@@ -62,18 +62,18 @@ module _ (before : List TextLine) (place : Place) (leads : place_after before �
       not_over over = let (l, is, limit, same) = over_of place line (too_many_at before place leads line over) in within l is limit same
 
 -- the place after one line more
-line_after : (lines : List TextLine) (from place next : Place) (line : TextLine) → place_from from lines ≡ Some place → next_place place line ≡ Some next
+line_after : (lines : List TextLine) (from place next : CertificatePlace) (line : TextLine) → place_from from lines ≡ Some place → next_place place line ≡ Some next
     → place_from from (lines ++ line ∷ []) ≡ Some next
 line_after [] from place next line leads is =
     ap (option_and_then (λ next. place_from next [])) (ap (λ place. next_place place line) (place_same from place leads) ∙ is)
 line_after (first ∷ lines) from place next line leads is =
     by_next (λ then more. line_after lines then place next line more is) (next_place from first) leads
   where
-    by_next : ((then : Place) → place_from then lines ≡ Some place → place_from then (lines ++ line ∷ []) ≡ Some next)
-        → (then : Option Place) → option_and_then (λ next. place_from next lines) then ≡ Some place → option_and_then (λ next. place_from next (lines ++ line ∷ [])) then ≡ Some next
+    by_next : ((then : CertificatePlace) → place_from then lines ≡ Some place → place_from then (lines ++ line ∷ []) ≡ Some next)
+        → (then : Option CertificatePlace) → option_and_then (λ next. place_from next lines) then ≡ Some place → option_and_then (λ next. place_from next (lines ++ line ∷ [])) then ≡ Some next
     by_next more None leads = absurd (cc leads)
     by_next more (Some then) leads = more then leads
 
-pub one_line_after : (before : List TextLine) (place next : Place) (line : TextLine) → place_after before ≡ Some place → next_place place line ≡ Some next
+pub one_line_after : (before : List TextLine) (place next : CertificatePlace) (line : TextLine) → place_after before ≡ Some place → next_place place line ≡ Some next
     → place_after (before ++ line ∷ []) ≡ Some next
 one_line_after before place next line leads is = line_after before at_version place next line leads is

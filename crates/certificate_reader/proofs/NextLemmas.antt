@@ -8,7 +8,7 @@ use Rattle.std.proofs.lemmas.List.{get_or-take, length-take, take-append-drop, t
 use Rattle.std.proofs.lemmas.List.Sums.{split_at_first, fails_before_first, passes_at_first}
 use Rattle.certificate_reader.specs.declared.line.CertLine.{CertLine}
 use Rattle.certificate_definitions.specs.CertificateText.{TextLine, line_text, longest_line, whole_line, HasLine, IsFaultAfter, too_long, cut_short}
-use Rattle.certificate_definitions.specs.CertificateMachine.{Place, ended, place_after}
+use Rattle.certificate_definitions.specs.CertificateMachine.{CertificatePlace, ended, place_after}
 use Rattle.certificate_definitions.proofs.Machine.{not_whole}
 use Rattle.certificate_reader.specs.declared.stage.Stage.{Stage}
 use Rattle.certificate_reader.specs.declared.fault.NextFault.{NextFault}
@@ -51,7 +51,7 @@ has_line bytes end (at, short) more =
 
 -- ---- a line that waits
 
-module _ (place : Place) (bytes : List ℕ) (end : ℕ) (has : HasEnd bytes end) where
+module _ (place : CertificatePlace) (bytes : List ℕ) (end : ℕ) (has : HasEnd bytes end) where
   pub taken : (line : TextLine) → line_text line ≡ take end bytes → (new : List ℕ) → new ≡ drop (end + 1) bytes → bytes ≡ whole_line line ++ new
   taken line text new left =
       line_splits_off bytes end has.0
@@ -70,7 +70,7 @@ module _ (place : Place) (bytes : List ℕ) (end : ℕ) (has : HasEnd bytes end)
 
 -- ---- what came and what is reported
 
-module _ (place : Place) (old waiting : List ℕ) (before after : Option (List ℕ)) (grown : IsGrown before after old waiting) where
+module _ (place : CertificatePlace) (old waiting : List ℕ) (before after : Option (List ℕ)) (grown : IsGrown before after old waiting) where
   pub next_of_line : (new : List ℕ) (r : Result (CertLine × Stage) NextFault) → IsTaken place waiting new r → IsNext place old new before after r
   next_of_line new (Ok (line, next)) (splits, leads) = (grown.bytes, grown.consumed, sym grown.appended ∙ splits, leads, grown.prompt)
   next_of_line new (Err (Text Truncated)) reported = absurd reported

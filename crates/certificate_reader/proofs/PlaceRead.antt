@@ -5,7 +5,7 @@ use Rattle.std.specs.Fmt.{decimal}
 use Rattle.std.proofs.lemmas.Bool.{and_parts, eqb-true, leb-true, lt-ltb}
 use Rattle.certificate_definitions.specs.Certificates.{Version, one, two, is_number}
 use Rattle.certificate_definitions.specs.CertificateText.{TextLine, version, claims, constant, atom, listed, last, is_line, line_text, most_atoms, most_states, version_number}
-use Rattle.certificate_definitions.specs.CertificateMachine.{Place, at_version, at_claim, at_constant, in_body, ended, next_place}
+use Rattle.certificate_definitions.specs.CertificateMachine.{CertificatePlace, at_version, at_claim, at_constant, in_body, ended, next_place}
 use Rattle.certificate_definitions.proofs.Machine.{never, only_where}
 use Rattle.certificate_reader.specs.Stages.{IsOver, IsReadAt, IsStep, IsWithin, atoms_at, version_at}
 use Rattle.certificate_reader.specs.Parsing.{IsParsed}
@@ -20,7 +20,7 @@ use Rattle.certificate_reader.proofs.LineLemmas.{head_is_word, line_splits}
 use Rattle.certificate_reader.proofs.LinesRead.{is_no_mark, unlike}
 use Rattle.certificate_reader.proofs.OneLine.{one_line}
 
-few_atoms : (place : Place) → IsWithin place → atoms_at place ≤ most_atoms
+few_atoms : (place : CertificatePlace) → IsWithin place → atoms_at place ≤ most_atoms
 few_atoms at_version within = omega arith
 few_atoms (at_claim v) within = omega arith
 few_atoms (at_constant v) within = omega arith
@@ -28,7 +28,7 @@ few_atoms (in_body v n m) within = leb-true n most_atoms (and_parts (nat_le n mo
 few_atoms ended within = omega arith
 
 -- a line that leads on keeps the limits there
-pub leads_line : (place : Place) → IsWithin place → (line : TextLine) (next : Place) → next_place place line ≡ Some next → IsTrue (is_line (version_at place) (atoms_at place) line)
+pub leads_line : (place : CertificatePlace) → IsWithin place → (line : TextLine) (next : CertificatePlace) → next_place place line ≡ Some next → IsTrue (is_line (version_at place) (atoms_at place) line)
 leads_line at_version within (version w) next leads = refl
 leads_line at_version within (claims claim) next leads = never next leads
 leads_line at_version within (constant k) next leads = never next leads
@@ -84,7 +84,7 @@ no_other_version line n is not_one not_two same =
     neither n is not_one not_two v (some_same (decimal n) (line_rest line) both.1 ∙ rest)
 
 -- what is reported for bytes that are no line there is reported for the place
-malformed_at : (place : Place) → IsWithin place → (bytes : List ℕ) (v : Version) (count : ℕ) → v ≡ version_at place → count ≡ atoms_at place → IsParsed bytes v count (Err (Text fault.Form))
+malformed_at : (place : CertificatePlace) → IsWithin place → (bytes : List ℕ) (v : Version) (count : ℕ) → v ≡ version_at place → count ≡ atoms_at place → IsParsed bytes v count (Err (Text fault.Form))
     → IsReadAt place bytes (Err (Text fault.Form))
 malformed_at place within bytes v count v_is count_is reported =
     let (never, other) = subst (λ v. IsParsed bytes v (atoms_at place) (Err (Text fault.Form))) v_is (subst (λ n. IsParsed bytes v n (Err (Text fault.Form))) count_is reported) in (
@@ -94,14 +94,14 @@ malformed_at place within bytes v count v_is count_is reported =
     )
 
 -- so is another fault of the bytes alone, but for another version, which is reported for the first line only
-pub reported_at : (place : Place) → IsWithin place → (bytes : List ℕ) (v : Version) (count : ℕ) → v ≡ version_at place → count ≡ atoms_at place
+pub reported_at : (place : CertificatePlace) → IsWithin place → (bytes : List ℕ) (v : Version) (count : ℕ) → v ≡ version_at place → count ≡ atoms_at place
     → (why : NextFault) → why ≢ Text fault.Version → IsParsed bytes v count (Err why) → IsReadAt place bytes (Err why)
 reported_at place within bytes v count v_is count_is (Text fault.Version) other reported = absurd (other refl)
 reported_at place within bytes v count v_is count_is (Text fault.Form) other reported = malformed_at place within bytes v count v_is count_is reported
 reported_at place within bytes v count v_is count_is NoMemory other reported = tt
 reported_at place within bytes v count v_is count_is _ other reported = absurd reported
 
-module _ (place : Place) (within : IsWithin place) (line : TextLine) (is : IsTrue (is_line (version_at place) (atoms_at place) line)) (bytes : List ℕ) (text : line_text line ≡ bytes) where
+module _ (place : CertificatePlace) (within : IsWithin place) (line : TextLine) (is : IsTrue (is_line (version_at place) (atoms_at place) line)) (bytes : List ℕ) (text : line_text line ≡ bytes) where
   only_line : (other : TextLine) → IsTrue (is_line (version_at place) (atoms_at place) other) → line_text other ≡ bytes → other ≡ line
   only_line other other_is same = one_line (version_at place) (atoms_at place) (few_atoms place within) other line other_is is (same ∙ sym text)
 

@@ -4,7 +4,7 @@ use Rattle.std.specs.Prelude.{◌&&◌, ◌==◌, nat_le, nat_lt, Err, Ok}
 use Rattle.std.proofs.lemmas.Bool.{and_parts, le-leb, leb-true, ltb-true}
 use Rattle.std.proofs.lemmas.List.{length-map}
 use Rattle.certificate_definitions.specs.CertificateText.{TextLine, version, claims, constant, atom, listed, last, is_line, most_atoms, most_states, AreWhole, IsFaultAfter, trailing}
-use Rattle.certificate_definitions.specs.CertificateMachine.{Place, at_version, at_claim, at_constant, in_body, ended, next_place}
+use Rattle.certificate_definitions.specs.CertificateMachine.{CertificatePlace, at_version, at_claim, at_constant, in_body, ended, next_place}
 use Rattle.certificate_definitions.proofs.Machine.{ComesBefore, begins, never, only_where, place_same}
 use Rattle.certificate_reader.specs.declared.line.CertLine.{CertLine}
 use Rattle.certificate_reader.specs.Lines.{text_line_of}
@@ -20,7 +20,7 @@ use Rattle.certificate_reader.specs.Ready.{IsPrompt, come_at, is_ready}
 use Rattle.certificate_reader.specs.Reader.{HasRead, HaveBegun, IsAdvance, IsAnswer, IsReportedOf, fault_at}
 
 -- one line more leads to a place within the limits
-pub leads_within : (place : Place) → IsWithin place → (line : TextLine) (next : Place) → next_place place line ≡ Some next → IsWithin next
+pub leads_within : (place : CertificatePlace) → IsWithin place → (line : TextLine) (next : CertificatePlace) → next_place place line ≡ Some next → IsWithin next
 leads_within at_version within (version v) next leads = subst IsWithin (place_same (at_claim v) next leads) refl
 leads_within at_version within (claims claim) next leads = never next leads
 leads_within at_version within (constant k) next leads = never next leads
@@ -63,7 +63,7 @@ leads_within ended within (last count) next leads = never next leads
 body_length : {X Y : Type 0} (f : X → TextLine) (g : Y → TextLine) (xs : List X) (ys : List Y) → length (map f xs ++ map g ys) ≡ length xs + length ys
 body_length f g xs ys = omega (arith, length-append (map f xs) (map g ys), length-map xs f, length-map ys g)
 
-pub few_lines : (lines : List TextLine) (place : Place) → ComesBefore place lines → length lines < 20000000
+pub few_lines : (lines : List TextLine) (place : CertificatePlace) → ComesBefore place lines → length lines < 20000000
 few_lines lines at_version are = omega (arith, ap length are)
 few_lines lines (at_claim v) are = omega (arith, ap length are)
 few_lines lines (at_constant v) (claim, is, are) = omega (arith, ap length are)

@@ -3,12 +3,12 @@ use Rattle.std.specs.Prelude.{◌≡◌, ◌≢◌, ℕ, ◌≤◌, Bool, true, 
 use Rattle.std.specs.List.{position}
 use Rattle.std.specs.Io.KnownBytes.{Consumes, IsAtEnd, Keeps}
 use Rattle.devices.specs.Devices.{one_more}
-use Rattle.devices.specs.declared.device.WriteFault.{WriteFault}
-use Rattle.devices.specs.declared.device.WriteFault.TheVariants as device
+use Rattle.devices.specs.declared.device.IoFault.{IoFault}
+use Rattle.devices.specs.declared.device.IoFault.TheVariants as device
 use Rattle.certificate_reader.specs.declared.line.CertLine.{CertLine}
 use Rattle.certificate_reader.specs.Lines.{text_line_of}
 use Rattle.certificate_definitions.specs.CertificateText.{TextLine, IsFaultAfter, longest_line, whole_line}
-use Rattle.certificate_definitions.specs.CertificateMachine.{Place, ended, next_place, place_after}
+use Rattle.certificate_definitions.specs.CertificateMachine.{CertificatePlace, ended, next_place, place_after}
 use Rattle.certificate_reader.specs.declared.stage.Stage.{Stage}
 use Rattle.certificate_reader.specs.declared.fault.NextFault.{NextFault}
 use Rattle.certificate_reader.specs.declared.fault.NextFault.TheVariants.{Text, Device, NoMemory}
@@ -25,7 +25,7 @@ number_of Version = 41
 number_of Truncated = 42
 number_of Limit = 55
 
-abbrev pub of_device : WriteFault → NextFault
+abbrev pub of_device : IoFault → NextFault
 of_device device.Device = Device
 of_device device.NoMemory = NoMemory
 
@@ -35,7 +35,7 @@ CountsFault before after (Err Device) = after ≡ one_more before
 CountsFault before after _ = after ≡ before
 
 -- The bytes are at fault at this place, whatever comes after them.
-abbrev pub IsFaultAt : Place → List ℕ → TextFault → Type 0
+abbrev pub IsFaultAt : CertificatePlace → List ℕ → TextFault → Type 0
 IsFaultAt place bytes fault =
     (before : List TextLine) → place_after before ≡ Some place → (more : List ℕ) → IsFaultAfter before (bytes ++ more) (number_of fault)
 
@@ -44,7 +44,7 @@ abbrev pub HasEnd : List ℕ → ℕ → Type 0
 HasEnd bytes end = (position is_end bytes ≡ Some end) × (end ≤ longest_line)
 
 -- The line that waits is given out, or it is at fault.
-abbrev pub IsTaken : Place → (old new : List ℕ) → Result (CertLine × Stage) NextFault → Type 0
+abbrev pub IsTaken : CertificatePlace → (old new : List ℕ) → Result (CertLine × Stage) NextFault → Type 0
 IsTaken place old new (Ok (line, next)) = (old ≡ whole_line (text_line_of line) ++ new) × (next_place place (text_line_of line) ≡ Some (place_of next))
 IsTaken place old new (Err (Text Truncated)) = ⊥
 IsTaken place old new (Err (Text fault)) = IsFaultAt place old fault
@@ -53,7 +53,7 @@ IsTaken place old new (Err NoMemory) = Unit {0}
 
 -- Of the bytes that waited and those that came, no more than had to, the next line is given out; or they are at fault, or
 -- end too early.
-abbrev pub IsNext : Place → (old new : List ℕ) → (before after : Option (List ℕ)) → Result (CertLine × Stage) NextFault → Type 0
+abbrev pub IsNext : CertificatePlace → (old new : List ℕ) → (before after : Option (List ℕ)) → Result (CertLine × Stage) NextFault → Type 0
 IsNext place old new before after (Ok (line, next)) =
     (bytes : List ℕ) × Consumes before after bytes × (old ++ bytes ≡ whole_line (text_line_of line) ++ new)
     × (next_place place (text_line_of line) ≡ Some (place_of next)) × IsPrompt is_ready old bytes
@@ -65,7 +65,7 @@ IsNext place old new before after (Err Device) = IsUnready before after old new
 IsNext place old new before after (Err NoMemory) = Unit {0}
 
 -- Nothing waits, and the end has come; or some byte waits.
-abbrev pub IsEnd : (old new : List ℕ) → (before after : Option (List ℕ)) → Result Bool WriteFault → Type 0
+abbrev pub IsEnd : (old new : List ℕ) → (before after : Option (List ℕ)) → Result Bool IoFault → Type 0
 IsEnd old new before after (Ok true) = (old ≡ []) × (new ≡ []) × Consumes before after [] × IsAtEnd after
 IsEnd old new before after (Ok false) = (bytes : List ℕ) × Consumes before after bytes × (new ≡ old ++ bytes) × (new ≢ []) × IsPrompt (come_at ended) old bytes
 IsEnd old new before after (Err device.Device) = (old ≡ []) × (new ≡ []) × Keeps before after

@@ -3,7 +3,7 @@ use Rattle.std.specs.Prelude.{◌≡◌, ◌≢◌, ℕ, ◌<◌, ◌≤◌, Boo
 use Rattle.std.specs.List.{position, position_or_len}
 use Rattle.std.specs.Io.KnownBytes.{Consumes, IsAtEnd}
 use Rattle.certificate_definitions.specs.CertificateText.{longest_line}
-use Rattle.certificate_definitions.specs.CertificateMachine.{Place, at_version, at_claim, at_constant, in_body, ended}
+use Rattle.certificate_definitions.specs.CertificateMachine.{CertificatePlace, at_version, at_claim, at_constant, in_body, ended}
 use Rattle.certificate_reader.specs.declared.ready.Ready.{Ready}
 use Rattle.certificate_reader.specs.declared.ready.Ready.TheVariants.{Line, TooLong, End}
 use Rattle.certificate_reader.specs.Ends.{is_end}
@@ -13,7 +13,7 @@ abbrev pub is_ready : List ℕ → Bool
 is_ready bytes = is_some (position is_end bytes) || nat_lt longest_line (length bytes)
 
 -- what is to be reported next is in these bytes: a line, or too long a one, and after the last line any byte
-abbrev pub come_at : Place → List ℕ → Bool
+abbrev pub come_at : CertificatePlace → List ℕ → Bool
 come_at at_version bytes = is_ready bytes
 come_at (at_claim v) bytes = is_ready bytes
 come_at (at_constant v) bytes = is_ready bytes

@@ -5,7 +5,7 @@ use Rattle.certificate_definitions.specs.Certificates.{Version, one, is_number}
 use Rattle.certificate_reader.specs.declared.line.CertLine.{CertLine}
 use Rattle.certificate_reader.specs.Lines.{text_line_of, version_of}
 use Rattle.certificate_definitions.specs.CertificateText.{TextLine, atom, listed, is_line, line_text, most_atoms, most_states}
-use Rattle.certificate_definitions.specs.CertificateMachine.{Place, at_version, at_claim, at_constant, in_body, ended, next_place}
+use Rattle.certificate_definitions.specs.CertificateMachine.{CertificatePlace, at_version, at_claim, at_constant, in_body, ended, next_place}
 use Rattle.certificate_reader.specs.declared.stage.Stage.{Stage}
 use Rattle.certificate_reader.specs.declared.stage.Stage.TheVariants as stage
 use Rattle.certificate_reader.specs.declared.fault.NextFault.{NextFault}
@@ -13,7 +13,7 @@ use Rattle.certificate_reader.specs.declared.fault.NextFault.TheVariants.{Text, 
 use Rattle.certificate_reader.specs.declared.fault.TextFault.{TextFault}
 use Rattle.certificate_reader.specs.declared.fault.TextFault.TheVariants as fault
 
-abbrev pub place_of : Stage → Place
+abbrev pub place_of : Stage → CertificatePlace
 place_of stage.Version = at_version
 place_of (stage.Claim version) = at_claim (version_of version)
 place_of (stage.Constants version) = at_constant (version_of version)
@@ -21,7 +21,7 @@ place_of (stage.Body version atoms states) = in_body (version_of version) atoms 
 place_of stage.Ended = ended
 
 -- the version of the text; where none is reported yet, or none matters any more, any will do
-abbrev pub version_at : Place → Version
+abbrev pub version_at : CertificatePlace → Version
 version_at at_version = one
 version_at (at_claim v) = v
 version_at (at_constant v) = v
@@ -29,7 +29,7 @@ version_at (in_body v atoms states) = v
 version_at ended = one
 
 -- how many atoms come before the place
-abbrev pub atoms_at : Place → ℕ
+abbrev pub atoms_at : CertificatePlace → ℕ
 atoms_at at_version = 0
 atoms_at (at_claim v) = 0
 atoms_at (at_constant v) = 0
@@ -37,37 +37,37 @@ atoms_at (in_body v atoms states) = atoms
 atoms_at ended = 0
 
 -- the place is after no more atoms and states than there may be
-abbrev pub is_within : Place → Bool
+abbrev pub is_within : CertificatePlace → Bool
 is_within at_version = true
 is_within (at_claim v) = true
 is_within (at_constant v) = true
 is_within (in_body v atoms states) = nat_le atoms most_atoms && nat_le states most_states
 is_within ended = true
 
-abbrev pub IsWithin : Place → Type 0
+abbrev pub IsWithin : CertificatePlace → Type 0
 IsWithin place = IsTrue (is_within place)
 
 -- the line could occur there but for a limit
-abbrev pub IsOver : Place → TextLine → Type 0
+abbrev pub IsOver : CertificatePlace → TextLine → Type 0
 IsOver (in_body v atoms states) (atom a) = (states ≡ 0) × (atoms ≡ most_atoms)
 IsOver (in_body v atoms states) (listed l) = states ≡ most_states
 IsOver _ _ = ⊥
 
 -- the line leads to this stage, is one too many, or cannot occur there
-abbrev pub IsStep : Place → TextLine → Result Stage TextFault → Type 0
+abbrev pub IsStep : CertificatePlace → TextLine → Result Stage TextFault → Type 0
 IsStep place line (Ok next) = next_place place line ≡ Some (place_of next)
 IsStep place line (Err fault.Limit) = IsOver place line
 IsStep place line (Err fault.Form) = (next_place place line ≡ None) × (IsOver place line → ⊥)
 IsStep place line _ = ⊥
 
 -- The bytes are the line that is answered, and lead to this stage; or what is reported for them is so.
-abbrev pub IsReadAt : Place → List ℕ → Result (CertLine × Stage) NextFault → Type 0
+abbrev pub IsReadAt : CertificatePlace → List ℕ → Result (CertLine × Stage) NextFault → Type 0
 IsReadAt place bytes (Ok (line, next)) = (line_text (text_line_of line) ≡ bytes) × (next_place place (text_line_of line) ≡ Some (place_of next))
 IsReadAt place bytes (Err (Text fault.Version)) =
     (place ≡ at_version) × ((number : ℕ) × IsTrue (is_number number) × (number ≢ 1) × (number ≢ 2) × (codes "pddl-cert " ++ decimal number ≡ bytes))
 IsReadAt place bytes (Err (Text fault.Limit)) = (line : TextLine) × IsTrue (is_line (version_at place) (atoms_at place) line) × IsOver place line × (line_text line ≡ bytes)
 IsReadAt place bytes (Err (Text fault.Form)) =
-    ((line : TextLine) (next : Place) → next_place place line ≡ Some next → line_text line ≢ bytes)
+    ((line : TextLine) (next : CertificatePlace) → next_place place line ≡ Some next → line_text line ≢ bytes)
     × ((line : TextLine) → IsTrue (is_line (version_at place) (atoms_at place) line) → IsOver place line → line_text line ≢ bytes)
     × (place ≡ at_version → (number : ℕ) → IsTrue (is_number number) → number ≢ 1 → number ≢ 2 → codes "pddl-cert " ++ decimal number ≢ bytes)
 IsReadAt place bytes (Err NoMemory) = Unit {0}

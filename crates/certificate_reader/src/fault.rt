@@ -1,5 +1,5 @@
 //! What is at fault in a text, and why there is no next line of it.
-use devices::WriteFault;
+use devices::IoFault;
 use std::alloc::AllocError;
 
 /// What is at fault in a text.
@@ -26,16 +26,16 @@ pub(crate) enum NextFault {
     NoMemory,
 }
 
-impl From<WriteFault> for NextFault {
+impl From<IoFault> for NextFault {
     ghost use Rattle.std.specs.Prelude.{◌≡◌};
     ghost use Rattle.certificate_reader.specs.Next.{of_device};
 
     ghost from_gives = { λ fault given. given ≡ of_device fault };
 
-    fn from(fault: WriteFault) -> NextFault {
+    fn from(fault: IoFault) -> NextFault {
         match fault {
-            WriteFault::Device => NextFault::Device,
-            WriteFault::NoMemory => NextFault::NoMemory,
+            IoFault::Device => NextFault::Device,
+            IoFault::NoMemory => NextFault::NoMemory,
         }
     }
 }

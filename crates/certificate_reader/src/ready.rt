@@ -1,13 +1,13 @@
 //! Waits until a line of a text has come.
 ghost use Rattle.std.specs.Prelude.{◌≡◌, Err, IfOk, IsTrue};
 ghost use Rattle.devices.specs.Devices.{CountsDevice};
-ghost use Rattle.devices.specs.declared.device.WriteFault.TheVariants.{Device as device_failed};
+ghost use Rattle.devices.specs.declared.device.IoFault.TheVariants.{Device as device_failed};
 ghost use Rattle.certificate_reader.specs.Waiting.{waiting_of};
 ghost use Rattle.certificate_reader.specs.Ready.{IsGrown, IsLineIn, IsReady, IsUnready, is_ready};
 
 use crate::line::LONGEST_LINE;
 use crate::waiting::Waiting;
-use devices::{Source, WriteFault};
+use devices::{Source, IoFault};
 
 /// What waits of a text.
 #[derive(Clone, Copy, Debug, PartialEq, Eq)]
@@ -24,7 +24,7 @@ pub(crate) enum Ready {
 pub(crate) fn await_line<S: Source>(
     waiting: &mut Waiting,
     source: &mut S,
-) -> Result<Ready, WriteFault>
+) -> Result<Ready, IoFault>
     ensures grown { IfOk result (λ _. IsGrown (S.remaining source.old) (S.remaining source.new) (waiting_of waiting.old) (waiting_of waiting.new)) }
     ensures ready { IfOk result (IsReady (waiting_of waiting.new) (S.remaining source.new)) }
     ensures lazy { IsTrue (is_ready (waiting_of waiting.old)) → source.new ≡ source.old }

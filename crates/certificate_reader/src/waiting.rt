@@ -3,9 +3,9 @@ ghost use Rattle.std.specs.Prelude.{◌≡◌, ◌≤◌, ◌++◌, drop, take, 
 ghost use Rattle.std.specs.List.{position_or_len};
 ghost use Rattle.certificate_reader.specs.Ends.{is_end};
 ghost use Rattle.devices.specs.Devices.{CountsDevice, ReadsSome};
-ghost use Rattle.devices.specs.declared.device.WriteFault.TheVariants.{Device as device_failed};
+ghost use Rattle.devices.specs.declared.device.IoFault.TheVariants.{Device as device_failed};
 
-use devices::{Source, WriteFault};
+use devices::{Source, IoFault};
 use std::alloc::{AllocError, Global};
 
 /// How many bytes are asked for at a read.
@@ -69,7 +69,7 @@ impl Waiting {
     }
 
     /// Reads once, to the end of the bytes, and says how many bytes came.
-    pub(crate) fn fill<S: Source>(&mut self, source: &mut S) -> Result<usize, WriteFault>
+    pub(crate) fn fill<S: Source>(&mut self, source: &mut S) -> Result<usize, IoFault>
         ensures ok { IfOk result (λ count. ReadsSome 65536 count (S.remaining source.old) (S.remaining source.new) (waiting_of self.old) (waiting_of self.new)) }
         ensures device { result ≡ Err device_failed → IsKept (S.remaining source.old) (S.remaining source.new) (waiting_of self.old) (waiting_of self.new) }
         ensures failures { CountsDevice (S.failures source.old) (S.failures source.new) result }

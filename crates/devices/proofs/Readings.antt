@@ -5,8 +5,8 @@ use Rattle.std.proofs.lemmas.Bool.{cases_lt}
 use Rattle.std.specs.Prelude.{Option, None, Some, IfSome, Result, Ok, Err, IfOk}
 use Rattle.std.specs.Global.{Vec}
 use Rattle.std.specs.Io.KnownBytes.{Consumes, IsAtEnd}
-use Rattle.devices.specs.declared.device.WriteFault.{WriteFault}
-use Rattle.devices.specs.declared.device.WriteFault.TheVariants as device
+use Rattle.devices.specs.declared.device.IoFault.{IoFault}
+use Rattle.devices.specs.declared.device.IoFault.TheVariants as device
 use Rattle.devices.specs.Devices.{CountsDevice, IsKept, IsReading, one_more}
 
 -- what was read is the beginning of what there was: all of it where that is shorter than the limit
@@ -36,7 +36,7 @@ answered_reading limit known before after (Ok text) kept reading = reading_of_kn
 answered_reading limit known before after (Err fault) kept reading = tt
 
 -- A failed read of a file that was opened counts once among the failures of the files.
-pub reading_counted : {T : Type 0} (before opened after input input_after : ℕ) (r : Result T WriteFault) → opened ≡ before → input ≡ 0
+pub reading_counted : {T : Type 0} (before opened after input input_after : ℕ) (r : Result T IoFault) → opened ≡ before → input ≡ 0
     → CountsDevice input input_after r → (input_after ≡ 0 → after ≡ opened) → (0 < input_after → after ≡ one_more opened) → CountsDevice before after r
 reading_counted before opened after input input_after (Ok text) same fresh counted unfailed failed = unfailed (counted ∙ fresh) ∙ same
 reading_counted before opened after input input_after (Err device.Device) same fresh counted unfailed failed =

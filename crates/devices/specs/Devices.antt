@@ -1,8 +1,8 @@
 -- What calls of a device do to its count of failures.
 use Rattle.std.specs.Prelude.{◌≡◌, ◌⊎◌, ℕ, Bool, IsTrue, ◌+◌, ◌-◌, ◌^◌, ◌<◌, ◌≤◌, min, List, ◌++◌, length, Option, None, Some, Result, Ok, Err}
 use Rattle.std.specs.Io.KnownBytes.{Appends, Consumes, IsAtEnd}
-use Rattle.devices.specs.declared.device.WriteFault.{WriteFault}
-use Rattle.devices.specs.declared.device.WriteFault.TheVariants.{Device, NoMemory}
+use Rattle.devices.specs.declared.device.IoFault.{IoFault}
+use Rattle.devices.specs.declared.device.IoFault.TheVariants.{Device, NoMemory}
 
 -- a count of failures with one more, save at the last value of 64 bits, where it stays
 abbrev pub one_more : ℕ → ℕ
@@ -14,7 +14,7 @@ Counts before after (Ok value) = after ≡ before
 Counts before after (Err fault) = after ≡ one_more before
 
 -- A call in which the device fails counts one failure; running out of memory is none.
-abbrev pub CountsDevice : {T : Type 0} → ℕ → ℕ → Result T WriteFault → Type 0
+abbrev pub CountsDevice : {T : Type 0} → ℕ → ℕ → Result T IoFault → Type 0
 CountsDevice before after (Ok value) = after ≡ before
 CountsDevice before after (Err Device) = after ≡ one_more before
 CountsDevice before after (Err NoMemory) = after ≡ before

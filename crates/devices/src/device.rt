@@ -14,7 +14,7 @@ pub struct DeviceFault;
 
 /// Why a write, or a call on files, did not succeed.
 #[derive(Clone, Copy, Debug, PartialEq, Eq, Error)]
-pub enum WriteFault {
+pub enum IoFault {
     /// The device failed in this call.
     #[error("device failed")]
     Device,
@@ -23,36 +23,36 @@ pub enum WriteFault {
     NoMemory,
 }
 
-impl From<DeviceFault> for WriteFault {
+impl From<DeviceFault> for IoFault {
     ghost use Rattle.std.specs.Prelude.{◌≡◌};
-    ghost use Rattle.devices.specs.declared.device.WriteFault.TheVariants.{Device as device_failed};
+    ghost use Rattle.devices.specs.declared.device.IoFault.TheVariants.{Device as device_failed};
 
     ghost from_gives = { λ _ fault. fault ≡ device_failed };
 
-    fn from(_fault: DeviceFault) -> WriteFault {
-        WriteFault::Device
+    fn from(_fault: DeviceFault) -> IoFault {
+        IoFault::Device
     }
 }
 
-impl From<AllocError> for WriteFault {
+impl From<AllocError> for IoFault {
     ghost use Rattle.std.specs.Prelude.{◌≡◌};
-    ghost use Rattle.devices.specs.declared.device.WriteFault.TheVariants.{NoMemory};
+    ghost use Rattle.devices.specs.declared.device.IoFault.TheVariants.{NoMemory};
 
     ghost from_gives = { λ _ fault. fault ≡ NoMemory };
 
-    fn from(_error: AllocError) -> WriteFault {
-        WriteFault::NoMemory
+    fn from(_error: AllocError) -> IoFault {
+        IoFault::NoMemory
     }
 }
 
-impl<T: Drop> From<AllocFailed<T>> for WriteFault {
+impl<T: Drop> From<AllocFailed<T>> for IoFault {
     ghost use Rattle.std.specs.Prelude.{◌≡◌};
-    ghost use Rattle.devices.specs.declared.device.WriteFault.TheVariants.{NoMemory};
+    ghost use Rattle.devices.specs.declared.device.IoFault.TheVariants.{NoMemory};
 
     ghost from_gives = { λ _ fault. fault ≡ NoMemory };
 
-    fn from(_error: AllocFailed<T>) -> WriteFault {
-        WriteFault::NoMemory
+    fn from(_error: AllocFailed<T>) -> IoFault {
+        IoFault::NoMemory
     }
 }
 
@@ -100,22 +100,22 @@ pub trait Sink {
 
     /// Takes some of the bytes, and says how many. A device that takes nothing of a piece that is not empty
     /// has failed, and so has an interrupted call.
-    fn write(&mut self, piece: &[u8]) -> Result<usize, WriteFault>
+    fn write(&mut self, piece: &[u8]) -> Result<usize, IoFault>
         ensures bound { WritesAtMost result piece.now }
         ensures progress { 0 < length piece.now → IfOk result (λ count. 0 < count) }
         ensures takes { IfOk result (λ count. IfSome (write_count self.old (length piece.now)) (λ reported. count ≡ reported)) }
         ensures bytes { WriteAppends (taken self.old) (taken self.new) result piece.now }
-        ensures memory { result ≡ Err WriteFault.NoMemory → IsTrue wants_memory }
+        ensures memory { result ≡ Err IoFault.NoMemory → IsTrue wants_memory }
         ensures failures { CountsDevice (failures self.old) (failures self.new) result }
         ensures name { name self.new ≡ name self.old };
 }
 
 /// Writes all of the bytes. A sink that fails has taken some beginning of them.
-pub fn write_all<S: Sink>(sink: &mut S, bytes: &[u8]) -> Result<(), WriteFault>
+pub fn write_all<S: Sink>(sink: &mut S, bytes: &[u8]) -> Result<(), IoFault>
     ensures ok { OnOk result (Appends (S.taken sink.old) (S.taken sink.new) bytes.now) }
     ensures beginning { AppendsBeginning (S.taken sink.old) (S.taken sink.new) bytes.now }
     ensures failures { CountsDevice (S.failures sink.old) (S.failures sink.new) result }
-    ensures memory { result ≡ Err WriteFault.NoMemory → IsTrue S.wants_memory }
+    ensures memory { result ≡ Err IoFault.NoMemory → IsTrue S.wants_memory }
     ensures name { S.name sink.new ≡ S.name sink.old }
 {
     let mut rest = bytes;

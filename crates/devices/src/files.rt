@@ -1,6 +1,6 @@
 //! Files by name, and those of the machine. How a text is read, and how one is written.
 ghost use Rattle.std.specs.Prelude.{◌≡◌, ◌≢◌, ℕ, ◌<◌, Bool, false, List, [], Option, None, Some, Err, IfOk, IfSome, IsTrue, OnErr, OnOk};
-ghost use Rattle.devices.specs.declared.device.WriteFault.TheVariants.{Device};
+ghost use Rattle.devices.specs.declared.device.IoFault.TheVariants.{Device};
 ghost use Rattle.devices.specs.Devices.{CountsDevice, IsKept, one_more};
 ghost use Rattle.devices.specs.Written.{HoldsBeginning};
 
@@ -8,7 +8,7 @@ mod reading;
 mod system;
 mod writing;
 
-use crate::device::{Sink, Source, WriteFault};
+use crate::device::{Sink, Source, IoFault};
 pub use reading::read_file;
 pub use system::SystemFiles;
 pub use writing::{Bytes, Document, write_file};
@@ -37,7 +37,7 @@ pub trait Files {
     ghost is_known: { Bool } = { false };
 
     /// Opens the file of this name for reading, from its first byte on. No read of it has failed yet.
-    fn open(&mut self, name: &str) -> Result<Self::Input, WriteFault>
+    fn open(&mut self, name: &str) -> Result<Self::Input, IoFault>
         ensures failures { CountsDevice (failures self.old) (failures self.new) result }
         ensures missing { IsTrue (is_missing self.old name.now) → result ≡ Err Device }
         ensures fresh { IfOk result (λ input. Self.Input.failures input ≡ 0) }
@@ -58,7 +58,7 @@ pub trait Files {
     /// Makes an empty file of this name, in place of one that is there, and opens it for writing. No write of it has
     /// failed yet. Until it is closed the file is as it was, or empty; each other file is as it was, and where the call
     /// is refused each file is.
-    fn create(&mut self, name: &str) -> Result<Self::Output, WriteFault>
+    fn create(&mut self, name: &str) -> Result<Self::Output, IoFault>
         ensures failures { CountsDevice (failures self.old) (failures self.new) result }
         ensures fresh { IfOk result (λ output. Self.Output.failures output ≡ 0) }
         ensures named { IsTrue is_known → IfOk result (λ output. Self.Output.name output ≡ name.now) }
@@ -70,7 +70,7 @@ pub trait Files {
     /// Ends the writing of a file: only then is it sure to hold what was written. A file of which a write has failed
     /// is a failure. Where the call fails, the file is as it was or holds a beginning of what was written; each other
     /// file is as it was.
-    fn close(&mut self, output: Self::Output) -> Result<(), WriteFault>
+    fn close(&mut self, output: Self::Output) -> Result<(), IoFault>
         ensures failures { CountsDevice (failures self.old) (failures self.new) result }
         ensures failed { 0 < Self.Output.failures output → result ≡ Err Device }
         ensures written { IsTrue is_known → OnOk result (contents self.new (Self.Output.name output) ≡ Self.Output.taken output) }

@@ -1,7 +1,7 @@
 //! A device over memory.
 ghost use Rattle.std.specs.Prelude.{◌≡◌, ◌≤◌, ◌++◌, drop, length, min, take, vec_len, Some, []};
 
-use crate::device::{DeviceFault, Sink, Source, WriteFault};
+use crate::device::{DeviceFault, Sink, Source, IoFault};
 use std::alloc::Global;
 
 /// A device over bytes in memory: reads give what is left of them, and writes go to their end. It never fails.
@@ -64,10 +64,10 @@ impl Sink for Memory {
 
     ghost write_count = { λ _ piece. Some piece };
 
-    fn write(&mut self, piece: &[u8]) -> Result<usize, WriteFault> {
+    fn write(&mut self, piece: &[u8]) -> Result<usize, IoFault> {
         match self.bytes.extend_from_slice(piece) {
             Ok(()) => Ok(piece.len()),
-            Err(_) => Err(WriteFault::NoMemory),
+            Err(_) => Err(IoFault::NoMemory),
         }
     }
 }

@@ -2,7 +2,7 @@
 ghost use Rattle.std.specs.Prelude.{◌≡◌, false};
 ghost use Rattle.devices.specs.Devices.{one_more};
 
-use crate::device::{DeviceFault, Sink, Source, WriteFault};
+use crate::device::{DeviceFault, Sink, Source, IoFault};
 use std::io::{Read, Write};
 
 /// The most bytes that come at a read.
@@ -98,13 +98,13 @@ impl<W: Write> Sink for Device<W> {
 
     ghost wants_memory = { false };
 
-    fn write(&mut self, piece: &[u8]) -> Result<usize, WriteFault> {
+    fn write(&mut self, piece: &[u8]) -> Result<usize, IoFault> {
         match self.inner.write(piece) {
             Ok(count) if count > 0 || piece.is_empty() => Ok(count),
             // nothing was taken, or an error, `ErrorKind::Interrupted` too: counted, and not tried again
             _ => {
                 self.count_failure();
-                Err(WriteFault::Device)
+                Err(IoFault::Device)
             }
         }
     }

@@ -4,11 +4,11 @@ use Rattle.std.proofs.Common.{◌∙◌, ap, inr, subst}
 use Rattle.std.specs.Global.{Vec}
 use Rattle.tokens.specs.Word.{word_of}
 use Rattle.tokens.specs.declared.word.Word.{Word}
-use Rattle.model.specs.Trees.{File}
+use Rattle.model.specs.Trees.{TaskFile}
 use Rattle.model.specs.Words.{ReadsAs}
 use Rattle.explained_faults.specs.Expected.{MayFollow, MayOccur, words_before}
 
-module _ (file : File) (text : List ℕ) (offset : ℕ) (words items before : List Word) (reads : ReadsAs text (map word_of words)) (same : items ≡ words) (are : before ≡ words_before offset items) where
+module _ (file : TaskFile) (text : List ℕ) (offset : ℕ) (words items before : List Word) (reads : ReadsAs text (map word_of words)) (same : items ≡ words) (are : before ≡ words_before offset items) where
   pub may_occur : (wanted : List Word) → All (MayFollow file before) wanted → MayOccur file text offset wanted
   may_occur wanted follow =
       let occur : before ≡ words_before offset words = are ∙ ap (words_before offset) same in

@@ -7,12 +7,12 @@ use Rattle.tokens.specs.Word.{word_of}
 use Rattle.tokens.specs.declared.word.Word as code
 use Rattle.model.specs.Words as text
 use Rattle.model.specs.Words.{ReadsAs}
-use Rattle.model.specs.Trees.{File}
+use Rattle.model.specs.Trees.{TaskFile}
 use Rattle.model.specs.GrammarWords.{token_of, tokens_of}
 use Rattle.model.specs.Refusals.{Begins}
 
 -- a file of this kind begins with the words and this one
-abbrev pub MayFollow : File → List code.Word → code.Word → Type 0
+abbrev pub MayFollow : TaskFile → List code.Word → code.Word → Type 0
 MayFollow file words word = Begins file (tokens_of (map word_of words) ++ token_of (word_of word) ∷ [])
 
 -- whether a word begins at an offset, or after it
@@ -24,13 +24,13 @@ abbrev pub words_before : ℕ → List code.Word → List code.Word
 words_before offset = before_first (begins_from offset)
 
 -- Words may occur at an offset of a file's text: after those of the text before it, some file of this kind goes on with each.
-pub record MayOccurIn (file : File) (text : List ℕ) (offset : ℕ) (wanted : List code.Word) : Type 0 where
+pub record MayOccurIn (file : TaskFile) (text : List ℕ) (offset : ℕ) (wanted : List code.Word) : Type 0 where
   pub words : List code.Word
   pub reads : ReadsAs text (map word_of words)
   pub follow : All (MayFollow file (words_before offset words)) wanted
 
 -- so they do, or none is reported
-abbrev pub MayOccur : File → List ℕ → ℕ → List code.Word → Type 0
+abbrev pub MayOccur : TaskFile → List ℕ → ℕ → List code.Word → Type 0
 MayOccur file text offset wanted = (wanted ≡ []) ⊎ MayOccurIn file text offset wanted
 
 -- whether a word has bytes

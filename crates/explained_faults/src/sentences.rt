@@ -7,7 +7,7 @@ ghost use Rattle.explained_faults.specs.Explained.{BeginsWith, heading};
 use crate::explanation::{FaultExplanation, FileRefusal, reported_bytes};
 use crate::help::{CostFault, Counts, Help, Limit, Named, Types};
 use crate::near::{Others, is_near};
-use crate::shown::{Chain, Name, Names, Place, add_words};
+use crate::shown::{Chain, Name, NameList, FilePlace, add_words};
 use faults::{Code, NoMemory};
 use source_text::{LineColumn, NamedTexts, marked};
 use std::alloc::{AllocError, Global};
@@ -75,13 +75,13 @@ impl FaultExplanation<'_> {
         match &self.help {
             Help::Plain => add_plain(self.fault.code, word, out),
             Help::Length(length) => add_length(self.fault, *length, out),
-            Help::Open(at) => write!(out, "the `(` at {} is never closed.", Place::of(texts, *at)),
-            Help::Earlier(at) => add_earlier(self.fault.code, word, Place::of(texts, *at), out),
-            Help::Valued(at) => add_valued(word, Place::of(texts, *at), out),
+            Help::Open(at) => write!(out, "the `(` at {} is never closed.", FilePlace::of(texts, *at)),
+            Help::Earlier(at) => add_earlier(self.fault.code, word, FilePlace::of(texts, *at), out),
+            Help::Valued(at) => add_valued(word, FilePlace::of(texts, *at), out),
             Help::BuiltIn => out.push_str("the type `object` is built in."),
             Help::Missing(names) => add_missing(names.as_slice(), out),
             Help::Unknown(named, others) => add_unknown(*named, word, others, out),
-            Help::OfProblem(at) => add_of_problem(word, Place::of(texts, *at), out),
+            Help::OfProblem(at) => add_of_problem(word, FilePlace::of(texts, *at), out),
             Help::Chain(names) => {
                 write!(
                     out,
@@ -186,7 +186,7 @@ fn add_length(fault: FileRefusal, length: usize, out: &mut String) -> Result<(),
 fn add_earlier(
     code: Code,
     word: &[u8],
-    place: Place<'_>,
+    place: FilePlace<'_>,
     out: &mut String,
 ) -> Result<(), AllocError> {
     match code {
@@ -197,7 +197,7 @@ fn add_earlier(
     }
 }
 
-fn add_valued(word: &[u8], place: Place<'_>, out: &mut String) -> Result<(), AllocError> {
+fn add_valued(word: &[u8], place: FilePlace<'_>, out: &mut String) -> Result<(), AllocError> {
     let name = Name(word);
     write!(
         out,
@@ -208,7 +208,7 @@ fn add_valued(word: &[u8], place: Place<'_>, out: &mut String) -> Result<(), All
 fn add_missing(names: &[&[u8]], out: &mut String) -> Result<(), AllocError> {
     let verb = if names.len() == 1 { "is" } else { "are" };
     let last = " and ";
-    write!(out, "{} {verb} missing.", Names { names, last })
+    write!(out, "{} {verb} missing.", NameList { names, last })
 }
 
 fn add_unknown(
@@ -231,21 +231,21 @@ fn add_unknown(
         out.push_str(".")
     } else if others.are_near {
         let last = " or ";
-        write!(out, "; did you mean {}?", Names { names, last })
+        write!(out, "; did you mean {}?", NameList { names, last })
     } else if names.len() == 1 {
         let last = "";
         write!(
             out,
             "; the only {kind}{ending} is {}.",
-            Names { names, last }
+            NameList { names, last }
         )
     } else {
         let last = " and ";
-        write!(out, "; the {kind}s{ending} are {}.", Names { names, last })
+        write!(out, "; the {kind}s{ending} are {}.", NameList { names, last })
     }
 }
 
-fn add_of_problem(word: &[u8], place: Place<'_>, out: &mut String) -> Result<(), AllocError> {
+fn add_of_problem(word: &[u8], place: FilePlace<'_>, out: &mut String) -> Result<(), AllocError> {
     let name = Name(word);
     write!(
         out,
@@ -266,11 +266,11 @@ fn add_counts(word: &[u8], counts: Counts, out: &mut String) -> Result<(), Alloc
 
 fn add_types(word: &[u8], types: &Types<'_>, out: &mut String) -> Result<(), AllocError> {
     let last = " or ";
-    let given = Names {
+    let given = NameList {
         names: types.given.as_slice(),
         last,
     };
-    let wanted = Names {
+    let wanted = NameList {
         names: types.wanted.as_slice(),
         last,
     };

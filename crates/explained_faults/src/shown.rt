@@ -25,14 +25,14 @@ impl fmt::Display for Name<'_> {
 
 /// Names with commas between them, and a word before the last.
 #[derive(Clone, Copy)]
-pub(crate) struct Names<'n, 'a> {
+pub(crate) struct NameList<'n, 'a> {
     /// The names.
     pub(crate) names: &'n [&'a [u8]],
     /// What comes before the last, as ` and `.
     pub(crate) last: &'static str,
 }
 
-impl fmt::Display for Names<'_, '_> {
+impl fmt::Display for NameList<'_, '_> {
     fn fmt<W: fmt::Write>(&self, f: &mut fmt::Formatter<W>) -> fmt::Result {
         for (index, name) in self.names.iter().enumerate() {
             let separator = separator(index, self.names.len(), self.last);
@@ -74,22 +74,22 @@ impl fmt::Display for Chain<'_, '_> {
 
 /// A place of a file with its name, as `domain.pddl:12:27`.
 #[derive(Clone, Copy)]
-pub(crate) struct Place<'t> {
+pub(crate) struct FilePlace<'t> {
     name: &'t str,
     place: LineColumn,
 }
 
-impl<'t> Place<'t> {
+impl<'t> FilePlace<'t> {
     /// The place of the byte at an offset of a file.
-    pub(crate) fn of(texts: &NamedTexts<'t>, at: FileOffset) -> Place<'t> {
-        Place {
+    pub(crate) fn of(texts: &NamedTexts<'t>, at: FileOffset) -> FilePlace<'t> {
+        FilePlace {
             name: texts.name(at.file),
             place: place_of(texts.text(at.file), at.offset),
         }
     }
 }
 
-impl fmt::Display for Place<'_> {
+impl fmt::Display for FilePlace<'_> {
     fn fmt<W: fmt::Write>(&self, f: &mut fmt::Formatter<W>) -> fmt::Result {
         let (line, column) = (self.place.line, self.place.column);
         write!(f, "{}:{line}:{column}", self.name)

@@ -4,7 +4,7 @@ use Rattle.std.specs.Prelude.{Result, Ok, Err, IfErr}
 use Rattle.std.specs.Option.{option_map}
 use Rattle.model.specs.Fault.{Fault}
 use Rattle.model.specs.Words.{Word, ReadsAs, IsReported}
-use Rattle.model.specs.Trees.{File, domain_file, problem_file, Domain, Problem}
+use Rattle.model.specs.Trees.{TaskFile, domain_file, problem_file, Domain, Problem}
 use Rattle.model.specs.Grammar.{IsDomain, IsProblem}
 use Rattle.model.specs.GrammarWords.{tokens_of}
 use Rattle.model.specs.Refusals.{IsWhole, IsRefused}
@@ -43,19 +43,19 @@ none_refused P (Ok found) h = tt
 none_refused P (Err fault) h = subst (λ o. IfSome o P) (sym h) tt
 
 -- What is reported for one text.
-pub words_refused : (kind : File) (text : List ℕ) (o : Option Fault) → IfSome o (IsReported text) → IfSome o (IsTextFault kind text)
+pub words_refused : (kind : TaskFile) (text : List ℕ) (o : Option Fault) → IfSome o (IsReported text) → IfSome o (IsTextFault kind text)
 words_refused kind text None h = tt
 words_refused kind text (Some fault) h = of_words h
 
-pub tree_refused : (kind : File) (text : List ℕ) (words : List Word) → ReadsAs text words → (o : Option Fault) → IfSome o (IsRefused kind words) → IfSome o (IsTextFault kind text)
+pub tree_refused : (kind : TaskFile) (text : List ℕ) (words : List Word) → ReadsAs text words → (o : Option Fault) → IfSome o (IsRefused kind words) → IfSome o (IsTextFault kind text)
 tree_refused kind text words reads None h = tt
 tree_refused kind text words reads (Some fault) h = of_tree words reads h
 
-pub tree_refused_in : {T : Type 0} (kind : File) (text : List ℕ) (words : List Word) → ReadsAs text words → (r : Result T code.Fault) → IfErr r (λ fault. IfSome (reported_by fault) (IsRefused kind words)) → IfErr r (λ fault. IfSome (reported_by fault) (IsTextFault kind text))
+pub tree_refused_in : {T : Type 0} (kind : TaskFile) (text : List ℕ) (words : List Word) → ReadsAs text words → (r : Result T code.Fault) → IfErr r (λ fault. IfSome (reported_by fault) (IsRefused kind words)) → IfErr r (λ fault. IfSome (reported_by fault) (IsTextFault kind text))
 tree_refused_in kind text words reads (Ok tree) h = tt
 tree_refused_in kind text words reads (Err fault) h = tree_refused kind text words reads (reported_by fault) h
 
-text_not_refused : (kind : File) (text : List ℕ) (words : List Word) (fault : Fault) → ReadsAs text words → IsWhole kind (tokens_of words) → IsTextFault kind text fault → ⊥
+text_not_refused : (kind : TaskFile) (text : List ℕ) (words : List Word) (fault : Fault) → ReadsAs text words → IsWhole kind (tokens_of words) → IsTextFault kind text fault → ⊥
 text_not_refused kind text words fault reads whole (of_words reported) = read_is_reported_nothing text words fault reads reported
 text_not_refused kind text words fault reads whole (of_tree others other refused) =
     whole_not_refused kind others fault (subst (λ ws. IsWhole kind (tokens_of ws)) (one_reading_lem text words others reads other) whole) refused

@@ -1,7 +1,7 @@
 -- A file begins with the words that the machine goes through: from each nonterminal some words are derived.
 use Rattle.std.proofs.Common.{◌≡◌, ℕ, Bool, true, false, cond, ◌&&◌, ◌||◌, List, [], ◌∷◌, ◌++◌, fold, None, Some, refl, sym, ◌∙◌, ap, subst}
 use Rattle.std.proofs.lemmas.List.{append_assoc, append-nil}
-use Rattle.model.specs.Trees.{File, domain_file, problem_file, Name, no_name, formulas, effects}
+use Rattle.model.specs.Trees.{TaskFile, domain_file, problem_file, Name, no_name, formulas, effects}
 use Rattle.model.specs.Trees as tree
 use Rattle.model.specs.GrammarWords.{Token, opens, closes, free, ordinary, define, reserved, variable, keyword, number, SectionKeyword, of_section, PartKeyword, of_part, requirement_key}
 use Rattle.model.specs.GrammarWords as words
@@ -77,11 +77,11 @@ is_left k (j ∷ all) seen e n = by_first (is_section k j) refl (has_section see
     by_first false is false was rest e = ap (λ b. b || has_section (left_of all seen) k) is ∙ rest e n
 
 -- the words of a section after its keyword, whichever others might occur in its place
-abbrev IsRest : File → SectionKeyword → List Token → Section → Type 0
+abbrev IsRest : TaskFile → SectionKeyword → List Token → Section → Type 0
 IsRest f k u x = (j : SectionKeyword) (others : List SectionKeyword) (r : List Token) → Follows (section f j others) (section_after k) (u ++ r) x r
 
 -- one section more
-one_more : (f : File) (seen : List SectionKeyword) (k : SectionKeyword) (u : List Token) (x : Section) → keyword_in x ≡ k → has_section (sections_of f) k ≡ true → has_section seen k ≡ false → IsRest f k u x → Shortest (sections f (seen_with seen k)) → Shortest (sections f seen)
+one_more : (f : TaskFile) (seen : List SectionKeyword) (k : SectionKeyword) (u : List Token) (x : Section) → keyword_in x ≡ k → has_section (sections_of f) k ≡ true → has_section seen k ≡ false → IsRest f k u x → Shortest (sections f (seen_with seen k)) → Shortest (sections f seen)
 one_more f seen k u x is here new rest (short w xs d) = short (opens ∷ keyword (of_section k) ∷ u ++ w) (x ∷ xs) (λ r. by_left r (left_of (sections_of f) seen) refl (is_left k (sections_of f) seen here new))
   where
     by_left : (r : List Token) (l : List SectionKeyword) → left_of (sections_of f) seen ≡ l → has_section l k ≡ true → Derives (sections f seen) (opens ∷ keyword (of_section k) ∷ (u ++ w) ++ r) (x ∷ xs) r
@@ -93,7 +93,7 @@ one_more f seen k u x is here new rest (short w xs d) = short (opens ∷ keyword
         let after_it : (q : SectionKeyword) → keyword_in x ≡ q → k ≡ q → Derives (sections f (seen_with seen q)) (w ++ r) xs r = λ q a b. subst (λ y. Derives (sections f (seen_with seen y)) (w ++ r) xs r) b (d r) in
         by (ap (section_of f seen) are) (next first (next (after_it (keyword_in x) refl (sym is)) nothing))
 
-closed : (f : File) (seen : List SectionKeyword) → has_all (required_of f) seen ≡ true → Shortest (sections f seen)
+closed : (f : TaskFile) (seen : List SectionKeyword) → has_all (required_of f) seen ≡ true → Shortest (sections f seen)
 closed f seen all = short (closes ∷ []) [] (λ r. by (ap (λ b. cond b (Some (gives [])) None) all) nothing)
 
 domain_sections : (seen : List SectionKeyword) (b : Bool) → has_section seen words.predicates ≡ b → Shortest (sections domain_file seen)
@@ -119,13 +119,13 @@ problem_sections seen false d =
     one_more problem_file seen words.domain_keyword (word ∷ closes ∷ []) (Grammar.domain no_name) refl refl d (λ j others r. next (by refl nothing) (next (by refl nothing) nothing))
     (with_init (seen ++ words.domain_keyword ∷ []) (seen_now seen words.domain_keyword) (has_section (seen ++ words.domain_keyword ∷ []) words.init) refl)
 
-some_sections : (f : File) (seen : List SectionKeyword) → Shortest (sections f seen)
+some_sections : (f : TaskFile) (seen : List SectionKeyword) → Shortest (sections f seen)
 some_sections domain_file seen = domain_sections seen (has_section seen words.predicates) refl
 some_sections problem_file seen = problem_sections seen (has_section seen words.domain_keyword) refl
 
 -- ---- all
 
-some_section : (k : SectionKeyword) → (u : List Token) × (x : Section) × ((f : File) → IsRest f k u x)
+some_section : (k : SectionKeyword) → (u : List Token) × (x : Section) × ((f : TaskFile) → IsRest f k u x)
 some_section words.requirements = (closes ∷ [], Grammar.requirements, λ f j others r. next (by refl nothing) nothing)
 some_section words.types = (closes ∷ [], Grammar.types [], λ f j others r. next (by refl nothing) nothing)
 some_section words.constants = (closes ∷ [], Grammar.constants [], λ f j others r. next (by refl nothing) nothing)
@@ -150,7 +150,7 @@ some_section words.metric = (
   λ f j others r. next (by refl nothing) (next (by refl (next (by refl (next (by refl nothing) nothing)) nothing)) (next (by refl nothing) nothing)),
 )
 
-one_section : (f : File) (k : SectionKeyword) (others : List SectionKeyword) → Shortest (section f k others)
+one_section : (f : TaskFile) (k : SectionKeyword) (others : List SectionKeyword) → Shortest (section f k others)
 one_section f k others =
     let among : after (section f k others) (keyword (of_section k)) ≡ Some (section_after k) = ap (λ b. cond (b || has_section others k) (Some (section_after k)) None) (is_section-self k) in
     short (keyword (of_section k) ∷ (some_section k).0) (some_section k).1 (λ r. by among ((some_section k).2 f k others r))
@@ -209,7 +209,7 @@ shortest (sections f seen) = some_sections f seen
 shortest (section f k others) = one_section f k others
 shortest (file f) = in_file (some_sections f []) (shortest_kind f)
   where
-    shortest_kind : (f : File) → Shortest (Grammar.kind_word f)
+    shortest_kind : (f : TaskFile) → Shortest (Grammar.kind_word f)
     shortest_kind domain_file = short (free words.domain no_name ∷ []) tt (λ r. by refl nothing)
     shortest_kind problem_file = short (free words.problem no_name ∷ []) tt (λ r. by refl nothing)
 
@@ -238,11 +238,11 @@ completed s (u >>= k) = by_first (shortest u) (λ y. completed s (k y))
         by_rest (complete v x f) = complete (w ++ v) x (λ r. subst (λ z. Follows s (u >>= k) z x r) (sym (append_assoc w v r)) (next (d (v ++ r)) (f r)))
 
 -- a file that begins with more words begins with fewer
-pub fewer : (f : File) (b u : List Token) → Begins f (b ++ u) → Begins f b
+pub fewer : (f : TaskFile) (b u : List Token) → Begins f (b ++ u) → Begins f b
 fewer f b u h = (u ++ h.0, subst (IsWhole f) (append_assoc b u h.0) h.1)
 
 -- a file begins with the words that lead to what has to follow
-pub begins : (f : File) (b : List Token) (q : Phrase Tree) → after_all b (start f) ≡ Some q → Begins f b
+pub begins : (f : TaskFile) (b : List Token) (q : Phrase Tree) → after_all b (start f) ≡ Some q → Begins f b
 begins f b q e = by_end (completed (file f) q)
   where
     by_end : Completed (file f) q → Begins f b
@@ -251,7 +251,7 @@ begins f b q e = by_end (completed (file f) q)
         (w, (x, run_file f (b ++ w) x (leads b (start f) q w e ∙ ends)))
 
 -- no file goes on with a word that may not follow
-pub dead : (f : File) (b : List Token) (q : Phrase Tree) (t : Token) → after_all b (start f) ≡ Some q → step q t ≡ None → Begins f (b ++ t ∷ []) → ⊥
+pub dead : (f : TaskFile) (b : List Token) (q : Phrase Tree) (t : Token) → after_all b (start f) ≡ Some q → step q t ≡ None → Begins f (b ++ t ∷ []) → ⊥
 dead f b q t e stops h =
     let words : run (b ++ t ∷ h.0) (start f) ≡ finished h.1.0 = ap (λ v. run v (start f)) (sym (append_assoc b (t ∷ []) h.0)) ∙ file_run h.1.1 in
     let here : run (t ∷ h.0) q ≡ stopped (number_after q t) (t ∷ h.0) = ap (λ o. go_on o (run h.0) (stopped (number_after q t) (t ∷ h.0))) stops in

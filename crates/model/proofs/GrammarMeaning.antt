@@ -1,7 +1,7 @@
 -- The machine and the grammar: it finishes on exactly the words that derive, with their tree.
 use Rattle.std.proofs.Common.{◌≡◌, ℕ, List, [], ◌∷◌, Option, None, Some, refl, ◌∙◌, ap, subst}
 use Rattle.std.specs.Option.{option_map}
-use Rattle.model.specs.Trees.{File, Domain, Problem}
+use Rattle.model.specs.Trees.{TaskFile, Domain, Problem}
 use Rattle.model.specs.GrammarWords.{Token}
 use Rattle.model.specs.Grammar.{Sort, Value, Phrase, gives, ◌>>=◌, and_then, after, Derives, by, Follows, nothing, next, Tree, file, IsFile, IsDomain, IsProblem}
 use Rattle.model.specs.GrammarMachine.{finished, stopped, go_on, run}
@@ -38,7 +38,7 @@ phrase_run nothing = refl
 phrase_run (next {k = k} d f) = derived d k ∙ phrase_run f
 
 -- a file's phrase
-pub sound : (f : File) (w : List Token) (p : Phrase Tree) (x : Tree) → run w p ≡ finished x → Follows (file f) p w x []
+pub sound : (f : TaskFile) (w : List Token) (p : Phrase Tree) (x : Tree) → run w p ≡ finished x → Follows (file f) p w x []
 sound f [] (gives y) x e = let same : y ≡ x = cc in subst (λ z. Follows (file f) (gives y) [] z []) same nothing
 sound f [] (s >>= k) x e = absurd (unfinished e)
 sound f (t ∷ w) (gives y) x e = absurd (unfinished e)
@@ -52,17 +52,17 @@ sound f (t ∷ w) (s >>= k) x e = by_after (after s t) refl (λ q. sound f w q x
         by_parts (parts_of y v g h) = next (by is g) h
 
 -- the words of a file are those that the machine finishes on
-pub file_run : {f : File} {w : List Token} {x : Tree} → IsFile f w x → run w (start f) ≡ finished x
+pub file_run : {f : TaskFile} {w : List Token} {x : Tree} → IsFile f w x → run w (start f) ≡ finished x
 file_run d = derived d gives
 
-pub run_file : (f : File) (w : List Token) (x : Tree) → run w (start f) ≡ finished x → IsFile f w x
+pub run_file : (f : TaskFile) (w : List Token) (x : Tree) → run w (start f) ≡ finished x → IsFile f w x
 run_file f w x e = by_next (sound f w (start f) x e)
   where
     by_next : Follows (file f) (start f) w x [] → IsFile f w x
     by_next (next d nothing) = d
 
 -- a list of words has at most one tree
-pub one_tree : {f : File} {w : List Token} {x y : Tree} → IsFile f w x → IsFile f w y → x ≡ y
+pub one_tree : {f : TaskFile} {w : List Token} {x y : Tree} → IsFile f w x → IsFile f w y → x ≡ y
 one_tree d e = let a = file_run d in let b = file_run e in cc
 
 pub one_domain : (w : List Token) (d e : Domain) → IsDomain w d → IsDomain w e → d ≡ e

@@ -6,7 +6,7 @@ use Rattle.std.specs.List.{list_all}
 use Rattle.std.specs.Option.{option_map, option_map_or}
 use Rattle.std.proofs.lemmas.Bool.{and_parts}
 use Rattle.std.proofs.lemmas.List.Folds.{list_all-append}
-use Rattle.model.specs.Trees.{File, domain_file, problem_file, Name, Group, Predicate, Action, Domain, Problem, names_of}
+use Rattle.model.specs.Trees.{TaskFile, domain_file, problem_file, Name, Group, Predicate, Action, Domain, Problem, names_of}
 use Rattle.model.specs.GrammarWords.{Token, opens, closes, free, keyword, dash, SectionKeyword, of_section}
 use Rattle.model.specs.GrammarWords as words
 use Rattle.model.specs.Grammar.{Sort, Value, Phrase, gives, ◌>>=◌, Section, requirements, types, constants, predicates, functions, action, domain, objects, init, goal, metric, Part, parameters, precondition, effect, with_part, bare_action, Contents, no_contents, with_section, Tree, domain_tree, problem_tree, tree_from, listed, many, declaration, names, with_name, action_name, typed, group, section, sections, file, group_after, section_after, section_of, name_in, has_section, has_all, required_of, left_of, sections_of, after, Derives, by, Follows, nothing, next, IsDomain, IsProblem}
@@ -115,7 +115,7 @@ module _ (passes : Name → Bool) where
   name_from a (p ∷ ps) = name_from (with_part a p) ps ∙ name_with a p
 
   -- the productions of sections, of one and of a file's
-  section_keeps : (f : File) (k : SectionKeyword) (others : List SectionKeyword) (j : SectionKeyword) → Keeps (section f k others) (section_after j)
+  section_keeps : (f : TaskFile) (k : SectionKeyword) (others : List SectionKeyword) (j : SectionKeyword) → Keeps (section f k others) (section_after j)
   section_keeps f k others words.requirements = λ _ _. tt
   section_keeps f k others words.types = λ gs _. tt
   section_keeps f k others words.constants = λ gs pass. pass
@@ -128,15 +128,15 @@ module _ (passes : Name → Bool) where
   section_keeps f k others words.goal = λ g _ _ _. tt
   section_keeps f k others words.metric = λ _ _ n _ _ _. tt
 
-  section_keeps_if : (f : File) (k : SectionKeyword) (others : List SectionKeyword) (j : SectionKeyword) (b : Bool) → KeepsAfter (section f k others) (cond b (Some (section_after j)) None)
+  section_keeps_if : (f : TaskFile) (k : SectionKeyword) (others : List SectionKeyword) (j : SectionKeyword) (b : Bool) → KeepsAfter (section f k others) (cond b (Some (section_after j)) None)
   section_keeps_if f k others j true = section_keeps f k others j
   section_keeps_if f k others j false = tt
 
-  sections_end : (f : File) (seen : List SectionKeyword) (b : Bool) → KeepsAfter (sections f seen) (cond b (Some (gives [])) None)
+  sections_end : (f : TaskFile) (seen : List SectionKeyword) (b : Bool) → KeepsAfter (sections f seen) (cond b (Some (gives [])) None)
   sections_end f seen true = tt
   sections_end f seen false = tt
 
-  sections_keep : (f : File) (seen left : List SectionKeyword) → KeepsAfter (sections f seen) (section_of f seen left)
+  sections_keep : (f : TaskFile) (seen left : List SectionKeyword) → KeepsAfter (sections f seen) (section_of f seen left)
   sections_keep f seen [] = tt
   sections_keep f seen (k ∷ others) = λ x here xs later. (here, later)
 
@@ -163,7 +163,7 @@ module _ (passes : Name → Bool) where
   contents_pass c [] pass each = pass
   contents_pass c (x ∷ xs) pass each = contents_pass (with_section c x) xs (with_section_passes c x pass each.0) each.1
 
-  tree_passes : (f : File) (n : Name) (c : Contents) → ContentsPass c → TreePasses (tree_from f n c)
+  tree_passes : (f : TaskFile) (n : Name) (c : Contents) → ContentsPass c → TreePasses (tree_from f n c)
   tree_passes domain_file n c pass = (pass.0, pass.1, pass.3)
   tree_passes problem_file n c pass = pass.2
 

@@ -4,27 +4,27 @@ use Rattle.std.proofs.Common.{◌≡◌, ℕ, List, [], ◌∷◌, ◌++◌, sym
 use Rattle.std.proofs.lemmas.List.{map-append, append_assoc, append-nil}
 use Rattle.model.specs.Fault.{Fault}
 use Rattle.model.specs.Words.{Word, end_of}
-use Rattle.model.specs.Trees.{File}
+use Rattle.model.specs.Trees.{TaskFile}
 use Rattle.model.specs.GrammarWords.{Token, token_of, tokens_of}
 use Rattle.model.specs.Refusals.{IsWhole, Begins, IsReportedOf, IsRefused, at_word, at_end, number_after}
 use Rattle.model.proofs.GrammarBegins.{fewer}
 use Rattle.model.proofs.Places.{Places, at_one, comes_before, comes_after, places}
 
 -- words with which a file begins have no word before their end with which none goes on
-goes_on : (file : File) (all before after : List Word) (word : Word) → all ≡ before ++ word ∷ after → Begins file (tokens_of all) → Begins file (tokens_of before ++ token_of word ∷ [])
+goes_on : (file : TaskFile) (all before after : List Word) (word : Word) → all ≡ before ++ word ∷ after → Begins file (tokens_of all) → Begins file (tokens_of before ++ token_of word ∷ [])
 goes_on file all before after word split begins =
     let tokens : tokens_of all ≡ (tokens_of before ++ token_of word ∷ []) ++ tokens_of after =
     ap tokens_of split ∙ map-append token_of before (word ∷ after) ∙ sym (append_assoc (tokens_of before) (token_of word ∷ []) (tokens_of after)) in
     fewer file (tokens_of before ++ token_of word ∷ []) (tokens_of after) (subst (Begins file) tokens begins)
 
 -- one number is reported for a word where these come before it
-one_number : (file : File) (b : List Token) (t : Token) (c d : ℕ) → IsReportedOf file b t c → IsReportedOf file b t d → c ≡ d
+one_number : (file : TaskFile) (b : List Token) (t : Token) (c d : ℕ) → IsReportedOf file b t c → IsReportedOf file b t d → c ≡ d
 one_number file b t c d l m = let same : l.0 ≡ m.0 = cc in l.2 ∙ ap (λ p. number_after p t) same ∙ sym m.2
 
 same_fault : (f g : Fault) → f.code ≡ g.code → f.span ≡ g.span → f ≡ g
 same_fault f g code span = ap (λ c. record { code = c; span = f.span }) code ∙ ap (λ s. record { code = g.code; span = s }) span
 
-pub one_refusal : (file : File) (words : List Word) (f g : Fault) → IsRefused file words f → IsRefused file words g → f ≡ g
+pub one_refusal : (file : TaskFile) (words : List Word) (f g : Fault) → IsRefused file words f → IsRefused file words g → f ≡ g
 one_refusal file words f g (at_word b r w split begins dead line span) (at_word c s x other begin die rule place) = by_places (places b c r s w x (sym split ∙ other))
   where
     by_places : Places b c w x → f ≡ g
@@ -38,7 +38,7 @@ one_refusal file words f g (at_end all whole code place) (at_word c s x other be
 one_refusal file words f g (at_end all whole code span) (at_end other none number place) = same_fault f g (code ∙ sym number) (span ∙ sym place)
 
 -- words that are a whole file are not refused
-pub whole_not_refused : (file : File) (words : List Word) (fault : Fault) → IsWhole file (tokens_of words) → IsRefused file words fault → ⊥
+pub whole_not_refused : (file : TaskFile) (words : List Word) (fault : Fault) → IsWhole file (tokens_of words) → IsRefused file words fault → ⊥
 whole_not_refused file words fault whole (at_word b r w split begins dead line span) =
     let begun : Begins file (tokens_of words) = ([], subst (IsWhole file) (sym (append-nil (tokens_of words))) whole) in
     dead (goes_on file words b r w split begun)

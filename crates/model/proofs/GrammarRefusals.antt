@@ -3,7 +3,7 @@ use Rattle.std.proofs.Common.{◌≡◌, ℕ, zero, suc, List, [], ◌∷◌, �
 use Rattle.std.specs.Prelude.{slice_get}
 use Rattle.std.proofs.lemmas.List.{map-append}
 use Rattle.model.specs.Words.{Word, end_of}
-use Rattle.model.specs.Trees.{File}
+use Rattle.model.specs.Trees.{TaskFile}
 use Rattle.model.specs.GrammarWords.{Token, token_of, tokens_of}
 use Rattle.model.specs.Grammar.{Tree}
 use Rattle.model.specs.Refusals.{end_of_all, span_by, span_of_place, IsRefused, at_word, at_end, start}
@@ -31,7 +31,7 @@ place_in (w ∷ words) (suc n) = by_rest (place_in words n)
     by_rest (within before after word split get left) = within (w ∷ before) after word (ap (λ ws. w ∷ ws) split) get left
     by_rest (past get left) = past get left
 
-refused_word : (file : File) (words before after : List Word) (word : Word) (code : ℕ) → words ≡ before ++ word ∷ after → run (tokens_of words) (start file) ≡ stopped code (token_of word ∷ tokens_of after) → IsRefused file words (record { code = code; span = record { start = word.start; end = end_of word } })
+refused_word : (file : TaskFile) (words before after : List Word) (word : Word) (code : ℕ) → words ≡ before ++ word ∷ after → run (tokens_of words) (start file) ≡ stopped code (token_of word ∷ tokens_of after) → IsRefused file words (record { code = code; span = record { start = word.start; end = end_of word } })
 refused_word file words before after word code split e =
     let tokens : tokens_of words ≡ tokens_of before ++ token_of word ∷ tokens_of after = ap tokens_of split ∙ map-append token_of before (word ∷ after) in
     by_stop (stopping (tokens_of before) (start file) (token_of word) (tokens_of after) code (ap (λ w. run w (start file)) (sym tokens) ∙ e))
@@ -40,13 +40,13 @@ refused_word file words before after word code split e =
     by_stop (stops_at q led stops number) =
         at_word before after word split (begins file (tokens_of before) q led) (dead file (tokens_of before) q (token_of word) led stops) (q, led, number) refl
 
-refused_end : (file : File) (words : List Word) (code : ℕ) → run (tokens_of words) (start file) ≡ stopped code [] → IsRefused file words (record { code = code; span = record { start = end_of_all words; end = end_of_all words } })
+refused_end : (file : TaskFile) (words : List Word) (code : ℕ) → run (tokens_of words) (start file) ≡ stopped code [] → IsRefused file words (record { code = code; span = record { start = end_of_all words; end = end_of_all words } })
 refused_end file words code e =
     let stop = ending (tokens_of words) (start file) code e in
     at_end (begins file (tokens_of words) stop.0 stop.1) (λ whole. apart (sym (file_run whole.1) ∙ e)) stop.2 refl
 
 -- what the machine stops at is refused
-pub refused_at : (file : File) (words : List Word) (code place : ℕ) → run (tokens_of words) (start file) ≡ stopped code (drop place (tokens_of words)) → IsRefused file words (record { code = code; span = span_of_place words place })
+pub refused_at : (file : TaskFile) (words : List Word) (code place : ℕ) → run (tokens_of words) (start file) ≡ stopped code (drop place (tokens_of words)) → IsRefused file words (record { code = code; span = span_of_place words place })
 refused_at file words code place e = by_place (place_in words place)
   where
     by_place : IsPlace words place → IsRefused file words (record { code = code; span = span_of_place words place })

@@ -9,7 +9,7 @@ use Rattle.model.specs.Fault.{Span, Fault}
 use Rattle.model.specs.Words.{Form, blank, comment, opening, closing, run, stray, form_of, Part, form, bytes, is_name, is_name_byte, AreParts, longest_text}
 use Rattle.model.specs.Trees.{Name}
 use Rattle.model.specs.PlanText.{Placed, placed_from, Step, IsName, AreNames, IsStep, AreSteps, HasSteps, BeginsSteps, is_stamp, IsTimed, IsNumberOfWord, timed, untimed, IsFormFault, refused, open_at_end}
-use Rattle.model.specs.PlanMachine.{Sort, an_opening, a_closing, a_name, a_stamp, strange, sort_by, sort_of, Place, outside, opened, inside, Turn, stops, goes, ends, turn, name_at, span_at, Outcome, reads, refuses, with_step, open_at, after_turn, outcome}
+use Rattle.model.specs.PlanMachine.{Sort, an_opening, a_closing, a_name, a_stamp, strange, sort_by, sort_of, PlanPlace, outside, opened, inside, Advance, stops, goes, ends, turn, name_at, span_at, Outcome, reads, refuses, with_step, open_at, after_turn, outcome}
 
 -- What a word is, by its sort.
 opens_by : (f : Form) (named stamp : Bool) → sort_by f named stamp ≡ an_opening → f ≡ opening
@@ -131,7 +131,7 @@ name_is word name h =
 -- What the machine reads are steps.
 
 -- the words read so far of a step
-abbrev IsListedAs : Place → List Placed → Type 0
+abbrev IsListedAs : PlanPlace → List Placed → Type 0
 IsListedAs outside so_far = so_far ≡ []
 IsListedAs opened so_far = (first : Placed) × (so_far ≡ first ∷ []) × (form first.part ≡ opening)
 IsListedAs (inside action objects) so_far =
@@ -147,7 +147,7 @@ names_push (w ∷ ws) (n ∷ ns) word h is = (h.0, names_push ws ns word h.1 is)
 -- what is read of the words after this one
 abbrev Reads : ℕ → List Placed → Type 0
 Reads end words =
-    (so_far : List Placed) (place : Place) (steps : List Step) → IsListedAs place so_far → outcome end words place ≡ reads steps → AreSteps (so_far ++ words) steps
+    (so_far : List Placed) (place : PlanPlace) (steps : List Step) → IsListedAs place so_far → outcome end words place ≡ reads steps → AreSteps (so_far ++ words) steps
 
 ended_step : (end : ℕ) (word : Placed) (words so_far : List Placed) (step : Step) (steps : List Step) (o : Outcome) → IsStep (so_far ++ word ∷ []) step → outcome end words outside ≡ o → with_step step o ≡ reads steps → Reads end words → AreSteps (so_far ++ word ∷ words) steps
 ended_step end word words so_far step steps (reads rest) is o_is e inner =
@@ -155,7 +155,7 @@ ended_step end word words so_far step steps (reads rest) is o_is e inner =
     subst (AreSteps (so_far ++ word ∷ words)) here (so_far ++ word ∷ [], words, sym (append_assoc so_far (word ∷ []) words), is, inner [] outside rest refl o_is)
 ended_step end word words so_far step steps (refuses fault) is o_is e inner = absurd (cc)
 
-word_reads : (end : ℕ) (word : Placed) (words so_far : List Placed) (place : Place) (s : Sort) (steps : List Step) → sort_of word.part ≡ s → IsListedAs place so_far
+word_reads : (end : ℕ) (word : Placed) (words so_far : List Placed) (place : PlanPlace) (s : Sort) (steps : List Step) → sort_of word.part ≡ s → IsListedAs place so_far
     → after_turn (span_at word) (turn place s (name_at word)) (outcome end words) ≡ reads steps → Reads end words → AreSteps (so_far ++ word ∷ words) steps
 word_reads end word words so_far outside an_opening steps is occurs e inner =
     subst (λ ws. AreSteps (ws ++ word ∷ words) steps) (sym occurs) (inner (word ∷ []) opened steps (word, refl, opens_by (form word.part) (is_name (bytes word.part)) (is_stamp (bytes word.part)) is) e)
@@ -182,7 +182,7 @@ word_reads end word words so_far (inside action objects) a_name steps is (first,
 word_reads end word words so_far (inside action objects) a_stamp steps is occurs e inner = absurd (cc)
 word_reads end word words so_far (inside action objects) strange steps is occurs e inner = absurd (cc)
 
-sound : (end : ℕ) (words so_far : List Placed) (place : Place) (steps : List Step) → IsListedAs place so_far → outcome end words place ≡ reads steps → AreSteps (so_far ++ words) steps
+sound : (end : ℕ) (words so_far : List Placed) (place : PlanPlace) (steps : List Step) → IsListedAs place so_far → outcome end words place ≡ reads steps → AreSteps (so_far ++ words) steps
 sound end [] so_far outside steps occurs e =
     let none : [] ≡ steps = cc in
     subst (AreSteps (so_far ++ [])) none (append-nil so_far ∙ occurs)
@@ -194,7 +194,7 @@ pub steps_of_reads : (end : ℕ) (words : List Placed) (steps : List Step) → o
 steps_of_reads end words steps e = sound end words [] outside steps refl e
 
 -- And it reads all of them.
-step_on : (end : ℕ) (word : Placed) (words : List Placed) (place : Place) (s : Sort) → sort_of word.part ≡ s → outcome end (word ∷ words) place ≡ after_turn (span_at word) (turn place s (name_at word)) (outcome end words)
+step_on : (end : ℕ) (word : Placed) (words : List Placed) (place : PlanPlace) (s : Sort) → sort_of word.part ≡ s → outcome end (word ∷ words) place ≡ after_turn (span_at word) (turn place s (name_at word)) (outcome end words)
 step_on end word words place s e = ap (λ t. after_turn (span_at word) (turn place t (name_at word)) (outcome end words)) e
 
 names_read : (end : ℕ) (words : List Placed) (names : List Name) (action : Name) (so_far : List Name) (more : List Placed) → AreNames words names → outcome end (words ++ more) (inside action so_far) ≡ outcome end more (inside action (so_far ++ names))
@@ -240,25 +240,25 @@ close : Placed
 close = record { start = 0; part = record { first = 41; others = [] } }
 
 -- these words go on to a plan text
-abbrev GoesOn : ℕ → List Placed → Place → Type 0
+abbrev GoesOn : ℕ → List Placed → PlanPlace → Type 0
 GoesOn end words place = (more : List Placed) × (steps : List Step) × (outcome end (words ++ more) place ≡ reads steps)
 
-any_goes_on : (end : ℕ) (place : Place) → GoesOn end [] place
+any_goes_on : (end : ℕ) (place : PlanPlace) → GoesOn end [] place
 unfolding letter close
 any_goes_on end outside = ([], [], refl)
 any_goes_on end opened = (letter ∷ close ∷ [], record { action = name_at letter; objects = [] } ∷ [], refl)
 any_goes_on end (inside action objects) = (close ∷ [], record { action = action; objects = objects } ∷ [], refl)
 
 -- these words leave no step open
-abbrev LeavesNone : ℕ → List Placed → Place → Type 0
+abbrev LeavesNone : ℕ → List Placed → PlanPlace → Type 0
 LeavesNone end words place = (steps : List Step) × (outcome end words place ≡ reads steps)
 
 -- the number that a word stops with
-data StopsWith (end : ℕ) (before : List Placed) (place : Place) (word : Placed) (code : ℕ) : Type 0 where
+data StopsWith (end : ℕ) (before : List Placed) (place : PlanPlace) (word : Placed) (code : ℕ) : Type 0 where
   at_stamp : LeavesNone end before place → sort_of word.part ≡ a_stamp → code ≡ 31 → StopsWith end before place word code
   elsewhere : (LeavesNone end before place → sort_of word.part ≡ a_stamp → ⊥) → code ≡ 30 → StopsWith end before place word code
 
-record StopsAt (end : ℕ) (words : List Placed) (place : Place) (fault : Fault) : Type 0 where
+record StopsAt (end : ℕ) (words : List Placed) (place : PlanPlace) (fault : Fault) : Type 0 where
   before : List Placed
   after : List Placed
   word : Placed
@@ -268,7 +268,7 @@ record StopsAt (end : ℕ) (words : List Placed) (place : Place) (fault : Fault)
   number : StopsWith end before place word fault.code
   span_is : fault.span ≡ span_at word
 
-record IsOpen (end : ℕ) (words : List Placed) (place : Place) (fault : Fault) : Type 0 where
+record IsOpen (end : ℕ) (words : List Placed) (place : PlanPlace) (fault : Fault) : Type 0 where
   goes_on : GoesOn end words place
   fault_is : fault ≡ open_at end
 
@@ -277,7 +277,7 @@ rest_refused step fault (reads steps) e = absurd (cc)
 rest_refused step fault (refuses other) e = e
 
 -- one word more before
-module _ (end : ℕ) (word : Placed) (place next : Place) (give : Outcome → Outcome)
+module _ (end : ℕ) (word : Placed) (place next : PlanPlace) (give : Outcome → Outcome)
     (given : (steps : List Step) → (more : List Step) × (give (reads steps) ≡ reads more))
     (kept : (fault : Fault) → give (refuses fault) ≡ refuses fault)
     (on : (words : List Placed) → outcome end (word ∷ words) place ≡ give (outcome end words next)) where
@@ -321,11 +321,11 @@ module _ (end : ℕ) (word : Placed) (place next : Place) (give : Outcome → Ou
 outside_other : (end : ℕ) (word : Placed) (s : Sort) (code : ℕ) → sort_of word.part ≡ s → (s ≡ a_stamp → ⊥) → code ≡ 30 → StopsWith end [] outside word code
 outside_other end word s code is differs e = elsewhere (λ none stamp. differs (sym is ∙ stamp)) e
 
-open_other : (end : ℕ) (word : Placed) (place : Place) (code : ℕ) (fault : Fault) → outcome end [] place ≡ refuses fault → code ≡ 30 → StopsWith end [] place word code
+open_other : (end : ℕ) (word : Placed) (place : PlanPlace) (code : ℕ) (fault : Fault) → outcome end [] place ≡ refuses fault → code ≡ 30 → StopsWith end [] place word code
 open_other end word place code fault is_open e =
     elsewhere (λ (steps, read) stamp. let impossible : refuses fault ≡ reads steps = sym is_open ∙ read in cc) e
 
-first_with : (end : ℕ) (word : Placed) (place : Place) (s : Sort) (code : ℕ) → sort_of word.part ≡ s → turn place s (name_at word) ≡ stops code → StopsWith end [] place word code
+first_with : (end : ℕ) (word : Placed) (place : PlanPlace) (s : Sort) (code : ℕ) → sort_of word.part ≡ s → turn place s (name_at word) ≡ stops code → StopsWith end [] place word code
 first_with end word outside an_opening code is e = absurd (cc)
 first_with end word outside a_closing code is e = outside_other end word a_closing code is (λ same. cc) (cc)
 first_with end word outside a_name code is e = outside_other end word a_name code is (λ same. cc) (cc)
@@ -342,8 +342,8 @@ first_with end word (inside action objects) a_name code is e = absurd (cc)
 first_with end word (inside action objects) a_stamp code is e = open_other end word (inside action objects) code (open_at end) refl (cc)
 first_with end word (inside action objects) strange code is e = open_other end word (inside action objects) code (open_at end) refl (cc)
 
-word_found : (end : ℕ) (word : Placed) (words : List Placed) (place : Place) (t : Turn) (fault : Fault) → turn place (sort_of word.part) (name_at word) ≡ t → after_turn (span_at word) t (outcome end words) ≡ refuses fault
-    → ((next : Place) → outcome end words next ≡ refuses fault → StopsAt end words next fault ⊎ IsOpen end words next fault)
+word_found : (end : ℕ) (word : Placed) (words : List Placed) (place : PlanPlace) (t : Advance) (fault : Fault) → turn place (sort_of word.part) (name_at word) ≡ t → after_turn (span_at word) t (outcome end words) ≡ refuses fault
+    → ((next : PlanPlace) → outcome end words next ≡ refuses fault → StopsAt end words next fault ⊎ IsOpen end words next fault)
     → StopsAt end (word ∷ words) place fault ⊎ IsOpen end (word ∷ words) place fault
 word_found end word words place (stops code) fault is e inner =
     let reported : Fault = record { code = code; span = span_at word } in
@@ -364,7 +364,7 @@ word_found end word words place (ends step) fault is e inner =
     more_found end word place outside (with_step step) (λ steps. (step ∷ steps, refl)) (λ f. refl) (λ ws. ap (λ t. after_turn (span_at word) t (outcome end ws)) is) words fault
     (inner outside (rest_refused step fault (outcome end words outside) e))
 
-found : (end : ℕ) (words : List Placed) (place : Place) (fault : Fault) → outcome end words place ≡ refuses fault → StopsAt end words place fault ⊎ IsOpen end words place fault
+found : (end : ℕ) (words : List Placed) (place : PlanPlace) (fault : Fault) → outcome end words place ≡ refuses fault → StopsAt end words place fault ⊎ IsOpen end words place fault
 found end [] outside fault e = absurd (cc)
 found end [] opened fault e = inr (record { goes_on = any_goes_on end opened; fault_is = let same : open_at end ≡ fault = cc in sym same })
 found end [] (inside action objects) fault e = inr (record { goes_on = any_goes_on end (inside action objects); fault_is = let same : open_at end ≡ fault = cc in sym same })

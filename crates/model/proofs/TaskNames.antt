@@ -15,7 +15,7 @@ use Rattle.std.proofs.lemmas.Simd.{map-map}
 use Rattle.std.proofs.lemmas.Str.Ascii.{lowercase-lowercase}
 use Rattle.model.specs.Words.{Word, Kind, Form, Part, form, bytes, size, is_name, is_name_byte, kind_by, longest_run, IsWordAt, AreGapsAndWords}
 use Rattle.model.specs.Words as words
-use Rattle.model.specs.Trees.{File, domain_file, problem_file, Group, Predicate, Action, Domain, Problem, names_of}
+use Rattle.model.specs.Trees.{TaskFile, domain_file, problem_file, Group, Predicate, Action, Domain, Problem, names_of}
 use Rattle.model.specs.Trees as tree
 use Rattle.model.specs.GrammarWords.{number, large_number, number_of_digits, name_from, named, token_from, token_of, tokens_of}
 use Rattle.model.specs.Limits.{max_number}
@@ -139,7 +139,7 @@ names_of_words ws named none = let lower = passes_map is_lower_name folded_word 
 -- ---- the task's names
 
 -- what a file's typed lists declare
-declared_named : (file : File) (groups : List Group) → list_all has_lower_name (names_of groups) ≡ true → list_all (λ (x : Declared). has_lower_name x.name) (declared file groups) ≡ true
+declared_named : (file : TaskFile) (groups : List Group) → list_all has_lower_name (names_of groups) ≡ true → list_all (λ (x : Declared). has_lower_name x.name) (declared file groups) ≡ true
 declared_named file [] named = refl
 declared_named file (g ∷ groups) named =
     let both = and_parts (list_all has_lower_name g.names) (list_all has_lower_name (names_of groups)) (sym (list_all-append has_lower_name g.names (names_of groups)) ∙ named) in

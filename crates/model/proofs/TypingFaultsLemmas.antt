@@ -5,7 +5,7 @@ use Rattle.std.specs.List.{flat_map}
 use Rattle.std.proofs.lemmas.List.Elements.{Contains-append_left, Contains-append_right, Contains-append_cases}
 use Rattle.std.proofs.lemmas.List.{map-append}
 use Rattle.model.specs.Task as task
-use Rattle.model.specs.Trees.{File, Name, Group, names_of}
+use Rattle.model.specs.Trees.{TaskFile, Name, Group, names_of}
 use Rattle.model.specs.Typing.{Declared, Placed, TypingFault, declared, declared_in_group, words_of, placed, refused, one_after, is_known, unknown_faults, types_faults, type_faults}
 use Rattle.model.specs.TypingFaults.{HasType, type_words}
 use Rattle.model.proofs.ListLemmas.{Contains-here, Contains-cases, Contains-none, Contains-map, map-Contains, Contains-flat_map, flat_map-Contains}
@@ -115,12 +115,12 @@ type_listed types xs w (x, among, at) unknown =
 -- ---- words
 
 -- the words of a group are its names
-words_of-group : (file : File) (types : List Name) (names : List Name) → words_of (map (λ (name : Name). record { file = file; name = name; types = types }) names) ≡ map (placed file) names
+words_of-group : (file : TaskFile) (types : List Name) (names : List Name) → words_of (map (λ (name : Name). record { file = file; name = name; types = types }) names) ≡ map (placed file) names
 words_of-group file types [] = refl
 words_of-group file types (name ∷ names) = ap (λ words. placed file name ∷ words) (words_of-group file types names)
 
 -- the words of a typed list are the names of its groups
-pub words_of-declared : (file : File) (groups : List Group) → words_of (declared file groups) ≡ map (placed file) (names_of groups)
+pub words_of-declared : (file : TaskFile) (groups : List Group) → words_of (declared file groups) ≡ map (placed file) (names_of groups)
 words_of-declared file [] = refl
 words_of-declared file (g ∷ groups) =
     map-append (λ (x : Declared). placed x.file x.name) (declared_in_group file g) (declared file groups)
@@ -128,7 +128,7 @@ words_of-declared file (g ∷ groups) =
     ∙ sym (map-append (placed file) g.names (names_of groups))
 
 -- a type of a typed list is one of a group that has a name
-pub HasType-group : (file : File) (groups : List Group) (w : Placed) → HasType (declared file groups) w
+pub HasType-group : (file : TaskFile) (groups : List Group) (w : Placed) → HasType (declared file groups) w
     → (g : Group) × Contains groups g × (name : Name) × Contains g.names name × Contains (map (placed file) g.types) w
 HasType-group file groups w (x, among, at) =
     let there = flat_map-Contains (declared_in_group file) groups x among in
@@ -136,7 +136,7 @@ HasType-group file groups w (x, among, at) =
     (there.0, there.1, made.0, made.1, subst (λ y. Contains (type_words y) w) (sym made.2) at)
 
 -- and the other way
-pub group-HasType : (file : File) (groups : List Group) (w : Placed) (g : Group) (name : Name) → Contains groups g → Contains g.names name → Contains (map (placed file) g.types) w
+pub group-HasType : (file : TaskFile) (groups : List Group) (w : Placed) (g : Group) (name : Name) → Contains groups g → Contains g.names name → Contains (map (placed file) g.types) w
     → HasType (declared file groups) w
 group-HasType file groups w g name among named at =
     let x : Declared = record { file = file; name = name; types = g.types } in

@@ -7,7 +7,7 @@ use Rattle.std.proofs.lemmas.Bool.{cases_eq}
 use Rattle.std.proofs.lemmas.Cmp.{ranked}
 use Rattle.std.proofs.lemmas.List.Elements.{All-contains_itself}
 use Rattle.model.specs.Fault.{Span}
-use Rattle.model.specs.Trees.{File, Domain, Problem}
+use Rattle.model.specs.Trees.{TaskFile, Domain, Problem}
 use Rattle.model.specs.Typing.{Placed, TypingFault, rank_of, key_of, is_before, phases, first_filled, faults_of, IsLeastOf}
 use Rattle.model.specs.Typing as typing
 use Rattle.model.specs.TypingFaults.{Phase, of_names, of_cycles, of_objects, of_predicates, of_functions, of_actions, of_init, of_goal, order_of, IsFaultIn, IsWellTyped, ComesNoLater, IsReported}
@@ -205,7 +205,7 @@ reported d p f least = by_phase (filled (phases d p) f least.is_fault)
 -- and what is reported is the least of the listed faults, which are those of its phase
 module _ (d : Domain) (p : Problem) (f : TypingFault) (is_reported : IsReported d p f) where
   same : fault_at f.fault.code is_reported.word ≡ f
-  same = sym (ap (λ (file : File). let g : TypingFault = record { file = file; fault = f.fault } in g) is_reported.file
+  same = sym (ap (λ (file : TaskFile). let g : TypingFault = record { file = file; fault = f.fault } in g) is_reported.file
       ∙ ap (λ (span : Span). let g : TypingFault = record { file = is_reported.word.file; fault = record { code = f.fault.code; span = span } } in g) is_reported.span)
 
   at : Contains (phase_faults d p is_reported.phase) f

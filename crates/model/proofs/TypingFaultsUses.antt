@@ -6,7 +6,7 @@ use Rattle.std.specs.Option.{option_map_or}
 use Rattle.std.proofs.lemmas.Bool.{eqb-true, eqb-false, false_from_ne_true}
 use Rattle.std.proofs.lemmas.List.{length-map}
 use Rattle.model.specs.Task as task
-use Rattle.model.specs.Trees.{File, Name}
+use Rattle.model.specs.Trees.{TaskFile, Name}
 use Rattle.model.specs.Trees as tree
 use Rattle.model.specs.Typing.{Known, Placed, placed, declared, known_with, variable_faults, folded, is_same, is_known, names_of_predicates, names_of_variables, names_of_objects, faults_against, predicate_in_known, predicate_faults, arguments_in, fits_in, fits_wanted, term_in, term_faults, word_of, misfit_faults, terms_faults, atom_faults, formula_faults, formulas_faults, effect_literal_faults, effect_faults, effects_faults, ground_atom_faults}
 use Rattle.model.specs.TypingFaults.{IsUnknown, IsTermFault, IsAtomFault, IsFormulaFault, IsSomeFault, IsLiteralFault, IsEffectFault, IsSomeEffectFault, unknown_predicate, unknown_term, wrong_count, wrong_type, as_atom}
@@ -41,7 +41,7 @@ not_found test (p ∷ rest) none =
     ] none
 
 -- 17 and 18, of the predicate
-predicate_reports : {table : ℕ → Placed → Type 0} (file : File) (known : Known) (a : tree.Atom) → ((code : ℕ) (w : Placed) → IsAtomFault file known a code w → table code w)
+predicate_reports : {table : ℕ → Placed → Type 0} (file : TaskFile) (known : Known) (a : tree.Atom) → ((code : ℕ) (w : Placed) → IsAtomFault file known a code w → table code w)
     → AllReport table (predicate_faults file known a.predicate (length a.terms))
 predicate_reports {table} file known a fault = by_found (predicate_in_known known a.predicate) refl
   where
@@ -52,14 +52,14 @@ predicate_reports {table} file known a fault = by_found (predicate_in_known know
         (λ other. fault 18 (placed file a.predicate) (wrong_count p at (eqb-false (length a.terms) (length p.arguments) other)))
 
 -- a predicate that is not declared
-unknown_listed : (file : File) (known : Known) (a : tree.Atom) → is_known (names_of_predicates known.predicates) a.predicate ≡ false
+unknown_listed : (file : TaskFile) (known : Known) (a : tree.Atom) → is_known (names_of_predicates known.predicates) a.predicate ≡ false
     → Contains (predicate_faults file known a.predicate (length a.terms)) (fault_at 17 (placed file a.predicate))
 unknown_listed file known a unknown =
     subst (λ found. Contains (faults_against file found a.predicate (length a.terms)) (fault_at 17 (placed file a.predicate)))
     (sym (not_found (is_same (folded a.predicate)) known.predicates unknown)) (Contains-here (fault_at 17 (placed file a.predicate)) [])
 
 -- a predicate with another count of terms
-count_listed : (file : File) (known : Known) (a : tree.Atom) (p : task.Predicate) → predicate_in_known known a.predicate ≡ Some p → length a.terms ≢ length p.arguments
+count_listed : (file : TaskFile) (known : Known) (a : tree.Atom) (p : task.Predicate) → predicate_in_known known a.predicate ≡ Some p → length a.terms ≢ length p.arguments
     → Contains (predicate_faults file known a.predicate (length a.terms)) (fault_at 18 (placed file a.predicate))
 count_listed file known a p at other =
     subst (λ found. Contains (faults_against file found a.predicate (length a.terms)) (fault_at 18 (placed file a.predicate))) (sym at)
@@ -69,22 +69,22 @@ count_listed file known a p at other =
 -- ---- the terms
 
 -- 17, of a term
-term_reports : {table : ℕ → Placed → Type 0} (file : File) (known : Known) (t : tree.Term) → (IsUnknown known t → table 17 (placed file (word_of t))) → AllReport table (term_faults file known t)
+term_reports : {table : ℕ → Placed → Type 0} (file : TaskFile) (known : Known) (t : tree.Term) → (IsUnknown known t → table 17 (placed file (word_of t))) → AllReport table (term_faults file known t)
 term_reports file known (tree.variable name) fault = unless_reports (is_known (names_of_variables known.variables) name) 17 (placed file name) fault
 term_reports file known (tree.object name) fault = unless_reports (is_known (names_of_objects known.objects) name) 17 (placed file name) fault
 
 -- and the other way
-term_listed : (file : File) (known : Known) (t : tree.Term) → IsUnknown known t → Contains (term_faults file known t) (fault_at 17 (placed file (word_of t)))
+term_listed : (file : TaskFile) (known : Known) (t : tree.Term) → IsUnknown known t → Contains (term_faults file known t) (fault_at 17 (placed file (word_of t)))
 term_listed file known (tree.variable name) unknown = unless_listed (is_known (names_of_variables known.variables) name) (fault_at 17 (placed file name)) unknown
 term_listed file known (tree.object name) unknown = unless_listed (is_known (names_of_objects known.objects) name) (fault_at 17 (placed file name)) unknown
 
 -- of a term of an equality
-equal_reports : {table : ℕ → Placed → Type 0} (file : File) (known : Known) (t : tree.Term) → ((code : ℕ) (w : Placed) → IsTermFault file known t code w → table code w)
+equal_reports : {table : ℕ → Placed → Type 0} (file : TaskFile) (known : Known) (t : tree.Term) → ((code : ℕ) (w : Placed) → IsTermFault file known t code w → table code w)
     → AllReport table (term_faults file known t)
 equal_reports file known t fault = term_reports file known t (λ unknown. fault 17 (placed file (word_of t)) (record { is_unknown = unknown; number = refl; word = refl }))
 
 -- and the other way
-equal_listed : (file : File) (known : Known) (t : tree.Term) (code : ℕ) (w : Placed) → IsTermFault file known t code w → Contains (term_faults file known t) (fault_at code w)
+equal_listed : (file : TaskFile) (known : Known) (t : tree.Term) (code : ℕ) (w : Placed) → IsTermFault file known t code w → Contains (term_faults file known t) (fault_at code w)
 equal_listed file known t code w fault =
     subst (Contains (term_faults file known t)) (sym (λ i. fault_at (fault.number i) (fault.word i))) (term_listed file known t fault.is_unknown)
 
@@ -95,7 +95,7 @@ got_later [] (suc place) = refl
 got_later (union ∷ unions) place = refl
 
 -- 17 and 19, of the terms
-terms_report : {table : ℕ → Placed → Type 0} (file : File) (known : Known) (arguments : List task.Union) (terms : List tree.Term)
+terms_report : {table : ℕ → Placed → Type 0} (file : TaskFile) (known : Known) (arguments : List task.Union) (terms : List tree.Term)
     → ((t : tree.Term) → Contains terms t → IsUnknown known t → table 17 (placed file (word_of t)))
     → ((place : ℕ) (wanted : task.Union) (t : tree.Term) → slice_get arguments place ≡ Some wanted → slice_get terms place ≡ Some t → fits_in known wanted (term_in known t) ≡ false → table 19 (placed file (word_of t)))
     → AllReport table (terms_faults file known arguments terms)
@@ -110,7 +110,7 @@ terms_report {table} file known arguments (t ∷ terms) unknown misfit =
     wanted_misfit (Some wanted) of other = misfit 0 wanted t of refl other
 
 -- a term that is not known
-unknown_term_listed : (file : File) (known : Known) (arguments : List task.Union) (terms : List tree.Term) (t : tree.Term) → Contains terms t → IsUnknown known t
+unknown_term_listed : (file : TaskFile) (known : Known) (arguments : List task.Union) (terms : List tree.Term) (t : tree.Term) → Contains terms t → IsUnknown known t
     → Contains (terms_faults file known arguments terms) (fault_at 17 (placed file (word_of t)))
 unknown_term_listed file known arguments [] t at unknown = absurd (Contains-none t at)
 unknown_term_listed file known arguments (s ∷ terms) t at unknown =
@@ -120,7 +120,7 @@ unknown_term_listed file known arguments (s ∷ terms) t at unknown =
     ]
 
 -- a term that does not fit its argument
-misfit_listed : (file : File) (known : Known) (arguments : List task.Union) (terms : List tree.Term) (place : ℕ) (wanted : task.Union) (t : tree.Term)
+misfit_listed : (file : TaskFile) (known : Known) (arguments : List task.Union) (terms : List tree.Term) (place : ℕ) (wanted : task.Union) (t : tree.Term)
     → slice_get arguments place ≡ Some wanted → slice_get terms place ≡ Some t → fits_in known wanted (term_in known t) ≡ false
     → Contains (terms_faults file known arguments terms) (fault_at 19 (placed file (word_of t)))
 misfit_listed file known arguments [] place wanted t of at misfit = absurd (cc)
@@ -141,7 +141,7 @@ argument_declared None place wanted at = absurd (cc)
 argument_declared (Some p) place wanted at = (p, refl, at)
 
 -- each fault that is listed of an atom is one that the table has of it
-pub atom_reports : {table : ℕ → Placed → Type 0} (file : File) (known : Known) (a : tree.Atom) → ((code : ℕ) (w : Placed) → IsAtomFault file known a code w → table code w)
+pub atom_reports : {table : ℕ → Placed → Type 0} (file : TaskFile) (known : Known) (a : tree.Atom) → ((code : ℕ) (w : Placed) → IsAtomFault file known a code w → table code w)
     → AllReport table (atom_faults file known a)
 atom_reports file known a fault =
     both_report (predicate_reports file known a fault)
@@ -152,7 +152,7 @@ atom_reports file known a fault =
     fault 19 (placed file (word_of t)) (wrong_type declared.0 place wanted t declared.1 declared.2 at misfit)))
 
 -- and the other way
-pub atom_listed : (file : File) (known : Known) (a : tree.Atom) (code : ℕ) (w : Placed) → IsAtomFault file known a code w → Contains (atom_faults file known a) (fault_at code w)
+pub atom_listed : (file : TaskFile) (known : Known) (a : tree.Atom) (code : ℕ) (w : Placed) → IsAtomFault file known a code w → Contains (atom_faults file known a) (fault_at code w)
 atom_listed file known a code w (unknown_predicate unknown) = on_left _ _ (unknown_listed file known a unknown)
 atom_listed file known a code w (unknown_term t at unknown) =
     on_right (predicate_faults file known a.predicate (length a.terms)) _ (unknown_term_listed file known (arguments_in known a.predicate) a.terms t at unknown)
@@ -165,7 +165,7 @@ atom_listed file known a code w (wrong_type p place wanted t found of at misfit)
 
 mutual
   -- of a formula
-  pub formula_reports : {table : ℕ → Placed → Type 0} (file : File) (known : Known) (formula : tree.Formula)
+  pub formula_reports : {table : ℕ → Placed → Type 0} (file : TaskFile) (known : Known) (formula : tree.Formula)
       → ((code : ℕ) (w : Placed) → IsFormulaFault file known formula code w → table code w) → AllReport table (formula_faults file known formula)
   formula_reports file known (tree.atom a) fault = atom_reports file known a fault
   formula_reports file known (tree.equal t u) fault =
@@ -183,7 +183,7 @@ mutual
       (formula_reports file (known_with known (declared file groups)) part (λ code w here. fault code w (inr here)))
 
   -- of its parts
-  formulas_report : {table : ℕ → Placed → Type 0} (file : File) (known : Known) (parts : tree.Formulas)
+  formulas_report : {table : ℕ → Placed → Type 0} (file : TaskFile) (known : Known) (parts : tree.Formulas)
       → ((code : ℕ) (w : Placed) → IsSomeFault file known parts code w → table code w) → AllReport table (formulas_faults file known parts)
   formulas_report file known tree.no_formula fault = none_detects
   formulas_report file known (tree.more_formulas first rest) fault =
@@ -191,7 +191,7 @@ mutual
 
 mutual
   -- and the other way
-  pub formula_listed : (file : File) (known : Known) (formula : tree.Formula) (code : ℕ) (w : Placed) → IsFormulaFault file known formula code w
+  pub formula_listed : (file : TaskFile) (known : Known) (formula : tree.Formula) (code : ℕ) (w : Placed) → IsFormulaFault file known formula code w
       → Contains (formula_faults file known formula) (fault_at code w)
   formula_listed file known (tree.atom a) code w fault = atom_listed file known a code w fault
   formula_listed file known (tree.equal t u) code w (inl fault) = on_left _ _ (equal_listed file known t code w fault)
@@ -210,7 +210,7 @@ mutual
       on_right (variable_faults known.type_names known.variables (declared file groups)) _ (formula_listed file (known_with known (declared file groups)) part code w fault)
 
   -- of its parts
-  formulas_listed : (file : File) (known : Known) (parts : tree.Formulas) (code : ℕ) (w : Placed) → IsSomeFault file known parts code w
+  formulas_listed : (file : TaskFile) (known : Known) (parts : tree.Formulas) (code : ℕ) (w : Placed) → IsSomeFault file known parts code w
       → Contains (formulas_faults file known parts) (fault_at code w)
   formulas_listed file known tree.no_formula code w fault = absurd fault
   formulas_listed file known (tree.more_formulas first rest) code w (inl fault) = on_left _ _ (formula_listed file known first code w fault)
@@ -218,20 +218,20 @@ mutual
       on_right (formula_faults file known first) _ (formulas_listed file known rest code w fault)
 
 -- of a literal of an effect
-effect_literal_reports : {table : ℕ → Placed → Type 0} (file : File) (known : Known) (l : tree.EffectLiteral)
+effect_literal_reports : {table : ℕ → Placed → Type 0} (file : TaskFile) (known : Known) (l : tree.EffectLiteral)
     → ((code : ℕ) (w : Placed) → IsLiteralFault file known l code w → table code w) → AllReport table (effect_literal_faults file known l)
 effect_literal_reports file known (tree.add a) fault = atom_reports file known a fault
 effect_literal_reports file known (tree.delete a) fault = atom_reports file known a fault
 
 -- and the other way
-effect_literal_listed : (file : File) (known : Known) (l : tree.EffectLiteral) (code : ℕ) (w : Placed) → IsLiteralFault file known l code w
+effect_literal_listed : (file : TaskFile) (known : Known) (l : tree.EffectLiteral) (code : ℕ) (w : Placed) → IsLiteralFault file known l code w
     → Contains (effect_literal_faults file known l) (fault_at code w)
 effect_literal_listed file known (tree.add a) code w fault = atom_listed file known a code w fault
 effect_literal_listed file known (tree.delete a) code w fault = atom_listed file known a code w fault
 
 mutual
   -- of an effect
-  pub effect_reports : {table : ℕ → Placed → Type 0} (file : File) (known : Known) (effect : tree.Effect)
+  pub effect_reports : {table : ℕ → Placed → Type 0} (file : TaskFile) (known : Known) (effect : tree.Effect)
       → ((code : ℕ) (w : Placed) → IsEffectFault file known effect code w → table code w) → AllReport table (effect_faults file known effect)
   effect_reports file known (tree.literal l) fault = effect_literal_reports file known l fault
   effect_reports file known (tree.both parts) fault = effects_report file known parts fault
@@ -243,7 +243,7 @@ mutual
       (flat_map_report _ _ (λ l among. effect_literal_reports file known l (λ code w here. fault code w (inr (l, among, here)))))
 
   -- of its parts
-  effects_report : {table : ℕ → Placed → Type 0} (file : File) (known : Known) (parts : tree.Effects)
+  effects_report : {table : ℕ → Placed → Type 0} (file : TaskFile) (known : Known) (parts : tree.Effects)
       → ((code : ℕ) (w : Placed) → IsSomeEffectFault file known parts code w → table code w) → AllReport table (effects_faults file known parts)
   effects_report file known tree.no_effect fault = none_detects
   effects_report file known (tree.more_effects first rest) fault =
@@ -251,7 +251,7 @@ mutual
 
 mutual
   -- and the other way
-  pub effect_listed : (file : File) (known : Known) (effect : tree.Effect) (code : ℕ) (w : Placed) → IsEffectFault file known effect code w
+  pub effect_listed : (file : TaskFile) (known : Known) (effect : tree.Effect) (code : ℕ) (w : Placed) → IsEffectFault file known effect code w
       → Contains (effect_faults file known effect) (fault_at code w)
   effect_listed file known (tree.literal l) code w fault = effect_literal_listed file known l code w fault
   effect_listed file known (tree.both parts) code w fault = effects_listed file known parts code w fault
@@ -264,7 +264,7 @@ mutual
       (Contains-flat_map (effect_literal_faults file known) literals l (fault_at code w) among (effect_literal_listed file known l code w fault))
 
   -- of its parts
-  effects_listed : (file : File) (known : Known) (parts : tree.Effects) (code : ℕ) (w : Placed) → IsSomeEffectFault file known parts code w
+  effects_listed : (file : TaskFile) (known : Known) (parts : tree.Effects) (code : ℕ) (w : Placed) → IsSomeEffectFault file known parts code w
       → Contains (effects_faults file known parts) (fault_at code w)
   effects_listed file known tree.no_effect code w fault = absurd fault
   effects_listed file known (tree.more_effects first rest) code w (inl fault) = on_left _ _ (effect_listed file known first code w fault)
@@ -274,7 +274,7 @@ mutual
 -- ---- facts
 
 -- an atom of objects has the faults that it has as one of terms
-pub ground_atom_as_atom : (file : File) (known : Known) (a : tree.GroundAtom) → ground_atom_faults file known a ≡ atom_faults file known (as_atom a)
+pub ground_atom_as_atom : (file : TaskFile) (known : Known) (a : tree.GroundAtom) → ground_atom_faults file known a ≡ atom_faults file known (as_atom a)
 ground_atom_as_atom file known a =
     ap (λ count. predicate_faults file known a.predicate count ++ terms_faults file known (arguments_in known a.predicate) (map (λ (name : Name). tree.object name) a.objects))
     (sym (length-map a.objects (λ (name : Name). tree.object name)))

@@ -19,7 +19,7 @@ use Rattle.model.specs.PlanText.{IsPlanText, IsPlanFault}
 
 -- a file that is given: one of the task's two, or the plan
 pub data File : Type 0 where
-  of_task : tree.File → File
+  of_task : tree.TaskFile → File
   the_plan : File
 
 -- a fault, and the file that it is reported for
@@ -41,7 +41,7 @@ pub record IsProblemText (text : List ℕ) (problem : Problem) : Type 0 where
 
 -- what is reported for a text that is no file of this kind: what keeps it from reading as words, or else what keeps its
 -- words from having a tree
-pub data IsTextFault (kind : tree.File) (text : List ℕ) (fault : Fault) : Type 0 where
+pub data IsTextFault (kind : tree.TaskFile) (text : List ℕ) (fault : Fault) : Type 0 where
   of_words : IsReported text fault → IsTextFault kind text fault
   of_tree : (words : List Word) → ReadsAs text words → IsRefused kind words fault → IsTextFault kind text fault
 

@@ -6,7 +6,7 @@
 use Rattle.std.specs.Prelude.{◌≡◌, ℕ, Bool, true, false, List, [], ◌∷◌, ◌++◌, fold, Option, None, Some, cond, ⊤}
 use Rattle.std.specs.List.{list_all, list_any}
 use Rattle.std.specs.Option.{option_map}
-use Rattle.model.specs.Trees.{File, domain_file, problem_file, Name, Term, Atom, Formula, EffectLiteral, Effect, Group, Predicate, Amount, Increase, Action, Domain, GroundAtom, Fact, Problem, formulas, effects, no_name}
+use Rattle.model.specs.Trees.{TaskFile, domain_file, problem_file, Name, Term, Atom, Formula, EffectLiteral, Effect, Group, Predicate, Amount, Increase, Action, Domain, GroundAtom, Fact, Problem, formulas, effects, no_name}
 use Rattle.model.specs.Trees as tree
 use Rattle.model.specs.GrammarWords.{Token, opens, closes, free, reserved, variable, keyword, dash, equals, number, number_word, SectionKeyword, of_section, PartKeyword, of_part, requirement_key}
 use Rattle.model.specs.GrammarWords as words
@@ -113,7 +113,7 @@ domain_from n c = record { name = n; types = c.types; constants = c.constants; p
 abbrev pub problem_from : Name → Contents → Problem
 problem_from n c = record { name = n; domain = c.domain; objects = c.objects; init = c.init; goal = c.goal; metric = c.metric }
 
-abbrev pub tree_from : File → Name → Contents → Tree
+abbrev pub tree_from : TaskFile → Name → Contents → Tree
 tree_from domain_file n c = domain_tree (domain_from n c)
 tree_from problem_file n c = problem_tree (problem_from n c)
 
@@ -160,11 +160,11 @@ abbrev pub has_part : List PartKeyword → PartKeyword → Bool
 has_part seen k = list_any (is_part k) seen
 
 -- the sections of a file
-abbrev pub sections_of : File → List SectionKeyword
+abbrev pub sections_of : TaskFile → List SectionKeyword
 sections_of domain_file = words.requirements ∷ words.types ∷ words.constants ∷ words.predicates ∷ words.functions ∷ words.action ∷ []
 sections_of problem_file = words.domain_keyword ∷ words.requirements ∷ words.objects ∷ words.init ∷ words.goal ∷ words.metric ∷ []
 
-abbrev pub required_of : File → List SectionKeyword
+abbrev pub required_of : TaskFile → List SectionKeyword
 required_of domain_file = words.predicates ∷ []
 required_of problem_file = words.domain_keyword ∷ words.init ∷ words.goal ∷ []
 
@@ -184,9 +184,9 @@ has_all needed seen = list_all (has_section seen) needed
 -- ---- typed lists
 
 -- what a typed list is of: names, each group of one type, or variables, which may be of several
-pub data Listed : Type 0 where
-  names : Listed
-  variables : Listed
+pub data ListElement : Type 0 where
+  names : ListElement
+  variables : ListElement
 
 -- one more name at the head of a typed list's first group
 abbrev pub with_name : Name → List Group → List Group
@@ -224,9 +224,9 @@ pub data Sort : Type 0 where
   fact : Sort
   ground_atom : Sort
   -- a typed list and its `)`; the rest of it within a group; the type after a `-`
-  typed : Listed → Sort
-  group : Listed → Sort
-  type : Listed → Sort
+  typed : ListElement → Sort
+  group : ListElement → Sort
+  type : ListElement → Sort
   either_word : Sort
   -- `total-cost` and its `)`; a NUMBER; what an increase is by; what `:init` gives a value to, and its `)`
   total_cost : Sort
@@ -244,13 +244,13 @@ pub data Sort : Type 0 where
   parts : List PartKeyword → Sort
   value : List PartKeyword → Sort
   -- the sections of a file, where these were seen, and `)`; and what follows the `(` of one: one of some
-  sections : File → List SectionKeyword → Sort
-  section : File → SectionKeyword → List SectionKeyword → Sort
+  sections : TaskFile → List SectionKeyword → Sort
+  section : TaskFile → SectionKeyword → List SectionKeyword → Sort
   -- a file, and the first words of its list
-  file : File → Sort
+  file : TaskFile → Sort
   define_word : Sort
   kind_list : Sort
-  kind_word : File → Sort
+  kind_word : TaskFile → Sort
 
 -- what a value in `:init` is of: the total cost, or a function of objects
 pub data Valued : Type 0 where
@@ -342,7 +342,7 @@ section_after words.goal = do f ← listed formula; close; gives (goal f)
 section_after words.metric = do minimize_word; n ← listed total_cost; close; gives (metric n)
 
 -- after the `(` of a file's section, where these may occur: none, or one of them
-abbrev pub section_of : File → List SectionKeyword → List SectionKeyword → Option (Phrase (List Section))
+abbrev pub section_of : TaskFile → List SectionKeyword → List SectionKeyword → Option (Phrase (List Section))
 section_of f seen [] = None
 section_of f seen (k ∷ others) = Some do x ← section f k others; xs ← sections f (seen_with seen (keyword_in x)); gives (x ∷ xs)
 
@@ -365,12 +365,12 @@ variable_in (variable n) = Some n
 variable_in _ = None
 
 -- a name, or a variable, of a typed list
-abbrev pub listed_in : Listed → Token → Option Name
+abbrev pub listed_in : ListElement → Token → Option Name
 listed_in names t = name_in t
 listed_in variables t = variable_in t
 
 -- it is at the head of a group
-abbrev pub group_after : Listed → Name → Phrase (List Group)
+abbrev pub group_after : ListElement → Name → Phrase (List Group)
 group_after l n = do gs ← group l; gives (with_name n gs)
 
 -- formula  ::= ( PREDICATE-NAME term* ) | ( = term term ) | ( and formula* ) | ( or formula* ) | ( not formula )
@@ -505,7 +505,7 @@ mutual
     next : {s u : Sort} {w v r : List Token} {k : Value u → Phrase (Value s)} {y : Value u} {x : Value s} → Derives u w y v → Follows s (k y) v x r → Follows s (u >>= k) w x r
 
 -- the words are a file of this kind and of this tree
-abbrev pub IsFile : File → List Token → Tree → Type 0
+abbrev pub IsFile : TaskFile → List Token → Tree → Type 0
 IsFile f w t = Derives (file f) w t []
 
 -- the words are this domain

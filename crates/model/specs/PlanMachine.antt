@@ -26,18 +26,18 @@ abbrev pub sort_of : Part → Sort
 sort_of part = sort_by (form part) (is_name (bytes part)) (is_stamp (bytes part))
 
 -- outside of steps, after the `(` of a step, and after the names of its action and of these objects
-pub data Place : Type 0 where
-  outside : Place
-  opened : Place
-  inside : Name → List Name → Place
+pub data PlanPlace : Type 0 where
+  outside : PlanPlace
+  opened : PlanPlace
+  inside : Name → List Name → PlanPlace
 
 -- what a word does: nothing goes on with it, and it is reported by this number, or the step goes on, or it ends
-pub data Turn : Type 0 where
-  stops : ℕ → Turn
-  goes : Place → Turn
-  ends : Step → Turn
+pub data Advance : Type 0 where
+  stops : ℕ → Advance
+  goes : PlanPlace → Advance
+  ends : Step → Advance
 
-abbrev pub turn : Place → Sort → Name → Turn
+abbrev pub turn : PlanPlace → Sort → Name → Advance
 turn outside an_opening name = goes opened
 turn outside a_closing name = stops 30
 turn outside a_name name = stops 30
@@ -78,18 +78,18 @@ with_steps done (refuses fault) = refuses fault
 abbrev pub open_at : ℕ → Fault
 open_at end = record { code = 30; span = record { start = end; end = end } }
 
-abbrev pub at_end : ℕ → Place → Outcome
+abbrev pub at_end : ℕ → PlanPlace → Outcome
 at_end end outside = reads []
 at_end end opened = refuses (open_at end)
 at_end end (inside action objects) = refuses (open_at end)
 
-abbrev pub after_turn : Span → Turn → (Place → Outcome) → Outcome
+abbrev pub after_turn : Span → Advance → (PlanPlace → Outcome) → Outcome
 after_turn span (stops code) rest = refuses (record { code = code; span = span })
 after_turn span (goes place) rest = rest place
 after_turn span (ends step) rest = with_step step (rest outside)
 
 -- what is read of these words, from this place on, where the text ends at `end`
-abbrev pub outcome : ℕ → List Placed → Place → Outcome
+abbrev pub outcome : ℕ → List Placed → PlanPlace → Outcome
 outcome end [] place = at_end end place
 outcome end (word ∷ words) place =
     after_turn (span_at word) (turn place (sort_of word.part) (name_at word)) (outcome end words)

@@ -4,7 +4,7 @@ use Rattle.std.specs.Prelude.{◌≡◌, ℕ, List, [], ◌∷◌, ◌++◌, Opt
 use Rattle.std.specs.Option.{option_map, option_and_then}
 use Rattle.model.specs.Fault.{Fault, Span}
 use Rattle.model.specs.Words.{Word, end_of}
-use Rattle.model.specs.Trees.{File}
+use Rattle.model.specs.Trees.{TaskFile}
 use Rattle.model.specs.GrammarWords.{Token, opens, closes, free, reserved, maximize, when, forall, left_out_name, large_number, keyword, Keyword, of_section, PartKeyword, of_part, parameters, left_out_keyword, token_of, tokens_of}
 use Rattle.model.specs.Grammar
 use Rattle.model.specs.Grammar.{Tree, Sort, names, type, many, conditional, conditional_literal, conditional_atom, total_cost, amount, increase_amount, minimize_word, key, action_name, parts, value, sections, section, define_word, kind_list, Phrase, gives, ◌>>=◌, and_then, after, has_section, has_part, sections_of, IsFile}
@@ -22,7 +22,7 @@ after_all [] p = Some p
 after_all (t ∷ w) p = option_and_then (λ q. after_all w q) (step p t)
 
 -- a file of this kind
-abbrev pub start : File → Phrase Tree
+abbrev pub start : TaskFile → Phrase Tree
 start f = Grammar.file f >>= gives
 
 -- ---- the table of refusals
@@ -46,7 +46,7 @@ number_of_keyword left_out_keyword = 12
 number_of_keyword _ = 8
 
 -- a keyword where that of a section is wanted: one that is in the file already, or that is no section of it
-abbrev pub number_in_file : File → Keyword → ℕ
+abbrev pub number_in_file : TaskFile → Keyword → ℕ
 number_in_file f (of_section k) = cond (has_section (sections_of f) k) 9 8
 number_in_file f k = number_of_keyword k
 
@@ -99,15 +99,15 @@ number_after (s >>= k) t = number_at s t
 -- ---- what is reported
 
 -- the words are a whole file of this kind
-abbrev pub IsWhole : File → List Token → Type 0
+abbrev pub IsWhole : TaskFile → List Token → Type 0
 IsWhole file w = (t : Tree) × IsFile file w t
 
 -- a file of this kind begins with the words
-abbrev pub Begins : File → List Token → Type 0
+abbrev pub Begins : TaskFile → List Token → Type 0
 Begins file w = (rest : List Token) × IsWhole file (w ++ rest)
 
 -- the number that is reported for a word where these come before it: that of what has to follow there
-abbrev pub IsReportedOf : File → List Token → Token → ℕ → Type 0
+abbrev pub IsReportedOf : TaskFile → List Token → Token → ℕ → Type 0
 IsReportedOf file before token number =
     (p : Phrase Tree) × (after_all before (start file) ≡ Some p) × (number ≡ number_after p token)
 
@@ -126,7 +126,7 @@ abbrev pub span_of_place : List Word → ℕ → Span
 span_of_place words place = span_by words (slice_get words place)
 
 -- what is reported for words that are no file of this kind
-pub data IsRefused (file : File) (words : List Word) (fault : Fault) : Type 0 where
+pub data IsRefused (file : TaskFile) (words : List Word) (fault : Fault) : Type 0 where
   -- of the first word with which no file goes on: one begins with the words before it, and none with these and it
   at_word : (before after : List Word) (word : Word) → words ≡ before ++ word ∷ after
       → Begins file (tokens_of before) → (Begins file (tokens_of before ++ token_of word ∷ []) → ⊥)

@@ -11,7 +11,7 @@ use Rattle.model.specs.Fault.{Fault}
 use Rattle.model.specs.Task as task
 use Rattle.model.specs.Limits.{max_arguments}
 use Rattle.model.specs.Meaning.{is_below_in, value_in}
-use Rattle.model.specs.Trees.{File, domain_file, problem_file, Name, Group, Domain, Problem}
+use Rattle.model.specs.Trees.{TaskFile, domain_file, problem_file, Name, Group, Domain, Problem}
 use Rattle.model.specs.Trees as tree
 
 -- ---- names
@@ -40,16 +40,16 @@ with_name names name = if is_known names name then names else names ++ folded na
 
 -- a name that a typed list of a file declares, and the types after its `-`
 pub record Declared : Type 0 where
-  pub file : File
+  pub file : TaskFile
   pub name : Name
   pub types : List Name
 
 -- what one group of it declares
-abbrev pub declared_in_group : File → Group → List Declared
+abbrev pub declared_in_group : TaskFile → Group → List Declared
 declared_in_group file g = map (λ (name : Name). record { file = file; name = name; types = g.types }) g.names
 
 -- what a typed list declares, in order
-abbrev pub declared : File → List Group → List Declared
+abbrev pub declared : TaskFile → List Group → List Declared
 declared file groups = flat_map (declared_in_group file) groups
 
 -- the names that are declared
@@ -211,7 +211,7 @@ known_with known xs = record known { variables = variables_after known.type_name
 -- A formula with numbers for its names (PDDL 1.2 manual, "Goal descriptions"). The variables of a quantifier are in scope
 -- in its part.
 abbrev mutual
-  pub formula_in : File → Known → tree.Formula → task.Formula
+  pub formula_in : TaskFile → Known → tree.Formula → task.Formula
   formula_in file known (tree.atom a) = task.atom (lifted_atom_in known a)
   formula_in file known (tree.equal t u) = task.equal (term_in known t) (term_in known u)
   formula_in file known (tree.and parts) = task.and (formulas_in file known parts)
@@ -223,7 +223,7 @@ abbrev mutual
   formula_in file known (tree.forall groups part) =
       forall_over (unions_in known.type_names (declared file groups)) (formula_in file (known_with known (declared file groups)) part)
 
-  pub formulas_in : File → Known → tree.Formulas → task.Formulas
+  pub formulas_in : TaskFile → Known → tree.Formulas → task.Formulas
   formulas_in file known tree.no_formula = task.no_formula
   formulas_in file known (tree.more_formulas first rest) = task.more_formulas (formula_in file known first) (formulas_in file known rest)
 
@@ -239,14 +239,14 @@ each_of (types ∷ others) part = task.each types (each_of others part)
 
 -- an effect with numbers for its names (PDDL 1.2 manual, "Effects")
 abbrev mutual
-  pub effect_in : File → Known → tree.Effect → task.Effect
+  pub effect_in : TaskFile → Known → tree.Effect → task.Effect
   effect_in file known (tree.literal l) = task.literal (effect_literal_in known l)
   effect_in file known (tree.both parts) = task.both (effects_in file known parts)
   effect_in file known (tree.each groups part) =
       each_of (unions_in known.type_names (declared file groups)) (effect_in file (known_with known (declared file groups)) part)
   effect_in file known (tree.when condition literals) = task.when (formula_in file known condition) (map (effect_literal_in known) literals)
 
-  pub effects_in : File → Known → tree.Effects → task.Effects
+  pub effects_in : TaskFile → Known → tree.Effects → task.Effects
   effects_in file known tree.no_effect = task.no_effect
   effects_in file known (tree.more_effects first rest) = task.more_effects (effect_in file known first) (effects_in file known rest)
 
@@ -374,15 +374,15 @@ task_of_trees d p = record {
 
 -- a fault of a pair of trees: the file that it is in, its number, and the span of the word that it refuses
 pub record TypingFault : Type 0 where
-  pub file : File
+  pub file : TaskFile
   pub fault : Fault
 
 -- a word of one of the files
 pub record Placed : Type 0 where
-  pub file : File
+  pub file : TaskFile
   pub word : Name
 
-abbrev pub placed : File → Name → Placed
+abbrev pub placed : TaskFile → Name → Placed
 placed file word = record { file = file; word = word }
 
 -- the words of declarations
@@ -390,13 +390,13 @@ abbrev pub words_of : List Declared → List Placed
 words_of xs = map (λ (x : Declared). placed x.file x.name) xs
 
 -- the words `=` that are in the initial state
-abbrev pub equals_in : File → List tree.Fact → List Placed
+abbrev pub equals_in : TaskFile → List tree.Fact → List Placed
 equals_in file [] = []
 equals_in file (tree.initial_cost c ∷ facts) = placed file c.equals ∷ equals_in file facts
 equals_in file (other ∷ facts) = equals_in file facts
 
 -- the domain comes before the problem
-abbrev pub rank_of : File → ℕ
+abbrev pub rank_of : TaskFile → ℕ
 rank_of domain_file = 0
 rank_of problem_file = 1
 

@@ -4,9 +4,9 @@ use Rattle.std.specs.List.{flat_map}
 use Rattle.model.specs.Fault.{Span}
 
 -- the two files that a task is read from
-pub data File : Type 0 where
-  domain_file : File
-  problem_file : File
+pub data TaskFile : Type 0 where
+  domain_file : TaskFile
+  problem_file : TaskFile
 
 -- a name or a variable: its bytes as they are in its file, and where they are
 pub record Name : Type 0 where

@@ -10,7 +10,7 @@ use Rattle.std.specs.Ordering.{nat_cmp, is_lt}
 use Rattle.model.specs.Limits.{max_types, max_objects, max_arguments, max_variables}
 use Rattle.model.specs.Task as task
 use Rattle.model.specs.Meaning.{value_in}
-use Rattle.model.specs.Trees.{File, domain_file, problem_file, Name, Domain, Problem}
+use Rattle.model.specs.Trees.{TaskFile, domain_file, problem_file, Name, Domain, Problem}
 use Rattle.model.specs.Trees as tree
 pub use Rattle.model.specs.Resolution.{folded, is_same, is_known, number_in, with_name, Declared, declared_in_group, declared, names_of, declared_types, declared_constants, declared_objects, type_names, union_in, type_in, parents_in, parents_of, Descends, itself, by_parent, DescendsFromItself, chain, whole_chain, types_from, types_of, Variable, Known, names_of_predicates, names_of_variables, names_of_objects, with_variable, variable_in, variables_after, unions_in, term_in, lifted_atom_in, exists_each, forall_each, exists_over, forall_over, known_with, formula_in, formulas_in, effect_literal_in, each_of, effect_in, effects_in, atom_in, atoms_in, is_named, values_in, with_value, values_after, object_in, constants_of, objects_of, predicate_in, predicates_of, functions_of, total_cost, has_cost, in_function, declares_cost, known_in_domain, known_in_action, known_in_problem, increase_in, increase_of, schema_in, task_of_trees, TypingFault, Placed, placed, words_of, equals_in, rank_of, predicate_in_known, fits_in, word_of, comes_back}
 
@@ -21,7 +21,7 @@ abbrev pub refused : ℕ → List Placed → List TypingFault
 refused code words = map (λ (w : Placed). record { file = w.file; fault = record { code = code; span = w.word.span } }) words
 
 -- this word of the file is
-abbrev pub refused_word : File → ℕ → Name → List TypingFault
+abbrev pub refused_word : TaskFile → ℕ → Name → List TypingFault
 refused_word file code word = record { file = file; fault = record { code = code; span = word.span } } ∷ []
 
 -- the words that are the same as one that comes before them, in the list or among these
@@ -37,7 +37,7 @@ abbrev pub one_after : ℕ → List Placed → List Placed
 one_after count words = take 1 (drop count words)
 
 -- by this number, a name that is none of these
-abbrev pub unknown_faults : File → ℕ → List task.Name → Name → List TypingFault
+abbrev pub unknown_faults : TaskFile → ℕ → List task.Name → Name → List TypingFault
 unknown_faults file code names name = if is_known names name then [] else refused_word file code name
 
 -- 14: a type that is neither `object` nor declared
@@ -48,12 +48,12 @@ abbrev pub type_faults : List task.Name → List Declared → List TypingFault
 type_faults types xs = flat_map (types_faults types) xs
 
 -- 17: there is no declaration. 18: it has another count of arguments
-abbrev pub faults_against : File → Option task.Predicate → Name → ℕ → List TypingFault
+abbrev pub faults_against : TaskFile → Option task.Predicate → Name → ℕ → List TypingFault
 faults_against file None name count = refused_word file 17 name
 faults_against file (Some p) name count = if count == length p.arguments then [] else refused_word file 18 name
 
 -- of a predicate with this count of terms
-abbrev pub predicate_faults : File → Known → Name → ℕ → List TypingFault
+abbrev pub predicate_faults : TaskFile → Known → Name → ℕ → List TypingFault
 predicate_faults file known name count = faults_against file (predicate_in_known known name) name count
 
 -- what each argument of a predicate has to be, if it is known
@@ -61,7 +61,7 @@ abbrev pub arguments_in : Known → Name → List task.Union
 arguments_in known name = option_map_or (λ (p : task.Predicate). p.arguments) (predicate_in_known known name) []
 
 -- 17: a variable or an object that is not known
-abbrev pub term_faults : File → Known → tree.Term → List TypingFault
+abbrev pub term_faults : TaskFile → Known → tree.Term → List TypingFault
 term_faults file known (tree.variable name) = unknown_faults file 17 (names_of_variables known.variables) name
 term_faults file known (tree.object name) = unknown_faults file 17 (names_of_objects known.objects) name
 
@@ -70,16 +70,16 @@ abbrev pub fits_wanted : Known → Option task.Union → task.Term → Bool
 fits_wanted known wanted term = option_map_or (λ types. fits_in known types term) wanted true
 
 -- 19: a term that does not fit its argument, if there is such an argument
-abbrev pub misfit_faults : File → Known → Option task.Union → tree.Term → List TypingFault
+abbrev pub misfit_faults : TaskFile → Known → Option task.Union → tree.Term → List TypingFault
 misfit_faults file known wanted term = if fits_wanted known wanted (term_in known term) then [] else refused_word file 19 (word_of term)
 
 -- of terms that are at the places of these arguments
-abbrev pub terms_faults : File → Known → List task.Union → List tree.Term → List TypingFault
+abbrev pub terms_faults : TaskFile → Known → List task.Union → List tree.Term → List TypingFault
 terms_faults file known arguments [] = []
 terms_faults file known arguments (term ∷ terms) =
     term_faults file known term ++ misfit_faults file known (slice_get arguments 0) term ++ terms_faults file known (drop 1 arguments) terms
 
-abbrev pub atom_faults : File → Known → tree.Atom → List TypingFault
+abbrev pub atom_faults : TaskFile → Known → tree.Atom → List TypingFault
 atom_faults file known a =
     predicate_faults file known a.predicate (length a.terms) ++ terms_faults file known (arguments_in known a.predicate) a.terms
 
@@ -101,7 +101,7 @@ variable_faults types variables xs =
     ++ refused 25 (one_too_many (length variables) (words_of xs))
 
 abbrev mutual
-  pub formula_faults : File → Known → tree.Formula → List TypingFault
+  pub formula_faults : TaskFile → Known → tree.Formula → List TypingFault
   formula_faults file known (tree.atom a) = atom_faults file known a
   formula_faults file known (tree.equal t u) = term_faults file known t ++ term_faults file known u
   formula_faults file known (tree.and parts) = formulas_faults file known parts
@@ -113,17 +113,17 @@ abbrev mutual
   formula_faults file known (tree.forall groups part) =
       variable_faults known.type_names known.variables (declared file groups) ++ formula_faults file (known_with known (declared file groups)) part
 
-  pub formulas_faults : File → Known → tree.Formulas → List TypingFault
+  pub formulas_faults : TaskFile → Known → tree.Formulas → List TypingFault
   formulas_faults file known tree.no_formula = []
   formulas_faults file known (tree.more_formulas first rest) =
       formula_faults file known first ++ formulas_faults file known rest
 
-abbrev pub effect_literal_faults : File → Known → tree.EffectLiteral → List TypingFault
+abbrev pub effect_literal_faults : TaskFile → Known → tree.EffectLiteral → List TypingFault
 effect_literal_faults file known (tree.add a) = atom_faults file known a
 effect_literal_faults file known (tree.delete a) = atom_faults file known a
 
 abbrev mutual
-  pub effect_faults : File → Known → tree.Effect → List TypingFault
+  pub effect_faults : TaskFile → Known → tree.Effect → List TypingFault
   effect_faults file known (tree.literal l) = effect_literal_faults file known l
   effect_faults file known (tree.both parts) = effects_faults file known parts
   effect_faults file known (tree.each groups part) =
@@ -131,23 +131,23 @@ abbrev mutual
   effect_faults file known (tree.when condition literals) =
       formula_faults file known condition ++ flat_map (effect_literal_faults file known) literals
 
-  pub effects_faults : File → Known → tree.Effects → List TypingFault
+  pub effects_faults : TaskFile → Known → tree.Effects → List TypingFault
   effects_faults file known tree.no_effect = []
   effects_faults file known (tree.more_effects first rest) =
       effect_faults file known first ++ effects_faults file known rest
 
-abbrev pub ground_atom_faults : File → Known → tree.GroundAtom → List TypingFault
+abbrev pub ground_atom_faults : TaskFile → Known → tree.GroundAtom → List TypingFault
 ground_atom_faults file known a =
     predicate_faults file known a.predicate (length a.objects)
     ++ terms_faults file known (arguments_in known a.predicate) (map (λ (name : Name). tree.object name) a.objects)
 
 -- 23: the total cost where it is not declared, and a start other than 0
-abbrev pub initial_cost_faults : File → Known → tree.InitialCost → List TypingFault
+abbrev pub initial_cost_faults : TaskFile → Known → tree.InitialCost → List TypingFault
 initial_cost_faults file known c =
     (if has_cost known then [] else refused_word file 23 c.function) ++ (if c.amount == 0 then [] else refused_word file 23 c.number)
 
 -- 24: the word `not`
-abbrev pub fact_faults : File → Known → tree.Fact → List TypingFault
+abbrev pub fact_faults : TaskFile → Known → tree.Fact → List TypingFault
 fact_faults file known (tree.fact a) = ground_atom_faults file known a
 fact_faults file known (tree.negated word a) = refused_word file 24 word
 fact_faults file known (tree.initial_cost c) = initial_cost_faults file known c
@@ -157,19 +157,19 @@ fact_faults file known (tree.initial_value v) = ground_atom_faults file (in_func
 abbrev pub differing : List task.FunctionValue → task.FunctionValue → Bool
 differing given v = option_map_or (λ value. not (value == v.value)) (value_in given v.function) false
 
-abbrev pub value_faults : File → Known → List task.FunctionValue → tree.Fact → List TypingFault
+abbrev pub value_faults : TaskFile → Known → List task.FunctionValue → tree.Fact → List TypingFault
 value_faults file known given (tree.initial_value v) =
     if list_any (differing given) (values_in known (tree.initial_value v)) then refused_word file 16 v.function.predicate else []
 value_faults file known given _ = []
 
 -- of facts, where these values were given before them
-abbrev pub facts_faults : File → Known → List task.FunctionValue → List tree.Fact → List TypingFault
+abbrev pub facts_faults : TaskFile → Known → List task.FunctionValue → List tree.Fact → List TypingFault
 facts_faults file known given [] = []
 facts_faults file known given (f ∷ facts) =
     fact_faults file known f ++ value_faults file known given f ++ facts_faults file known (values_after known given (f ∷ [])) facts
 
 -- and 23: each `=` after the first
-abbrev pub init_faults : File → Known → List tree.Fact → List TypingFault
+abbrev pub init_faults : TaskFile → Known → List tree.Fact → List TypingFault
 init_faults file known facts = facts_faults file known [] facts ++ refused 23 (drop 1 (equals_in file facts))
 
 -- 21: the problem is for a domain of another name
@@ -213,20 +213,20 @@ declaration_faults types qs =
     refused 16 (repeated (map (λ (q : tree.Predicate). placed domain_file q.name) qs)) ++ flat_map (argument_faults types) qs
 
 -- the words `increase` of an action
-abbrev pub increase_words : File → tree.Action → List Placed
+abbrev pub increase_words : TaskFile → tree.Action → List Placed
 increase_words file a = map (λ (i : tree.Increase). placed file i.word) a.increases
 
 -- 23: each `increase` after the first, and each where the total cost is not declared
-abbrev pub increase_faults : File → Known → tree.Action → List TypingFault
+abbrev pub increase_faults : TaskFile → Known → tree.Action → List TypingFault
 increase_faults file known a = refused 23 (drop (if has_cost known then 1 else 0) (increase_words file a))
 
 -- of the function that an increase is by
-abbrev pub amount_faults : File → Known → tree.Amount → List TypingFault
+abbrev pub amount_faults : TaskFile → Known → tree.Amount → List TypingFault
 amount_faults file known (tree.by_number n) = []
 amount_faults file known (tree.by_function f) = atom_faults file (in_function known) f
 
 -- the faults of the precondition and of the effect
-abbrev pub body_faults : File → Known → tree.Action → List TypingFault
+abbrev pub body_faults : TaskFile → Known → tree.Action → List TypingFault
 body_faults file known a =
     formula_faults file known a.precondition ++ effect_faults file known a.effect ++ increase_faults file known a
     ++ flat_map (λ (i : tree.Increase). amount_faults file known i.amount) a.increases

@@ -4,7 +4,7 @@ use Rattle.std.specs.Prelude.{◌≡◌, ℕ, ◌+◌, Bool, true, false, List, 
 use Rattle.model.specs.Task as task
 use Rattle.model.specs.Task.{by_number, by_function, Schema, Task}
 use Rattle.model.specs.Trees as tree
-use Rattle.model.specs.Trees.{File, domain_file, problem_file, Name, Group, GroundAtom, Fact, Predicate, Increase, Action, Domain, Problem, Term, Atom, Formula, Effect, formulas, effects}
+use Rattle.model.specs.Trees.{TaskFile, domain_file, problem_file, Name, Group, GroundAtom, Fact, Predicate, Increase, Action, Domain, Problem, Term, Atom, Formula, Effect, formulas, effects}
 use Rattle.model.specs.Meaning.{State, holds, changes_of_instance}
 use Rattle.model.specs.SureLiterals.{Literal, is_true, sure}
 use Rattle.model.specs.ClosedOff.{is_unconditional}
@@ -23,7 +23,7 @@ abbrev pub untyped : List Name → List Group
 untyped names = group names [] ∷ []
 
 -- the word at this offset is refused by this number
-abbrev pub fault : File → ℕ → ℕ → TypingFault
+abbrev pub fault : TaskFile → ℕ → ℕ → TypingFault
 fault file code start = record { file = file; fault = record { code = code; span = record { start = start; end = start + 1 } } }
 
 -- and the fault that refuses the word by the number

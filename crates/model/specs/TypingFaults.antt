@@ -6,7 +6,7 @@ use Rattle.std.specs.Prelude.{◌≡◌, ◌≢◌, ℕ, ◌+◌, ◌<◌, ◌�
 use Rattle.model.specs.Limits.{max_types, max_objects, max_arguments, max_variables}
 use Rattle.model.specs.Task as task
 use Rattle.model.specs.Meaning.{value_in}
-use Rattle.model.specs.Trees.{File, domain_file, problem_file, Name, Domain, Problem}
+use Rattle.model.specs.Trees.{TaskFile, domain_file, problem_file, Name, Domain, Problem}
 use Rattle.model.specs.Trees as tree
 use Rattle.model.specs.Resolution.{Known, Declared, Placed, placed, words_of, equals_in, folded, is_same, is_known, declared, declared_types, declared_objects, type_names, parents_of, types_of, Descends, declares_cost, known_in_domain, known_in_action, known_with, known_in_problem, in_function, values_in, values_after, names_of_predicates, names_of_variables, names_of_objects, predicate_in_known, term_in, fits_in, word_of, DescendsFromItself, TypingFault, rank_of}
 
@@ -80,13 +80,13 @@ IsUnknown known (tree.variable name) = is_known (names_of_variables known.variab
 IsUnknown known (tree.object name) = is_known (names_of_objects known.objects) name ≡ false
 
 -- 17: a variable or an object that is not known
-pub record IsTermFault (file : File) (known : Known) (t : tree.Term) (code : ℕ) (w : Placed) : Type 0 where
+pub record IsTermFault (file : TaskFile) (known : Known) (t : tree.Term) (code : ℕ) (w : Placed) : Type 0 where
   pub is_unknown : IsUnknown known t
   pub number : code ≡ 17
   pub word : w ≡ placed file (word_of t)
 
 -- by this number, this word of an atom of the file is refused, where these may be named in it
-pub data IsAtomFault (file : File) (known : Known) (a : tree.Atom) : ℕ → Placed → Type 0 where
+pub data IsAtomFault (file : TaskFile) (known : Known) (a : tree.Atom) : ℕ → Placed → Type 0 where
   unknown_predicate : is_known (names_of_predicates known.predicates) a.predicate ≡ false → IsAtomFault file known a 17 (placed file a.predicate)
   unknown_term : (t : tree.Term) → Contains a.terms t → IsUnknown known t → IsAtomFault file known a 17 (placed file (word_of t))
   wrong_count : (p : task.Predicate) → predicate_in_known known a.predicate ≡ Some p → length a.terms ≢ length p.arguments
@@ -107,7 +107,7 @@ pub data IsVariableFault (known : Known) (xs : List Declared) : ℕ → Placed �
 -- By this number, this word of a formula of the file is refused, where these may be named in it: a word of one of its
 -- atoms, a term of an equality that is not known, or a word of a quantifier's variables, which are in scope in its part.
 abbrev mutual
-  pub IsFormulaFault : File → Known → tree.Formula → ℕ → Placed → Type 0
+  pub IsFormulaFault : TaskFile → Known → tree.Formula → ℕ → Placed → Type 0
   IsFormulaFault file known (tree.atom a) code w = IsAtomFault file known a code w
   IsFormulaFault file known (tree.equal t u) code w = IsTermFault file known t code w ⊎ IsTermFault file known u code w
   IsFormulaFault file known (tree.and parts) code w = IsSomeFault file known parts code w
@@ -119,18 +119,18 @@ abbrev mutual
   IsFormulaFault file known (tree.forall groups part) code w =
       IsVariableFault known (declared file groups) code w ⊎ IsFormulaFault file (known_with known (declared file groups)) part code w
 
-  pub IsSomeFault : File → Known → tree.Formulas → ℕ → Placed → Type 0
+  pub IsSomeFault : TaskFile → Known → tree.Formulas → ℕ → Placed → Type 0
   IsSomeFault file known tree.no_formula code w = ⊥
   IsSomeFault file known (tree.more_formulas first rest) code w = IsFormulaFault file known first code w ⊎ IsSomeFault file known rest code w
 
 -- and of a literal of an effect
-abbrev pub IsLiteralFault : File → Known → tree.EffectLiteral → ℕ → Placed → Type 0
+abbrev pub IsLiteralFault : TaskFile → Known → tree.EffectLiteral → ℕ → Placed → Type 0
 IsLiteralFault file known (tree.add a) code w = IsAtomFault file known a code w
 IsLiteralFault file known (tree.delete a) code w = IsAtomFault file known a code w
 
 -- And of an effect: a word of one of its literals, of a condition, or of the variables of a `forall`.
 abbrev mutual
-  pub IsEffectFault : File → Known → tree.Effect → ℕ → Placed → Type 0
+  pub IsEffectFault : TaskFile → Known → tree.Effect → ℕ → Placed → Type 0
   IsEffectFault file known (tree.literal l) code w = IsLiteralFault file known l code w
   IsEffectFault file known (tree.both parts) code w = IsSomeEffectFault file known parts code w
   IsEffectFault file known (tree.each groups part) code w =
@@ -138,7 +138,7 @@ abbrev mutual
   IsEffectFault file known (tree.when condition literals) code w =
       IsFormulaFault file known condition code w ⊎ ((l : tree.EffectLiteral) × Contains literals l × IsLiteralFault file known l code w)
 
-  pub IsSomeEffectFault : File → Known → tree.Effects → ℕ → Placed → Type 0
+  pub IsSomeEffectFault : TaskFile → Known → tree.Effects → ℕ → Placed → Type 0
   IsSomeEffectFault file known tree.no_effect code w = ⊥
   IsSomeEffectFault file known (tree.more_effects first rest) code w = IsEffectFault file known first code w ⊎ IsSomeEffectFault file known rest code w
 

@@ -9,7 +9,7 @@ use Rattle.faults.specs.Fault.{number_of}
 use Rattle.pddl_tree_values.specs.declared.word_fault.WordRefusal.{WordRefusal}
 use Rattle.pddl_tree_values.specs.Token.{from, first}
 use Rattle.pddl_tree_values.specs.Reading.{number_seen}
-use Rattle.model.specs.Trees.{File, Name, Action}
+use Rattle.model.specs.Trees.{TaskFile, Name, Action}
 use Rattle.model.specs.GrammarWords.{PartKeyword, SectionKeyword, keyword, of_section}
 use Rattle.model.specs.Grammar.{Phrase, gives, ◌>>=◌, ◌>>◌, and_then, a_name, close, action_name, parts, part_after, with_part, action_from, sections, section_after, with_section, has_section, sections_of}
 use Rattle.model.specs.Grammar as grammar
@@ -42,7 +42,7 @@ contents_of c = record {
 }
 
 -- the sections of a file that follow those seen, taken into the contents as they are with these
-abbrev pub sections_on : File → List SectionKeyword → grammar.Contents → Phrase grammar.Contents
+abbrev pub sections_on : TaskFile → List SectionKeyword → grammar.Contents → Phrase grammar.Contents
 sections_on f seen c = sections f seen >>= λ ss. gives (fold with_section c ss)
 
 -- a section of this keyword, taken into the contents
@@ -54,7 +54,7 @@ abbrev pub the_domain : Phrase Name
 the_domain = a_name >>= λ n. close >> gives n
 
 -- the word at an index is no keyword of a section of the file that is new, and is reported as such
-abbrev pub IsNotNew : List Word → ℕ → File → List SectionKeyword → WordRefusal → Type 0
+abbrev pub IsNotNew : List Word → ℕ → TaskFile → List SectionKeyword → WordRefusal → Type 0
 IsNotNew words at f seen refusal =
     ((k : SectionKeyword) → first (from words at) ≡ Some (keyword (of_section k)) → has_section (sections_of f) k ≡ true → has_section seen k ≡ true)
     × ((number_of refusal.code ≡ number_seen (grammar.section f grammar_words.requirements []) (first (from words at))) × (refusal.at ≡ at))

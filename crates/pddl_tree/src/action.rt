@@ -10,7 +10,7 @@ ghost use Rattle.pddl_tree.specs.Sections.{the_action, parts_on, part_into};
 
 use faults::Refused;
 use pddl_tree_values::{
-    Keyword, Listed, Parsed, PartKeyword, Place, Token, WordFault, WordRefusal, action_name,
+    Keyword, ListElement, Parsed, PartKeyword, Place, Token, WordFault, WordRefusal, action_name,
     effect_value, formula, has_part, is_close, no_condition, no_effect, open, put, refusal,
     replace, token_at, typed,
 };
@@ -115,7 +115,7 @@ fn value<'a>(
         PartKeyword::Parameters => {
             put(
                 &mut action.parameters,
-                typed(alloc, words, inside, Listed::Variables),
+                typed(alloc, words, inside, ListElement::Variables),
             )
         }
         PartKeyword::Precondition => {

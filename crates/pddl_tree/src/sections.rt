@@ -12,7 +12,7 @@ ghost use Rattle.pddl_tree.specs.Sections.{contents_of, sections_on, section_int
 use crate::action::action;
 use faults::{NoMemory, Refused, Span};
 use pddl_tree_values::{
-    Key, Keyword, Listed, Parsed, Place, SectionKeyword, Token, WordFault, WordRefusal, allowed,
+    Key, Keyword, ListElement, Parsed, Place, SectionKeyword, Token, WordFault, WordRefusal, allowed,
     close, functions, has_section, is_close, last, list, metric, name, no_condition, open, put,
     refusal, replace, required, token_at, typed,
 };
@@ -173,11 +173,11 @@ fn section_rest<'a>(
             let (_, next) = list::<Key>(alloc, words, at)?;
             Ok(next)
         }
-        SectionKeyword::Types => put(&mut contents.types, typed(alloc, words, at, Listed::Names)),
+        SectionKeyword::Types => put(&mut contents.types, typed(alloc, words, at, ListElement::Names)),
         SectionKeyword::Constants => {
             put(
                 &mut contents.constants,
-                typed(alloc, words, at, Listed::Names),
+                typed(alloc, words, at, ListElement::Names),
             )
         }
         SectionKeyword::Predicates => put(&mut contents.predicates, list(alloc, words, at)),
@@ -191,7 +191,7 @@ fn section_rest<'a>(
         SectionKeyword::Objects => {
             put(
                 &mut contents.objects,
-                typed(alloc, words, at, Listed::Names),
+                typed(alloc, words, at, ListElement::Names),
             )
         }
         SectionKeyword::Init => put(&mut contents.init, list(alloc, words, at)),

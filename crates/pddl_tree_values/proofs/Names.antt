@@ -6,7 +6,7 @@ pub use Rattle.model.specs.Grammar.{◌>>=◌, Contents, Phrase, Section, Sort, 
 pub use Rattle.model.specs.GrammarMachine.{Outcome, run, stopped}
 pub use Rattle.model.specs.GrammarWords.{Token, closes, dash, free, keyword, of_part, of_section, opens, reserved, token_of, tokens_of}
 pub use Rattle.model.specs.Refusals.{number_at, start}
-pub use Rattle.model.specs.Trees.{File, Name, effects, formulas}
+pub use Rattle.model.specs.Trees.{TaskFile, Name, effects, formulas}
 pub use Rattle.pddl_tree_values.specs.Place.{listed_view}
 pub use Rattle.pddl_tree_values.specs.Reading.{GoesOn, Reading, Reads, ReadsInto, Stops, Reports, bind, by_rule, closes_first, made, number_seen, one_of, opens_first, part, phrase, stops}
 pub use Rattle.pddl_tree_values.specs.Typed.{the_either}

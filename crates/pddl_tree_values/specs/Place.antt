@@ -3,14 +3,14 @@ use Rattle.std.specs.Prelude.{[], map}
 use Rattle.pddl_tree_values.specs.declared.refusals.Place.{Place}
 use Rattle.pddl_tree_values.specs.declared.refusals.Place.TheVariants as place
 use Rattle.syntax_tree.specs.Tree.{file_of}
-use Rattle.pddl_tree_values.specs.declared.refusals.Listed.{Listed}
-use Rattle.pddl_tree_values.specs.declared.refusals.Listed.TheVariants as listed
+use Rattle.pddl_tree_values.specs.declared.refusals.ListElement.{ListElement}
+use Rattle.pddl_tree_values.specs.declared.refusals.ListElement.TheVariants as listed
 use Rattle.pddl_tree_values.specs.Token.{part_view}
 use Rattle.model.specs.GrammarWords.{requirements}
 use Rattle.model.specs.Grammar.{Sort, close, key, define_word, parts, value, section, type, conditional, total_cost, minimize_word, amount}
 use Rattle.model.specs.Grammar as grammar
 
-abbrev pub listed_view : Listed → grammar.Listed
+abbrev pub listed_view : ListElement → grammar.ListElement
 listed_view listed.Names = grammar.names
 listed_view listed.Variables = grammar.variables
 

@@ -10,10 +10,10 @@ use Rattle.pddl_tree_values.specs.Token.{from, first}
 use Rattle.pddl_tree_values.specs.Reading.{number_seen}
 use Rattle.model.specs.Trees as tree
 use Rattle.model.specs.GrammarWords.{Token, closes, dash}
-use Rattle.model.specs.Grammar.{Listed, listed_in, Phrase, gives, ◌>>=◌, ◌>>◌, either_word, a_name, many, close}
+use Rattle.model.specs.Grammar.{ListElement, listed_in, Phrase, gives, ◌>>=◌, ◌>>◌, either_word, a_name, many, close}
 
 -- a name of a typed list was read, or was not there
-abbrev pub NamesOne : Listed → List Word → ℕ → Result (Name × ℕ) WordRefusal → Type 0
+abbrev pub NamesOne : ListElement → List Word → ℕ → Result (Name × ℕ) WordRefusal → Type 0
 NamesOne l words at (Ok (n, next)) = (option_and_then (listed_in l) (first (from words at)) ≡ Some (name_of n)) × ((next ≡ at + 1) × (next ≤ length words))
 NamesOne l words at (Err refusal) = (option_and_then (listed_in l) (first (from words at)) ≡ None) × ((number_of refusal.code ≡ number_seen close (first (from words at))) × (refusal.at ≡ at))
 

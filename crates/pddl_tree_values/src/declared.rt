@@ -8,7 +8,7 @@ ghost use Rattle.syntax_tree.specs.Tree.{predicate_of, fact_of, ground_atom_of};
 use crate::costs::initial_fact;
 use crate::lists::{Item, list};
 use crate::look::{Parsed, close, is_close, is_dash, number_word, open};
-use crate::refusals::{Listed, Place, refusal};
+use crate::refusals::{ListElement, Place, refusal};
 use crate::token::{ReservedName, Token, token_at};
 use crate::typed_lists::typed;
 use faults::Refused;
@@ -26,7 +26,7 @@ impl<'a> Item<'a> for Predicate<'a> {
         let inside = open(words, at, Place::Elsewhere)?;
         match token_at(words, inside) {
             Token::Free(_, name) => {
-                let (parameters, next) = typed(alloc, words, inside + 1, Listed::Variables)?;
+                let (parameters, next) = typed(alloc, words, inside + 1, ListElement::Variables)?;
                 Ok((Predicate { name, parameters }, next))
             }
             _ => Err(Refused::At(refusal(words, inside, Place::Elsewhere))),
@@ -77,7 +77,7 @@ fn declared_function<'a>(alloc: Global, words: &[Word<'a>], at: usize) -> Parsed
             Ok((Predicate { name, parameters }, next))
         }
         Token::Free(_, name) => {
-            let (parameters, next) = typed(alloc, words, at + 1, Listed::Variables)?;
+            let (parameters, next) = typed(alloc, words, at + 1, ListElement::Variables)?;
             Ok((Predicate { name, parameters }, next))
         }
         _ => Err(Refused::At(refusal(words, at, Place::Elsewhere))),

@@ -22,7 +22,7 @@ pub use formulas::{formula, last, no_condition};
 pub use lists::{Item, Key, list};
 pub use look::{Parsed, action_name, close, define, is_close, kind, name, open};
 pub use placing::{put, replace};
-pub use refusals::{Listed, Place, allowed, has_part, has_section, refusal, required};
+pub use refusals::{ListElement, Place, allowed, has_part, has_section, refusal, required};
 pub use token::{FreeName, Keyword, PartKeyword, ReservedName, SectionKeyword, Token, token_at};
 pub use typed_lists::typed;
 pub use values::{EffectValue, effect_value};

@@ -10,7 +10,7 @@ ghost use Rattle.pddl_tree_values.specs.Reading.{part, Passes, ReadsWords, Opens
 ghost use Rattle.pddl_tree_values.specs.Costs.{dash_first, increase_in};
 ghost use Rattle.pddl_tree_values.specs.Typed.{NamesOne, ends_group_first};
 
-use crate::refusals::{Listed, Place, refusal};
+use crate::refusals::{ListElement, Place, refusal};
 use crate::token::{FreeName, ReservedName, Token, token_at};
 use crate::word_fault::{WordFault, WordRefusal};
 use syntax_tree::{Name, TaskFile, Term};
@@ -113,14 +113,14 @@ pub fn action_name<'a>(words: &[Word<'a>], at: usize) -> Result<(Name<'a>, usize
 pub(crate) fn listed_name<'a>(
     words: &[Word<'a>],
     at: usize,
-    listed: Listed,
+    listed: ListElement,
 ) -> Result<(Name<'a>, usize), WordRefusal>
     ensures { NamesOne (listed_view listed) words.now at result }
 {
     let token = token_at(words, at);
     let name = match listed {
-        Listed::Names => token.name(),
-        Listed::Variables => token.variable(),
+        ListElement::Names => token.name(),
+        ListElement::Variables => token.variable(),
     };
     match name {
         Some(name) => Ok((name, at + 1)),

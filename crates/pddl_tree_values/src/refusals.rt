@@ -53,7 +53,7 @@ pub fn required(file: TaskFile) -> &'static [SectionKeyword]
 
 /// What a typed list is of.
 #[derive(Clone, Copy)]
-pub enum Listed {
+pub enum ListElement {
     /// Names, each group of one type.
     Names,
     /// Variables, which may be of several types.
@@ -83,7 +83,7 @@ pub enum Place<'s> {
     /// In `:requirements`.
     Keys,
     /// After the `-` of a typed list.
-    Type(Listed),
+    Type(ListElement),
     /// At the head of a list under a `when`.
     UnderWhen,
     /// Where `total-cost` alone may occur.
@@ -142,7 +142,7 @@ fn code_of(token: Token, place: Place) -> Code
         (Token::Keyword(Keyword::LeftOut), Place::Parts | Place::Section(_)) => Code::LeftOut,
         (Token::Keyword(_), Place::Parts | Place::Section(_)) => Code::UnknownSection,
         (Token::Keyword(_), Place::Keys) => Code::UnknownRequirement,
-        (Token::Open, Place::Type(Listed::Names)) => Code::LeftOut,
+        (Token::Open, Place::Type(ListElement::Names)) => Code::LeftOut,
         (Token::Reserved(ReservedName::When | ReservedName::Forall, _), Place::UnderWhen) => {
             Code::LeftOut
         }

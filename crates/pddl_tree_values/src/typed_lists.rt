@@ -10,7 +10,7 @@ ghost use Rattle.pddl_tree_values.specs.Typed.{the_either};
 
 use crate::lists::list;
 use crate::look::{Parsed, either_word, ends_group, is_close, listed_name, name, open};
-use crate::refusals::{Listed, Place, refusal};
+use crate::refusals::{ListElement, Place, refusal};
 use crate::token::{Token, token_at};
 use faults::Refused;
 use std::alloc::Global;
@@ -23,7 +23,7 @@ pub fn typed<'a>(
     alloc: Global,
     words: &[Word<'a>],
     at: usize,
-    listed: Listed,
+    listed: ListElement,
 ) -> Parsed<Vec<Group<'a>>>
     ensures { Reads (part (wants_typed (listed_view listed))) words.now at groups_of result }
 {
@@ -43,12 +43,12 @@ pub(crate) fn variables<'a>(alloc: Global, words: &[Word<'a>], at: usize) -> Par
     ensures { Reads (part (listed (wants_typed variables))) words.now at groups_of result }
 {
     let inside = open(words, at, Place::Elsewhere)?;
-    typed(alloc, words, inside, Listed::Variables)
+    typed(alloc, words, inside, ListElement::Variables)
 }
 
 /// Names, and their types after a `-`, or none before a `)`: the group, and the index of what follows it.
 #[tactic(auto, using(crate::proofs::Groups::of_groups))]
-fn group<'a>(alloc: Global, words: &[Word<'a>], at: usize, listed: Listed) -> Parsed<Group<'a>>
+fn group<'a>(alloc: Global, words: &[Word<'a>], at: usize, listed: ListElement) -> Parsed<Group<'a>>
     requires { closes_first (first (from words.now at)) ≡ false }
     ensures { ReadsOne (part (wants_typed (listed_view listed))) words.now at group_of result }
 {
@@ -69,13 +69,13 @@ fn group<'a>(alloc: Global, words: &[Word<'a>], at: usize, listed: Listed) -> Pa
 
 /// The type after a `-`, or the types of an `either`, and the index after it.
 #[tactic(auto, using(crate::proofs::Groups::type_here))]
-fn types<'a>(alloc: Global, words: &[Word<'a>], at: usize, listed: Listed) -> Parsed<Vec<Name<'a>>>
+fn types<'a>(alloc: Global, words: &[Word<'a>], at: usize, listed: ListElement) -> Parsed<Vec<Name<'a>>>
     ensures { Reads (part (wants_type (listed_view listed))) words.now at (λ names. map name_of names.items) result }
 {
     match token_at(words, at) {
         Token::Open => match listed {
-            Listed::Names => Err(Refused::At(refusal(words, at, Place::Type(listed)))),
-            Listed::Variables => either(alloc, words, at + 1),
+            ListElement::Names => Err(Refused::At(refusal(words, at, Place::Type(listed)))),
+            ListElement::Variables => either(alloc, words, at + 1),
         },
         Token::Free(_, name) => Ok((vec![in alloc; name]?, at + 1)),
         Token::Reserved(_, name) => Ok((vec![in alloc; name]?, at + 1)),

@@ -5,7 +5,7 @@ use Rattle.std.proofs.lemmas.List.{drop_all}
 use Rattle.model.specs.Fault.{Span, Fault}
 use Rattle.model.specs.Words.{is_gap, Form, form_of, goes_on, form, bytes, size, is_name, longest_text}
 use Rattle.model.specs.PlanText.{Placed, placed_from, Step, HasSteps, is_stamp, IsFormFault}
-use Rattle.model.specs.PlanMachine.{Sort, sort_by, Place, outside, Turn, stops, goes, ends, turn, Outcome, reads, refuses, with_step, with_steps, open_at, at_end, after_turn, outcome}
+use Rattle.model.specs.PlanMachine.{Sort, sort_by, PlanPlace, outside, Advance, stops, goes, ends, turn, Outcome, reads, refuses, with_step, with_steps, open_at, at_end, after_turn, outcome}
 use Rattle.model.proofs.PlanReading.{form_fault, has_steps}
 use Rattle.tokens.proofs.Cut.{cut, cut_parts, PartBetween, part_between}
 use Rattle.plan_file.specs.PlanFile.{read_from, ReportsStop}
@@ -37,7 +37,7 @@ module _ (text : List ℕ) (start end : ℕ) (f : Form) (inside_text : start < l
   unfolding words_after
   gap_read e = ap (outcome (length text)) (words_here ∙ ap (λ t. cond t words_after (the_word ∷ words_after)) e)
 
-  word_read : is_gap f ≡ false → (slice : List ℕ) → slice ≡ take (end - start) (drop start text) → (place : Place)
+  word_read : is_gap f ≡ false → (slice : List ℕ) → slice ≡ take (end - start) (drop start text) → (place : PlanPlace)
       → read_from text start place
       ≡ after_turn (record { start = start; end = start + length slice }) (turn place (sort_by f (is_name slice) (is_stamp slice)) (record { text = slice; span = record { start = start; end = start + length slice } })) (read_from text (start + length slice))
   unfolding the_word words_after
@@ -49,15 +49,15 @@ module _ (text : List ℕ) (start end : ℕ) (f : Form) (inside_text : start < l
       ∙ ap (λ bs. after_turn (record { start = start; end = start + length bs }) (turn place (sort_by f (is_name bs) (is_stamp bs)) (record { text = bs; span = record { start = start; end = start + length bs } })) (read_from text end)) same_bytes
       ∙ ap (λ k. after_turn (record { start = start; end = start + length slice }) (turn place (sort_by f (is_name slice) (is_stamp slice)) (record { text = slice; span = record { start = start; end = start + length slice } })) (read_from text k)) end_is
 
-  pub word_given : is_gap f ≡ false → (slice : List ℕ) → slice ≡ take (end - start) (drop start text) → (s : Sort) → s ≡ sort_by f (is_name slice) (is_stamp slice) → (at : ℕ) → read_from text start ≡ read_from text at → (place : Place)
+  pub word_given : is_gap f ≡ false → (slice : List ℕ) → slice ≡ take (end - start) (drop start text) → (s : Sort) → s ≡ sort_by f (is_name slice) (is_stamp slice) → (at : ℕ) → read_from text start ≡ read_from text at → (place : PlanPlace)
       → read_from text at place
       ≡ after_turn (record { start = start; end = start + length slice }) (turn place s (record { text = slice; span = record { start = start; end = start + length slice } })) (read_from text (start + length slice))
   word_given e slice slice_is s s_is at same place =
-      ap (λ (read : Place → Outcome). read place) (sym same) ∙ word_read e slice slice_is place
+      ap (λ (read : PlanPlace → Outcome). read place) (sym same) ∙ word_read e slice slice_is place
       ∙ ap (λ t. after_turn (record { start = start; end = start + length slice }) (turn place t (record { text = slice; span = record { start = start; end = start + length slice } })) (read_from text (start + length slice))) (sym s_is)
 
 -- nothing more
-pub end_read : (text : List ℕ) (start : ℕ) → length text ≤ start → (place : Place) → read_from text start place ≡ at_end (length text) place
+pub end_read : (text : List ℕ) (start : ℕ) → length text ≤ start → (place : PlanPlace) → read_from text start place ≡ at_end (length text) place
 end_read text start past place = ap (λ rest. outcome (length text) (placed_from start (cut rest)) place) (drop_all start text past)
 
 -- what is read of the whole text
@@ -65,7 +65,7 @@ abbrev pub whole : List ℕ → Outcome
 whole text = outcome (length text) (placed_from 0 (cut text)) outside
 
 -- what the reader keeps: the steps so far and what is read from here on are what is read of the whole text
-pub record Keeps (text : List ℕ) (at : ℕ) (place : Place) (so_far : List Step) : Type 0 where
+pub record Keeps (text : List ℕ) (at : ℕ) (place : PlanPlace) (so_far : List Step) : Type 0 where
   pub same : with_steps so_far (read_from text at place) ≡ whole text
 
 pub keeps_at_start : (text : List ℕ) → Keeps text 0 outside []
@@ -80,9 +80,9 @@ one_step_more so_far step (reads steps) = ap reads (append_assoc so_far (step �
 one_step_more so_far step (refuses fault) = refl
 
 -- what a word does here
-module _ (text : List ℕ) (at end : ℕ) (place : Place) (t : Turn) (span : Span) (so_far : List Step)
+module _ (text : List ℕ) (at end : ℕ) (place : PlanPlace) (t : Advance) (span : Span) (so_far : List Step)
     (read : read_from text at place ≡ after_turn span t (read_from text end)) (keeps : Keeps text at place so_far) where
-  pub keeps_on : (next : Place) → t ≡ goes next → Keeps text end next so_far
+  pub keeps_on : (next : PlanPlace) → t ≡ goes next → Keeps text end next so_far
   keeps_on next e = record { same = ap (with_steps so_far) (sym (read ∙ ap (λ u. after_turn span u (read_from text end)) e)) ∙ keeps.same }
 
   pub keeps_step : (step : Step) → t ≡ ends step → Keeps text end outside (so_far ++ step ∷ [])
@@ -100,7 +100,7 @@ module _ (text : List ℕ) (at end : ℕ) (place : Place) (t : Turn) (span : Spa
       form_fault text (cut text) fault short (cut_parts text) (stops_whole fault stopped reported)
 
 -- the end of the text
-module _ (text : List ℕ) (at : ℕ) (place : Place) (so_far : List Step) (short : length text ≤ longest_text)
+module _ (text : List ℕ) (at : ℕ) (place : PlanPlace) (so_far : List Step) (short : length text ≤ longest_text)
     (read : read_from text at place ≡ at_end (length text) place) (keeps : Keeps text at place so_far) where
   pub all_read : place ≡ outside → HasSteps text so_far
   all_read e =

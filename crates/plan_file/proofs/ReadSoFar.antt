@@ -9,7 +9,7 @@ use Rattle.model.specs.Fault.{Span, Fault}
 use Rattle.model.specs.Task.{Task, Instance}
 use Rattle.model.specs.PlanText.{Step, HasSteps, Means, AllMean, IsPlanText, IsPlanFault}
 use Rattle.model.specs.Words.{longest_text}
-use Rattle.model.specs.PlanMachine.{Place, outside, Turn, goes, ends, after_turn, at_end}
+use Rattle.model.specs.PlanMachine.{PlanPlace, outside, Advance, goes, ends, after_turn, at_end}
 use Rattle.model.proofs.PlanMeaning.{all_mean_push}
 use Rattle.plan_file.specs.PlanFile.{read_from, IsFirstFault, MeanOrRefused, IsMeaning}
 use Rattle.plan_file.specs.declared.steps.Meaning.{Meaning}
@@ -17,7 +17,7 @@ use Rattle.plan_file.proofs.PlanWords.{Keeps, keeps_on, keeps_step, all_read}
 use Rattle.plan_file.proofs.PlanSteps.{reported_more, meaning_refused}
 
 -- There are steps so far, of which no list is in memory: the text is read as them up to here, and this is what they mean
-pub record IsReadSoFar (task : Task) (text : List ℕ) (at : ℕ) (place : Place) (meaning : Meaning) : Type 0 where
+pub record IsReadSoFar (task : Task) (text : List ℕ) (at : ℕ) (place : PlanPlace) (meaning : Meaning) : Type 0 where
   pub steps : List Step
   pub keeps : Keeps text at place steps
   pub mean : IsMeaning task steps meaning
@@ -55,9 +55,9 @@ module _ (task : Task) (steps : List Step) (step : Step) where
   instance_taken f items more x more_is (Some refusal) unrefused mean means = absurd (true≢false unrefused)
 
 -- what a word does here
-module _ (task : Task) (text : List ℕ) (at end : ℕ) (place : Place) (t : Turn) (span : Span) (meaning : Meaning)
+module _ (task : Task) (text : List ℕ) (at end : ℕ) (place : PlanPlace) (t : Advance) (span : Span) (meaning : Meaning)
     (read : read_from text at place ≡ after_turn span t (read_from text end)) (so_far : IsReadSoFar task text at place meaning) where
-  pub goes_on : (next : Place) → t ≡ goes next → IsReadSoFar task text end next meaning
+  pub goes_on : (next : PlanPlace) → t ≡ goes next → IsReadSoFar task text end next meaning
   goes_on next e = record { steps = so_far.steps; keeps = keeps_on text at end place t span so_far.steps read so_far.keeps next e; mean = so_far.mean }
 
   pub takes_step : (step : Step) → t ≡ ends step → (after : Meaning) → ((steps : List Step) → IsMeaning task steps meaning → IsMeaning task (steps ++ step ∷ []) after)
@@ -69,7 +69,7 @@ module _ (task : Task) (text : List ℕ) (at end : ℕ) (place : Place) (t : Tur
   }
 
 -- the end of the text, outside of steps
-module _ (task : Task) (text : List ℕ) (at : ℕ) (place : Place) (meaning : Meaning) (short : length text ≤ longest_text)
+module _ (task : Task) (text : List ℕ) (at : ℕ) (place : PlanPlace) (meaning : Meaning) (short : length text ≤ longest_text)
     (read : read_from text at place ≡ at_end (length text) place) (so_far : IsReadSoFar task text at place meaning) (is_outside : place ≡ outside) where
   has : HasSteps text so_far.steps
   has = all_read text at place so_far.steps short read so_far.keeps is_outside

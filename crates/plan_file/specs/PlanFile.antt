@@ -2,11 +2,11 @@
 use Rattle.std.specs.Prelude.{◌≡◌, ℕ, ◌+◌, List, ◌∷◌, ◌++◌, length, map, drop, Option, None, Some, IfSome}
 use Rattle.plan_file.specs.declared.word.Sort.{Sort}
 use Rattle.plan_file.specs.declared.word.Sort.TheVariants.{Open, Close, Name, Stamp, Other}
-use Rattle.plan_file.specs.declared.word.Word.{Word}
-use Rattle.plan_file.specs.declared.text.Place.{Place}
-use Rattle.plan_file.specs.declared.text.Place.TheVariants.{Outside, Opened, Inside}
-use Rattle.plan_file.specs.declared.text.Turn.{Turn}
-use Rattle.plan_file.specs.declared.text.Turn.TheVariants.{Goes, Ends}
+use Rattle.plan_file.specs.declared.word.PlanWord.{PlanWord}
+use Rattle.plan_file.specs.declared.text.PlanPlace.{PlanPlace}
+use Rattle.plan_file.specs.declared.text.PlanPlace.TheVariants.{Outside, Opened, Inside}
+use Rattle.plan_file.specs.declared.text.Advance.{Advance}
+use Rattle.plan_file.specs.declared.text.Advance.TheVariants.{Goes, Ends}
 use Rattle.plan_file.specs.declared.steps.Meaning.{Meaning}
 use Rattle.tokens.specs.Reported.{reported_by}
 use Rattle.faults.specs.declared.refused.TextRefusal.{TextRefusal}
@@ -28,39 +28,39 @@ sort_of Name = machine.a_name
 sort_of Stamp = machine.a_stamp
 sort_of Other = machine.strange
 
-abbrev pub span_of : Word → Span
+abbrev pub span_of : PlanWord → Span
 span_of word = record { start = word.start; end = word.start + length word.text.now }
 
-abbrev pub name_of : Word → tree.Name
+abbrev pub name_of : PlanWord → tree.Name
 name_of word = record { text = word.text.now; span = span_of word }
 
 -- the step of this action and these objects
-abbrev pub step_of : Word → List Word → text.Step
+abbrev pub step_of : PlanWord → List PlanWord → text.Step
 step_of action objects = record { action = name_of action; objects = map name_of objects }
 
 -- the place, where these are the names of the open step's objects
-abbrev pub place_of : Place → List Word → machine.Place
+abbrev pub place_of : PlanPlace → List PlanWord → machine.PlanPlace
 place_of Outside objects = machine.outside
 place_of Opened objects = machine.opened
 place_of (Inside action) objects = machine.inside (name_of action) (map name_of objects)
 
-abbrev pub turn_of : Turn → List Word → machine.Turn
+abbrev pub turn_of : Advance → List PlanWord → machine.Advance
 turn_of (Goes place) objects = machine.goes (place_of place objects)
 turn_of (Ends action) objects = machine.ends (step_of action objects)
 
 -- the word stops the reading, by the number that is reported, and its span is reported
-abbrev pub ReportsStop : machine.Turn → Span → Fault → Type 0
+abbrev pub ReportsStop : machine.Advance → Span → Fault → Type 0
 ReportsStop t span fault = (t ≡ machine.stops fault.code) × (fault.span ≡ span)
 
 -- what is read of the text from this offset and place on
-abbrev pub read_from : List ℕ → ℕ → machine.Place → Outcome
+abbrev pub read_from : List ℕ → ℕ → machine.PlanPlace → Outcome
 read_from text at = outcome (length text) (placed_from at (cut (drop at text)))
 
 -- what is read from this offset on is this word and what is read after it, or nothing
-abbrev pub GivesWord : List ℕ → ℕ → Option Word → Type 0
-GivesWord text at None = (place : machine.Place) → read_from text at place ≡ at_end (length text) place
+abbrev pub GivesWord : List ℕ → ℕ → Option PlanWord → Type 0
+GivesWord text at None = (place : machine.PlanPlace) → read_from text at place ≡ at_end (length text) place
 GivesWord text at (Some word) =
-    (place : machine.Place) → read_from text at place
+    (place : machine.PlanPlace) → read_from text at place
     ≡ after_turn (span_of word) (turn place (sort_of word.sort) (name_of word)) (read_from text (word.start + length word.text.now))
 
 -- the name is not that of an object of one of these types, and the fault is reported for it

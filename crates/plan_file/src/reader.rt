@@ -13,8 +13,8 @@ ghost use Rattle.model.specs.Task as model;
 ghost use Rattle.model.specs.Fault as reported;
 
 use crate::steps::Meaning;
-use crate::text::{Place, Turn};
-use crate::word::{Word, refusal};
+use crate::text::{PlanPlace, Advance};
+use crate::word::{PlanWord, refusal};
 use faults::{Code, Fault};
 use formulas::{Instance, Plan};
 use std::alloc::Global;
@@ -75,23 +75,23 @@ fn instances_of(alloc: Global, task: &Task, text: &[u8]) -> Result<Vec<Instance>
     if text.len() > LONGEST_TEXT {
         return Err(refusal(Code::PlanForm, LONGEST_TEXT, text.len()));
     }
-    let mut place = Place::Outside;
+    let mut place = PlanPlace::Outside;
     let mut objects = Vec::new(alloc);
     let mut meaning = Meaning::new(alloc);
     let mut at = 0;
-    'words: while let Some(word) = Word::first_from(text, at) {
+    'words: while let Some(word) = PlanWord::first_from(text, at) {
         match place.after(word, &mut objects)? {
-            Turn::Goes(next) => place = next,
-            Turn::Ends(action) => {
+            Advance::Goes(next) => place = next,
+            Advance::Ends(action) => {
                 meaning.take(task, action, objects.as_slice())?;
-                place = Place::Outside;
+                place = PlanPlace::Outside;
             }
         }
         at = word.end();
     }
     match place {
-        Place::Outside => meaning.into_instances(),
-        Place::Opened | Place::Inside(_) => { Err(refusal(Code::PlanForm, text.len(), text.len())) }
+        PlanPlace::Outside => meaning.into_instances(),
+        PlanPlace::Opened | PlanPlace::Inside(_) => { Err(refusal(Code::PlanForm, text.len(), text.len())) }
     }
 }
 

@@ -13,7 +13,7 @@ ghost use Rattle.model.specs.Typing.{folded, is_same};
 ghost use Rattle.model.specs.PlanText as text;
 ghost use Rattle.model.specs.PlanText.{Means, AllMean, IsNumberOf, AreNumbersOf, IsStepFault, schema_names, object_names};
 
-use crate::word::Word;
+use crate::word::PlanWord;
 use faults::{Code, Fault, NoMemory, Refused, TextRefusal};
 use formulas::{Binding, Instance};
 use std::alloc::Global;
@@ -46,8 +46,8 @@ impl Meaning {
     pub(super) fn take(
         &mut self,
         task: &Task,
-        action: Word<'_>,
-        objects: &[Word<'_>],
+        action: PlanWord<'_>,
+        objects: &[PlanWord<'_>],
     ) -> Result<(), NoMemory>
         ensures { OnOk result ((steps : List text.Step) → IsMeaning (task_of task.now) steps self.old
             → IsMeaning (task_of task.now) (steps ++ step_of action.entry objects.now ∷ []) self.new) }
@@ -85,8 +85,8 @@ impl Meaning {
 /// The instance of the step of this action and these objects. Its names are folded in the buffer that is lent.
 fn instance_of(
     task: &Task,
-    action: Word<'_>,
-    names: &[Word<'_>],
+    action: PlanWord<'_>,
+    names: &[PlanWord<'_>],
     buffer: &mut Vec<u8>,
 ) -> Result<Instance, Fault>
     ensures means { IfOk result (λ i. Means (task_of task.now) (step_of action.entry names.now) (view.instance_of i)) }
@@ -116,7 +116,7 @@ fn parameters_of(task: &Task, schema: SchemaId) -> &[TypeUnion]
 fn objects_of(
     task: &Task,
     parameters: &[TypeUnion],
-    names: &[Word<'_>],
+    names: &[PlanWord<'_>],
     buffer: &mut Vec<u8>,
 ) -> Result<Binding, Fault>
     requires few { length parameters.now ≤ 16 }
@@ -137,7 +137,7 @@ fn objects_of(
 fn object_of(
     task: &Task,
     types: &TypeUnion,
-    name: Word<'_>,
+    name: PlanWord<'_>,
     buffer: &mut Vec<u8>,
 ) -> Result<ObjectId, Fault>
     ensures number { IfOk result (λ object. IsNumberOf (object_names (task_of task.now)) (name_of name.entry) object.0) }
@@ -152,7 +152,7 @@ fn object_of(
 
 fn schema_named(
     task: &Task,
-    name: Word<'_>,
+    name: PlanWord<'_>,
     buffer: &mut Vec<u8>,
 ) -> Result<Option<SchemaId>, NoMemory>
     ensures { IfOk result (λ found.
@@ -164,7 +164,7 @@ fn schema_named(
 
 fn object_named(
     task: &Task,
-    name: Word<'_>,
+    name: PlanWord<'_>,
     buffer: &mut Vec<u8>,
 ) -> Result<Option<ObjectId>, NoMemory>
     ensures { IfOk result (λ found.

@@ -47,7 +47,7 @@ impl Sort {
 
 /// A parenthesis, a run or a stray byte.
 #[derive(Clone, Copy)]
-pub(super) struct Word<'a> {
+pub(super) struct PlanWord<'a> {
     /// What it may be in a step.
     pub sort: Sort,
     text: &'a [u8],
@@ -55,13 +55,13 @@ pub(super) struct Word<'a> {
     ghost in_range: { start + length text.now < 2 ^ 64 },
 }
 
-impl<'a> Word<'a> {
+impl<'a> PlanWord<'a> {
     ghost use Rattle.std.specs.Prelude.{OnOk};
     ghost use Rattle.plan_file.specs.PlanFile.{span_of, name_of, GivesWord};
     ghost use Rattle.model.specs.Typing.{folded};
 
     /// The first word of the text from this offset on.
-    pub(super) fn first_from(text: &'a [u8], at: usize) -> Option<Word<'a>>
+    pub(super) fn first_from(text: &'a [u8], at: usize) -> Option<PlanWord<'a>>
         requires { at ≤ length text.now }
         ensures word { GivesWord text.now at result }
         ensures after { IfSome result (λ word. at < word.start + length word.text.now) }
@@ -74,7 +74,7 @@ impl<'a> Word<'a> {
             if !is_gap(form) {
                 let bytes = &text[start..end];
                 let sort = Sort::of(form, bytes);
-                return Some(Word {
+                return Some(PlanWord {
                     sort,
                     text: bytes,
                     start,

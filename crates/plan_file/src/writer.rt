@@ -15,7 +15,7 @@ ghost use Rattle.model.specs.PlanWriting.{plan_text, step_text, step_line, cost_
 ghost use Rattle.model.specs.PlanWritingExamples.{AreWritten};
 ghost use Rattle.model.specs.Words.{longest_text};
 
-use devices::{Sink, WriteFault, write_all};
+use devices::{Sink, IoFault, write_all};
 use faults::NoMemory;
 use formulas::{Instance, Plan};
 use std::alloc::{AllocError, Global};
@@ -42,7 +42,7 @@ pub fn write_plan<W: Sink>(
     plan: &Plan,
     cost: u64,
     out: &mut W,
-) -> Result<(), WriteFault>
+) -> Result<(), IoFault>
     ensures text { OnOk result (Appends (W.taken out.old) (W.taken out.new) (plan_text (task_of task.now) (plan_of plan.now) cost)) }
     ensures beginning { AppendsBeginning (W.taken out.old) (W.taken out.new) (plan_text (task_of task.now) (plan_of plan.now) cost) }
     ensures failures { CountsDevice (W.failures out.old) (W.failures out.new) result }
@@ -91,7 +91,7 @@ fn write_step<W: Sink>(
     step: &Instance,
     line: &mut Vec<u8>,
     out: &mut W,
-) -> Result<(), WriteFault>
+) -> Result<(), IoFault>
     ensures text { OnOk result (Appends (W.taken out.old) (W.taken out.new) (step_line (task_of task.now) (instance_of step.now))) }
     ensures beginning { AppendsBeginning (W.taken out.old) (W.taken out.new) (step_line (task_of task.now) (instance_of step.now)) }
     ensures failures { CountsDevice (W.failures out.old) (W.failures out.new) result }
@@ -102,7 +102,7 @@ fn write_step<W: Sink>(
 }
 
 /// Writes the last line, with the cost.
-fn write_cost<W: Sink>(alloc: Global, cost: u64, out: &mut W) -> Result<(), WriteFault>
+fn write_cost<W: Sink>(alloc: Global, cost: u64, out: &mut W) -> Result<(), IoFault>
     ensures text { OnOk result (Appends (W.taken out.old) (W.taken out.new) (cost_line cost)) }
     ensures beginning { AppendsBeginning (W.taken out.old) (W.taken out.new) (cost_line cost) }
     ensures failures { CountsDevice (W.failures out.old) (W.failures out.new) result }

@@ -19,8 +19,8 @@ use Rattle.model.specs.Task.{Task, Instance}
 use Rattle.certificate_definitions.specs.Certificates.{Certificate}
 use Rattle.model.specs.Files.{IsTaskOf}
 use Rattle.task.specs.Task.{task_of}
-use Rattle.devices.specs.Texts.{IsText}
-use Rattle.devices.specs.declared.device.WriteFault.{WriteFault}
+use Rattle.devices.specs.InputTexts.{IsText}
+use Rattle.devices.specs.declared.device.IoFault.{IoFault}
 use Rattle.file_answers.specs.declared.checking.Checked.{Checked}
 use Rattle.planner_main.specs.declared.failures.Failure.{Failure}
 use Rattle.planner_main.specs.declared.failures.Failure.TheVariants as failure
@@ -147,6 +147,6 @@ counted (Err refusal.Device) before after counts = counts
 counted (Err refusal.Failed) before after counts = counts
 
 pub fails_as_counted : (answer : Result Accepted Refusal) (before after : ℕ) → CountsRefusal before after answer
-    → (fault : WriteFault) → failure_of answer ≡ Some fault → CountsFailure before after (failure.Device fault)
+    → (fault : IoFault) → failure_of answer ≡ Some fault → CountsFailure before after (failure.Device fault)
 fails_as_counted answer before after counts fault is =
-    subst (λ (o : Option WriteFault). IfSome o (λ fault. CountsFailure before after (failure.Device fault))) is (counted answer before after counts)
+    subst (λ (o : Option IoFault). IfSome o (λ fault. CountsFailure before after (failure.Device fault))) is (counted answer before after counts)

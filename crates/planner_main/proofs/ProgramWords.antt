@@ -7,7 +7,7 @@ use Rattle.solver.specs.declared.answer.Answer.TheVariants.{Plan, Unsolvable, Un
 use Rattle.planner_main.specs.declared.failures.Failure.{Failure}
 use Rattle.planner_main.specs.declared.failures.Failure.TheVariants as failure
 use Rattle.file_answers.specs.declared.files.FileFault.TheVariants as refusal
-use Rattle.devices.specs.declared.device.WriteFault.TheVariants as device
+use Rattle.devices.specs.declared.device.IoFault.TheVariants as device
 use Rattle.command_line.specs.Orders.{Asks, IsCommand, Wanted, to_solve, to_validate, to_check, to_explain}
 use Rattle.command_line.specs.View.{IsOfWords}
 use Rattle.command_line.specs.declared.fault.WordsFault.{WordsFault}
@@ -25,14 +25,14 @@ use Rattle.model.proofs.TaskNames.{task_has_names}
 use Rattle.cert_checker.specs.declared.refusal.Refusal.{Refusal}
 use Rattle.cert_checker.specs.declared.checker.Accepted.{Accepted}
 use Rattle.planner_main.specs.Program.{IsTextIfNamed, OnTwo, OnThree, OnInputs, IsAnswerTo, IsReportOn, Refuses, fault_in, IsFaultFor, IsOneOf, IsReportedOn, IsReportedOfWords, SaysOfWords, HasFailed, HasNotFailed, CountsFailure, CountsEither, device_failure}
-use Rattle.devices.specs.Texts.{IsText, AreKept}
+use Rattle.devices.specs.InputTexts.{IsText, AreKept}
 use Rattle.source_text.specs.declared.texts.File.{File}
 use Rattle.file_answers.specs.declared.files.FileFault as file
 use Rattle.faults.specs.declared.code.Code.{Code}
 use Rattle.faults.specs.declared.refused.Span.{Span}
 use Rattle.planner_main.specs.Failures.{device_line, line_of_fault, no_memory_line}
 use Rattle.file_answers.specs.Files.{fault_at}
-use Rattle.devices.specs.declared.device.WriteFault.{WriteFault}
+use Rattle.devices.specs.declared.device.IoFault.{IoFault}
 use Rattle.devices.specs.Devices.{AppendsBeginning, CountsDevice, IsWritten, one_more}
 use Rattle.planner_main.specs.Failures.{is_failure}
 use Rattle.planner_main.specs.VerdictReported as verdict
@@ -197,7 +197,7 @@ module _ (fault : WordsFault) (Says : List ℕ → Type 0) (status : ℕ) where
   unread_words words (inr (is, said)) refused command = inr is
 
 -- What counts as a failure of a device, in a call of the files after another that counted none.
-pub device_counted : (T : Type 0) (before opened after : ℕ) (fault : WriteFault) → opened ≡ before → CountsDevice {T = T} opened after (Err fault)
+pub device_counted : (T : Type 0) (before opened after : ℕ) (fault : IoFault) → opened ≡ before → CountsDevice {T = T} opened after (Err fault)
     → CountsFailure before after (failure.Device fault)
 device_counted T before opened after device.Device same counted = counted ∙ ap one_more same
 device_counted T before opened after device.NoMemory same counted = counted ∙ same
@@ -247,7 +247,7 @@ module _ (contents : List ℕ → Option (List ℕ)) where
   refused_on_inputs domain problem plan d p l d_is p_is l_is (Some fault) h = (d, p, l, d_is, p_is, l_is, h)
 
 -- what a call says that writes all of the bytes or says why not
-pub written_by : {T : Type 0} (wants_memory : Bool) (failures failures_after : ℕ) (before after : Option (List ℕ)) (bytes : List ℕ) (r : Result T WriteFault)
+pub written_by : {T : Type 0} (wants_memory : Bool) (failures failures_after : ℕ) (before after : Option (List ℕ)) (bytes : List ℕ) (r : Result T IoFault)
     → OnOk r (Appends before after bytes) → AppendsBeginning before after bytes → CountsDevice failures failures_after r
     → (r ≡ Err device.NoMemory → IsTrue wants_memory) → IsWritten wants_memory failures failures_after before after bytes
 written_by wants_memory failures failures_after before after bytes (Ok done) all beginning counted wants = (beginning, inl all)

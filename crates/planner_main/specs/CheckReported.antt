@@ -8,8 +8,8 @@ use Rattle.cert_checker.specs.declared.refusal.Refusal.TheVariants as refusal
 use Rattle.cert_checker.specs.RefusalCode.{name_of, number_of}
 use Rattle.cert_checker.specs.declared.checker.Accepted.{Accepted}
 use Rattle.cert_checker.specs.declared.checker.Accepted.TheVariants.{Optimal, AtLeast, Unsolvable}
-use Rattle.devices.specs.declared.device.WriteFault.{WriteFault}
-use Rattle.devices.specs.declared.device.WriteFault.TheVariants as device
+use Rattle.devices.specs.declared.device.IoFault.{IoFault}
+use Rattle.devices.specs.declared.device.IoFault.TheVariants as device
 use Rattle.formulas.specs.State.{instance_of}
 use Rattle.model.specs.Task.{Task, Instance}
 use Rattle.model.specs.PlanWriting.{step_text}
@@ -51,7 +51,7 @@ status_of (Ok answer) = 0
 status_of (Err refusal) = 12
 
 -- why nothing is reported for the certificate: its device failed, or memory was refused; and None where its answer is reported
-abbrev pub failure_of : Result Accepted Refusal → Option WriteFault
+abbrev pub failure_of : Result Accepted Refusal → Option IoFault
 failure_of (Ok answer) = None
 failure_of (Err (refusal.Line code line)) = None
 failure_of (Err (refusal.Unfair i)) = None

@@ -12,8 +12,8 @@ use Rattle.planner_main.specs.declared.printing.reports.Report.TheVariants as re
 use Rattle.planner_main.specs.declared.failures.Failure.{Failure}
 use Rattle.planner_main.specs.declared.failures.Failure.TheVariants as failure
 use Rattle.file_answers.specs.declared.files.FileFault.TheVariants as refusal
-use Rattle.devices.specs.declared.device.WriteFault as device_fault
-use Rattle.devices.specs.declared.device.WriteFault.TheVariants as device
+use Rattle.devices.specs.declared.device.IoFault as device_fault
+use Rattle.devices.specs.declared.device.IoFault.TheVariants as device
 use Rattle.devices.specs.Devices.{AppendsBeginning, one_more}
 use Rattle.planner_main.specs.Failures.{line_of_fault, device_line, no_memory_line, nothing_done_line}
 use Rattle.file_answers.specs.Files.{fault_at, reported_in}
@@ -26,7 +26,7 @@ use Rattle.planner_main.specs.CheckReported.{IsReportedRefusal}
 use Rattle.planner_main.specs.Asked.{outputs_of}
 use Rattle.file_answers.specs.declared.explanation.Explanation.{Explanation}
 use Rattle.file_answers.specs.Explanations.{IsTrueOf}
-use Rattle.devices.specs.Texts.{AreKept, IsText}
+use Rattle.devices.specs.InputTexts.{AreKept, IsText}
 use Rattle.devices.specs.Written.{NamedText, AreWritten, AreWrittenPartly}
 use Rattle.planner_main.specs.Solution.{WritesReport}
 use Rattle.cert_checker.specs.declared.refusal.Refusal.{Refusal}
@@ -194,7 +194,7 @@ fault_in (failure.Text fault) = reported_in fault
 fault_in (failure.Device fault) = None
 
 -- the failure of a write
-abbrev pub of_device : device_fault.WriteFault → Failure
+abbrev pub of_device : device_fault.IoFault → Failure
 of_device fault = failure.Device fault
 
 -- the failure of a device

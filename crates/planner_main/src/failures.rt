@@ -9,7 +9,7 @@ ghost use Rattle.devices.specs.Devices.{IsWritten};
 
 use crate::printing::{DEVICE, NO_MEMORY, REFUSED, WRONG_WORDS};
 use command_line::WordsFault;
-use devices::{Sink, WriteFault, write_all};
+use devices::{Sink, IoFault, write_all};
 use faults::{Code, NoMemory, Span};
 use file_answers::{File, FileFault};
 use std::alloc::{AllocError, Global};
@@ -23,7 +23,7 @@ pub(crate) enum Failure {
     /// A file's text is refused, or memory was.
     Text(FileFault),
     /// A device failed, or memory was refused.
-    Device(WriteFault),
+    Device(IoFault),
 }
 
 impl From<FileFault> for Failure {
@@ -37,26 +37,26 @@ impl From<FileFault> for Failure {
     }
 }
 
-impl From<WriteFault> for Failure {
+impl From<IoFault> for Failure {
     ghost use Rattle.std.specs.Prelude.{◌≡◌};
     ghost use Rattle.planner_main.specs.declared.failures.Failure.TheVariants.{Device};
 
     ghost from_gives = { λ fault failure. failure ≡ Device fault };
 
-    fn from(fault: WriteFault) -> Failure {
+    fn from(fault: IoFault) -> Failure {
         Failure::Device(fault)
     }
 }
 
 impl From<NoMemory> for Failure {
     ghost use Rattle.std.specs.Prelude.{◌≡◌};
-    ghost use Rattle.devices.specs.declared.device.WriteFault.TheVariants.{NoMemory};
+    ghost use Rattle.devices.specs.declared.device.IoFault.TheVariants.{NoMemory};
     ghost use Rattle.planner_main.specs.declared.failures.Failure.TheVariants.{Device};
 
     ghost from_gives = { λ _ failure. failure ≡ Device NoMemory };
 
     fn from(_error: NoMemory) -> Failure {
-        Failure::Device(WriteFault::NoMemory)
+        Failure::Device(IoFault::NoMemory)
     }
 }
 
@@ -70,11 +70,11 @@ pub(crate) fn report_failure<E: Sink>(alloc: Global, failure: Failure, err: &mut
         Failure::Text(FileFault::At { file, code, span }) => {
             report_fault(alloc, file, code, span, err)
         }
-        Failure::Device(WriteFault::Device) => {
+        Failure::Device(IoFault::Device) => {
             say(err, b"fault 61 Device\n");
             DEVICE
         }
-        Failure::Text(FileFault::NoMemory) | Failure::Device(WriteFault::NoMemory) => {
+        Failure::Text(FileFault::NoMemory) | Failure::Device(IoFault::NoMemory) => {
             report_no_memory(err)
         }
     }

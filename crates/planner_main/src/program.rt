@@ -4,7 +4,7 @@ ghost use Rattle.command_line.specs.Orders.{IsCommand};
 ghost use Rattle.command_line.specs.View.{texts, wanted_of};
 ghost use Rattle.planner_main.specs.Failures.{device_line, is_failure, no_memory_line};
 ghost use Rattle.planner_main.specs.Program.{Reports, ReportsFor, ReportsPartly, ReportsPartlyFor, Refuses, HasFailed, HasNotFailed, CountsEither, CountsFailure, NamesInput, NamesText, IsFaultFor, IsFound, IsOneOf, IsUnread, SaysOfWords, fault_in, inputs_of, texts_of};
-ghost use Rattle.devices.specs.Texts.{AreKept};
+ghost use Rattle.devices.specs.InputTexts.{AreKept};
 ghost use Rattle.devices.specs.Devices.{IsWritten};
 
 mod acceptance;
@@ -17,7 +17,7 @@ mod writing;
 
 use crate::failures::{Failure, report_failure, report_words};
 use crate::printing::Report;
-use acceptance::{Names, report_of_check};
+use acceptance::{InputNames, report_of_check};
 use command_line::{MaxCount, Order, read_words};
 use devices::{Files, Sink};
 use explaining::report_of_explain;
@@ -171,7 +171,7 @@ fn report_of<F: Files>(alloc: Global, order: Order<'_>, files: &mut F) -> Result
             instances,
             ..
         } => {
-            let names = Names {
+            let names = InputNames {
                 domain,
                 problem,
                 cert,

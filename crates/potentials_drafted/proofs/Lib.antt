@@ -1,1 +1,1 @@
-pub mod TouchingLemmas
+pub mod IncidenceLemmas

@@ -1,2 +1,2 @@
-pub mod Touching
+pub mod Incidence
 pub mod Tables

@@ -3,9 +3,9 @@ use Rattle.std.specs.Prelude.{length}
 use Rattle.grounding.specs.declared.ground.Ground.{Ground}
 use Rattle.grounding.specs.Ground.{task_in, atoms_in}
 use Rattle.model.specs.ClosedOff.{kept_instances}
-use Rattle.potentials_drafted.specs.Touching.{IsTouching}
+use Rattle.potentials_drafted.specs.Incidence.{IsIncidence}
 use Rattle.potentials_drafted.specs.declared.tables.Tables.{Tables}
 
 -- of each atom they report the instances of this ground task that touch it
 abbrev pub AreTablesOf : Ground → Tables → Type 0
-AreTablesOf g t = IsTouching (task_in g) (atoms_in g) (length (kept_instances (task_in g))) t.touching
+AreTablesOf g t = IsIncidence (task_in g) (atoms_in g) (length (kept_instances (task_in g))) t.incidence

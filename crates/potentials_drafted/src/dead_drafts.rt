@@ -111,7 +111,7 @@ impl<'a> DeadDrafts<'a> {
         })
     }
 
-    /// Weights along an edge without an end on which the state at this place gains, if there are some.
+    /// Weights along an unbounded ray on which the state at this place gains, if there are some.
     fn found(&mut self, alloc: Global, place: usize) -> Result<Option<Vec<i64>>, NoMemory> {
         let Some(atoms) = self.states.get(place) else {
             return Ok(None);

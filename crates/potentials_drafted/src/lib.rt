@@ -12,9 +12,9 @@ mod mending;
 mod samples;
 mod simplex;
 mod tables;
-mod touching;
+mod incidence;
 
 pub use dead_drafts::DeadDrafts;
 pub use drafts::drafted_weights;
 pub use tables::Tables;
-pub use touching::{Touch, Touching};
+pub use incidence::{IncidenceEntry, Incidence};

@@ -11,7 +11,7 @@ use std::num::nearest_i64_to_f64;
 
 /// Which variables stand for the weight of an atom, if any.
 #[derive(Clone, Copy)]
-struct Pair {
+struct WeightVariables {
     below: Option<usize>,
     above: Option<usize>,
 }
@@ -21,7 +21,7 @@ struct Pair {
 pub(crate) struct LinearProgram {
     /// What one more of each variable moves.
     variables: Vec<Move>,
-    pairs: Vec<Pair>,
+    pairs: Vec<WeightVariables>,
 }
 
 impl LinearProgram {
@@ -36,7 +36,7 @@ impl LinearProgram {
             pairs: Vec::new(alloc),
         };
         for atom in 0..tables.width() {
-            let pair = Pair {
+            let pair = WeightVariables {
                 below: program.add(tables, aims, Move { atom, by: -1 })?,
                 above: program.add(tables, aims, Move { atom, by: 1 })?,
             };

@@ -1,7 +1,7 @@
 //! Weights that are whole numbers: rounded ones, mended where they are not fair.
 use crate::aims::{Aims, Gain, Move};
 use crate::tables::Tables;
-use crate::touching::Touch;
+use crate::incidence::IncidenceEntry;
 use faults::NoMemory;
 use potentials::is_in_range;
 use std::alloc::Global;
@@ -100,7 +100,7 @@ impl Mending {
     }
 
     /// What an instance that touches these atoms has left of its cost.
-    fn slack(&self, touches: &[Touch], cost: i64) -> i64 {
+    fn slack(&self, touches: &[IncidenceEntry], cost: i64) -> i64 {
         let mut left = cost;
         for touch in touches {
             left = left.saturating_sub(touch.loss(self.weight(touch.number)));
@@ -168,7 +168,7 @@ impl Mending {
     }
 
     /// Whether an instance that touches an atom so loses less by the move, and it leads to 0 or may lead away.
-    fn is_of_use(&self, touch: Touch, by: i64, may_lead_away: bool) -> bool {
+    fn is_of_use(&self, touch: IncidenceEntry, by: i64, may_lead_away: bool) -> bool {
         let before = self.weight(touch.number);
         let after = before.saturating_add(by);
         let leads_away = after.saturating_abs() > before.saturating_abs();
@@ -212,7 +212,7 @@ impl Mending {
     }
 
     /// What an instance has left, where a weight changes.
-    fn shift_slack(&mut self, touch: Touch, before: i64, after: i64) -> Result<(), NoMemory> {
+    fn shift_slack(&mut self, touch: IncidenceEntry, before: i64, after: i64) -> Result<(), NoMemory> {
         let less = touch.loss(before).saturating_sub(touch.loss(after));
         let place = touch.number as usize;
         if place < self.slacks.len() {

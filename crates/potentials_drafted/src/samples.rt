@@ -23,7 +23,7 @@ pub(crate) struct Chance {
 
 /// A walk: the state that it has come to, and room for what comes next.
 #[derive(Drop)]
-struct Walk {
+struct RandomWalk {
     state: Packed,
     next: Packed,
     applicable: Vec<u32>,
@@ -43,7 +43,7 @@ pub(crate) fn sampled(
     if most == 0 {
         return Ok(samples);
     }
-    let mut walk = Walk::new(alloc, ground.width())?;
+    let mut walk = RandomWalk::new(alloc, ground.width())?;
     for _ in 0..walks {
         walk.start(initial);
         walk.go(ground, most)?;
@@ -91,10 +91,10 @@ impl Chance {
     }
 }
 
-impl Walk {
+impl RandomWalk {
     /// One that has not begun.
-    fn new(alloc: Global, width: u32) -> Result<Walk, NoMemory> {
-        Ok(Walk {
+    fn new(alloc: Global, width: u32) -> Result<RandomWalk, NoMemory> {
+        Ok(RandomWalk {
             state: Packed::empty(alloc, width)?,
             next: Packed::empty(alloc, width)?,
             applicable: Vec::new(alloc),

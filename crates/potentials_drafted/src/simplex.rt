@@ -1,7 +1,7 @@
 //! The simplex algorithm (Dantzig 1951), for fair potentials whose weights need not be whole numbers.
 //!
 //! It goes from vertex to vertex of the fair potentials, and begins where all weights are 0, so that what it has come to is
-//! fair wherever it stops. Where nothing costs anything, the edges without an end are of use: along them no instance loses.
+//! fair wherever it stops. Where nothing costs anything, the unbounded rays are of use: along them no instance loses.
 //! At a vertex as many limits are tight as there are variables, and with each goes an edge, along
 //! which it alone loosens. The next edge is the steepest one (Goldfarb & Reid 1977), and costs are taken for a little higher
 //! than they are, each by a part of its own, so that hardly two vertices are in one place (Charnes 1952).
@@ -170,7 +170,7 @@ impl Vertex {
         Ok(true)
     }
 
-    /// Goes on until it comes to an edge without an end along which the initial state gains: how far each variable grows
+    /// Goes on until it comes to an unbounded ray along which the initial state gains: how far each variable grows
     /// along it.
     pub(crate) fn endless(
         &mut self,

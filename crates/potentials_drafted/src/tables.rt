@@ -3,7 +3,7 @@ ghost use Rattle.std.specs.Prelude.{◌≡◌, IfOk};
 ghost use Rattle.potentials_drafted.specs.Tables.{AreTablesOf};
 
 use crate::samples::{sampled, true_atoms};
-use crate::touching::{Touch, Touching};
+use crate::incidence::{IncidenceEntry, Incidence};
 use faults::NoMemory;
 use grounding::Ground;
 use potentials::{goal_gives, instance_count, is_in_range};
@@ -27,7 +27,7 @@ pub struct Tables {
     width: u32,
     at_goal: Vec<AtGoal>,
     costs: Vec<i64>,
-    touching: Touching,
+    incidence: Incidence,
     /// The true atoms of the initial state, and then of those that were sampled on the way from it.
     states: Vec<Vec<u32>>,
 }
@@ -63,7 +63,7 @@ impl Tables {
             width: ground.width(),
             at_goal: reported_at_goal(alloc, ground)?,
             costs: costs(alloc, ground)?,
-            touching: Touching::new(alloc, ground)?,
+            incidence: Incidence::new(alloc, ground)?,
             states: states(alloc, ground)?,
         })
     }
@@ -103,25 +103,25 @@ impl Tables {
     }
 
     /// The instances that touch the atom.
-    pub(crate) fn instances_of(&self, atom: u32) -> &[Touch] {
-        self.touching.of(atom)
+    pub(crate) fn instances_of(&self, atom: u32) -> &[IncidenceEntry] {
+        self.incidence.of(atom)
     }
 
     /// The atoms that the instance touches.
-    pub(crate) fn atoms_of(&self, number: u32) -> &[Touch] {
+    pub(crate) fn atoms_of(&self, number: u32) -> &[IncidenceEntry] {
         self.atoms_at(number as usize)
     }
 
     /// The atoms that the instance at this place touches.
-    pub(crate) fn atoms_at(&self, place: usize) -> &[Touch] {
-        self.touching.atoms_at(place)
+    pub(crate) fn atoms_at(&self, place: usize) -> &[IncidenceEntry] {
+        self.incidence.atoms_at(place)
     }
 
     /// Which instances touch which atoms.
-    pub fn touching(&self) -> &Touching
-        ensures { result.now ≡ self.now.touching }
+    pub fn incidence(&self) -> &Incidence
+        ensures { result.now ≡ self.now.incidence }
     {
-        &self.touching
+        &self.incidence
     }
 }
 

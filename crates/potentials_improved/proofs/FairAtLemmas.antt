@@ -16,9 +16,9 @@ use Rattle.potential_functions.proofs.Sums.{sum-alike}
 use Rattle.potential_functions.proofs.Settling.{weight-other, potentials, IsNoneBetter}
 use Rattle.potential_functions.proofs.Numbers.{counting-named}
 use Rattle.potentials.specs.Fairness.{AreInstancesFair}
-use Rattle.potentials_drafted.specs.declared.touching.Touching.{Touching}
-use Rattle.potentials_drafted.specs.Touching.{row_of, IsTouching}
-use Rattle.potentials_drafted.proofs.TouchingLemmas.{got-again, Contains-appended}
+use Rattle.potentials_drafted.specs.declared.incidence.Incidence.{Incidence}
+use Rattle.potentials_drafted.specs.Incidence.{row_of, IsIncidence}
+use Rattle.potentials_drafted.proofs.IncidenceLemmas.{got-again, Contains-appended}
 use Rattle.potentials_improved.specs.Climb.{AreFairAt}
 use Rattle.potentials.proofs.FairLemmas.{Decides}
 
@@ -34,9 +34,9 @@ loses-untouched count literals changes weights n w untouched =
     ])
 
 module _ (task : Task) (atoms : List Atom) where
-  pub fair-by_touching : (p q : PotentialFunction) (c : ℤ) (a : ℕ) (w : ℤ) (t : Touching) → IsTouching task atoms (length (kept_instances task)) t → AreInstancesFair task atoms p
+  pub fair-by_incidence : (p q : PotentialFunction) (c : ℤ) (a : ℕ) (w : ℤ) (t : Incidence) → IsIncidence task atoms (length (kept_instances task)) t → AreInstancesFair task atoms p
       → q ≡ potentials c (set p.weights a w) → AreFairAt task atoms q (row_of t a) → AreInstancesFair task atoms (potentials c (set p.weights a w))
-  fair-by_touching p q c a w t are fair is tested k d below =
+  fair-by_incidence p q c a w t are fair is tested k d below =
       let i = get_or (kept_instances task) k d in
       let named = slice_get-get_or (kept_instances task) k d below in
       elim (touches (counting_of_instance task atoms i) a) as (λ b. touches (counting_of_instance task atoms i) a ≡ b → IsFairAt (cost_of task i) task atoms (set p.weights a w) i) [
@@ -80,7 +80,7 @@ module _ (task : Task) (atoms : List Atom) (p : PotentialFunction) where
       iff_false (decides i named) fails (all x i (All-contains_itself numbers place d within) named)
 
 -- the numbers of a row are of instances
-pub row-below : (task : Task) (atoms : List Atom) (t : Touching) (a : ℕ) (numbers : List ℕ) → IsTouching task atoms (length (kept_instances task)) t → numbers ≡ row_of t a
+pub row-below : (task : Task) (atoms : List Atom) (t : Incidence) (a : ℕ) (numbers : List ℕ) → IsIncidence task atoms (length (kept_instances task)) t → numbers ≡ row_of t a
     → All (λ n. n < length (kept_instances task)) numbers
 row-below task atoms t a numbers are is =
     subst (All (λ n. n < length (kept_instances task))) (sym is) (λ k d below. are.within a (get_or (row_of t a) k d) (All-contains_itself (row_of t a) k d below))

@@ -12,7 +12,7 @@ ghost use Rattle.potential_functions.specs.Fair.{AreFair};
 ghost use Rattle.potential_functions.specs.Settled.{initial_value};
 ghost use Rattle.potential_functions.proofs.Settling.{IsNoneBetter};
 ghost use Rattle.potentials.specs.Potentials.{potentials_of};
-ghost use Rattle.potentials_drafted.specs.Touching.{number_of, IsTouching};
+ghost use Rattle.potentials_drafted.specs.Incidence.{number_of, IsIncidence};
 ghost use Rattle.potentials_improved.specs.Climb.{AreFairAt, IsClimb, IsNext, IsWeightTried, IsAtomTried, IsPass, worth};
 
 use grounding::Ground;
@@ -20,7 +20,7 @@ use packed_state::Packed;
 use potentials::{
     MAX_WEIGHT, Potentials, goal_gives, goal_gives_at_most, is_in_range, or_zero, says,
 };
-use potentials_drafted::{Touch, Touching};
+use potentials_drafted::{IncidenceEntry, Incidence};
 
 /// Fair potentials of the greatest constant, with what they give at most at a goal, and with their score in the initial
 /// state.
@@ -141,13 +141,13 @@ impl Climb {
     fn try_weight(
         &mut self,
         ground: &Ground<'_>,
-        touching: &Touching,
+        incidence: &Incidence,
         initial: &Packed,
         atom: u32,
         weight: i64,
     ) -> bool
         requires climb { IsClimb (task_in ground.now) (atoms_in ground.now) self.old }
-        requires touching { IsTouching (task_in ground.now) (atoms_in ground.now) (length (kept_instances (task_in ground.now))) touching.now }
+        requires incidence { IsIncidence (task_in ground.now) (atoms_in ground.now) (length (kept_instances (task_in ground.now))) incidence.now }
         requires initial { bits_of initial.now ≡ (ground_system (task_in ground.now) (atoms_in ground.now)).initial }
         requires within { atom < length (atoms_in ground.now) }
         ensures { IsWeightTried (task_in ground.now) (atoms_in ground.now) self.old self.new atom weight result }
@@ -156,7 +156,7 @@ impl Climb {
             return false;
         }
         match self.next(ground, initial, atom, weight) {
-            Some(next) => self.take_if_fair(ground, touching, atom, weight, next),
+            Some(next) => self.take_if_fair(ground, incidence, atom, weight, next),
             None => false,
         }
     }
@@ -165,13 +165,13 @@ impl Climb {
     fn take_if_fair(
         &mut self,
         ground: &Ground<'_>,
-        touching: &Touching,
+        incidence: &Incidence,
         atom: u32,
         weight: i64,
         next: Next,
     ) -> bool
         requires climb { IsClimb (task_in ground.now) (atoms_in ground.now) self.old }
-        requires touching { IsTouching (task_in ground.now) (atoms_in ground.now) (length (kept_instances (task_in ground.now))) touching.now }
+        requires incidence { IsIncidence (task_in ground.now) (atoms_in ground.now) (length (kept_instances (task_in ground.now))) incidence.now }
         requires within { atom < length (atoms_in ground.now) }
         requires range { IsInRange weight }
         requires next { IsNext (task_in ground.now) (atoms_in ground.now) self.old atom weight next }
@@ -179,7 +179,7 @@ impl Climb {
     {
         let old = self.potentials.weight(atom);
         self.potentials.set_weight(atom, weight);
-        if !are_fair_at(&self.potentials, ground, touching.of(atom)) {
+        if !are_fair_at(&self.potentials, ground, incidence.of(atom)) {
             self.potentials.set_weight(atom, old);
             return false;
         }
@@ -193,38 +193,38 @@ impl Climb {
     fn try_atom(
         &mut self,
         ground: &Ground<'_>,
-        touching: &Touching,
+        incidence: &Incidence,
         initial: &Packed,
         atom: u32,
     ) -> bool
         requires climb { IsClimb (task_in ground.now) (atoms_in ground.now) self.old }
-        requires touching { IsTouching (task_in ground.now) (atoms_in ground.now) (length (kept_instances (task_in ground.now))) touching.now }
+        requires incidence { IsIncidence (task_in ground.now) (atoms_in ground.now) (length (kept_instances (task_in ground.now))) incidence.now }
         requires initial { bits_of initial.now ≡ (ground_system (task_in ground.now) (atoms_in ground.now)).initial }
         requires within { atom < length (atoms_in ground.now) }
         ensures { IsAtomTried (task_in ground.now) (atoms_in ground.now) self.old self.new atom result }
     {
         let old = self.potentials.weight(atom);
-        if self.try_weight(ground, touching, initial, atom, old - 1) {
+        if self.try_weight(ground, incidence, initial, atom, old - 1) {
             return true;
         }
-        self.try_weight(ground, touching, initial, atom, old + 1)
+        self.try_weight(ground, incidence, initial, atom, old + 1)
     }
 
     /// Tries each atom once.
     pub(crate) fn pass(
         &mut self,
         ground: &Ground<'_>,
-        touching: &Touching,
+        incidence: &Incidence,
         initial: &Packed,
     ) -> bool
         requires climb { IsClimb (task_in ground.now) (atoms_in ground.now) self.old }
-        requires touching { IsTouching (task_in ground.now) (atoms_in ground.now) (length (kept_instances (task_in ground.now))) touching.now }
+        requires incidence { IsIncidence (task_in ground.now) (atoms_in ground.now) (length (kept_instances (task_in ground.now))) incidence.now }
         requires initial { bits_of initial.now ≡ (ground_system (task_in ground.now) (atoms_in ground.now)).initial }
         ensures { IsPass (task_in ground.now) (atoms_in ground.now) (length (atoms_in ground.now)) self.old self.new result }
     {
         let mut raised = false;
         for atom in 0..ground.width() {
-            let better = self.try_atom(ground, touching, initial, atom);
+            let better = self.try_atom(ground, incidence, initial, atom);
             raised = either(raised, better);
         }
         raised
@@ -232,7 +232,7 @@ impl Climb {
 }
 
 /// Whether each of these instances is fair by the potentials.
-pub(crate) fn are_fair_at(potentials: &Potentials, ground: &Ground<'_>, instances: &[Touch]) -> bool
+pub(crate) fn are_fair_at(potentials: &Potentials, ground: &Ground<'_>, instances: &[IncidenceEntry]) -> bool
     requires width { length (potentials_of potentials.now).weights ≡ length (atoms_in ground.now) }
     requires within { All (λ n. n < length (kept_instances (task_in ground.now))) (map number_of instances.now) }
     ensures { IsTrue result ↔ AreFairAt (task_in ground.now) (atoms_in ground.now) (potentials_of potentials.now) (map number_of instances.now) }

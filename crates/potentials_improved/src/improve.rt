@@ -72,7 +72,7 @@ impl Improve for Potentials {
         let drafted = drafted(alloc, self, ground, tables, &initial)?;
         let mut climb = Climb::new(drafted, ground, &initial);
         for _ in 0..rounds {
-            if !climb.pass(ground, tables.touching(), &initial) {
+            if !climb.pass(ground, tables.incidence(), &initial) {
                 return Ok(climb.potentials);
             }
         }

@@ -8,7 +8,7 @@ ghost use Rattle.model.specs.Meaning.{is_instance};
 use crate::helpers::check_cert;
 use cert_checker::Accepted;
 use certificate::Cert;
-use devices::WriteFault;
+use devices::IoFault;
 use formulas::Plan;
 use solver::{Answer, Limits, solve};
 use std::alloc::Global;
@@ -23,7 +23,7 @@ fn is_plan_shown(
     steps: &Plan,
     cost: u64,
     cert: &Cert,
-) -> Result<bool, WriteFault>
+) -> Result<bool, IoFault>
     requires { IsTrue (list_all (is_instance (task_of task.now)) (plan_of steps.now)) }
 {
     let with_plan = check_cert(alloc, task, cert, Some(steps), 1_000_000)?;

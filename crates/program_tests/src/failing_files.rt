@@ -2,7 +2,7 @@
 ghost use Rattle.std.specs.Prelude.{◌≡◌};
 ghost use Rattle.devices.specs.Devices.{one_more};
 
-use devices::{Files, Memory, WriteFault};
+use devices::{Files, Memory, IoFault};
 use std::alloc::{AllocError, Global};
 use test_devices::{Endless, FailsAt, InPieces, Table};
 
@@ -77,14 +77,14 @@ impl Files for FailingFiles {
 
     ghost is_known = { ⟦<Table as Files>⟧.is_known };
 
-    fn open(&mut self, name: &str) -> Result<FailsAt<Memory>, WriteFault> {
+    fn open(&mut self, name: &str) -> Result<FailsAt<Memory>, IoFault> {
         match self.table.open(name) {
             Ok(input) => Ok(input),
-            Err(WriteFault::Device) => {
+            Err(IoFault::Device) => {
                 self.count_failure();
-                Err(WriteFault::Device)
+                Err(IoFault::Device)
             }
-            Err(WriteFault::NoMemory) => Err(WriteFault::NoMemory),
+            Err(IoFault::NoMemory) => Err(IoFault::NoMemory),
         }
     }
 
@@ -96,10 +96,10 @@ impl Files for FailingFiles {
     fn create(
         &mut self,
         name: &str,
-    ) -> Result<FailsAt<InPieces<<Table as Files>::Output>>, WriteFault> {
+    ) -> Result<FailsAt<InPieces<<Table as Files>::Output>>, IoFault> {
         if let Failing::Creating = self.failing {
             self.count_failure();
-            return Err(WriteFault::Device);
+            return Err(IoFault::Device);
         }
         match self.table.create(name) {
             Ok(draft) => Ok(FailsAt::sink(
@@ -107,24 +107,24 @@ impl Files for FailingFiles {
                 self.failing.writes_before(),
             )),
             // Memory is the one thing that a table can want here.
-            Err(_) => Err(WriteFault::NoMemory),
+            Err(_) => Err(IoFault::NoMemory),
         }
     }
 
     fn close(
         &mut self,
         output: FailsAt<InPieces<<Table as Files>::Output>>,
-    ) -> Result<(), WriteFault> {
+    ) -> Result<(), IoFault> {
         let has_failed = output.failed_writes() > 0;
         let closed = self.table.close(output.inner.inner);
         if has_failed || self.fails_at_closing() {
             self.count_failure();
-            return Err(WriteFault::Device);
+            return Err(IoFault::Device);
         }
         match closed {
             Ok(()) => Ok(()),
             // Memory is the one thing that a table can want here.
-            Err(_) => Err(WriteFault::NoMemory),
+            Err(_) => Err(IoFault::NoMemory),
         }
     }
 }
@@ -157,17 +157,17 @@ impl Files for EndlessFiles {
 
     ghost failures = { λ files. 0 };
 
-    fn open(&mut self, _name: &str) -> Result<Endless, WriteFault> {
+    fn open(&mut self, _name: &str) -> Result<Endless, IoFault> {
         Ok(self.blanks()?)
     }
 
     fn finish(&mut self, _input: Endless) {}
 
-    fn create(&mut self, _name: &str) -> Result<Memory, WriteFault> {
+    fn create(&mut self, _name: &str) -> Result<Memory, IoFault> {
         Ok(Memory::empty(self.alloc))
     }
 
-    fn close(&mut self, _output: Memory) -> Result<(), WriteFault> {
+    fn close(&mut self, _output: Memory) -> Result<(), IoFault> {
         Ok(())
     }
 }

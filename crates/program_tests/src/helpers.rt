@@ -8,7 +8,7 @@ ghost use Rattle.model.specs.Meaning.{is_instance};
 
 use cert_checker::{Accepted, Refusal, RefusalCode, check};
 use certificate::{Cert, CertReader, write_cert};
-use devices::{Memory, Source, WriteFault};
+use devices::{Memory, Source, IoFault};
 use formulas::Plan;
 use std::alloc::Global;
 use task::{SchemaId, Task};
@@ -82,7 +82,7 @@ pub(crate) fn check_cert(
     listing: &Cert,
     plan: Option<&Plan>,
     max_instances: u32,
-) -> Result<Answer, WriteFault>
+) -> Result<Answer, IoFault>
     requires { ForSome plan (λ p. IsTrue (list_all (is_instance (task_of task.now)) (plan_of p.now))) }
 {
     let mut text = Memory::empty(alloc);

@@ -1,18 +1,18 @@
 //! The machine's files.
-use devices::{DeviceFault, Files, Source, SystemFiles, WriteFault, write_all};
+use devices::{DeviceFault, Files, Source, SystemFiles, IoFault, write_all};
 use std::alloc::Global;
 use std::test::Fail;
 use std::{env, fs, process};
 
 /// Writes a file of these bytes.
-fn writes<F: Files>(files: &mut F, name: &str, bytes: &[u8]) -> Result<(), WriteFault> {
+fn writes<F: Files>(files: &mut F, name: &str, bytes: &[u8]) -> Result<(), IoFault> {
     let mut output = files.create(name)?;
     write_all(&mut output, bytes)?;
     files.close(output)
 }
 
 /// Whether a file that was written twice has what was written last.
-fn keeps_a_file<F: Files>(files: &mut F, name: &str) -> Result<bool, WriteFault> {
+fn keeps_a_file<F: Files>(files: &mut F, name: &str) -> Result<bool, IoFault> {
     writes(files, name, b"first line\n")?;
     writes(files, name, b"one")?;
     let mut input = files.open(name)?;
@@ -40,7 +40,7 @@ fn the_machine_keeps_files(rt: HostRuntime) -> Result<(), Fail> {
 
 /// Whether the machine fails where a file of this name is written.
 fn fails_to_write(rt: &HostRuntime, name: &str) -> bool {
-    writes(&mut SystemFiles::new(rt), name, b"line\n") == Err(WriteFault::Device)
+    writes(&mut SystemFiles::new(rt), name, b"line\n") == Err(IoFault::Device)
 }
 
 #[test]
@@ -65,7 +65,7 @@ fn fails_to_read(rt: &HostRuntime, name: &str) -> bool {
     let mut room = [0u8; 64];
     match SystemFiles::new(rt).open(name) {
         Ok(mut input) => input.read(&mut room) == Err(DeviceFault),
-        Err(fault) => fault == WriteFault::Device,
+        Err(fault) => fault == IoFault::Device,
     }
 }
 

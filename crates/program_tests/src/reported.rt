@@ -1,5 +1,5 @@
 //! What is reported for faults in words, and which numbers are limits.
-use devices::{DeviceFault, WriteFault};
+use devices::{DeviceFault, IoFault};
 use faults::{Code, NoMemory, Span};
 use planner_main::{File, FileFault, Limits};
 use std::alloc::{AllocError, Global};
@@ -17,7 +17,7 @@ fn reported_files(alloc: Global) -> Result<String, Fail> {
 
 /// What is reported where memory or a device fails.
 fn reported_failures(alloc: Global) -> Result<String, AllocError> {
-    let (of_memory, of_device) = (WriteFault::NoMemory, WriteFault::Device);
+    let (of_memory, of_device) = (IoFault::NoMemory, IoFault::Device);
     let of_file = FileFault::NoMemory;
     format!(in alloc; "{NoMemory}, {of_memory}, {of_file}, {DeviceFault}, {of_device}")
 }

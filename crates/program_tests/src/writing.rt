@@ -2,7 +2,7 @@
 ghost use Rattle.std.specs.Prelude.{◌<◌};
 
 use certificate::{Bounds, Cert, Claim, Header, Mark, Potential, StateLine, Version, write_cert};
-use devices::{Memory, WriteFault};
+use devices::{Memory, IoFault};
 use faults::NoMemory;
 use indexmap::IndexSet;
 use std::alloc::{AllocError, Global};
@@ -81,7 +81,7 @@ fn taken(
     cert: &Cert,
     length: usize,
     writes: u64,
-) -> (Result<(), WriteFault>, Vec<u8>)
+) -> (Result<(), IoFault>, Vec<u8>)
     requires { 0 < length }
 {
     let pieces = InPieces::new(Memory::empty(alloc), length);
@@ -91,11 +91,11 @@ fn taken(
 }
 
 /// What is reported where this is taken of the text, and no more: that a write failed, unless it is all.
-fn reported_of(taken: &[u8], text: &[u8]) -> Result<(), WriteFault> {
+fn reported_of(taken: &[u8], text: &[u8]) -> Result<(), IoFault> {
     if taken == text {
         Ok(())
     } else {
-        Err(WriteFault::Device)
+        Err(IoFault::Device)
     }
 }
 

@@ -11,7 +11,7 @@ use std::alloc::Global;
 use std::process::Abort;
 use std::test::Fail;
 use task::Task;
-use test_texts::{GO, HOP, PAIRS, PATH, TIE, Term, Texts, UNTIED, atom, is_of, on_task};
+use test_texts::{GO, HOP, PAIRS, PATH, TIE, Application, Texts, UNTIED, atom, is_of, on_task};
 
 /// A lamp, and a way from the first place to the second, which is seen where the lamp is lit.
 pub(crate) const LAMP: Texts = [
@@ -34,7 +34,7 @@ const JOINS: Texts = [
 /// Tasks, the instances that each keeps, and the atoms that have numbers, both by their numbers: instances by the actions'
 /// numbers, and then by those of the objects from the left; atoms of the start first.
 #[rattlefmt::skip]
-static NUMBERED: [(Texts, &[Term], &[Term]); 7] = [
+static NUMBERED: [(Texts, &[Application], &[Application]); 7] = [
     (LAMP, &[(0, &[]), (1, &[0, 1])], &[(1, &[0]), (2, &[]), (1, &[1]), (3, &[1])]),
     (JOINS, &[(0, &[0]), (0, &[1]), (1, &[0, 0]), (1, &[0, 1]), (1, &[1, 0])], &[(1, &[])]),
     (GO, &[(0, &[])], &[(0, &[]), (1, &[])]),
@@ -45,7 +45,7 @@ static NUMBERED: [(Texts, &[Term], &[Term]); 7] = [
 ];
 
 /// Whether these instances are kept, in this order.
-fn keeps(ground: &Ground<'_>, wanted: &[Term]) -> bool {
+fn keeps(ground: &Ground<'_>, wanted: &[Application]) -> bool {
     for (instance, term) in ground.instances().iter().zip(wanted) {
         if !is_of(instance, term) {
             return false;
@@ -55,7 +55,7 @@ fn keeps(ground: &Ground<'_>, wanted: &[Term]) -> bool {
 }
 
 /// Whether these atoms have numbers, in this order.
-fn numbers(ground: &Ground<'_>, wanted: &[Term]) -> bool {
+fn numbers(ground: &Ground<'_>, wanted: &[Application]) -> bool {
     for (term, number) in wanted.iter().zip(0..u32::MAX) {
         let atom = atom(term.0, term.1);
         let is_there = ground.atoms().get_index_of(&atom) == Some(number as usize);
@@ -70,8 +70,8 @@ fn numbers(ground: &Ground<'_>, wanted: &[Term]) -> bool {
 fn are_numbered(
     alloc: Global,
     task: &Task,
-    kept: &[Term],
-    atoms: &[Term],
+    kept: &[Application],
+    atoms: &[Application],
 ) -> Result<[bool; 3], Fail> {
     let ground = Ground::new(alloc, task, &[], 10)?;
     let is_task = ground.task().object_count() == task.object_count();
@@ -92,14 +92,14 @@ fn instances_and_atoms_are_numbered(rt: HostRuntime) -> Result<(), Fail> {
 
 /// The atoms of `LAMP` where the last one is to have the first number.
 #[rattlefmt::skip]
-static SEEN_FIRST: [Term; 4] = [(3, &[1]), (1, &[0]), (2, &[]), (1, &[1])];
+static SEEN_FIRST: [Application; 4] = [(3, &[1]), (1, &[0]), (2, &[]), (1, &[1])];
 
 /// Atoms of `LAMP` that have none: one that is static, and one of a fluent predicate that is never true.
 #[rattlefmt::skip]
-static UNNUMBERED: [Term; 2] = [(0, &[0, 1]), (3, &[0])];
+static UNNUMBERED: [Application; 2] = [(0, &[0, 1]), (3, &[0])];
 
 /// Whether none of these atoms has a number.
-fn has_none(ground: &Ground<'_>, terms: &[Term]) -> bool {
+fn has_none(ground: &Ground<'_>, terms: &[Application]) -> bool {
     terms
         .iter()
         .all(|term| ground.number_of(&atom(term.0, term.1)).is_none())

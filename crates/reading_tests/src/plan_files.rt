@@ -1,7 +1,7 @@
 //! Plans that are written to devices, and read back.
 ghost use Rattle.std.specs.Prelude.{◌<◌};
 
-use devices::{Memory, WriteFault};
+use devices::{Memory, IoFault};
 use formulas::Plan;
 use plan_file::{read_plan, step_text, write_plan};
 use std::alloc::Global;
@@ -9,7 +9,7 @@ use std::process::Abort;
 use std::test::Fail;
 use task::Task;
 use test_devices::{FailsAt, InPieces};
-use test_texts::{HOP, Term, instance, is_of, on_task};
+use test_texts::{HOP, Application, instance, is_of, on_task};
 
 /// Two hops, as they are written.
 const TWO_HOPS: &[u8] = b"(hop a b)\n(hop b c)\n; cost = 6\n";
@@ -19,7 +19,7 @@ const NO_HOP: &[u8] = b"; cost = 0\n";
 
 /// The steps of plans, a cost, and what is written. That the steps can be done, and at this cost, is not asked for.
 #[rattlefmt::skip]
-static PLANS: [(&[Term], u64, &[u8]); 4] = [
+static PLANS: [(&[Application], u64, &[u8]); 4] = [
     (&[(0, &[0, 1]), (0, &[1, 2])], 6, TWO_HOPS),
     (&[], 0, NO_HOP),
     (&[(1, &[2, 2])], 2_147_483_648, b"(leap c c)\n; cost = 2147483648\n"),
@@ -28,7 +28,7 @@ static PLANS: [(&[Term], u64, &[u8]); 4] = [
 ];
 
 /// The plan of these steps.
-fn plan(alloc: Global, steps: &[Term]) -> Result<Plan, Fail> {
+fn plan(alloc: Global, steps: &[Application]) -> Result<Plan, Fail> {
     let mut instances = Vec::new(alloc);
     for step in steps {
         instances.push(instance(step.0, step.1))?;
@@ -37,7 +37,7 @@ fn plan(alloc: Global, steps: &[Term]) -> Result<Plan, Fail> {
 }
 
 /// Whether the plan has these steps.
-fn has_steps(plan: &Plan, steps: &[Term]) -> bool {
+fn has_steps(plan: &Plan, steps: &[Application]) -> bool {
     let mut wanted = steps.iter();
     for step in plan.steps() {
         match wanted.next() {
@@ -49,14 +49,14 @@ fn has_steps(plan: &Plan, steps: &[Term]) -> bool {
 }
 
 /// The text of the plan.
-fn text_of(alloc: Global, task: &Task, plan: &Plan, cost: u64) -> Result<Vec<u8>, WriteFault> {
+fn text_of(alloc: Global, task: &Task, plan: &Plan, cost: u64) -> Result<Vec<u8>, IoFault> {
     let mut sink = Memory::empty(alloc);
     write_plan(alloc, task, plan, cost, &mut sink)?;
     Ok(sink.into_vec())
 }
 
 /// Whether the text reads as a plan of these steps.
-fn reads_as(alloc: Global, task: &Task, text: &[u8], steps: &[Term]) -> Result<bool, Fail> {
+fn reads_as(alloc: Global, task: &Task, text: &[u8], steps: &[Application]) -> Result<bool, Fail> {
     let plan = read_plan(alloc, task, text)?;
     Ok(has_steps(&plan, steps))
 }
@@ -65,7 +65,7 @@ fn reads_as(alloc: Global, task: &Task, text: &[u8], steps: &[Term]) -> Result<b
 fn text_read_back(
     alloc: Global,
     task: &Task,
-    steps: &[Term],
+    steps: &[Application],
     cost: u64,
 ) -> Result<Option<Vec<u8>>, Fail> {
     let text = text_of(alloc, task, &plan(alloc, steps)?, cost)?;
@@ -95,7 +95,7 @@ const NAMES: [&str; 2] = [
 ];
 
 /// Steps, and how they are written.
-static STEPS: [(Term, &str); 3] = [
+static STEPS: [(Application, &str); 3] = [
     ((0, &[]), "(stay)"),
     ((1, &[0, 1]), "(go-to here_1 there-2)"),
     ((1, &[1, 1]), "(go-to there-2 there-2)"),
@@ -115,7 +115,7 @@ fn steps_are_written_in_lower_case(rt: HostRuntime) -> Result<(), Fail> {
 }
 
 /// Whether the two hops are written, and what is taken of them, where the write after so many fails.
-type Taken = (Result<(), WriteFault>, Vec<u8>);
+type Taken = (Result<(), IoFault>, Vec<u8>);
 
 /// The same where the sink takes so many bytes at a write.
 fn taken(alloc: Global, task: &Task, hops: &Plan, length: usize, writes: u64) -> Taken
@@ -128,11 +128,11 @@ fn taken(alloc: Global, task: &Task, hops: &Plan, length: usize, writes: u64) ->
 }
 
 /// What is reported where these bytes of the two hops are taken, and no more: that a write failed, unless they are all.
-fn reported_of(taken: &[u8]) -> Result<(), WriteFault> {
+fn reported_of(taken: &[u8]) -> Result<(), IoFault> {
     if taken == TWO_HOPS {
         Ok(())
     } else {
-        Err(WriteFault::Device)
+        Err(IoFault::Device)
     }
 }
 

@@ -8,7 +8,7 @@ use std::alloc::Global;
 use std::process::Abort;
 use std::test::Fail;
 use task::{ObjectId, PredicateId, Task};
-use test_texts::{Term, Texts, atom, atoms, instance, is_of, on_task};
+use test_texts::{Application, Texts, atom, atoms, instance, is_of, on_task};
 
 /// Three places, and roads that lead from the first to itself and to the second, and from there to the third.
 const WALK: Texts = [
@@ -53,14 +53,14 @@ fn is_valued<V: Valuation>(state: &V) -> bool {
 
 /// Schemas and objects, and whether they are an instance.
 #[rattlefmt::skip]
-static INSTANCES: [(Term, bool); 6] = [
+static INSTANCES: [(Application, bool); 6] = [
     ((0, &[0, 1]), true), ((0, &[2, 2]), true),
     ((0, &[2]), false), ((0, &[2, 1, 0]), false), ((0, &[2, 3]), false), ((1, &[0, 1]), false),
 ];
 
 /// Predicates and objects, and whether they are an atom.
 #[rattlefmt::skip]
-static ATOMS: [(Term, bool); 7] = [
+static ATOMS: [(Application, bool); 7] = [
     ((0, &[2]), true), ((1, &[2, 2]), true),
     ((0, &[]), false), ((0, &[0, 1]), false), ((0, &[3]), false), ((1, &[0, 3]), false), ((2, &[0]), false),
 ];
@@ -191,7 +191,7 @@ fn some_is_said_outright(rt: HostRuntime) -> Result<(), Fail> {
 }
 
 /// The state of these atoms, which are put in one after another.
-fn state(alloc: Global, rows: &[Term]) -> Result<State, NoMemory> {
+fn state(alloc: Global, rows: &[Application]) -> Result<State, NoMemory> {
     let mut state = State::new(alloc);
     for row in rows {
         state.insert(atom(row.0, row.1))?;
@@ -201,11 +201,11 @@ fn state(alloc: Global, rows: &[Term]) -> Result<State, NoMemory> {
 
 /// Atoms in the order of their predicates, and then of their objects from the left.
 #[rattlefmt::skip]
-static IN_ORDER: [Term; 5] = [(0, &[1]), (0, &[2]), (1, &[0, 1]), (1, &[0, 2]), (1, &[1, 0])];
+static IN_ORDER: [Application; 5] = [(0, &[1]), (0, &[2]), (1, &[0, 1]), (1, &[0, 2]), (1, &[1, 0])];
 
 /// The same atoms in another order, and some of them twice.
 #[rattlefmt::skip]
-static MIXED: [Term; 7] = [(1, &[1, 0]), (0, &[2]), (1, &[0, 1]), (0, &[2]), (0, &[1]), (1, &[0, 2]), (1, &[1, 0])];
+static MIXED: [Application; 7] = [(1, &[1, 0]), (0, &[2]), (1, &[0, 1]), (0, &[2]), (0, &[1]), (1, &[0, 2]), (1, &[1, 0])];
 
 /// Whether the state lists these atoms, in this order, and its copy is the same.
 fn is_listed(state: &State, atoms: &[Atom]) -> Result<bool, NoMemory> {
@@ -214,13 +214,13 @@ fn is_listed(state: &State, atoms: &[Atom]) -> Result<bool, NoMemory> {
 }
 
 /// Whether the state into which the first atoms were put has the second ones, in this order, and so has its copy.
-fn lists(alloc: Global, put: &[Term], wanted: &[Term]) -> Result<bool, NoMemory> {
+fn lists(alloc: Global, put: &[Application], wanted: &[Application]) -> Result<bool, NoMemory> {
     let state = state(alloc, put)?;
     is_listed(&state, &atoms(alloc, wanted)?)
 }
 
 /// Whether the states of these atoms are one.
-fn is_one(alloc: Global, some: &[Term], other: &[Term]) -> Result<bool, NoMemory> {
+fn is_one(alloc: Global, some: &[Application], other: &[Application]) -> Result<bool, NoMemory> {
     let some = state(alloc, some)?;
     Ok(some == state(alloc, other)?)
 }

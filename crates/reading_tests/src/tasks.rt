@@ -4,7 +4,7 @@ use std::alloc::{AllocError, Global};
 use std::process::Abort;
 use std::test::Fail;
 use task::{ObjectId, PredicateId, SchemaId, Task, TypeId, TypeUnion};
-use test_texts::{Term, Texts, atom, on_task};
+use test_texts::{Application, Texts, atom, on_task};
 
 /// Names with letters of either case.
 const MIXED: Texts = [
@@ -122,7 +122,7 @@ fn functions_have_names(rt: &impl Abort, task: &Task) {
 
 /// Functions and objects, and their values.
 #[rattlefmt::skip]
-static VALUES: [(Term, Option<u32>); 5] = [
+static VALUES: [(Application, Option<u32>); 5] = [
     ((1, &[0, 1]), Some(12)), ((2, &[]), Some(0)),
     ((1, &[1, 0]), None), ((0, &[]), None), ((3, &[]), None),
 ];

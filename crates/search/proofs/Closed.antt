@@ -75,8 +75,8 @@ pub record AreListed {S : Type 0} (t : System S ℕ) (is_dead : S → Bool) (nod
   pub alive : (k : ℕ) (n : Found S) → slice_get nodes k ≡ Some n → n.node.is_expanded ≡ true → is_dead n.state ≡ false
 
 -- what holds of them at any time suffices
-pub are_listed : {S : Type 0} (t : System S ℕ) (value : S → ℕ) (is_dead : S → Bool) (nodes : List (Found S)) (queue : List Waiting) → AreNodes t value is_dead nodes queue → AreListed t is_dead nodes
-are_listed {S} t value is_dead nodes queue are = record {
+pub are_listed : {S : Type 0} (t : System S ℕ) (value : S → ℕ) (is_dead : S → Bool) (nodes : List (Found S)) (open_list : List Waiting) → AreNodes t value is_dead nodes open_list → AreListed t is_dead nodes
+are_listed {S} t value is_dead nodes open_list are = record {
   root = are.root;
   distinct = are.distinct;
   cheap = λ k n at. omega (arith, are.cheap k n at, mul-le-mul_right dearest (count_by-le-length (λ (x : Found S). x.node.is_expanded) nodes));
@@ -160,9 +160,9 @@ module _ {S : Type 0} (t : System S ℕ) (value : S → ℕ) (is_dead : S → Bo
     claimed consistent reports claim is_closed =
         claim-of_closed t value is_dead claim (lines_of value is_dead states all) (lower_bound t value consistent) (are_dead_ends t is_dead reports) is_closed
 
-  module _ (queue : List Waiting) (nodes : AreNodes t value is_dead (found_of states all) queue) where
+  module _ (open_list : List Waiting) (nodes : AreNodes t value is_dead (found_of states all) open_list) where
     listing : AreListed t is_dead (found_of states all)
-    listing = are_listed t value is_dead (found_of states all) queue nodes
+    listing = are_listed t value is_dead (found_of states all) open_list nodes
 
     few_expanded : expanded_count (found_of states all) ≤ length states
     few_expanded =

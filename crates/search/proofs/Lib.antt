@@ -6,8 +6,8 @@ pub mod Linked
 pub mod Lists
 pub mod Marked
 pub mod NodesLemmas
-pub mod Queue
-pub mod QueueLemmas
+pub mod OpenList
+pub mod OpenListLemmas
 pub mod Steps
 pub mod Stopped
 pub mod Ways

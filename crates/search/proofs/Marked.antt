@@ -64,10 +64,10 @@ module _ {S : Type 0} (nodes after : List (Found S)) (i : ℕ) (one : Found S) (
         | inr other ↦ record { found = of.found; occurs = others (place_of w) other ∙ of.occurs; alive = of.alive; estimate = of.estimate; part = of.part }
       ]
 
-  pub entries_marked : (value : S → ℕ) (is_dead : S → Bool) (queue : List Waiting) → All (IsEntryOf value is_dead nodes) queue → All (IsEntryOf value is_dead after) queue
-  entries_marked value is_dead queue all = All-weaker (IsEntryOf value is_dead nodes) (IsEntryOf value is_dead after) (entry_marked value is_dead) queue all
+  pub entries_marked : (value : S → ℕ) (is_dead : S → Bool) (open_list : List Waiting) → All (IsEntryOf value is_dead nodes) open_list → All (IsEntryOf value is_dead after) open_list
+  entries_marked value is_dead open_list all = All-weaker (IsEntryOf value is_dead nodes) (IsEntryOf value is_dead after) (entry_marked value is_dead) open_list all
 
-  module _ (t : System S ℕ) (value : S → ℕ) (is_dead : S → Bool) (queue queue' : List Waiting) (old : AreNodes t value is_dead nodes queue) (alive : is_dead one.state ≡ false) where
+  module _ (t : System S ℕ) (value : S → ℕ) (is_dead : S → Bool) (open_list open_list' : List Waiting) (old : AreNodes t value is_dead nodes open_list) (alive : is_dead one.state ≡ false) where
     leads_marked : (n : Found S) → Leads t nodes n → Leads t after n
     leads_marked n leads = record {
       parent = leads.parent;
@@ -93,8 +93,8 @@ module _ {S : Type 0} (nodes after : List (Found S)) (i : ℕ) (one : Found S) (
 
     pub nodes_marked : t.meets_goal one.state ≡ false → CostsAtLeast t (total_of value one) → ReachingCostsAtLeast t one.state one.node.cost
         → ((k : ℕ) (n : Found S) → slice_get nodes k ≡ Some n → IsWaiting is_dead n → total_of value one ≤ total_of value n)
-        → ((k : ℕ) (n : Found S) → slice_get nodes k ≡ Some n → IsWaiting is_dead n → k ≢ i → Contains queue' (entry n.node.cost (value n.state) k))
-        → All (IsEntryOf value is_dead nodes) queue' → AreNodes t value is_dead after queue'
+        → ((k : ℕ) (n : Found S) → slice_get nodes k ≡ Some n → IsWaiting is_dead n → k ≢ i → Contains open_list' (entry n.node.cost (value n.state) k))
+        → All (IsEntryOf value is_dead nodes) open_list' → AreNodes t value is_dead after open_list'
     nodes_marked no_goal no_dearer cheapest least queued entries = record {
       root =
           elim (cases_eq 0 i) [
@@ -128,10 +128,10 @@ module _ {S : Type 0} (nodes after : List (Found S)) (i : ℕ) (one : Found S) (
           (λ p x _ at_x was_expanded. old.ordered p k x n at_x at was_expanded is_waiting)
           p x at_p expanded)
           k n at_k waits;
-      queued = each_marked (λ k n. IsWaiting is_dead n → Contains queue' (entry n.node.cost (value n.state) k))
+      queued = each_marked (λ k n. IsWaiting is_dead n → Contains open_list' (entry n.node.cost (value n.state) k))
           (λ waits. absurd (false≢true (sym waits.0)))
           (λ k n other at waits. queued k n at waits other);
-      entries = entries_marked value is_dead queue' entries;
+      entries = entries_marked value is_dead open_list' entries;
     }
 
     -- its turn begins

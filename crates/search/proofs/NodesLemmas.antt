@@ -15,17 +15,17 @@ use Rattle.search.specs.Nodes.{Waiting, place_of, entry, IsWaiting, total_of, Is
 use Rattle.search.specs.Progress.{Continues, IsListed}
 
 -- What holds of the nodes after a step of an expansion, by which the state is reached by the action.
-pub record Stepped {S : Type 0} (t : System S ℕ) (value : S → ℕ) (is_dead : S → Bool) (nodes after : List (Found S)) (queue : List Waiting) (i : ℕ) (a : ℕ) (s : S) : Type 0 where
-  pub sound : AreNodes t value is_dead after queue
+pub record Stepped {S : Type 0} (t : System S ℕ) (value : S → ℕ) (is_dead : S → Bool) (nodes after : List (Found S)) (open_list : List Waiting) (i : ℕ) (a : ℕ) (s : S) : Type 0 where
+  pub sound : AreNodes t value is_dead after open_list
   pub turn : IsTurn value after i
   pub others : AreOpenBut t after i
   pub continues : Continues nodes after i
   pub listed : IsListed t after i a s
 
--- the queue once a state is reached by a way that is new: its entry joins the others, unless the state is reported dead
+-- the open list once a state is reached by a way that is new: its entry joins the others, unless the state is reported dead
 abbrev pub IsJoined : Bool → Waiting → List Waiting → List Waiting → Type 0
-IsJoined true w queue queue' = queue' ≡ queue
-IsJoined false w queue queue' = IsPermutation (w ∷ queue) queue'
+IsJoined true w open_list open_list' = open_list' ≡ open_list
+IsJoined false w open_list open_list' = IsPermutation (w ∷ open_list) open_list'
 
 module _ {S A : Type 0} (t : System S A) where
   -- a list that leads to a state, and one more action
@@ -96,18 +96,18 @@ module _ {S : Type 0} (nodes after : List (Found S)) (j : ℕ) (m : Found S) (up
         | inr was ↦ was.1
       ]
 
-  -- what the queue has once the updated node's entry has joined it, or has not since its state is reported dead
-  pub record HasJoined (value : S → ℕ) (is_dead : S → Bool) (queue queue' : List Waiting) : Type 0 where
-    pub keeps : (w : Waiting) → Contains queue w → Contains queue' w
-    pub queued : IsWaiting is_dead m → Contains queue' (entry m.node.cost (value m.state) j)
-    pub entries : All (IsEntryOf value is_dead after) queue'
+  -- what the open list has once the updated node's entry has joined it, or has not since its state is reported dead
+  pub record HasJoined (value : S → ℕ) (is_dead : S → Bool) (open_list open_list' : List Waiting) : Type 0 where
+    pub keeps : (w : Waiting) → Contains open_list w → Contains open_list' w
+    pub queued : IsWaiting is_dead m → Contains open_list' (entry m.node.cost (value m.state) j)
+    pub entries : All (IsEntryOf value is_dead after) open_list'
 
-  pub has_joined : (value : S → ℕ) (is_dead : S → Bool) (queue queue' : List Waiting) → All (IsEntryOf value is_dead nodes) queue
-      → IsJoined (is_dead m.state) (entry m.node.cost (value m.state) j) queue queue' → HasJoined value is_dead queue queue'
-  has_joined value is_dead queue queue' entries =
+  pub has_joined : (value : S → ℕ) (is_dead : S → Bool) (open_list open_list' : List Waiting) → All (IsEntryOf value is_dead nodes) open_list
+      → IsJoined (is_dead m.state) (entry m.node.cost (value m.state) j) open_list open_list' → HasJoined value is_dead open_list open_list'
+  has_joined value is_dead open_list open_list' entries =
       let one = entry m.node.cost (value m.state) j in
-      let all_in : All (IsEntryOf value is_dead after) queue = All-weaker (IsEntryOf value is_dead nodes) (IsEntryOf value is_dead after) (entry_still value is_dead) queue entries in
-      elim (is_dead m.state) as (λ d. is_dead m.state ≡ d → IsJoined d one queue queue' → HasJoined value is_dead queue queue') [
+      let all_in : All (IsEntryOf value is_dead after) open_list = All-weaker (IsEntryOf value is_dead nodes) (IsEntryOf value is_dead after) (entry_still value is_dead) open_list entries in
+      elim (is_dead m.state) as (λ d. is_dead m.state ≡ d → IsJoined d one open_list open_list' → HasJoined value is_dead open_list open_list') [
         | true ↦ λ dead same. record {
           keeps = λ w at. subst (λ q. Contains q w) (sym same) at;
           queued = λ waits. absurd (false≢true (sym waits.1 ∙ dead));
@@ -116,9 +116,9 @@ module _ {S : Type 0} (nodes after : List (Found S)) (j : ℕ) (m : Found S) (up
         | false ↦ λ alive joins.
             let of : IsEntryOf value is_dead after one = record { found = m; occurs = updates.here; alive = alive; estimate = refl; part = omega arith } in
             record {
-              keeps = λ w at. Contains-permutation (one ∷ queue) queue' w joins (Contains-there one queue w at);
-              queued = λ _. Contains-permutation (one ∷ queue) queue' one joins (Contains-here one queue);
-              entries = All-permutation (IsEntryOf value is_dead after) (one ∷ queue) queue' joins (All-cons (IsEntryOf value is_dead after) one queue of all_in);
+              keeps = λ w at. Contains-permutation (one ∷ open_list) open_list' w joins (Contains-there one open_list w at);
+              queued = λ _. Contains-permutation (one ∷ open_list) open_list' one joins (Contains-here one open_list);
+              entries = All-permutation (IsEntryOf value is_dead after) (one ∷ open_list) open_list' joins (All-cons (IsEntryOf value is_dead after) one open_list of all_in);
             }
       ] refl
 
@@ -137,12 +137,12 @@ module _ {S : Type 0} (nodes after : List (Found S)) (j : ℕ) (m : Found S) (up
     not_here k n at expanded e = false≢true (sym (updates.waited n (ap (slice_get nodes) (sym e) ∙ at)) ∙ expanded)
 
     -- a way to another node than the updated one leads there still, since it passes through expanded ones
-    way_still : (queue : List Waiting) → AreNodes t value is_dead nodes queue → (k : ℕ) (way : List ℕ) → IsWay nodes k way → k ≢ j → IsWay after k way
-    way_still queue old k way (begins first none) other = begins first none
-    way_still queue old k way (follows n before elsewhere at earlier is) other =
+    way_still : (open_list : List Waiting) → AreNodes t value is_dead nodes open_list → (k : ℕ) (way : List ℕ) → IsWay nodes k way → k ≢ j → IsWay after k way
+    way_still open_list old k way (begins first none) other = begins first none
+    way_still open_list old k way (follows n before elsewhere at earlier is) other =
         let leads = old.linked k n at elsewhere in
         follows n before elsewhere (updates.others k other ∙ at)
-        (way_still queue old (parent_of n.node) before earlier (not_here (parent_of n.node) leads.parent leads.occurs leads.is_expanded)) is
+        (way_still open_list old (parent_of n.node) before earlier (not_here (parent_of n.node) leads.parent leads.occurs leads.is_expanded)) is
 
     pub open_still : (n : Found S) → IsOpen t nodes n → IsOpen t after n
     open_still n is_open a next step = found_still next (n.node.cost + t.cost a) (is_open a next step)
@@ -151,25 +151,25 @@ module _ {S : Type 0} (nodes after : List (Found S)) (j : ℕ) (m : Found S) (up
     open_but_still i all k n at expanded other = open_still n (all k n (expanded_before k n at expanded) expanded other)
 
     -- the node's turn is not over
-    pub turn_still : (queue : List Waiting) → AreNodes t value is_dead nodes queue → (i : ℕ) (turn : IsTurn value nodes i) → IsTurn value after i
-    turn_still queue old i turn = record {
+    pub turn_still : (open_list : List Waiting) → AreNodes t value is_dead nodes open_list → (i : ℕ) (turn : IsTurn value nodes i) → IsTurn value after i
+    turn_still open_list old i turn = record {
       found = turn.found;
       occurs = stays i turn.found turn.occurs turn.is_expanded;
       is_expanded = turn.is_expanded;
       greatest = λ k n at expanded. turn.greatest k n (expanded_before k n at expanded) expanded;
       cheap = rw updates.count turn.cheap;
       way = turn.way;
-      leads = way_still queue old i turn.way turn.leads (not_here i turn.found turn.occurs turn.is_expanded);
+      leads = way_still open_list old i turn.way turn.leads (not_here i turn.found turn.occurs turn.is_expanded);
       shallow = rw updates.count turn.shallow;
     }
 
     -- the way to the updated node is that to the node whose turn it is, and its action
-    way_here : (i : ℕ) (turn : IsTurn value nodes i) (queue : List Waiting) → AreNodes t value is_dead nodes queue → parent_of m.node ≡ i → HasWay after j (expanded_count after)
-    way_here i turn queue old parent =
+    way_here : (i : ℕ) (turn : IsTurn value nodes i) (open_list : List Waiting) → AreNodes t value is_dead nodes open_list → parent_of m.node ≡ i → HasWay after j (expanded_count after)
+    way_here i turn open_list old parent =
         elim (cases_eq j 0) [
           | inl first ↦ ([], begins first refl, omega arith)
           | inr elsewhere ↦
-              let before : IsWay after i turn.way = way_still queue old i turn.way turn.leads (not_here i turn.found turn.occurs turn.is_expanded) in (
+              let before : IsWay after i turn.way = way_still open_list old i turn.way turn.leads (not_here i turn.found turn.occurs turn.is_expanded) in (
                 turn.way ++ m.node.action ∷ [],
                 follows m turn.way elsewhere updates.here (subst (λ k. IsWay after k turn.way) (sym parent) before) refl,
                 omega (arith, length-append turn.way (m.node.action ∷ []), turn.shallow, updates.count),
@@ -177,11 +177,11 @@ module _ {S : Type 0} (nodes after : List (Found S)) (j : ℕ) (m : Found S) (up
         ]
 
     -- a state that an action leads to from the node whose turn it is joins the others, or is now reached at a lower cost
-    pub nodes_updated : (i : ℕ) (turn : IsTurn value nodes i) (queue queue' : List Waiting) → AreNodes t value is_dead nodes queue
+    pub nodes_updated : (i : ℕ) (turn : IsTurn value nodes i) (open_list open_list' : List Waiting) → AreNodes t value is_dead nodes open_list
         → parent_of m.node ≡ i → m.node.cost ≡ turn.found.node.cost + t.cost m.node.action → t.cost m.node.action ≤ dearest
         → t.step turn.found.state m.node.action ≡ Some m.state → value turn.found.state ≤ t.cost m.node.action + value m.state
-        → HasJoined value is_dead queue queue' → AreNodes t value is_dead after queue'
-    nodes_updated i turn queue queue' old parent cost affordable step falls joined =
+        → HasJoined value is_dead open_list open_list' → AreNodes t value is_dead after open_list'
+    nodes_updated i turn open_list open_list' old parent cost affordable step falls joined =
         let leads : Leads t after m = record {
           parent = turn.found;
           occurs = ap (slice_get after) parent ∙ stays i turn.found turn.occurs turn.is_expanded;
@@ -206,10 +206,10 @@ module _ {S : Type 0} (nodes after : List (Found S)) (j : ℕ) (m : Found S) (up
               p x at_p same;
           cheap = rw updates.count (each_after (λ k n. n.node.cost ≤ expanded_count nodes * dearest) (omega (arith, cost, turn.cheap)) (λ k n other at. old.cheap k n at));
           shallow = each_after (λ k n. HasWay after k (expanded_count after))
-              (way_here i turn queue old parent)
+              (way_here i turn open_list old parent)
               (λ k n other at.
               let (way, leads, short) = old.shallow k n at in
-              (way, way_still queue old k way leads other, omega (arith, short, updates.count)));
+              (way, way_still open_list old k way leads other, omega (arith, short, updates.count)));
           reachable = each_after (λ k n. IsReachableAt t n.state n.node.cost)
               (subst (λ c. IsReachableAt t m.state c) (sym cost) (reachable-push t turn.found.state m.state turn.found.node.cost m.node.action (old.reachable i turn.found turn.occurs) step))
               (λ k n other at. old.reachable k n at);
@@ -231,22 +231,22 @@ module _ {S : Type 0} (nodes after : List (Found S)) (j : ℕ) (m : Found S) (up
               (λ _. omega (arith, turn.greatest p x was expanded, cost, falls))
               (λ k n other at is_waiting. old.ordered p k x n was at expanded is_waiting)
               k n at_k waits;
-          queued = each_after (λ k n. IsWaiting is_dead n → Contains queue' (entry n.node.cost (value n.state) k))
+          queued = each_after (λ k n. IsWaiting is_dead n → Contains open_list' (entry n.node.cost (value n.state) k))
               joined.queued
               (λ k n other at waits. joined.keeps (entry n.node.cost (value n.state) k) (old.queued k n at waits));
           entries = joined.entries;
         }
 
     -- all that a step keeps
-    pub stepped : (i : ℕ) (turn : IsTurn value nodes i) (queue queue' : List Waiting) → AreNodes t value is_dead nodes queue → AreOpenBut t nodes i
+    pub stepped : (i : ℕ) (turn : IsTurn value nodes i) (open_list open_list' : List Waiting) → AreNodes t value is_dead nodes open_list → AreOpenBut t nodes i
         → parent_of m.node ≡ i → m.node.cost ≡ turn.found.node.cost + t.cost m.node.action → t.cost m.node.action ≤ dearest
         → t.step turn.found.state m.node.action ≡ Some m.state → value turn.found.state ≤ t.cost m.node.action + value m.state
-        → IsJoined (is_dead m.state) (entry m.node.cost (value m.state) j) queue queue'
-        → Stepped t value is_dead nodes after queue' i m.node.action m.state
-    stepped i turn queue queue' old others parent cost affordable step falls joins =
+        → IsJoined (is_dead m.state) (entry m.node.cost (value m.state) j) open_list open_list'
+        → Stepped t value is_dead nodes after open_list' i m.node.action m.state
+    stepped i turn open_list open_list' old others parent cost affordable step falls joins =
         record {
-          sound = nodes_updated i turn queue queue' old parent cost affordable step falls (has_joined value is_dead queue queue' old.entries joins);
-          turn = turn_still queue old i turn;
+          sound = nodes_updated i turn open_list open_list' old parent cost affordable step falls (has_joined value is_dead open_list open_list' old.entries joins);
+          turn = turn_still open_list old i turn;
           others = open_but_still i others;
           continues = record {
             found = found_still;

@@ -18,8 +18,8 @@ use Rattle.search.specs.DeadEnds.{DetectsDeadEnds, IsValueUnlessDead}
 use Rattle.search.specs.Outcome.{IsReachableAt, ReachingCostsAtLeast}
 use Rattle.packed_state.specs.Store.{IsPlaced}
 use Rattle.search.specs.Nodes.{Waiting, place_of, estimate_of, entry, IsEntry, IsWaiting, total_of, IsEntryOf, parent_of, begins, HasWay, Found, found_of, expanded_count, dearest, Leads, AreNodes, IsFoundWithin, IsOpen, AreOpen, AreOpenBut, IsTurn, IsCurrent, marked_as, marked}
-use Rattle.search.specs.declared.waiting.Queue.{Queue}
-use Rattle.search.specs.Queue.{waiting_in, IsQueue, JoinsBy}
+use Rattle.search.specs.declared.open_list.OpenList.{OpenList}
+use Rattle.search.specs.OpenList.{waiting_in, IsOpenList, JoinsBy}
 use Rattle.search.specs.Progress.{Continues, IsListed, TakesNext}
 use Rattle.search.proofs.Lists.{get-set_here, get-set_other, get_exists}
 use Rattle.search.proofs.Linked.{length-found_of, found_of-get, get-found_of, found_of-push, found_of-set, count-mark, updates-push, updates-set}
@@ -28,41 +28,41 @@ use Rattle.search.proofs.Marked.{nodes_marked, turn_marked, open_but_marked}
 use Rattle.search.proofs.Ways.{cheapest_way}
 use Rattle.search.proofs.NodesLemmas.{IsJoined, Stepped, stepped, reachable-push}
 
-module _ {S : Type 0} (t : System S ℕ) (value : S → ℕ) (is_dead : S → Bool) (states : List S) (all : List Node) (queue : List Waiting) (i : ℕ)
+module _ {S : Type 0} (t : System S ℕ) (value : S → ℕ) (is_dead : S → Bool) (states : List S) (all : List Node) (open_list : List Waiting) (i : ℕ)
     (one_each : length all ≡ length states)
-    (nodes : AreNodes t value is_dead (found_of states all) queue) (turn : IsTurn value (found_of states all) i) (others : AreOpenBut t (found_of states all) i)
+    (nodes : AreNodes t value is_dead (found_of states all) open_list) (turn : IsTurn value (found_of states all) i) (others : AreOpenBut t (found_of states all) i)
     (s : S) (now : Node) (waits : now.is_expanded ≡ false) (parent : parent_of now ≡ i)
     (costs : now.cost ≡ turn.found.node.cost + t.cost now.action) (affordable : t.cost now.action ≤ dearest)
     (step : t.step turn.found.state now.action ≡ Some s) (falls : value turn.found.state ≤ t.cost now.action + value s) where
   -- the state is new
-  stepped_pushed : (¬ Contains states s) → (queue' : List Waiting) → IsJoined (is_dead s) (entry now.cost (value s) (length states)) queue queue'
-      → Stepped t value is_dead (found_of states all) (found_of (states ++ s ∷ []) (all ++ now ∷ [])) queue' i now.action s
-  stepped_pushed is_new queue' joins =
+  stepped_pushed : (¬ Contains states s) → (open_list' : List Waiting) → IsJoined (is_dead s) (entry now.cost (value s) (length states)) open_list open_list'
+      → Stepped t value is_dead (found_of states all) (found_of (states ++ s ∷ []) (all ++ now ∷ [])) open_list' i now.action s
+  stepped_pushed is_new open_list' joins =
       let m : Found S = record { state = s; node = now } in
       let place : length (found_of states all) ≡ length states = length-found_of states all one_each in
       let updates = updates-push (found_of states all) m waits (λ k n at same. is_new (subst (λ x. Contains states x) same (Contains-got states k n.state (found_of-get states all k n at).0))) in
-      let joins' : IsJoined (is_dead s) (entry now.cost (value s) (length (found_of states all))) queue queue' = subst (λ p. IsJoined (is_dead s) (entry now.cost (value s) p) queue queue') (sym place) joins in
-      subst (λ after. Stepped t value is_dead (found_of states all) after queue' i now.action s) (sym (found_of-push states all s now one_each))
-      (stepped (found_of states all) (found_of states all ++ m ∷ []) (length (found_of states all)) m updates t value is_dead i turn queue queue' nodes others
+      let joins' : IsJoined (is_dead s) (entry now.cost (value s) (length (found_of states all))) open_list open_list' = subst (λ p. IsJoined (is_dead s) (entry now.cost (value s) p) open_list open_list') (sym place) joins in
+      subst (λ after. Stepped t value is_dead (found_of states all) after open_list' i now.action s) (sym (found_of-push states all s now one_each))
+      (stepped (found_of states all) (found_of states all ++ m ∷ []) (length (found_of states all)) m updates t value is_dead i turn open_list open_list' nodes others
       parent costs affordable step falls joins')
 
-  pub stepped_new : (¬ Contains states s) → (states' : List S) (all' : List Node) (place : ℕ) (queue' : List Waiting)
+  pub stepped_new : (¬ Contains states s) → (states' : List S) (all' : List Node) (place : ℕ) (open_list' : List Waiting)
       → states' ≡ states ++ s ∷ [] → all' ≡ all ++ now ∷ [] → place ≡ length states
-      → IsJoined (is_dead s) (entry now.cost (value s) place) queue queue'
-      → (length all' ≡ length states') × Stepped t value is_dead (found_of states all) (found_of states' all') queue' i now.action s
-  stepped_new is_new states' all' place queue' is_states is_all at_end joins =
-      let joins' : IsJoined (is_dead s) (entry now.cost (value s) (length states)) queue queue' = subst (λ p. IsJoined (is_dead s) (entry now.cost (value s) p) queue queue') at_end joins in
+      → IsJoined (is_dead s) (entry now.cost (value s) place) open_list open_list'
+      → (length all' ≡ length states') × Stepped t value is_dead (found_of states all) (found_of states' all') open_list' i now.action s
+  stepped_new is_new states' all' place open_list' is_states is_all at_end joins =
+      let joins' : IsJoined (is_dead s) (entry now.cost (value s) (length states)) open_list open_list' = subst (λ p. IsJoined (is_dead s) (entry now.cost (value s) p) open_list open_list') at_end joins in
       let same : found_of states' all' ≡ found_of (states ++ s ∷ []) (all ++ now ∷ []) = cc in
       let count_states : length states' ≡ length states + 1 = ap length is_states ∙ length-append states (s ∷ []) in
       let count_all : length all' ≡ length all + 1 = ap length is_all ∙ length-append all (now ∷ []) in (
         omega (arith, count_states, count_all, one_each),
-        subst (λ after. Stepped t value is_dead (found_of states all) after queue' i now.action s) (sym same) (stepped_pushed is_new queue' joins'),
+        subst (λ after. Stepped t value is_dead (found_of states all) after open_list' i now.action s) (sym same) (stepped_pushed is_new open_list' joins'),
       )
 
   -- the state waits, and is now reached at a lower cost
-  stepped_set : (j : ℕ) (reached : Node) → slice_get states j ≡ Some s → slice_get all j ≡ Some reached → now.cost < reached.cost → (queue' : List Waiting) → IsJoined (is_dead s) (entry now.cost (value s) j) queue queue'
-      → Stepped t value is_dead (found_of states all) (found_of states (set all j now)) queue' i now.action s
-  stepped_set j reached is_s is_reached cheaper queue' joins =
+  stepped_set : (j : ℕ) (reached : Node) → slice_get states j ≡ Some s → slice_get all j ≡ Some reached → now.cost < reached.cost → (open_list' : List Waiting) → IsJoined (is_dead s) (entry now.cost (value s) j) open_list open_list'
+      → Stepped t value is_dead (found_of states all) (found_of states (set all j now)) open_list' i now.action s
+  stepped_set j reached is_s is_reached cheaper open_list' joins =
       let n : Found S = record { state = s; node = reached } in
       let stood : slice_get (found_of states all) j ≡ Some n = get-found_of states all j s reached is_s is_reached in
       -- there is no cheaper way to an expanded state
@@ -75,25 +75,25 @@ module _ {S : Type 0} (t : System S ℕ) (value : S → ℕ) (is_dead : S → Bo
       ] refl in
       let m : Found S = record { state = s; node = now } in
       let updates = updates-set (found_of states all) j n m stood waited waits refl (omega (arith, cheaper)) (λ k x at same. nodes.distinct k j x n at stood same) in
-      subst (λ after. Stepped t value is_dead (found_of states all) after queue' i now.action s) (sym (found_of-set states all j n now stood))
-      (stepped (found_of states all) (set (found_of states all) j m) j m updates t value is_dead i turn queue queue' nodes others
+      subst (λ after. Stepped t value is_dead (found_of states all) after open_list' i now.action s) (sym (found_of-set states all j n now stood))
+      (stepped (found_of states all) (set (found_of states all) j m) j m updates t value is_dead i turn open_list open_list' nodes others
       parent costs affordable step falls joins)
 
   pub stepped_cheaper : (j : ℕ) (reached : Node) → slice_get states j ≡ Some s → slice_get all j ≡ Some reached → now.cost < reached.cost
-      → (states' : List S) (all' : List Node) (queue' : List Waiting)
-      → states' ≡ states → all' ≡ set all j now → IsJoined (is_dead s) (entry now.cost (value s) j) queue queue'
-      → (length all' ≡ length states') × Stepped t value is_dead (found_of states all) (found_of states' all') queue' i now.action s
-  stepped_cheaper j reached is_s is_reached cheaper states' all' queue' is_states is_all joins =
+      → (states' : List S) (all' : List Node) (open_list' : List Waiting)
+      → states' ≡ states → all' ≡ set all j now → IsJoined (is_dead s) (entry now.cost (value s) j) open_list open_list'
+      → (length all' ≡ length states') × Stepped t value is_dead (found_of states all) (found_of states' all') open_list' i now.action s
+  stepped_cheaper j reached is_s is_reached cheaper states' all' open_list' is_states is_all joins =
       let same : found_of states' all' ≡ found_of states (set all j now) = cc in
       let count_states : length states' ≡ length states = ap length is_states in
       let count_all : length all' ≡ length all = ap length is_all ∙ length-set all j now in (
         omega (arith, count_states, count_all, one_each),
-        subst (λ after. Stepped t value is_dead (found_of states all) after queue' i now.action s) (sym same) (stepped_set j reached is_s is_reached cheaper queue' joins),
+        subst (λ after. Stepped t value is_dead (found_of states all) after open_list' i now.action s) (sym same) (stepped_set j reached is_s is_reached cheaper open_list' joins),
       )
 
   -- the state is found already, at no higher cost
   stepped_known : (j : ℕ) (reached : Node) → slice_get states j ≡ Some s → slice_get all j ≡ Some reached → reached.cost ≤ now.cost
-      → Stepped t value is_dead (found_of states all) (found_of states all) queue i now.action s
+      → Stepped t value is_dead (found_of states all) (found_of states all) open_list i now.action s
   stepped_known j reached is_s is_reached no_dearer =
       let n : Found S = record { state = s; node = reached } in
       let stood : slice_get (found_of states all) j ≡ Some n = get-found_of states all j s reached is_s is_reached in
@@ -108,18 +108,18 @@ module _ {S : Type 0} (t : System S ℕ) (value : S → ℕ) (is_dead : S → Bo
       }
 
   pub stepped_same : (j : ℕ) (reached : Node) → slice_get states j ≡ Some s → slice_get all j ≡ Some reached → reached.cost ≤ now.cost → (states' : List S) → states' ≡ states
-      → (length all ≡ length states') × Stepped t value is_dead (found_of states all) (found_of states' all) queue i now.action s
+      → (length all ≡ length states') × Stepped t value is_dead (found_of states all) (found_of states' all) open_list i now.action s
   stepped_same j reached is_s is_reached no_dearer states' is_states = (
     one_each ∙ sym (ap length is_states),
-    subst (λ ss. Stepped t value is_dead (found_of states all) (found_of ss all) queue i now.action s) (sym is_states) (stepped_known j reached is_s is_reached no_dearer),
+    subst (λ ss. Stepped t value is_dead (found_of states all) (found_of ss all) open_list i now.action s) (sym is_states) (stepped_known j reached is_s is_reached no_dearer),
   )
 
--- the queue after a state is found, by what is reported for the state
-pub joined_by : {S : Type 0} (value : S → ℕ) (is_dead : S → Bool) (s : S) (reported : Option ℕ) (old new : Queue) (cost place : ℕ) → IsValueUnlessDead value is_dead s reported → JoinsBy old new cost place reported
-    → IsJoined (is_dead s) (entry cost (value s) place) (waiting_in old) (waiting_in new) × (IsQueue old → IsQueue new)
+-- the open list after a state is found, by what is reported for the state
+pub joined_by : {S : Type 0} (value : S → ℕ) (is_dead : S → Bool) (s : S) (reported : Option ℕ) (old new : OpenList) (cost place : ℕ) → IsValueUnlessDead value is_dead s reported → JoinsBy old new cost place reported
+    → IsJoined (is_dead s) (entry cost (value s) place) (waiting_in old) (waiting_in new) × (IsOpenList old → IsOpenList new)
 joined_by value is_dead s None old new cost place dead same = (
   subst (λ b. IsJoined b (entry cost (value s) place) (waiting_in old) (waiting_in new)) (sym dead) (ap waiting_in same),
-  subst (λ (q : Queue). IsQueue old → IsQueue q) (sym same) (λ was. was),
+  subst (λ (q : OpenList). IsOpenList old → IsOpenList q) (sym same) (λ was. was),
 )
 joined_by value is_dead s (Some estimate) old new cost place (alive, is, fits) joins = (
   subst (λ b. IsJoined b (entry cost (value s) place) (waiting_in old) (waiting_in new)) (sym alive)
@@ -160,7 +160,7 @@ placed_first {S} old new s place false empty (at, is) =
     absurd (cc)
 
 -- the initial state alone
-module _ {S : Type 0} (t : System S ℕ) (value : S → ℕ) (is_dead : S → Bool) (states : List S) (all : List Node) (queue queue' : List Waiting) (s : S) (place : ℕ)
+module _ {S : Type 0} (t : System S ℕ) (value : S → ℕ) (is_dead : S → Bool) (states : List S) (all : List Node) (open_list open_list' : List Waiting) (s : S) (place : ℕ)
     (parent : ShortId) (action : ℕ) where
   one_node : Found S
   one_node = record { state = s; node = record { cost = 0; is_expanded = false; parent = parent; action = action } }
@@ -172,38 +172,38 @@ module _ {S : Type 0} (t : System S ℕ) (value : S → ℕ) (is_dead : S → Bo
   each : (P : ℕ → Found S → Type 0) → P 0 one_node → (k : ℕ) (n : Found S) → slice_get (one_node ∷ []) k ≡ Some n → P k n
   each P one k n at = let is = only k n at in subst (λ i. P i n) (sym is.0) (subst (λ x. P 0 x) is.1 one)
 
-  -- the queue has its entry, or none since it is reported dead
+  -- the open list has its entry, or none since it is reported dead
   record HasStarted : Type 0 where
-    pub queued : IsWaiting is_dead one_node → Contains queue' (entry 0 (value s) 0)
-    pub entries : All (IsEntryOf value is_dead (one_node ∷ [])) queue'
+    pub queued : IsWaiting is_dead one_node → Contains open_list' (entry 0 (value s) 0)
+    pub entries : All (IsEntryOf value is_dead (one_node ∷ [])) open_list'
 
-  has_started : queue ≡ [] → IsJoined (is_dead s) (entry 0 (value s) 0) queue queue' → HasStarted
+  has_started : open_list ≡ [] → IsJoined (is_dead s) (entry 0 (value s) 0) open_list open_list' → HasStarted
   unfolding one_node
   has_started empty =
       let only_entry = entry 0 (value s) 0 in
-      elim (is_dead s) as (λ d. is_dead s ≡ d → IsJoined d only_entry queue queue' → HasStarted) [
+      elim (is_dead s) as (λ d. is_dead s ≡ d → IsJoined d only_entry open_list open_list' → HasStarted) [
         | true ↦ λ dead same. record {
           queued = λ waits. absurd (false≢true (sym waits.1 ∙ dead));
           entries = subst (λ q. All (IsEntryOf value is_dead (one_node ∷ [])) q) (sym (same ∙ empty)) (All-nil (IsEntryOf value is_dead (one_node ∷ [])));
         }
         | false ↦ λ alive joins.
-            let joins' : IsPermutation (only_entry ∷ []) queue' = subst (λ q. IsPermutation (only_entry ∷ q) queue') empty joins in
+            let joins' : IsPermutation (only_entry ∷ []) open_list' = subst (λ q. IsPermutation (only_entry ∷ q) open_list') empty joins in
             let of : IsEntryOf value is_dead (one_node ∷ []) only_entry = record { found = one_node; occurs = refl; alive = alive; estimate = refl; part = omega arith } in
             record {
-              queued = λ _. Contains-permutation (only_entry ∷ []) queue' only_entry joins' (Contains-here only_entry []);
-              entries = All-permutation (IsEntryOf value is_dead (one_node ∷ [])) (only_entry ∷ []) queue' joins'
+              queued = λ _. Contains-permutation (only_entry ∷ []) open_list' only_entry joins' (Contains-here only_entry []);
+              entries = All-permutation (IsEntryOf value is_dead (one_node ∷ [])) (only_entry ∷ []) open_list' joins'
                   (All-cons (IsEntryOf value is_dead (one_node ∷ [])) only_entry [] of (All-nil (IsEntryOf value is_dead (one_node ∷ []))));
             }
       ] refl
 
-  pub nodes_start : states ≡ s ∷ [] → all ≡ record { cost = 0; is_expanded = false; parent = parent; action = action } ∷ [] → s ≡ t.initial → place ≡ 0 → queue ≡ [] → IsJoined (is_dead s) (entry 0 (value s) place) queue queue'
-      → (length all ≡ length states) × AreNodes t value is_dead (found_of states all) queue'
+  pub nodes_start : states ≡ s ∷ [] → all ≡ record { cost = 0; is_expanded = false; parent = parent; action = action } ∷ [] → s ≡ t.initial → place ≡ 0 → open_list ≡ [] → IsJoined (is_dead s) (entry 0 (value s) place) open_list open_list'
+      → (length all ≡ length states) × AreNodes t value is_dead (found_of states all) open_list'
   unfolding one_node
   nodes_start is_states is_all initial first empty joins =
       let nodes : found_of states all ≡ one_node ∷ [] = cc in
-      let started = has_started empty (subst (λ p. IsJoined (is_dead s) (entry 0 (value s) p) queue queue') first joins) in (
+      let started = has_started empty (subst (λ p. IsJoined (is_dead s) (entry 0 (value s) p) open_list open_list') first joins) in (
         ap length is_all ∙ sym (ap length is_states),
-        subst (λ ns. AreNodes t value is_dead ns queue') (sym nodes) (record {
+        subst (λ ns. AreNodes t value is_dead ns open_list') (sym nodes) (record {
           root = (one_node, refl, initial, refl);
           linked = each (λ k n. k ≢ 0 → Leads t (one_node ∷ []) n) (λ elsewhere. absurd (elsewhere refl));
           distinct = λ j k m n at_j at_k _. (only j m at_j).0 ∙ sym (only k n at_k).0;
@@ -215,7 +215,7 @@ module _ {S : Type 0} (t : System S ℕ) (value : S → ℕ) (is_dead : S → Bo
           cheapest = each (λ k n. n.node.is_expanded ≡ true → ReachingCostsAtLeast t n.state n.node.cost) (λ expanded. absurd (false≢true expanded));
           alive = each (λ k n. n.node.is_expanded ≡ true → is_dead n.state ≡ false) (λ expanded. absurd (false≢true expanded));
           ordered = λ j k m n at_j _ expanded _. absurd (each (λ j m. m.node.is_expanded ≡ true → ⊥) false≢true j m at_j expanded);
-          queued = each (λ k n. IsWaiting is_dead n → Contains queue' (entry n.node.cost (value n.state) k)) started.queued;
+          queued = each (λ k n. IsWaiting is_dead n → Contains open_list' (entry n.node.cost (value n.state) k)) started.queued;
           entries = started.entries;
         }),
       )
@@ -278,8 +278,8 @@ pub occurs_still : {S : Type 0} (states states' : List S) (all all' : List Node)
 occurs_still states states' all all' i n s at continues occurs =
     (found_of-get states' all' i n (continues.stays n at)).0 ∙ sym (found_of-get states all i n at).0 ∙ occurs
 
--- the state whose turn it is: it waits, and of those that wait none has a lesser sum; the others are in the queue that is left
-pub record IsNext {S : Type 0} (value : S → ℕ) (is_dead : S → Bool) (states : List S) (all : List Node) (queue' : List Waiting) (turn : Turn) : Type 0 where
+-- the state whose turn it is: it waits, and of those that wait none has a lesser sum; the others are in the open list that is left
+pub record IsNext {S : Type 0} (value : S → ℕ) (is_dead : S → Bool) (states : List S) (all : List Node) (open_list' : List Waiting) (turn : Turn) : Type 0 where
   pub found : Found S
   pub occurs : slice_get (found_of states all) turn.id.0 ≡ Some found
   pub state : slice_get states turn.id.0 ≡ Some found.state
@@ -287,30 +287,30 @@ pub record IsNext {S : Type 0} (value : S → ℕ) (is_dead : S → Bool) (state
   pub waits : IsWaiting is_dead found
   pub sum : turn.sum ≡ total_of value found
   pub least : (k : ℕ) (n : Found S) → slice_get (found_of states all) k ≡ Some n → IsWaiting is_dead n → total_of value found ≤ total_of value n
-  pub rest : (k : ℕ) (n : Found S) → slice_get (found_of states all) k ≡ Some n → IsWaiting is_dead n → k ≢ turn.id.0 → Contains queue' (entry n.node.cost (value n.state) k)
+  pub rest : (k : ℕ) (n : Found S) → slice_get (found_of states all) k ≡ Some n → IsWaiting is_dead n → k ≢ turn.id.0 → Contains open_list' (entry n.node.cost (value n.state) k)
   pub estimate : turn.estimate ≡ value found.state
 
 -- whose turn it is
-module _ {S : Type 0} (t : System S ℕ) (value : S → ℕ) (is_dead : S → Bool) (states : List S) (all : List Node) (queue : List Waiting)
-    (one_each : length all ≡ length states) (nodes : AreNodes t value is_dead (found_of states all) queue) where
+module _ {S : Type 0} (t : System S ℕ) (value : S → ℕ) (is_dead : S → Bool) (states : List S) (all : List Node) (open_list : List Waiting)
+    (one_each : length all ≡ length states) (nodes : AreNodes t value is_dead (found_of states all) open_list) where
   -- the entries are of the nodes
-  pub entries_of : All (IsEntry (length all)) queue
+  pub entries_of : All (IsEntry (length all)) open_list
   entries_of =
       All-weaker (IsEntryOf value is_dead (found_of states all)) (IsEntry (length all))
-      (λ w of. (omega (arith, slice_get_within (found_of states all) (place_of w) of.found of.occurs, length-found_of states all one_each, one_each), of.part)) queue nodes.entries
+      (λ w of. (omega (arith, slice_get_within (found_of states all) (place_of w) of.found of.occurs, length-found_of states all one_each, one_each), of.part)) open_list nodes.entries
 
   -- a node that waits has a current entry
   current_entry : (k : ℕ) (n : Found S) → slice_get (found_of states all) k ≡ Some n → IsWaiting is_dead n → IsCurrent all (entry n.node.cost (value n.state) k)
   current_entry k n at waits = (n.node, (found_of-get states all k n at).1, refl, waits.0)
 
-  pub none_waits : ((w : Waiting) → Contains queue w → ¬ IsCurrent all w) → (k : ℕ) (n : Found S) → slice_get (found_of states all) k ≡ Some n → IsWaiting is_dead n → ⊥
+  pub none_waits : ((w : Waiting) → Contains open_list w → ¬ IsCurrent all w) → (k : ℕ) (n : Found S) → slice_get (found_of states all) k ≡ Some n → IsWaiting is_dead n → ⊥
   none_waits none k n at waits = none (entry n.node.cost (value n.state) k) (nodes.queued k n at waits) (current_entry k n at waits)
 
-  pub at_turn : (queue' : List Waiting) (turn : Turn) → TakesNext queue queue' all turn → IsNext value is_dead states all queue' turn
-  at_turn queue' turn takes =
+  pub at_turn : (open_list' : List Waiting) (turn : Turn) → TakesNext open_list open_list' all turn → IsNext value is_dead states all open_list' turn
+  at_turn open_list' turn takes =
       let i = turn.id.0 in
       let (node, occurs, sums, waits) = takes.current in
-      let of = All-contains (IsEntryOf value is_dead (found_of states all)) queue takes.next nodes.entries takes.among in
+      let of = All-contains (IsEntryOf value is_dead (found_of states all)) open_list takes.next nodes.entries takes.among in
       let is_node : slice_get all i ≡ Some node = ap (slice_get all) (sym takes.occurs) ∙ occurs in
       let s = get_exists states i (omega (arith, slice_get_within all i node is_node)) in
       let one : Found S = record { state = s.0; node = node } in
@@ -330,24 +330,24 @@ module _ {S : Type 0} (t : System S ℕ) (value : S → ℕ) (is_dead : S → Bo
       }
 
 -- what holds where the turn of a state has begun: of what was found, it alone is marked as expanded
-pub record HasBegun {S : Type 0} (t : System S ℕ) (value : S → ℕ) (is_dead : S → Bool) (before : List (Found S)) (states : List S) (all : List Node) (queue : List Waiting) (i : ℕ) (one : Found S) : Type 0 where
+pub record HasBegun {S : Type 0} (t : System S ℕ) (value : S → ℕ) (is_dead : S → Bool) (before : List (Found S)) (states : List S) (all : List Node) (open_list : List Waiting) (i : ℕ) (one : Found S) : Type 0 where
   pub one_each : length all ≡ length states
-  pub nodes : AreNodes t value is_dead (found_of states all) queue
+  pub nodes : AreNodes t value is_dead (found_of states all) open_list
   pub turn : IsTurn value (found_of states all) i
   pub others_open : AreOpenBut t (found_of states all) i
   pub occurs : slice_get (found_of states all) i ≡ Some (marked true one)
   pub count : expanded_count (found_of states all) ≡ expanded_count before + 1
 
 -- a turn begins
-module _ {S : Type 0} (t : System S ℕ) (value : S → ℕ) (is_dead : S → Bool) (consistent : IsConsistent t value) (reports : DetectsDeadEnds t is_dead) (states : List S) (all : List Node) (queue queue' : List Waiting)
-    (one_each : length all ≡ length states) (nodes : AreNodes t value is_dead (found_of states all) queue)
+module _ {S : Type 0} (t : System S ℕ) (value : S → ℕ) (is_dead : S → Bool) (consistent : IsConsistent t value) (reports : DetectsDeadEnds t is_dead) (states : List S) (all : List Node) (open_list open_list' : List Waiting)
+    (one_each : length all ≡ length states) (nodes : AreNodes t value is_dead (found_of states all) open_list)
     (i : ℕ) (one : Found S) (occurs : slice_get (found_of states all) i ≡ Some one) (waits : IsWaiting is_dead one)
     (least : (k : ℕ) (n : Found S) → slice_get (found_of states all) k ≡ Some n → IsWaiting is_dead n → total_of value one ≤ total_of value n)
-    (rest : (k : ℕ) (n : Found S) → slice_get (found_of states all) k ≡ Some n → IsWaiting is_dead n → k ≢ i → Contains queue' (entry n.node.cost (value n.state) k))
-    (entries : All (IsEntryOf value is_dead (found_of states all)) queue') where
+    (rest : (k : ℕ) (n : Found S) → slice_get (found_of states all) k ≡ Some n → IsWaiting is_dead n → k ≢ i → Contains open_list' (entry n.node.cost (value n.state) k))
+    (entries : All (IsEntryOf value is_dead (found_of states all)) open_list') where
   pub turn_begins : t.meets_goal one.state ≡ false → AreOpen t (found_of states all) → (states' : List S) (all' : List Node)
       → states' ≡ states → all' ≡ set all i (marked_as true one.node)
-      → HasBegun t value is_dead (found_of states all) states' all' queue' i one
+      → HasBegun t value is_dead (found_of states all) states' all' open_list' i one
   turn_begins no_goal are_open states' all' is_states is_all =
       let now : Node = marked_as true one.node in
       let marks : found_of states (set all i now) ≡ set (found_of states all) i (marked true one) = found_of-set states all i one now occurs in
@@ -360,13 +360,13 @@ module _ {S : Type 0} (t : System S ℕ) (value : S → ℕ) (is_dead : S → Bo
       let count : expanded_count after ≡ expanded_count (found_of states all) + 1 = ap expanded_count is ∙ count-mark (found_of states all) i one occurs waits.0 in
       let count_states : length states' ≡ length states = ap length is_states in
       let count_all : length all' ≡ length all = ap length is_all ∙ length-set all i now in
-      let way = cheapest_way t value is_dead consistent reports (found_of states all) are_open (total_of value one) least queue nodes i one occurs waits.1 (omega arith) in
+      let way = cheapest_way t value is_dead consistent reports (found_of states all) are_open (total_of value one) least open_list nodes i one occurs waits.1 (omega arith) in
       record {
         one_each = omega (arith, count_states, count_all, one_each);
-        nodes = nodes_marked (found_of states all) after i one occurs waits.0 here others count t value is_dead queue queue' nodes waits.1 no_goal
-            (no_plan_cheaper t value is_dead states all one_each queue nodes consistent reports one are_open least) way least rest entries;
-        turn = turn_marked (found_of states all) after i one occurs waits.0 here others count t value is_dead queue queue' nodes waits.1;
-        others_open = open_but_marked (found_of states all) after i one occurs waits.0 here others count t value is_dead queue queue' nodes waits.1 are_open;
+        nodes = nodes_marked (found_of states all) after i one occurs waits.0 here others count t value is_dead open_list open_list' nodes waits.1 no_goal
+            (no_plan_cheaper t value is_dead states all one_each open_list nodes consistent reports one are_open least) way least rest entries;
+        turn = turn_marked (found_of states all) after i one occurs waits.0 here others count t value is_dead open_list open_list' nodes waits.1;
+        others_open = open_but_marked (found_of states all) after i one occurs waits.0 here others count t value is_dead open_list open_list' nodes waits.1 are_open;
         occurs = here;
         count = count;
       }

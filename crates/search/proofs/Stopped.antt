@@ -65,9 +65,9 @@ module _ {S : Type 0} (nodes after : List (Found S)) (i : ℕ) (one : Found S) (
   }
 
   -- of those that wait then none has a lesser sum than it
-  pub least_unmarked : (t : System S ℕ) (value : S → ℕ) (is_dead : S → Bool) (queue : List Waiting) → AreNodes t value is_dead nodes queue → one.node.is_expanded ≡ true
+  pub least_unmarked : (t : System S ℕ) (value : S → ℕ) (is_dead : S → Bool) (open_list : List Waiting) → AreNodes t value is_dead nodes open_list → one.node.is_expanded ≡ true
       → (k : ℕ) (n : Found S) → slice_get after k ≡ Some n → IsWaiting is_dead n → total_of value one ≤ total_of value n
-  least_unmarked t value is_dead queue old expanded = each_unmarked (λ k n. IsWaiting is_dead n → total_of value one ≤ total_of value n)
+  least_unmarked t value is_dead open_list old expanded = each_unmarked (λ k n. IsWaiting is_dead n → total_of value one ≤ total_of value n)
       (λ _. omega arith)
       (λ k n _ at waits. old.ordered i k one n stood at expanded waits)
 
@@ -76,8 +76,8 @@ module _ {S : Type 0} (nodes after : List (Found S)) (i : ℕ) (one : Found S) (
       → (k : ℕ) (n : Found S) → slice_get after k ≡ Some n → n.node.is_expanded ≡ true → total_of value n ≤ total_of value one
   greatest_unmarked value greatest = each_expanded (λ k n. total_of value n ≤ total_of value one) (λ k n _ at expanded. greatest k n at expanded)
 
-module _ {S : Type 0} (t : System S ℕ) (value : S → ℕ) (is_dead : S → Bool) (states : List S) (all : List Node) (queue : List Waiting)
-    (one_each : length all ≡ length states) (nodes : AreNodes t value is_dead (found_of states all) queue)
+module _ {S : Type 0} (t : System S ℕ) (value : S → ℕ) (is_dead : S → Bool) (states : List S) (all : List Node) (open_list : List Waiting)
+    (one_each : length all ≡ length states) (nodes : AreNodes t value is_dead (found_of states all) open_list)
     (i : ℕ) (turn : IsTurn value (found_of states all) i) (others_open : AreOpenBut t (found_of states all) i) where
   -- the state whose turn it is is taken back
   pub at_limit : IsConsistent t value → DetectsDeadEnds t is_dead → (states' : List S) (all' : List Node) (max_states least : ℕ)
@@ -96,8 +96,8 @@ module _ {S : Type 0} (t : System S ℕ) (value : S → ℕ) (is_dead : S → Bo
       let count_states : length states' ≡ length states = ap length is_states in
       let count_all : length all' ≡ length all = ap length is_all ∙ length-set all i now in
       let one_each' : length all' ≡ length states' = omega (arith, count_states, count_all, one_each) in
-      let listed = listed_unmarked (found_of states all) after i one turn.occurs here others long t is_dead (are_listed t value is_dead (found_of states all) queue nodes) in
-      let waiting = least_unmarked (found_of states all) after i one turn.occurs here others long t value is_dead queue nodes turn.is_expanded in
+      let listed = listed_unmarked (found_of states all) after i one turn.occurs here others long t is_dead (are_listed t value is_dead (found_of states all) open_list nodes) in
+      let waiting = least_unmarked (found_of states all) after i one turn.occurs here others long t value is_dead open_list nodes turn.is_expanded in
       let expanded = greatest_unmarked (found_of states all) after i one turn.occurs here others long value turn.greatest in
       let is_closed = closed t value is_dead states' all' one_each' listed (bound least) (open_unmarked (found_of states all) after i one turn.occurs here others long t others_open)
       (λ k n at waits. omega (arith, is_least, waiting k n at waits)) in

@@ -43,9 +43,9 @@ module _ {S : Type 0} (t : System S ℕ) (value : S → ℕ) (is_dead : S → Bo
       ] refl
 
   -- a waiting state of the least sum is reached by a cheapest way
-  pub cheapest_way : (queue : List Waiting) → AreNodes t value is_dead nodes queue → (i : ℕ) (one : Found S) → slice_get nodes i ≡ Some one → is_dead one.state ≡ false
+  pub cheapest_way : (open_list : List Waiting) → AreNodes t value is_dead nodes open_list → (i : ℕ) (one : Found S) → slice_get nodes i ≡ Some one → is_dead one.state ≡ false
       → total_of value one ≤ least → ReachingCostsAtLeast t one.state one.node.cost
-  cheapest_way queue old i one occurs alive is_least actions runs =
+  cheapest_way open_list old i one occurs alive is_least actions runs =
       let (root, at, is, free) = old.root in
       elim (from_found actions one.state 0 root alive at (subst (λ (s : S). run t s actions ≡ Some one.state) (sym is) runs)) [
         | inl waits ↦ omega (arith, waits, free, is_least)

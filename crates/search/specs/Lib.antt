@@ -3,5 +3,5 @@ pub mod DeadEnds
 pub mod Transitions
 pub mod Outcome
 pub mod Nodes
-pub mod Queue
+pub mod OpenList
 pub mod Progress

@@ -7,7 +7,7 @@ use Rattle.search.specs.declared.nodes.Node.{Node}
 use Rattle.search.specs.declared.nodes.ShortId.{ShortId}
 use Rattle.search.specs.Outcome.{IsReachableAt, ReachingCostsAtLeast, IsCut}
 
--- a waiting state as the queue holds it: the sum of its cost and its estimate, the estimate, and its place
+-- a waiting state as the open list holds it: the sum of its cost and its estimate, the estimate, and its place
 abbrev pub Waiting : Type 0
 Waiting = Reverse (ℕ × ℕ × StateId)
 
@@ -107,9 +107,9 @@ abbrev pub dearest : ℕ
 dearest = 4294967295
 
 module _ {S : Type 0} (t : System S ℕ) (value : S → ℕ) (is_dead : S → Bool) (nodes : List (Found S)) where
-  -- What holds of the found states at any time. Those that wait are in the queue, at their cost and with their estimate, and
+  -- What holds of the found states at any time. Those that wait are in the open list, at their cost and with their estimate, and
   -- none of them has a lesser sum of these than one that was expanded.
-  pub record AreNodes (queue : List Waiting) : Type 0 where
+  pub record AreNodes (open_list : List Waiting) : Type 0 where
     pub root : (n : Found S) × (slice_get nodes 0 ≡ Some n) × (n.state ≡ t.initial) × (n.node.cost ≡ 0)
     pub linked : (k : ℕ) (n : Found S) → slice_get nodes k ≡ Some n → k ≢ 0 → Leads t nodes n
     pub distinct : (j k : ℕ) (m n : Found S) → slice_get nodes j ≡ Some m → slice_get nodes k ≡ Some n → m.state ≡ n.state → j ≡ k
@@ -122,8 +122,8 @@ module _ {S : Type 0} (t : System S ℕ) (value : S → ℕ) (is_dead : S → Bo
     pub alive : (k : ℕ) (n : Found S) → slice_get nodes k ≡ Some n → n.node.is_expanded ≡ true → is_dead n.state ≡ false
     pub ordered : (j k : ℕ) (m n : Found S) → slice_get nodes j ≡ Some m → slice_get nodes k ≡ Some n → m.node.is_expanded ≡ true → IsWaiting is_dead n
         → total_of value m ≤ total_of value n
-    pub queued : (k : ℕ) (n : Found S) → slice_get nodes k ≡ Some n → IsWaiting is_dead n → Contains queue (entry n.node.cost (value n.state) k)
-    pub entries : All (IsEntryOf value is_dead nodes) queue
+    pub queued : (k : ℕ) (n : Found S) → slice_get nodes k ≡ Some n → IsWaiting is_dead n → Contains open_list (entry n.node.cost (value n.state) k)
+    pub entries : All (IsEntryOf value is_dead nodes) open_list
 
 -- the state is found, at no more than this cost
 abbrev pub IsFoundWithin : {S : Type 0} → List (Found S) → S → ℕ → Type 0

@@ -6,12 +6,12 @@ use Rattle.packed_state.specs.Packed.{bits_of}
 use Rattle.search.specs.declared.progress.Buffers.{Buffers}
 use Rattle.search.specs.declared.progress.Progress.{Progress}
 use Rattle.search.specs.declared.turns.Turn.{Turn}
-use Rattle.search.specs.Queue.{waiting_in, IsQueue}
+use Rattle.search.specs.OpenList.{waiting_in, IsOpenList}
 use Rattle.search.specs.Outcome.{AreMoreReachable}
 use Rattle.search.specs.Nodes.{Waiting, sum_of, estimate_of, place_of, entry, IsCurrent, IsWaiting, total_of, IsEntryOf, Found, found_of, expanded_count, AreNodes, IsFoundWithin, AreOpen, AreOpenBut, IsTurn}
 
 -- Of those that wait, the state whose turn it is has the least sum of cost and estimate; of equal sum, the least estimate;
--- and of these it comes first. It leaves the queue, and the others stay in it.
+-- and of these it comes first. It leaves the open list, and the others stay in it.
 pub record TakesNext (old new : List Waiting) (all : List Node) (turn : Turn) : Type 0 where
   pub next : Waiting
   pub occurs : place_of next ≡ turn.id.0
@@ -32,22 +32,22 @@ module _ {S Store : Type 0} (t : System S ℕ) (value : S → ℕ) (is_dead : S 
   -- between two turns
   pub record IsSearch : Type 0 where
     pub one_each : length p.nodes.items ≡ length (states_of p.store)
-    pub nodes : AreNodes t value is_dead (nodes_in states_of p) (waiting_in p.queue)
-    pub heap : IsQueue p.queue
+    pub nodes : AreNodes t value is_dead (nodes_in states_of p) (waiting_in p.open_list)
+    pub heap : IsOpenList p.open_list
 
-  -- the turn of a state came: it waits, and is no more in the queue
+  -- the turn of a state came: it waits, and is no more in the open list
   pub record IsAtTurn (turn : Turn) : Type 0 where
     pub one_each : length p.nodes.items ≡ length (states_of p.store)
-    pub queue : List Waiting
-    pub nodes : AreNodes t value is_dead (nodes_in states_of p) queue
-    pub heap : IsQueue p.queue
+    pub open_list : List Waiting
+    pub nodes : AreNodes t value is_dead (nodes_in states_of p) open_list
+    pub heap : IsOpenList p.open_list
     pub found : Found S
     pub occurs : slice_get (nodes_in states_of p) turn.id.0 ≡ Some found
     pub waits : IsWaiting is_dead found
     pub sum : turn.sum ≡ total_of value found
     pub least : (k : ℕ) (n : Found S) → slice_get (nodes_in states_of p) k ≡ Some n → IsWaiting is_dead n → total_of value found ≤ total_of value n
-    pub rest : (k : ℕ) (n : Found S) → slice_get (nodes_in states_of p) k ≡ Some n → IsWaiting is_dead n → k ≢ turn.id.0 → Contains (waiting_in p.queue) (entry n.node.cost (value n.state) k)
-    pub entries : All (IsEntryOf value is_dead (nodes_in states_of p)) (waiting_in p.queue)
+    pub rest : (k : ℕ) (n : Found S) → slice_get (nodes_in states_of p) k ≡ Some n → IsWaiting is_dead n → k ≢ turn.id.0 → Contains (waiting_in p.open_list) (entry n.node.cost (value n.state) k)
+    pub entries : All (IsEntryOf value is_dead (nodes_in states_of p)) (waiting_in p.open_list)
 
   -- the state at this place is being expanded
   pub record IsExpanding (i : ℕ) : Type 0 where

@@ -53,12 +53,12 @@ pub enum Outcome<S> {
 ///
 /// What differs from these: the states are in a store, in the order in which they were found, and are named by
 /// their places there; actions are the system's numbers. Where a cheaper way to a waiting state is found, the old entry
-/// stays in the queue beside the new one, and is passed over when it comes up (lazy deletion). To an expanded state there
+/// stays in the open list beside the new one, and is passed over when it comes up (lazy deletion). To an expanded state there
 /// is no cheaper way, since an estimate is consistent. Whether a state is a dead end is asked where it is found, and where a
 /// cheaper way to it is. At most `max_states` states are listed: where one more would have to be, the answer is `States`,
 /// with the sum of the state whose turn it is as the bound; that state is not expanded then, though some of its successors
 /// may be listed. Each turn writes into the same buffers, so that a state takes no memory but its place in the store, among
-/// the nodes and in the queue.
+/// the nodes and in the open list.
 ///
 /// The clause promises what costs decide. A plan that is found is a cheapest one. `States` is reported only where more states
 /// than the limit are next to one that is not reported dead and, with its estimate, no dearer than any plan (`PrecedesPlans`):

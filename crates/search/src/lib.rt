@@ -9,7 +9,7 @@ mod nodes;
 mod progress;
 mod transitions;
 mod turns;
-mod waiting;
+mod open_list;
 
 pub use best::{MAX_STATES, Outcome, best_first};
 pub use dead_ends::{DeadEnd, NoDeadEnd};

@@ -5,7 +5,7 @@ ghost use Rattle.packed_state.specs.Store.{IsPlaced};
 ghost use Rattle.search.specs.Estimates.{value_by};
 ghost use Rattle.search.specs.Outcome.{AreMoreReachable, IsAtLimit};
 ghost use Rattle.search.specs.Nodes.{Waiting, IsEntry, IsCurrent, AreOpen, IsPath, IsReachedIn};
-ghost use Rattle.search.specs.Queue.{waiting_in, IsQueue, JoinsBy};
+ghost use Rattle.search.specs.OpenList.{waiting_in, IsOpenList, JoinsBy};
 ghost use Rattle.search.specs.Progress.{TakesNext, nodes_in, IsSearch, IsAtTurn, IsExpanding, Reaches, IsFull, Expands, AreWide};
 
 use crate::best::MAX_STATES;
@@ -15,7 +15,7 @@ use crate::guide::Guide;
 use crate::nodes::{FoundStates, Node, ShortId, StateId, steps_to};
 use crate::transitions::TransitionSystem;
 use crate::turns::{Parent, Turn};
-use crate::waiting::Queue;
+use crate::open_list::OpenList;
 use faults::NoMemory;
 use packed_state::{Packed, StateStore};
 use std::alloc::Global;
@@ -27,7 +27,7 @@ pub(crate) struct Progress<S> {
     pub(crate) store: S,
     pub(crate) nodes: Vec<Node>,
     /// Each waiting state, beside entries that are stale: a cheaper way was found, or it was expanded.
-    pub(crate) queue: Queue,
+    pub(crate) open_list: OpenList,
 }
 
 /// Buffers that each turn uses again, so that a state takes no memory but its place in the lists.
@@ -101,7 +101,7 @@ impl<S: StateStore> Progress<S> {
         let mut progress = Progress {
             store,
             nodes: Vec::new(alloc),
-            queue: Queue::new(alloc),
+            open_list: OpenList::new(alloc),
         };
         let value = guide.value_in(&initial);
         let node = Node {
@@ -115,21 +115,21 @@ impl<S: StateStore> Progress<S> {
     }
 
     /// The waiting state of the least sum of cost and estimate, among these of the least estimate and, among these, the one
-    /// found first. It leaves the queue.
+    /// found first. It leaves the open list.
     pub(crate) fn next_waiting(&mut self) -> Option<Turn>
-        requires heap { IsQueue self.old.queue }
-        requires entries { All (IsEntry (length self.old.nodes.items)) (waiting_in self.old.queue) }
+        requires heap { IsOpenList self.old.open_list }
+        requires entries { All (IsEntry (length self.old.nodes.items)) (waiting_in self.old.open_list) }
         ensures store { self.new.store ≡ self.old.store }
         ensures nodes { self.new.nodes.items ≡ self.old.nodes.items }
-        ensures heap { OnSome result (IsQueue self.new.queue) }
+        ensures heap { OnSome result (IsOpenList self.new.open_list) }
         ensures kept { OnSome result ((w : Waiting) →
-            Contains (waiting_in self.new.queue) w → Contains (waiting_in self.old.queue) w) }
+            Contains (waiting_in self.new.open_list) w → Contains (waiting_in self.old.open_list) w) }
         ensures none { IfNone result ((w : Waiting) →
-            Contains (waiting_in self.old.queue) w → ¬ IsCurrent self.old.nodes.items w) }
+            Contains (waiting_in self.old.open_list) w → ¬ IsCurrent self.old.nodes.items w) }
         ensures some { IfSome result
-            (λ turn. TakesNext (waiting_in self.old.queue) (waiting_in self.new.queue) self.old.nodes.items turn) }
+            (λ turn. TakesNext (waiting_in self.old.open_list) (waiting_in self.new.open_list) self.old.nodes.items turn) }
     {
-        while let Some(Reverse((sum, estimate, id))) = self.queue.pop() {
+        while let Some(Reverse((sum, estimate, id))) = self.open_list.pop() {
             let node = self.nodes[id.0 as usize];
             if !node.is_expanded && node.cost == sum - estimate {
                 return Some(Turn { id, sum, estimate });
@@ -144,8 +144,8 @@ impl<S: StateStore> Progress<S> {
         requires place { id.0 < MAX_STATES }
         ensures store { self.new.store ≡ self.old.store }
         ensures nodes { OnOk result (self.new.nodes.items ≡ self.old.nodes.items ++ node ∷ []) }
-        ensures queue { OnOk result
-            (JoinsBy self.old.queue self.new.queue node.cost id.0 estimate) }
+        ensures open_list { OnOk result
+            (JoinsBy self.old.open_list self.new.open_list node.cost id.0 estimate) }
     {
         self.nodes.push(node)?;
         self.enqueue(id, node.cost, estimate)
@@ -158,8 +158,8 @@ impl<S: StateStore> Progress<S> {
         requires place { id.0 < MAX_STATES }
         ensures store { self.new.store ≡ self.old.store }
         ensures nodes { self.new.nodes.items ≡ slice_set self.old.nodes.items id.0 node }
-        ensures queue { OnOk result
-            (JoinsBy self.old.queue self.new.queue node.cost id.0 estimate) }
+        ensures open_list { OnOk result
+            (JoinsBy self.old.open_list self.new.open_list node.cost id.0 estimate) }
     {
         self.nodes[id.0 as usize] = node;
         self.enqueue(id, node.cost, estimate)
@@ -171,11 +171,11 @@ impl<S: StateStore> Progress<S> {
         requires place { id.0 < MAX_STATES }
         ensures store { self.new.store ≡ self.old.store }
         ensures nodes { self.new.nodes.items ≡ self.old.nodes.items }
-        ensures queue { OnOk result
-            (JoinsBy self.old.queue self.new.queue cost id.0 estimate) }
+        ensures open_list { OnOk result
+            (JoinsBy self.old.open_list self.new.open_list cost id.0 estimate) }
     {
         match estimate {
-            Some(estimate) => self.queue.push(Reverse((cost + estimate, estimate, id))),
+            Some(estimate) => self.open_list.push(Reverse((cost + estimate, estimate, id))),
             None => Ok(()),
         }
     }
@@ -186,7 +186,7 @@ impl<S: StateStore> Progress<S> {
         ensures store { self.new.store ≡ self.old.store }
         ensures nodes { (node : _) → slice_get self.old.nodes.items id.0 ≡ Some node
             → self.new.nodes.items ≡ slice_set self.old.nodes.items id.0 (record node { is_expanded = is_expanded }) }
-        ensures queue { self.new.queue ≡ self.old.queue }
+        ensures open_list { self.new.open_list ≡ self.old.open_list }
     {
         self.nodes[id.0 as usize].is_expanded = is_expanded;
     }
@@ -309,7 +309,7 @@ impl<S: StateStore> Progress<S> {
         let Progress {
             store,
             nodes,
-            queue: _,
+            open_list: _,
         } = self;
         FoundStates { store, nodes }
     }

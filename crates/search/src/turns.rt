@@ -1,4 +1,4 @@
-//! The state whose turn it is, as the queue gives it and as its successors need it.
+//! The state whose turn it is, as the open list gives it and as its successors need it.
 ghost use Rattle.std.specs.Prelude.{◌≡◌, Some, length};
 ghost use Rattle.packed_state.specs.Packed.{bits_of};
 ghost use Rattle.search.specs.Estimates.{value_by};

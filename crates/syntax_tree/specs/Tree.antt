@@ -27,7 +27,7 @@ use Rattle.syntax_tree.specs.declared.tree.Effect as effect
 use Rattle.model.specs.Trees as tree
 pub use Rattle.syntax_tree.specs.Name.{name_of, term_of}
 
-abbrev pub file_of : TaskFile → tree.File
+abbrev pub file_of : TaskFile → tree.TaskFile
 file_of file.Domain = tree.domain_file
 file_of file.Problem = tree.problem_file
 

@@ -3,7 +3,7 @@ use Rattle.std.proofs.Common.{◌≡◌, ℕ, ◌+◌, ◌<◌, ◌≤◌, List,
 use Rattle.std.proofs.lemmas.List.{drop_more, drop_all}
 use Rattle.model.specs.Task as task
 use Rattle.model.specs.Trees as tree
-use Rattle.model.specs.Trees.{File}
+use Rattle.model.specs.Trees.{TaskFile}
 use Rattle.model.specs.Typing.{Known, TypingFault, terms_faults, term_faults, misfit_faults}
 use Rattle.task_parts.specs.Scope.{argument_faults}
 use Rattle.task_parts.specs.Walk.{found}
@@ -29,7 +29,7 @@ rest_left (x ∷ xs) (suc i) =
     rest_left xs i ∙ ap (λ n. drop n (x ∷ xs)) same
 
 -- one term more
-pub argument_step : {X : Type 0} (file : File) (known : Known) (arguments : List task.Union) (seen : X → tree.Term) (xs : List X) (i : ℕ) (d : X) → i < length xs
+pub argument_step : {X : Type 0} (file : TaskFile) (known : Known) (arguments : List task.Union) (seen : X → tree.Term) (xs : List X) (i : ℕ) (d : X) → i < length xs
     → (least new whole : Option TypingFault) → new ≡ found least (argument_faults file known (slice_get arguments i) (seen (get_or xs i d)))
     → found least (terms_faults file known (drop i arguments) (map seen (drop i xs))) ≡ whole
     → found new (terms_faults file known (drop (i + 1) arguments) (map seen (drop (i + 1) xs))) ≡ whole
@@ -43,7 +43,7 @@ argument_step file known arguments seen xs i d l least new whole finds h =
     ap (λ o. found o rest) finds ∙ sym (found-append least (own ++ misfit) rest) ∙ sym (ap (found least) parts) ∙ h
 
 -- and none more
-pub argument_end : {X : Type 0} (file : File) (known : Known) (arguments : List task.Union) (seen : X → tree.Term) (xs : List X) (i : ℕ) → length xs ≤ i
+pub argument_end : {X : Type 0} (file : TaskFile) (known : Known) (arguments : List task.Union) (seen : X → tree.Term) (xs : List X) (i : ℕ) → length xs ≤ i
     → (least whole : Option TypingFault) → found least (terms_faults file known (drop i arguments) (map seen (drop i xs))) ≡ whole → least ≡ whole
 argument_end file known arguments seen xs i l least whole h =
     sym (ap (λ ys. found least (terms_faults file known (drop i arguments) (map seen ys))) (drop_all i xs l)) ∙ h

@@ -11,7 +11,7 @@ use Rattle.std.proofs.lemmas.Option.{slice_get-map, slice_get_past}
 use Rattle.indexmap.specs.IndexMap.{insert_entry}
 use Rattle.model.specs.Task as task
 use Rattle.model.specs.Trees as tree
-use Rattle.model.specs.Trees.{File}
+use Rattle.model.specs.Trees.{TaskFile}
 use Rattle.model.specs.Typing.{folded, is_same, is_known, number_in, with_name, names_of_predicates, refused_word, faults_against}
 use Rattle.task_parts.specs.Scope.{keys_in, names_in}
 pub use Rattle.task.proofs.Tables.{key_is, keys_in-named, named_at}
@@ -48,7 +48,7 @@ reported_of_entry shown label named name q is entries count all place e =
 
 -- a table of predicates, each entry with the name of its key
 module _ {P : Type 0} (shown : Vec ℕ × P → task.Predicate) (named : (e : Vec ℕ × P) → (shown e).name ≡ e.0.items)
-    (file : File) (name : tree.Name) (q : List ℕ) (is : q ≡ folded name) (entries : List (Vec ℕ × P)) (count : ℕ) where
+    (file : TaskFile) (name : tree.Name) (q : List ℕ) (is : q ≡ folded name) (entries : List (Vec ℕ × P)) (count : ℕ) where
   number_of_key : position_or_len (key_is q) (keys_of entries) ≡ number_in (names_of_predicates (map shown entries)) name
   number_of_key =
       sym (position_or_len-map (is_same q) (λ (key : Vec ℕ). key.items) (keys_of entries))

@@ -10,7 +10,7 @@ use Rattle.syntax_tree.specs.Tree as read
 use Rattle.syntax_tree.proofs.Rows as rows
 use Rattle.task.specs.TaskParts.{formula_of, formulas_of}
 use Rattle.model.specs.Task as task
-use Rattle.model.specs.Trees.{File, formulas}
+use Rattle.model.specs.Trees.{TaskFile, formulas}
 use Rattle.model.specs.Typing.{Known, TypingFault, formula_in, formulas_in, formula_faults, formulas_faults, exists_each, forall_each, exists_over, forall_over}
 use Rattle.task_parts.specs.Walk.{found}
 
@@ -39,17 +39,17 @@ formula_of-Or parts =
     let row = formula_row (formula.Or parts) in
     ap task.or (formulas_row row.0 row.1 ∙ ap (λ items. joined_formulas (map formula_of items)) (items_hidden-the_row-Formula-0 parts))
 
-formulas_in-joined : (file : File) (known : Known) (parts : List read_formula.Formula)
+formulas_in-joined : (file : TaskFile) (known : Known) (parts : List read_formula.Formula)
     → formulas_in file known (formulas (map read.formula_of parts)) ≡ joined_formulas (map (λ x. formula_in file known (read.formula_of x)) parts)
 formulas_in-joined file known [] = refl
 formulas_in-joined file known (part ∷ rest) = ap (task.more_formulas (formula_in file known (read.formula_of part))) (formulas_in-joined file known rest)
 
-formulas_faults-joined : (file : File) (known : Known) (parts : List read_formula.Formula) → formulas_faults file known (formulas (map read.formula_of parts)) ≡ flat_map (λ x. formula_faults file known (read.formula_of x)) parts
+formulas_faults-joined : (file : TaskFile) (known : Known) (parts : List read_formula.Formula) → formulas_faults file known (formulas (map read.formula_of parts)) ≡ flat_map (λ x. formula_faults file known (read.formula_of x)) parts
 formulas_faults-joined file known [] = refl
 formulas_faults-joined file known (part ∷ rest) = ap (λ faults. formula_faults file known (read.formula_of part) ++ faults) (formulas_faults-joined file known rest)
 
 -- a conjunction or a disjunction is what its parts are resolved to, and what is found in them is found in it
-module _ (file : File) (known : Known) (whole : read_formula.Formula) (parts : Vec read_formula.Formula) (items : List read_formula.Formula) (same : items ≡ parts.items) where
+module _ (file : TaskFile) (known : Known) (whole : read_formula.Formula) (parts : Vec read_formula.Formula) (items : List read_formula.Formula) (same : items ≡ parts.items) where
   joined_parts : (resolved : List task.Formula) → resolved ≡ map (λ x. formula_in file known (read.formula_of x)) items → joined_formulas resolved ≡ formulas_in file known (formulas (map read.formula_of parts.items))
   joined_parts resolved are = ap joined_formulas (are ∙ ap (map (λ x. formula_in file known (read.formula_of x))) same) ∙ sym (formulas_in-joined file known parts.items)
 

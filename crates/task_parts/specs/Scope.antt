@@ -10,7 +10,7 @@ pub use Rattle.task.specs.Names.{keys_in, names_in}
 use Rattle.task.specs.TaskParts.{object_entry_of, predicate_of, type_entry_of, union_of}
 use Rattle.model.specs.Task as task
 use Rattle.model.specs.Trees as tree
-use Rattle.model.specs.Trees.{File}
+use Rattle.model.specs.Trees.{TaskFile}
 use Rattle.model.specs.Typing.{Known, TypingFault, Variable, atom_in, folded, term_faults, misfit_faults}
 
 -- the table has an entry more, by which the name stands for this
@@ -54,7 +54,7 @@ abbrev pub arguments_at : Known → ℕ → List task.Union
 arguments_at known number = option_map_or (λ (p : task.Predicate). p.arguments) (slice_get known.predicates number) []
 
 -- the faults of a term where this is wanted
-abbrev pub argument_faults : File → Known → Option task.Union → tree.Term → List TypingFault
+abbrev pub argument_faults : TaskFile → Known → Option task.Union → tree.Term → List TypingFault
 argument_faults file known wanted term = term_faults file known term ++ misfit_faults file known wanted term
 
 -- an atom with as many of its objects as a predicate may have

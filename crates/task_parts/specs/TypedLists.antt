@@ -4,7 +4,7 @@ use Rattle.task_parts.specs.declared.typed_lists.Declared.{Declared}
 use Rattle.syntax_tree.specs.Tree.{file_of}
 use Rattle.syntax_tree.specs.Tree.{name_of}
 use Rattle.syntax_tree.specs.declared.name.Name.{Name}
-use Rattle.model.specs.Trees.{File}
+use Rattle.model.specs.Trees.{TaskFile}
 use Rattle.model.specs.Trees as tree
 use Rattle.model.specs.Typing as typing
 
@@ -12,7 +12,7 @@ abbrev pub declared_of : Declared → typing.Declared
 declared_of d = record { file = file_of d.file; name = name_of d.name; types = map name_of d.types.now }
 
 -- what is declared by a name of a group with these types
-abbrev pub declared_by : File → List tree.Name → Name → typing.Declared
+abbrev pub declared_by : TaskFile → List tree.Name → Name → typing.Declared
 declared_by file types n = record { file = file; name = name_of n; types = types }
 
 -- the word that a declaration is

@@ -2,7 +2,7 @@
 ghost use Rattle.std.specs.Prelude.{◌≡◌, ◌<◌, length};
 ghost use Rattle.devices.specs.Devices.{one_more};
 
-use devices::{DeviceFault, Sink, Source, WriteFault};
+use devices::{DeviceFault, Sink, Source, IoFault};
 
 /// A device that fails at one call, and else does what the device in it does.
 #[derive(Drop)]
@@ -165,29 +165,29 @@ impl<S: Sink> Sink for FailsAt<S> {
 
     ghost name = { λ device. S.name device.inner };
 
-    fn write(&mut self, piece: &[u8]) -> Result<usize, WriteFault>
+    fn write(&mut self, piece: &[u8]) -> Result<usize, IoFault>
         ensures bound { WritesAtMost result piece.now }
         ensures progress { 0 < length piece.now → IfOk result (λ count. 0 < count) }
         ensures takes { IfOk result (λ count. IfSome (S.write_count self.old.inner (length piece.now)) (λ reported. count ≡ reported)) }
         ensures bytes { WriteAppends (S.taken self.old.inner) (S.taken self.new.inner) result piece.now }
-        ensures memory { result ≡ Err WriteFault.NoMemory → IsTrue S.wants_memory }
+        ensures memory { result ≡ Err IoFault.NoMemory → IsTrue S.wants_memory }
         ensures failures { CountsDevice (⟦<FailsAt<S> as Sink>⟧.failures self.old) (⟦<FailsAt<S> as Sink>⟧.failures self.new) result }
         ensures name { S.name self.new.inner ≡ S.name self.old.inner }
-        ensures fails { IsTrue (fails_now (calls_left self.old)) → (result ≡ Err WriteFault.Device) × (self.new.inner ≡ self.old.inner) }
+        ensures fails { IsTrue (fails_now (calls_left self.old)) → (result ≡ Err IoFault.Device) × (self.new.inner ≡ self.old.inner) }
         ensures passes { fails_now (calls_left self.old) ≡ false → CountsDevice (S.failures self.old.inner) (S.failures self.new.inner) result }
         ensures calls { calls_left self.new ≡ after_a_call (calls_left self.old) }
     {
         if self.is_failing_call() {
             self.count_failure();
-            return Err(WriteFault::Device);
+            return Err(IoFault::Device);
         }
         match self.inner.write(piece) {
             Ok(count) => Ok(count),
-            Err(WriteFault::Device) => {
+            Err(IoFault::Device) => {
                 self.count_failure();
-                Err(WriteFault::Device)
+                Err(IoFault::Device)
             }
-            Err(WriteFault::NoMemory) => Err(WriteFault::NoMemory),
+            Err(IoFault::NoMemory) => Err(IoFault::NoMemory),
         }
     }
 }

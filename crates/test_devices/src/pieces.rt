@@ -1,7 +1,7 @@
 //! A device that comes in pieces, for tests.
 ghost use Rattle.std.specs.Prelude.{◌≡◌, ◌<◌, ◌≤◌, length, min};
 
-use devices::{DeviceFault, Sink, Source, WriteFault};
+use devices::{DeviceFault, Sink, Source, IoFault};
 
 /// A device that moves at most so many bytes at a call.
 #[derive(Drop)]
@@ -72,13 +72,13 @@ impl<S: Sink> Sink for InPieces<S> {
 
     ghost name = { λ device. S.name device.inner };
 
-    fn write(&mut self, piece: &[u8]) -> Result<usize, WriteFault>
+    fn write(&mut self, piece: &[u8]) -> Result<usize, IoFault>
         ensures bound { WritesAtMost result piece.now }
         ensures at_most { IfOk result (λ count. count ≤ piece_length self.old) }
         ensures progress { 0 < length piece.now → IfOk result (λ count. 0 < count) }
         ensures takes { IfOk result (λ count. IfSome (⟦<InPieces<S> as Sink>⟧.write_count self.old (length piece.now)) (λ reported. count ≡ reported)) }
         ensures bytes { WriteAppends (S.taken self.old.inner) (S.taken self.new.inner) result piece.now }
-        ensures memory { result ≡ Err WriteFault.NoMemory → IsTrue S.wants_memory }
+        ensures memory { result ≡ Err IoFault.NoMemory → IsTrue S.wants_memory }
         ensures failures { CountsDevice (S.failures self.old.inner) (S.failures self.new.inner) result }
         ensures name { S.name self.new.inner ≡ S.name self.old.inner }
         ensures length { piece_length self.new ≡ piece_length self.old }

@@ -7,7 +7,7 @@ ghost use Rattle.std.specs.String.{string_bytes};
 ghost use Rattle.test_devices.specs.Table.{contents_of, draft_name, is_named, KeepsFiles, PutsFile, reads_before};
 
 use crate::failing::FailsAt;
-use devices::{Files, Memory, Sink, Source, WriteFault};
+use devices::{Files, Memory, Sink, Source, IoFault};
 use faults::NoMemory;
 use std::alloc::Global;
 
@@ -133,10 +133,10 @@ impl Files for Table {
 
     ghost is_known = { true };
 
-    fn open(&mut self, name: &str) -> Result<FailsAt<Memory>, WriteFault>
+    fn open(&mut self, name: &str) -> Result<FailsAt<Memory>, IoFault>
         ensures failures { CountsDevice (⟦<Table as Files>⟧.failures self.old) (⟦<Table as Files>⟧.failures self.new) result }
-        ensures missing { IsTrue (⟦<Table as Files>⟧.is_missing self.old name.now) → result ≡ Err WriteFault.Device }
-        ensures there { ⟦<Table as Files>⟧.is_missing self.old name.now ≡ false → IsOkUnless result WriteFault.NoMemory }
+        ensures missing { IsTrue (⟦<Table as Files>⟧.is_missing self.old name.now) → result ≡ Err IoFault.Device }
+        ensures there { ⟦<Table as Files>⟧.is_missing self.old name.now ≡ false → IsOkUnless result IoFault.NoMemory }
         ensures fresh { IfOk result (λ input. ⟦<FailsAt<Memory> as Source>⟧.failures input ≡ 0) }
         ensures bytes { IfOk result (λ input. IsKept (⟦<Table as Files>⟧.contents self.old name.now) (⟦<FailsAt<Memory> as Source>⟧.remaining input)) }
         ensures reads { IfOk result (λ input. calls_left input ≡ reads_before self.old name.now) }
@@ -150,12 +150,12 @@ impl Files for Table {
             if entry.name.as_str() == name {
                 return match Vec::from_slice(self.alloc, entry.bytes.as_slice()) {
                     Ok(bytes) => Ok(FailsAt::source(Memory::new(bytes), entry.reads_before)),
-                    Err(_) => Err(WriteFault::NoMemory),
+                    Err(_) => Err(IoFault::NoMemory),
                 };
             }
         }
         self.failures = self.failures.saturating_add(1);
-        Err(WriteFault::Device)
+        Err(IoFault::Device)
     }
 
     fn finish(&mut self, input: FailsAt<Memory>) {
@@ -163,9 +163,9 @@ impl Files for Table {
         self.failures = self.failures.saturating_add(failed);
     }
 
-    fn create(&mut self, name: &str) -> Result<Draft, WriteFault>
+    fn create(&mut self, name: &str) -> Result<Draft, IoFault>
         ensures failures { CountsDevice (⟦<Table as Files>⟧.failures self.old) (⟦<Table as Files>⟧.failures self.new) result }
-        ensures only { IsOkUnless result WriteFault.NoMemory }
+        ensures only { IsOkUnless result IoFault.NoMemory }
         ensures named { IfOk result (λ draft. draft_name draft ≡ name.now) }
         ensures empty { IfOk result (λ draft. ⟦<Draft as Sink>⟧.taken draft ≡ Some []) }
         ensures unchanged { KeepsFiles self.old self.new }
@@ -175,13 +175,13 @@ impl Files for Table {
                 name,
                 bytes: Memory::empty(self.alloc),
             }),
-            Err(_) => Err(WriteFault::NoMemory),
+            Err(_) => Err(IoFault::NoMemory),
         }
     }
 
-    fn close(&mut self, output: Draft) -> Result<(), WriteFault>
+    fn close(&mut self, output: Draft) -> Result<(), IoFault>
         ensures failures { CountsDevice (⟦<Table as Files>⟧.failures self.old) (⟦<Table as Files>⟧.failures self.new) result }
-        ensures only { IsOkUnless result WriteFault.NoMemory }
+        ensures only { IsOkUnless result IoFault.NoMemory }
         ensures put { OnOk result (IfSome (⟦<Draft as Sink>⟧.taken output) (λ bytes.
             PutsFile self.old self.new (draft_name output) bytes None)) }
         ensures refused { OnErr result (KeepsFiles self.old self.new) }
@@ -189,7 +189,7 @@ impl Files for Table {
         let Draft { name, bytes } = output;
         match self.insert(name, bytes.into_vec(), None) {
             Ok(()) => Ok(()),
-            Err(NoMemory) => Err(WriteFault::NoMemory),
+            Err(NoMemory) => Err(IoFault::NoMemory),
         }
     }
 }
@@ -203,7 +203,7 @@ impl Sink for Draft {
 
     ghost name = { draft_name };
 
-    fn write(&mut self, piece: &[u8]) -> Result<usize, WriteFault> {
+    fn write(&mut self, piece: &[u8]) -> Result<usize, IoFault> {
         self.bytes.write(piece)
     }
 }

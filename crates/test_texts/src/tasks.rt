@@ -10,7 +10,7 @@ use tokens::scan;
 use typing::FromTrees;
 
 /// A predicate or an action, and its objects, by their numbers.
-pub type Term = (usize, &'static [u32]);
+pub type Application = (usize, &'static [u32]);
 
 /// The tree of a domain's text.
 pub fn read_domain(alloc: Global, text: &[u8]) -> Result<Domain<'_>, Fault> {
@@ -62,7 +62,7 @@ pub fn atom(predicate: usize, numbers: &[u32]) -> Atom {
 }
 
 /// The atoms of these predicates and objects.
-pub fn atoms(alloc: Global, rows: &[Term]) -> Result<Vec<Atom>, NoMemory> {
+pub fn atoms(alloc: Global, rows: &[Application]) -> Result<Vec<Atom>, NoMemory> {
     let mut atoms = Vec::new(alloc);
     for row in rows {
         atoms.push(atom(row.0, row.1))?;
@@ -79,7 +79,7 @@ pub fn instance(schema: usize, numbers: &[u32]) -> Instance {
 }
 
 /// Whether the instance is of this schema and these objects.
-pub fn is_of(found: &Instance, wanted: &Term) -> bool {
+pub fn is_of(found: &Instance, wanted: &Application) -> bool {
     let objects = objects(wanted.1);
     found.schema == SchemaId(wanted.0) && found.objects == objects
 }

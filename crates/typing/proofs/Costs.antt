@@ -8,7 +8,7 @@ use Rattle.std.proofs.Math.Bool.{or-false, or_assoc}
 use Rattle.syntax_tree.specs.declared.name.Name.{Name}
 use Rattle.syntax_tree.specs.Tree.{name_of}
 use Rattle.model.specs.Task as task
-use Rattle.model.specs.Trees.{File, problem_file}
+use Rattle.model.specs.Trees.{TaskFile, problem_file}
 use Rattle.model.specs.Trees as tree
 use Rattle.model.specs.Typing.{Placed, TypingFault, folded, is_same, is_known, names_of_predicates, placed, predicate_in, refused, refused_word, total_cost, with_name}
 use Rattle.task_parts.specs.Walk.{found}
@@ -52,7 +52,7 @@ metric_reported has_cost lent metric is = by lent ∙ ap (λ o. metric_faults ha
     by (Some n) = refl
 
 -- one `=` more, which is refused where it is not the first
-pub equals_more : (none_yet : Bool) (file : File) (word : tree.Name) (rest : List Placed) (old new : Option TypingFault)
+pub equals_more : (none_yet : Bool) (file : TaskFile) (word : tree.Name) (rest : List Placed) (old new : Option TypingFault)
     → new ≡ found old (if none_yet then [] else refused_word file 23 word)
     → found new (refused 23 rest) ≡ found old (refused 23 (drop (if none_yet then 1 else 0) (placed file word ∷ rest)))
 equals_more true file word rest old new is = ap (λ o. found o (refused 23 rest)) is

@@ -6,7 +6,7 @@ use Rattle.std.proofs.lemmas.List.{map-append, append_assoc, append-nil}
 use Rattle.std.proofs.lemmas.List.Folds.{list_any-append}
 use Rattle.model.specs.Task as task
 use Rattle.model.specs.Trees as tree
-use Rattle.model.specs.Trees.{File}
+use Rattle.model.specs.Trees.{TaskFile}
 use Rattle.model.specs.Typing.{Declared, Placed, Variable, is_known, is_same, folded, with_name, with_variable, variable_in, variables_after, known_among, one_after, one_too_many, unions_in, names_of_variables, number_in, type_in, types_from, comes_back, cycle_faults_from, unknown_faults, types_faults, type_faults, words_of, refused, refused_word, repeated, repeated_after}
 use Rattle.task_parts.proofs.Empty.{nil_left, nil_right, not_refused, within}
 use Rattle.task_parts.proofs.Found.{map-map}
@@ -76,7 +76,7 @@ few_variables count words low e = by (nat_le count 16) refl e
 
 -- ---- types
 
-known_type : (file : File) (names : List task.Name) (name : tree.Name) → unknown_faults file 14 names name ≡ [] → number_in names name < length names
+known_type : (file : TaskFile) (names : List task.Name) (name : tree.Name) → unknown_faults file 14 names name ≡ [] → number_in names name < length names
 known_type file names name e = by (is_known names name) (list_any-position (is_same (folded name)) names) e
   where
     by : (b : Bool) → b ≡ nat_lt (number_in names name) (length names) → (if b then [] else refused_word file 14 name) ≡ [] → number_in names name < length names

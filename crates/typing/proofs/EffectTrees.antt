@@ -10,7 +10,7 @@ use Rattle.syntax_tree.specs.Tree as read
 use Rattle.syntax_tree.proofs.Rows as rows
 use Rattle.task.specs.TaskParts.{effect_of, effects_of}
 use Rattle.model.specs.Task as task
-use Rattle.model.specs.Trees.{File, effects}
+use Rattle.model.specs.Trees.{TaskFile, effects}
 use Rattle.model.specs.Typing.{Known, TypingFault, effect_in, effects_in, effect_faults, effects_faults, each_of}
 use Rattle.task_parts.specs.Walk.{found}
 
@@ -31,17 +31,17 @@ effect_of-And parts =
     let row = effect_row (effect.And parts) in
     ap task.both (effects_row row.0 row.1 ∙ ap (λ items. joined_effects (map effect_of items)) (items_hidden-the_row-Effect-0 parts))
 
-effects_in-joined : (file : File) (known : Known) (parts : List read_effect.Effect)
+effects_in-joined : (file : TaskFile) (known : Known) (parts : List read_effect.Effect)
     → effects_in file known (effects (map read.effect_of parts)) ≡ joined_effects (map (λ x. effect_in file known (read.effect_of x)) parts)
 effects_in-joined file known [] = refl
 effects_in-joined file known (part ∷ rest) = ap (task.more_effects (effect_in file known (read.effect_of part))) (effects_in-joined file known rest)
 
-effects_faults-joined : (file : File) (known : Known) (parts : List read_effect.Effect) → effects_faults file known (effects (map read.effect_of parts)) ≡ flat_map (λ x. effect_faults file known (read.effect_of x)) parts
+effects_faults-joined : (file : TaskFile) (known : Known) (parts : List read_effect.Effect) → effects_faults file known (effects (map read.effect_of parts)) ≡ flat_map (λ x. effect_faults file known (read.effect_of x)) parts
 effects_faults-joined file known [] = refl
 effects_faults-joined file known (part ∷ rest) = ap (λ faults. effect_faults file known (read.effect_of part) ++ faults) (effects_faults-joined file known rest)
 
 -- several effects together are what they are resolved to, and what is found in each is found in all
-module _ (file : File) (known : Known) (whole : read_effect.Effect) (parts : Vec read_effect.Effect) (items : List read_effect.Effect) (same : items ≡ parts.items) (is : whole ≡ read_effect.And parts) where
+module _ (file : TaskFile) (known : Known) (whole : read_effect.Effect) (parts : Vec read_effect.Effect) (items : List read_effect.Effect) (same : items ≡ parts.items) (is : whole ≡ read_effect.And parts) where
   pub both_by_parts : (resolved : Vec Effect) → map effect_of resolved.items ≡ map (λ x. effect_in file known (read.effect_of x)) items
       → effect_of (effect.And resolved) ≡ effect_in file known (read.effect_of whole)
   both_by_parts resolved are =

@@ -6,15 +6,15 @@ use Rattle.std.proofs.lemmas.Bool.Decides.{nat_tests}
 use Rattle.std.proofs.lemmas.List.{length-map, take_all, map-append}
 use Rattle.model.specs.Task as task
 use Rattle.model.specs.Trees as tree
-use Rattle.model.specs.Trees.{File, domain_file, problem_file}
+use Rattle.model.specs.Trees.{TaskFile, domain_file, problem_file}
 use Rattle.model.specs.Typing.{TypingFault, Declared, Known, folded, names_of, names_of_objects, number_in, type_in, type_names, parents_of, types_of, Descends, whole_chain, comes_back, type_faults, words_of, one_after, refused, repeated, repeated_after, predicate_faults, terms_faults, arguments_in, ground_atom_faults, initial_cost_faults, fact_faults, facts_faults, init_faults, function_faults, formula_faults, domain_name_faults, type_declaration_faults, cycle_faults, object_faults, declaration_faults, action_faults, argument_faults, schema_faults, atom_in, atoms_in, object_in, declared_types, declared_constants, declared, equals_in, in_function, predicate_in, predicates_of, known_in_domain, known_in_problem, task_of_trees, faults_of, first_filled, ListsNoFault}
 use Rattle.model.specs.WellTyped.{is_task}
 use Rattle.model.proofs.Tests.{passes_got}
-use Rattle.typing.specs.declared.names.Names.{Names}
-use Rattle.typing.specs.declared.names.Objects.{Objects}
+use Rattle.typing.specs.declared.names.Declarations.{Declarations}
+use Rattle.typing.specs.declared.names.DeclaredObjects.{DeclaredObjects}
 use Rattle.typing.specs.declared.names.Start.{Start}
 use Rattle.task_parts.specs.declared.type_names.TypeTable.{TypeTable}
-use Rattle.typing.specs.Names.{type_faults_of, domain_faults, contents_faults, stated_faults_in, AreContents, AreTypesOf}
+use Rattle.typing.specs.Declarations.{type_faults_of, domain_faults, contents_faults, stated_faults_in, AreContents, AreTypesOf}
 use Rattle.task.specs.TaskParts.{task_of_parts}
 use Rattle.task.specs.declared.parts.TaskParts.{TaskParts}
 use Rattle.typing.specs.Task.{TaskFault, ReportsLeastOf, ReportsLeastFault}
@@ -42,7 +42,7 @@ few_at : (count : ℕ) → nat_le count 8 ≡ true → count ≤ 8
 few_at count few = grind (arith, nat_tests)
 
 -- no atom has more objects than are kept
-narrow_is_all : (file : File) (known : Known) → list_all (λ (p : task.Predicate). nat_le (length p.arguments) 8) known.predicates ≡ true → (fs : List tree.Fact) → flat_map (fact_faults file known) fs ≡ []
+narrow_is_all : (file : TaskFile) (known : Known) → list_all (λ (p : task.Predicate). nat_le (length p.arguments) 8) known.predicates ≡ true → (fs : List tree.Fact) → flat_map (fact_faults file known) fs ≡ []
     → flat_map (narrow_atoms_in known) fs ≡ flat_map (atoms_in known) fs
 narrow_is_all file known low [] e = refl
 narrow_is_all file known low (tree.fact a ∷ fs) e =
@@ -188,7 +188,7 @@ pub record IsMade (d : tree.Domain) (p : tree.Problem) (made : task.Task) : Type
   pub typed : is_task made ≡ true
 
 -- what the phases made, as the parts of a task
-abbrev pub parts_of : TypeTable → Objects → Names → Start → Bool → TaskParts
+abbrev pub parts_of : TypeTable → DeclaredObjects → Declarations → Start → Bool → TaskParts
 parts_of types objects names start has_metric = record {
   types = types.by_name;
   objects = objects.all;
@@ -212,7 +212,7 @@ module _ (d : tree.Domain) (p : tree.Problem) where
     reported_of_contents e h =
         subst (λ fs. ReportsLeastOf fs e) (sym (faults_by_parts d p)) (reports_later (type_faults_of d p) _ no_type e (reports_here (contents_faults d p) [] e h))
 
-    pub made_by_phases : (types : TypeTable) → AreTypesOf d types → (objects : Objects) (names : Names) (start : Start) → AreContents d p objects names start → (has_metric : Bool) → has_metric ≡ is_some p.metric
+    pub made_by_phases : (types : TypeTable) → AreTypesOf d types → (objects : DeclaredObjects) (names : Declarations) (start : Start) → AreContents d p objects names start → (has_metric : Bool) → has_metric ≡ is_some p.metric
         → IsMade d p (task_of_parts (parts_of types objects names start has_metric))
     made_by_phases types are objects names start hold has_metric metric =
         let known = known_in_problem d p in

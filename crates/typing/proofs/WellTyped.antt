@@ -9,7 +9,7 @@ use Rattle.std.proofs.lemmas.List.{length-map, length-append, length_push, appen
 use Rattle.std.proofs.lemmas.Option.{slice_get-map}
 use Rattle.model.specs.Task as task
 use Rattle.model.specs.Trees as tree
-use Rattle.model.specs.Trees.{File, domain_file}
+use Rattle.model.specs.Trees.{TaskFile, domain_file}
 use Rattle.model.specs.Typing.{Known, Placed, Variable, Declared, declared, folded, is_same, is_known, number_in, names_of_objects, names_of_predicates, names_of_variables, unions_in, union_in, repeated, one_after, refused, refused_word, words_of, unknown_faults, faults_against, predicate_faults, predicate_in_known, arguments_in, fits_in, term_faults, misfit_faults, terms_faults, atom_faults, formula_faults, formulas_faults, effect_literal_faults, effect_faults, effects_faults, increase_faults, amount_faults, ground_atom_faults, initial_cost_faults, fact_faults, value_faults, facts_faults, type_faults, argument_faults, schema_faults, term_in, lifted_atom_in, formula_in, formulas_in, effect_literal_in, effect_in, effects_in, atom_in, atoms_in, values_after, predicate_in, in_function, increase_in, known_in_action, schema_in, known_with, known_among, variable_faults, one_too_many, exists_each, forall_each, exists_over, forall_over, each_of}
 use Rattle.model.specs.Meaning.{is_below_in, is_of}
 use Rattle.model.specs.WellTyped.{is_term, is_some_term, is_lifted_atom, is_atom, is_formula, are_formulas, is_effect_literal, is_effect, are_effects, is_increase, is_schema}
@@ -19,7 +19,7 @@ use Rattle.task_parts.proofs.Empty.{nil_left, nil_right, within, and_true}
 
 -- ---- look-ups
 
-known_number : (file : File) (code : ℕ) (names : List task.Name) (name : tree.Name) → unknown_faults file code names name ≡ [] → number_in names name < length names
+known_number : (file : TaskFile) (code : ℕ) (names : List task.Name) (name : tree.Name) → unknown_faults file code names name ≡ [] → number_in names name < length names
 known_number file code names name e = by (is_known names name) (list_any-position (is_same (folded name)) names) e
   where
     by : (b : Bool) → b ≡ nat_lt (number_in names name) (length names) → (if b then [] else refused_word file code name) ≡ [] → number_in names name < length names
@@ -32,7 +32,7 @@ got_below (x ∷ xs) zero l = (x, refl)
 got_below (x ∷ xs) (suc n) l = got_below xs n (omega (arith, l))
 
 -- the declaration that a predicate without fault has
-pub declared_count : (file : File) (known : Known) (name : tree.Name) (count : ℕ) → predicate_faults file known name count ≡ []
+pub declared_count : (file : TaskFile) (known : Known) (name : tree.Name) (count : ℕ) → predicate_faults file known name count ≡ []
     → (p : task.Predicate) × (predicate_in_known known name ≡ Some p) × (count ≡ length p.arguments)
 declared_count file known name count e = by (predicate_in_known known name) refl e
   where
@@ -45,7 +45,7 @@ declared_count file known name count e = by (predicate_in_known known name) refl
     by None at f = absurd (cc)
     by (Some p) at f = (p, at, right p (count == length p.arguments) refl f)
 
-right_word : (file : File) (word : tree.Name) (b : Bool) → (if b then [] else refused_word file 19 word) ≡ [] → b ≡ true
+right_word : (file : TaskFile) (word : tree.Name) (b : Bool) → (if b then [] else refused_word file 19 word) ≡ [] → b ≡ true
 right_word file word true e = refl
 right_word file word false e = absurd (cc)
 
@@ -59,7 +59,7 @@ pub record Fits (t : task.Task) (scope : List task.Union) (known : Known) : Type
   pub variables : map (λ (v : Variable). v.types) known.variables ≡ scope
   pub objects : (n : ℕ) (o : task.Object) → slice_get known.objects n ≡ Some o → slice_get t.objects n ≡ Some o
 
-module _ (t : task.Task) (scope : List task.Union) (file : File) (known : Known) (fits : Fits t scope known) where
+module _ (t : task.Task) (scope : List task.Union) (file : TaskFile) (known : Known) (fits : Fits t scope known) where
   term_fits : (wanted : task.Union) (x : tree.Term) → term_faults file known x ≡ [] → misfit_faults file known (Some wanted) x ≡ [] → is_term t scope wanted (term_in known x) ≡ true
   term_fits wanted (tree.variable name) e m =
       let n = number_in (names_of_variables known.variables) name in
@@ -147,7 +147,7 @@ module _ (t : task.Task) (scope : List task.Union) (file : File) (known : Known)
   facts_fit (tree.initial_value v ∷ fs) e = facts_fit fs (nil_right (ground_atom_faults file (in_function known) v.function) (flat_map (fact_faults file known) fs) e)
 
 -- the facts have no fault of their own where all together have none
-pub own_faults : (file : File) (known : Known) (given : List task.FunctionValue) (fs : List tree.Fact) → facts_faults file known given fs ≡ [] → flat_map (fact_faults file known) fs ≡ []
+pub own_faults : (file : TaskFile) (known : Known) (given : List task.FunctionValue) (fs : List tree.Fact) → facts_faults file known given fs ≡ [] → flat_map (fact_faults file known) fs ≡ []
 own_faults file known given [] e = refl
 own_faults file known given (f ∷ fs) e =
     let own = fact_faults file known f in let other = value_faults file known given f in
@@ -156,7 +156,7 @@ own_faults file known given (f ∷ fs) e =
     λ i. nil_left own other (nil_left (own ++ other) rest e) i ++ own_faults file known after fs (nil_right (own ++ other) rest e) i
 
 -- what an increase is by, a function with the functions in the place of the predicates
-increase_fits : (t : task.Task) (scope : List task.Union) (file : File) (known : Known) → Fits t scope known → (amount : tree.Amount) → amount_faults file known amount ≡ []
+increase_fits : (t : task.Task) (scope : List task.Union) (file : TaskFile) (known : Known) → Fits t scope known → (amount : tree.Amount) → amount_faults file known amount ≡ []
     → is_increase t scope (increase_in known amount) ≡ true
 increase_fits t scope file known fits (tree.by_number n) e = refl
 increase_fits t scope file known fits (tree.by_function f) e =
@@ -165,7 +165,7 @@ increase_fits t scope file known fits (tree.by_function f) e =
     record { types = fits.types; predicates = fits.functions; functions = fits.functions; variables = fits.variables; objects = fits.objects } in
     atom_fits functions scope file (in_function known) fit f e
 
-increase_of_fits : (t : task.Task) (scope : List task.Union) (file : File) (known : Known) → Fits t scope known → (increases : List tree.Increase)
+increase_of_fits : (t : task.Task) (scope : List task.Union) (file : TaskFile) (known : Known) → Fits t scope known → (increases : List tree.Increase)
     → flat_map (λ (i : tree.Increase). amount_faults file known i.amount) increases ≡ []
     → is_increase t scope (option_map_or (λ (i : tree.Increase). increase_in known i.amount) (slice_get increases 0) (task.by_number 0)) ≡ true
 increase_of_fits t scope file known fits [] e = refl
@@ -237,7 +237,7 @@ brings_in t scope known fits low xs e =
       };
     }
 
-some_term_fits : (t : task.Task) (scope : List task.Union) (file : File) (known : Known) → Fits t scope known → (x : tree.Term) → term_faults file known x ≡ [] → is_some_term t scope (term_in known x) ≡ true
+some_term_fits : (t : task.Task) (scope : List task.Union) (file : TaskFile) (known : Known) → Fits t scope known → (x : tree.Term) → term_faults file known x ≡ [] → is_some_term t scope (term_in known x) ≡ true
 some_term_fits t scope file known fits (tree.variable name) e =
     let n = number_in (names_of_variables known.variables) name in
     let low = known_number file 17 (names_of_variables known.variables) name e in
@@ -248,7 +248,7 @@ some_term_fits t scope file known fits (tree.object name) e =
     let o = got_below known.objects n (omega (arith, low, length-map known.objects (λ (x : task.Object). x.name))) in
     lt_true n (length t.objects) (got_low t.objects n o.0 (fits.objects n o.0 o.1))
 
-module _ (t : task.Task) (file : File) where
+module _ (t : task.Task) (file : TaskFile) where
   mutual
     pub formula_fits : (scope : List task.Union) (known : Known) → Fits t scope known → length scope ≤ 16 → (f : tree.Formula) → formula_faults file known f ≡ [] → is_formula t scope (formula_in file known f) ≡ true
     formula_fits scope known fits low (tree.atom a) e = atom_fits t scope file known fits a e
@@ -286,7 +286,7 @@ module _ (t : task.Task) (file : File) where
 
 -- ---- effects
 
-module _ (t : task.Task) (file : File) where
+module _ (t : task.Task) (file : TaskFile) where
   mutual
     pub effect_fits : (scope : List task.Union) (known : Known) → Fits t scope known → length scope ≤ 16 → (f : tree.Effect) → effect_faults file known f ≡ [] → is_effect t scope (effect_in file known f) ≡ true
     effect_fits scope known fits low (tree.literal l) e = literal_fits t scope file known fits l e

@@ -1,5 +1,5 @@
 pub use Rattle.task_parts.specs.Refusals
 pub mod Task
 pub mod Chains
-pub mod Objects
-pub mod Names
+pub mod DeclaredObjects
+pub mod Declarations

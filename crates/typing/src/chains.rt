@@ -5,7 +5,7 @@ ghost use Rattle.task_parts.specs.TypedLists.{declared_of};
 ghost use Rattle.task_parts.specs.Scope.{keys_in};
 ghost use Rattle.typing.specs.Task.{ReportsLeastOf};
 ghost use Rattle.typing.specs.Chains.{AreTypes, cycles};
-ghost use Rattle.typing.specs.Names.{type_faults_of, AreTypesOf};
+ghost use Rattle.typing.specs.Declarations.{type_faults_of, AreTypesOf};
 ghost use Rattle.task_parts.specs.Walk.{Finds};
 ghost use Rattle.syntax_tree.specs.Tree as read;
 ghost use Rattle.model.specs.Typing as typing;

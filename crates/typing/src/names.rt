@@ -10,7 +10,7 @@ use task_parts::{Globals, TypeTable};
 
 /// The constants alone, and all objects, the constants first.
 #[derive(Drop)]
-pub(crate) struct Objects {
+pub(crate) struct DeclaredObjects {
     pub(crate) constants: IndexMap<Vec<u8>, TypeId>,
     pub(crate) all: IndexMap<Vec<u8>, TypeId>,
     ghost few_constants: { length constants.entries ≤ 65535 },
@@ -19,7 +19,7 @@ pub(crate) struct Objects {
 
 /// What a domain declares over its types and objects, by name: each in the place of its number.
 #[derive(Drop)]
-pub(crate) struct Names {
+pub(crate) struct Declarations {
     pub(crate) predicates: IndexMap<Vec<u8>, Predicate>,
     pub(crate) functions: IndexMap<Vec<u8>, Predicate>,
     pub(crate) schemas: IndexMap<Vec<u8>, Schema>,
@@ -33,10 +33,10 @@ pub(crate) struct Start {
     pub(crate) goal: Formula,
 }
 
-impl Names {
+impl Declarations {
     ghost use Rattle.typing.specs.Task.{ReportsLeastOf};
-    ghost use Rattle.typing.specs.Names.{domain_faults, known_by, known_in, stated_faults_in, AreDeclared, AreSchemasOf, AreTypesOf, Starts};
-    ghost use Rattle.typing.specs.Objects.{AreObjectsOf};
+    ghost use Rattle.typing.specs.Declarations.{domain_faults, known_by, known_in, stated_faults_in, AreDeclared, AreSchemasOf, AreTypesOf, Starts};
+    ghost use Rattle.typing.specs.DeclaredObjects.{AreObjectsOf};
     ghost use Rattle.syntax_tree.specs.Tree.{domain_of, problem_of};
     ghost use Rattle.model.specs.Trees.{problem_file};
     ghost use Rattle.model.specs.Typing.{action_faults};
@@ -45,10 +45,10 @@ impl Names {
     pub(crate) fn declared(
         alloc: Global,
         types: &TypeTable,
-        objects: &Objects,
+        objects: &DeclaredObjects,
         domain: &Domain<'_>,
         problem: &Problem<'_>,
-    ) -> Result<Names, TaskFault>
+    ) -> Result<Declarations, TaskFault>
         requires types { AreTypesOf (domain_of domain.now) types.now }
         requires objects { AreObjectsOf (domain_of domain.now) (problem_of problem.now) objects.now }
         ensures ok { IfOk result
@@ -57,8 +57,8 @@ impl Names {
     {
         let predicates = declarations::predicates(alloc, types, domain)?;
         let functions = functions::functions(alloc, types, domain, problem)?;
-        let schemas = Names::schemas(alloc, types, objects, &predicates, &functions, domain)?;
-        Ok(Names {
+        let schemas = Declarations::schemas(alloc, types, objects, &predicates, &functions, domain)?;
+        Ok(Declarations {
             predicates,
             functions,
             schemas,
@@ -69,7 +69,7 @@ impl Names {
     fn schemas(
         alloc: Global,
         types: &TypeTable,
-        objects: &Objects,
+        objects: &DeclaredObjects,
         predicates: &IndexMap<Vec<u8>, Predicate>,
         functions: &IndexMap<Vec<u8>, Predicate>,
         domain: &Domain<'_>,
@@ -92,7 +92,7 @@ impl Names {
         &self,
         alloc: Global,
         types: &TypeTable,
-        objects: &Objects,
+        objects: &DeclaredObjects,
         problem: &Problem<'_>,
     ) -> Result<Start, TaskFault>
         ensures ok { IfOk result (Starts problem_file (known_by types.now objects.now self.now) (problem_of problem.now)) }
@@ -112,7 +112,7 @@ impl Names {
 impl Start {
     ghost use Rattle.typing.specs.Task.{file_of, ReportsLeastOf};
     ghost use Rattle.task_parts.specs.Scope.{known_outside};
-    ghost use Rattle.typing.specs.Names.{stated_faults_in, Starts};
+    ghost use Rattle.typing.specs.Declarations.{stated_faults_in, Starts};
     ghost use Rattle.syntax_tree.specs.Tree.{problem_of};
 
     /// What the problem states, where this may be named in it.

@@ -2,7 +2,7 @@
 ghost use Rattle.std.specs.Prelude.{◌≡◌, ◌≤◌, [], ◌++◌, length, map, take, IfErr, IfOk, OnOk};
 ghost use Rattle.task.specs.TaskParts as parts;
 ghost use Rattle.task_parts.specs.TypedLists.{declared_of};
-ghost use Rattle.typing.specs.Objects.{AreMade, AreObjects};
+ghost use Rattle.typing.specs.DeclaredObjects.{AreMade, AreObjects};
 ghost use Rattle.task_parts.specs.Scope.{keys_in};
 ghost use Rattle.typing.specs.Task.{ReportsLeastOf};
 ghost use Rattle.task_parts.specs.Walk.{Finds};
@@ -10,7 +10,7 @@ ghost use Rattle.syntax_tree.specs.Tree as read;
 ghost use Rattle.model.specs.Trees.{domain_file, problem_file};
 ghost use Rattle.model.specs.Typing as typing;
 
-use crate::names::Objects;
+use crate::names::DeclaredObjects;
 use crate::{TaskFault, TaskFile};
 use faults::NoMemory;
 use indexmap::IndexMap;
@@ -64,7 +64,7 @@ fn made(
     types: &TypeTable,
     declared: &[Declared<'_>],
     count: usize,
-) -> Result<Objects, TaskFault>
+) -> Result<DeclaredObjects, TaskFault>
     requires { count ≤ length declared.now }
     ensures ok { IfOk result (AreMade (keys_in types.now.by_name.entries) (take count (map declared_of declared.now)) (map declared_of declared.now)) }
     ensures err { IfErr result (ReportsLeastOf (typing.objects_faults (keys_in types.now.by_name.entries) (map declared_of declared.now))) }
@@ -72,7 +72,7 @@ fn made(
     let all = all(alloc, types, declared)?;
     let (first, _) = declared.split_at(count);
     let constants = table(alloc, &mut Walk::new(alloc), types, first)?;
-    Ok(Objects { constants, all })
+    Ok(DeclaredObjects { constants, all })
 }
 
 /// The constants and the objects that these lists declare.
@@ -81,7 +81,7 @@ fn of_lists<'t>(
     types: &TypeTable,
     constants: &'t [Group<'t>],
     objects: &'t [Group<'t>],
-) -> Result<Objects, TaskFault>
+) -> Result<DeclaredObjects, TaskFault>
     ensures ok { IfOk result (AreMade (keys_in types.now.by_name.entries) (typing.declared domain_file (map read.group_of constants.now))
         (typing.declared domain_file (map read.group_of constants.now) ++ typing.declared problem_file (map read.group_of objects.now))) }
     ensures err { IfErr result (ReportsLeastOf (typing.objects_faults (keys_in types.now.by_name.entries)
@@ -100,7 +100,7 @@ pub(crate) fn of_pair(
     types: &TypeTable,
     domain: &Domain<'_>,
     problem: &Problem<'_>,
-) -> Result<Objects, TaskFault>
+) -> Result<DeclaredObjects, TaskFault>
     ensures ok { IfOk result (AreObjects (keys_in types.now.by_name.entries) (read.domain_of domain.now) (read.problem_of problem.now)) }
     ensures err { IfErr result (ReportsLeastOf (typing.objects_faults (keys_in types.now.by_name.entries) (typing.declared_objects (read.domain_of domain.now) (read.problem_of problem.now)))) }
 {

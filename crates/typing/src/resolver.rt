@@ -7,7 +7,7 @@ ghost use Rattle.model.specs.TypingFaults as typing_faults;
 ghost use Rattle.syntax_tree.specs.Tree.{domain_of, problem_of};
 ghost use Rattle.model.specs.Typing.{task_of_trees, ListsNoFault};
 
-use crate::names::Names;
+use crate::names::Declarations;
 use crate::{TaskFault, chains, objects};
 use std::alloc::Global;
 use syntax_tree::{Domain, Problem};
@@ -55,7 +55,7 @@ fn of_trees(alloc: Global, domain: &Domain<'_>, problem: &Problem<'_>) -> Result
 {
     let types = chains::types(alloc, domain, problem)?;
     let objects = objects::of_pair(alloc, &types, domain, problem)?;
-    let names = Names::declared(alloc, &types, &objects, domain, problem)?;
+    let names = Declarations::declared(alloc, &types, &objects, domain, problem)?;
     let start = names.stated(alloc, &types, &objects, problem)?;
     Ok(Task::from_parts(TaskParts {
         types: types.by_name,

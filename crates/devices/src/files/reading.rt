@@ -1,10 +1,10 @@
 //! The text of a file.
 ghost use Rattle.std.specs.Prelude.{◌≡◌, ◌+◌, ℕ, Err, IfOk, IsErr, IsTrue, List, length, vec_len};
 ghost use Rattle.devices.specs.Texts.{AreKept, IsText};
-ghost use Rattle.devices.specs.declared.device.WriteFault.TheVariants.{Device};
+ghost use Rattle.devices.specs.declared.device.IoFault.TheVariants.{Device};
 ghost use Rattle.devices.specs.Devices.{CountsDevice, IsReading, ReadsSome};
 
-use crate::device::{Source, WriteFault};
+use crate::device::{Source, IoFault};
 use crate::files::Files;
 use std::alloc::{AllocError, Global};
 
@@ -16,7 +16,7 @@ const PIECE: usize = 65_536;
 
 /// The first 16,777,217 bytes of a file, or all that it has. It is a device's failure where the file cannot be opened, or a
 /// read of it fails.
-pub fn read_file<F: Files>(alloc: Global, files: &mut F, name: &str) -> Result<Vec<u8>, WriteFault>
+pub fn read_file<F: Files>(alloc: Global, files: &mut F, name: &str) -> Result<Vec<u8>, IoFault>
     ensures bytes { IfOk result (λ text. IsText (F.contents files.old) name.now text.items) }
     ensures kept { AreKept (F.contents files.old) (F.contents files.new) }
     ensures still { (other : List ℕ) → F.is_missing files.new other ≡ F.is_missing files.old other }
@@ -32,7 +32,7 @@ pub fn read_file<F: Files>(alloc: Global, files: &mut F, name: &str) -> Result<V
 }
 
 /// The first 16,777,217 bytes of a source, or all that it has.
-fn read_text<S: Source>(alloc: Global, source: &mut S) -> Result<Vec<u8>, WriteFault>
+fn read_text<S: Source>(alloc: Global, source: &mut S) -> Result<Vec<u8>, IoFault>
     ensures ok { IfOk result (λ text. IsReading MAX_READ (S.remaining source.old) (S.remaining source.new) text.items) }
     ensures failing { IsTrue (S.is_failing source.old) → IsErr result }
     ensures failures { CountsDevice (S.failures source.old) (S.failures source.new) result }
@@ -54,7 +54,7 @@ fn read_some<S: Source>(
     source: &mut S,
     room: &mut [u8],
     text: &mut Vec<u8>,
-) -> Result<usize, WriteFault>
+) -> Result<usize, IoFault>
     ensures ok { IfOk result (λ count. ReadsSome (length room.old) count (S.remaining source.old) (S.remaining source.new) text.old.items text.new.items) }
     ensures len { IfOk result (λ count. vec_len text.new ≡ vec_len text.old + count) }
     ensures failing { IsTrue (S.is_failing source.old) → IsErr result }

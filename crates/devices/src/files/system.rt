@@ -3,7 +3,7 @@ ghost use Rattle.std.specs.Prelude.{◌≡◌, ◌<◌, Err, IfSome, IsOk, IsTru
 ghost use Rattle.devices.specs.Devices.{CountsDevice};
 ghost use Rattle.devices.specs.Written.{HoldsBeginning};
 
-use crate::device::{Sink, WriteFault};
+use crate::device::{Sink, IoFault};
 use crate::files::Files;
 use crate::system::Device;
 use std::{fs, io, rt};
@@ -29,14 +29,14 @@ impl<'a, R: rt::Files> SystemFiles<'a, R> {
 
 impl<R> SystemFiles<'_, R> {
     /// What a call of the system gave, its failure counted.
-    fn counted<T: Drop>(&mut self, outcome: io::Result<T>) -> Result<T, WriteFault>
+    fn counted<T: Drop>(&mut self, outcome: io::Result<T>) -> Result<T, IoFault>
         ensures { CountsDevice self.old.failures self.new.failures result }
     {
         match outcome {
             Ok(value) => Ok(value),
             Err(_) => {
                 self.failures = self.failures.saturating_add(1);
-                Err(WriteFault::Device)
+                Err(IoFault::Device)
             }
         }
     }
@@ -49,7 +49,7 @@ impl<'a, R: rt::Files> Files for SystemFiles<'a, R> {
 
     ghost failures = { λ files. files.failures };
 
-    fn open(&mut self, name: &str) -> Result<Device<R::File>, WriteFault> {
+    fn open(&mut self, name: &str) -> Result<Device<R::File>, IoFault> {
         let opened = fs::open(self.runtime, name);
         Ok(Device::source(self.counted(opened)?))
     }
@@ -59,22 +59,22 @@ impl<'a, R: rt::Files> Files for SystemFiles<'a, R> {
         self.failures = self.failures.saturating_add(failed);
     }
 
-    fn create(&mut self, name: &str) -> Result<Device<R::File>, WriteFault> {
+    fn create(&mut self, name: &str) -> Result<Device<R::File>, IoFault> {
         let created = fs::create(self.runtime, name);
         Ok(Device::new(self.counted(created)?))
     }
 
     // std's files hold nothing back that is written to them, so nothing is left that could fail here.
-    fn close(&mut self, output: Device<R::File>) -> Result<(), WriteFault>
+    fn close(&mut self, output: Device<R::File>) -> Result<(), IoFault>
         ensures failures { CountsDevice (⟦<SystemFiles<'a, R> as Files>⟧.failures self.old) (⟦<SystemFiles<'a, R> as Files>⟧.failures self.new) result }
-        ensures failed { 0 < ⟦<Device<R::File> as Sink>⟧.failures output → result ≡ Err WriteFault.Device }
+        ensures failed { 0 < ⟦<Device<R::File> as Sink>⟧.failures output → result ≡ Err IoFault.Device }
         ensures written { IsTrue ⟦<SystemFiles<'a, R> as Files>⟧.is_known → OnOk result (⟦<SystemFiles<'a, R> as Files>⟧.contents self.new (⟦<Device<R::File> as Sink>⟧.name output) ≡ ⟦<Device<R::File> as Sink>⟧.taken output) }
         ensures beginning { IsTrue ⟦<SystemFiles<'a, R> as Files>⟧.is_known → IfSome (⟦<Device<R::File> as Sink>⟧.taken output) (HoldsBeginning (⟦<SystemFiles<'a, R> as Files>⟧.contents self.old (⟦<Device<R::File> as Sink>⟧.name output)) (⟦<SystemFiles<'a, R> as Files>⟧.contents self.new (⟦<Device<R::File> as Sink>⟧.name output))) }
         ensures only_failed { ⟦<Device<R::File> as Sink>⟧.failures output ≡ 0 → IsOk result }
     {
         if output.failed_writes() > 0 {
             self.failures = self.failures.saturating_add(1);
-            return Err(WriteFault::Device);
+            return Err(IoFault::Device);
         }
         Ok(())
     }

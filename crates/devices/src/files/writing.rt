@@ -4,7 +4,7 @@ ghost use Rattle.std.specs.Io.KnownBytes.{Appends};
 ghost use Rattle.devices.specs.Written.{HoldsBeginning};
 ghost use Rattle.devices.specs.Devices.{AppendsBeginning, CountsDevice};
 
-use crate::device::{Sink, WriteFault, write_all};
+use crate::device::{Sink, IoFault, write_all};
 use crate::files::Files;
 
 /// A text that can be written to any device.
@@ -13,7 +13,7 @@ pub trait Document {
     ghost text: { Self → List ℕ };
 
     /// Writes it. A sink that fails has taken some beginning of it.
-    fn write_to<S: Sink>(&self, sink: &mut S) -> Result<(), WriteFault>
+    fn write_to<S: Sink>(&self, sink: &mut S) -> Result<(), IoFault>
         ensures ok { OnOk result (Appends (S.taken sink.old) (S.taken sink.new) (text self.now)) }
         ensures beginning { AppendsBeginning (S.taken sink.old) (S.taken sink.new) (text self.now) }
         ensures failures { CountsDevice (S.failures sink.old) (S.failures sink.new) result }
@@ -27,7 +27,7 @@ pub struct Bytes<'a>(pub &'a [u8]);
 impl Document for Bytes<'_> {
     ghost text = { λ bytes. bytes.0.now };
 
-    fn write_to<S: Sink>(&self, sink: &mut S) -> Result<(), WriteFault> {
+    fn write_to<S: Sink>(&self, sink: &mut S) -> Result<(), IoFault> {
         write_all(sink, self.0)
     }
 }
@@ -38,7 +38,7 @@ pub fn write_file<F: Files, D: Document>(
     files: &mut F,
     name: &str,
     document: &D,
-) -> Result<(), WriteFault>
+) -> Result<(), IoFault>
     ensures held { IsTrue F.is_known → OnOk result (F.contents files.new name.now ≡ Some (D.text document.now)) }
     ensures partly { IsTrue F.is_known → HoldsBeginning (F.contents files.old name.now) (F.contents files.new name.now) (D.text document.now) }
     ensures kept { IsTrue F.is_known → (other : List ℕ) → other ≢ name.now → F.contents files.new other ≡ F.contents files.old other }

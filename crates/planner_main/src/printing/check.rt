@@ -7,7 +7,7 @@ ghost use Rattle.planner_main.specs.CheckReported.{IsReportedRefusal, accepted_l
 ghost use Rattle.model.specs.PlanWriting.{has_names};
 
 use cert_checker::{Accepted, Refusal, RefusalCode};
-use devices::WriteFault;
+use devices::IoFault;
 use faults::NoMemory;
 use formulas::Instance;
 use plan_file::step_text;
@@ -18,16 +18,16 @@ use task::Task;
 const LIMIT: u8 = 55;
 
 /// Why nothing is reported for a certificate: its device failed, or memory was refused. `None` where the answer is reported.
-pub(crate) fn failure_of(answer: &Result<Accepted, Refusal>) -> Option<WriteFault>
+pub(crate) fn failure_of(answer: &Result<Accepted, Refusal>) -> Option<IoFault>
     ensures { result ≡ failure_of answer.now }
 {
     match answer {
         Ok(_) => None,
         Err(Refusal::Line { .. } | Refusal::Unfair(_) | Refusal::DeadUnfair(_)) => None,
         Err(Refusal::Plain(_)) => None,
-        Err(Refusal::Device) => Some(WriteFault::Device),
+        Err(Refusal::Device) => Some(IoFault::Device),
         // The reader is a new one, which has reported no fault.
-        Err(Refusal::NoMemory | Refusal::Failed) => Some(WriteFault::NoMemory),
+        Err(Refusal::NoMemory | Refusal::Failed) => Some(IoFault::NoMemory),
     }
 }
 

@@ -7,12 +7,12 @@ ghost use Rattle.file_answers.specs.Inputs.{IsInputFault};
 ghost use Rattle.file_answers.specs.Files.{text_in};
 ghost use Rattle.file_answers.specs.declared.checking.Checked.{Checked};
 ghost use Rattle.planner_main.specs.declared.printing.reports.Report.TheVariants.{Check};
-ghost use Rattle.devices.specs.Texts.{AreKept, items_in};
+ghost use Rattle.devices.specs.InputTexts.{AreKept, items_in};
 ghost use Rattle.planner_main.specs.Program.{CountsFailure, IsCheckOn, IsCheckedIn, IsOneOf, IsUnread, OnInputs, fault_in, if_named};
 ghost use Rattle.devices.specs.Devices.{IsKept};
 
 use crate::failures::Failure;
-use crate::program::inputs::{Pair, read_named, read_pair};
+use crate::program::inputs::{TaskTexts, read_named, read_pair};
 use crate::printing::{Report, failure_of};
 use certificate::CertReader;
 use devices::{Files, Source};
@@ -21,7 +21,7 @@ use std::alloc::Global;
 
 /// The names of the files that are read.
 #[derive(Clone, Copy)]
-pub(super) struct Names<'a> {
+pub(super) struct InputNames<'a> {
     /// The domain file.
     pub(super) domain: &'a str,
     /// The problem file.
@@ -34,8 +34,8 @@ pub(super) struct Names<'a> {
 
 /// The texts of the files that are read before the certificate.
 #[derive(Drop)]
-struct Texts {
-    pair: Pair,
+struct InputTexts {
+    pair: TaskTexts,
     plan: Option<Vec<u8>>,
 }
 
@@ -43,7 +43,7 @@ struct Texts {
 /// opened before the plan is read, and read last.
 pub(super) fn report_of_check<F: Files>(
     alloc: Global,
-    names: Names<'_>,
+    names: InputNames<'_>,
     instances: u32,
     files: &mut F,
 ) -> Result<Report, Failure>
@@ -61,7 +61,7 @@ pub(super) fn report_of_check<F: Files>(
     let pair = read_pair(alloc, files, names.domain, names.problem)?;
     let input = files.open(names.cert)?;
     let plan = read_named(alloc, files, names.plan)?;
-    let texts = Texts { pair, plan };
+    let texts = InputTexts { pair, plan };
     let mut cert = CertReader::new(alloc, input);
     let report = check_texts(alloc, &texts, &mut cert, instances);
     files.finish(cert.into_source());
@@ -71,7 +71,7 @@ pub(super) fn report_of_check<F: Files>(
 /// What the certificate that comes to a new reader shows.
 fn check_texts<R: Source>(
     alloc: Global,
-    texts: &Texts,
+    texts: &InputTexts,
     cert: &mut CertReader<R>,
     instances: u32,
 ) -> Result<Report, Failure>

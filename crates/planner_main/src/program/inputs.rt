@@ -1,17 +1,17 @@
 //! The texts of the files that are read.
 ghost use Rattle.std.specs.Prelude.{◌≡◌, ℕ, Err, IfOk, IsErr, IsTrue, List};
-ghost use Rattle.devices.specs.Texts.{AreKept, IsText, items_in};
+ghost use Rattle.devices.specs.InputTexts.{AreKept, IsText, items_in};
 ghost use Rattle.file_answers.specs.Files.{text_in};
 ghost use Rattle.planner_main.specs.Program.{IsOneOf, IsTextIfNamed, if_named};
-ghost use Rattle.devices.specs.declared.device.WriteFault.TheVariants.{Device};
+ghost use Rattle.devices.specs.declared.device.IoFault.TheVariants.{Device};
 ghost use Rattle.devices.specs.Devices.{CountsDevice};
 
-use devices::{Files, WriteFault, read_file};
+use devices::{Files, IoFault, read_file};
 use std::alloc::Global;
 
 /// The texts of a domain file and a problem file.
 #[derive(Drop)]
-pub(super) struct Pair {
+pub(super) struct TaskTexts {
     /// The domain file's text.
     pub(super) domain: Vec<u8>,
     /// The problem file's text.
@@ -24,7 +24,7 @@ pub(super) fn read_pair<F: Files>(
     files: &mut F,
     domain: &str,
     problem: &str,
-) -> Result<Pair, WriteFault>
+) -> Result<TaskTexts, IoFault>
     ensures domain { IfOk result (λ pair. IsText (F.contents files.old) domain.now pair.domain.items) }
     ensures problem { IfOk result (λ pair. IsText (F.contents files.old) problem.now pair.problem.items) }
     ensures kept { AreKept (F.contents files.old) (F.contents files.new) }
@@ -38,7 +38,7 @@ pub(super) fn read_pair<F: Files>(
 {
     let domain = read_file(alloc, files, domain)?;
     let problem = read_file(alloc, files, problem)?;
-    Ok(Pair { domain, problem })
+    Ok(TaskTexts { domain, problem })
 }
 
 /// The text of a file, if one is named.
@@ -46,7 +46,7 @@ pub(super) fn read_named<F: Files>(
     alloc: Global,
     files: &mut F,
     name: Option<&str>,
-) -> Result<Option<Vec<u8>>, WriteFault>
+) -> Result<Option<Vec<u8>>, IoFault>
     ensures text { IfOk result (λ text. IsTextIfNamed (F.contents files.old) (text_in name.entry) (items_in text)) }
     ensures kept { AreKept (F.contents files.old) (F.contents files.new) }
     ensures failures { CountsDevice (F.failures files.old) (F.failures files.new) result }

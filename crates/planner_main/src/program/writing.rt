@@ -16,7 +16,7 @@ use crate::failures::Failure;
 use crate::program::outputs::Outputs;
 use crate::printing::{Report, json_text, report_text, status_of, said};
 use certificate::{Cert, write_cert};
-use devices::{Bytes, Document, Files, Sink, WriteFault, write_all, write_file};
+use devices::{Bytes, Document, Files, Sink, IoFault, write_all, write_file};
 use solver::{Answer, Exceeded};
 use std::alloc::Global;
 use task::Task;
@@ -54,7 +54,7 @@ fn save<F: Files, D: Document>(
     files: &mut F,
     name: Option<&str>,
     document: &Option<D>,
-) -> Result<(), WriteFault>
+) -> Result<(), IoFault>
     ensures written { OnOk result (IsTrue F.is_known
         → AreWritten (F.contents files.old) (F.contents files.new) (in_file (text_in name.entry) (option_map D.text document.now))) }
     ensures partly { IsErr result → IsBegun F.is_known (F.contents files.old) (F.contents files.new) (in_file (text_in name.entry) (option_map D.text document.now)) }
@@ -120,7 +120,7 @@ struct CertText<'a> {
 impl Document for CertText<'_> {
     ghost text = { λ it. certificate_text (task_of it.task.now) (certificate_of it.cert.now) };
 
-    fn write_to<S: Sink>(&self, sink: &mut S) -> Result<(), WriteFault> {
+    fn write_to<S: Sink>(&self, sink: &mut S) -> Result<(), IoFault> {
         write_cert(self.alloc, self.task, self.cert, sink)
     }
 }

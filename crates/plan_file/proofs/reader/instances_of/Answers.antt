@@ -7,8 +7,8 @@ use Rattle.faults.proofs.Results.{if_ok, if_err}
 use Rattle.model.specs.PlanMachine.{turn, goes, ends, open_at, at_end, refuses}
 use Rattle.model.specs.PlanText.{Step}
 use Rattle.plan_file.specs.PlanFile.{step_of, place_of, turn_of, span_of, sort_of, name_of, IsMeaning}
-use Rattle.plan_file.specs.declared.word.Word.{Word}
-use Rattle.plan_file.specs.declared.text.Place.TheVariants.{Opened, Inside}
+use Rattle.plan_file.specs.declared.word.PlanWord.{PlanWord}
+use Rattle.plan_file.specs.declared.text.PlanPlace.TheVariants.{Opened, Inside}
 use Rattle.plan_file.proofs.PlanWords.{word_refused, end_refused}
 use Rattle.plan_file.proofs.PlanSteps.{form_refused}
 use Rattle.plan_file.proofs.ReadSoFar.{IsReadSoFar, goes_on, takes_step, plan_read, fault_read}
@@ -78,7 +78,7 @@ returns c =
     let place = place_of c.words.place objects in
     let so_far = c.words.invariant.so_far in
     let left : at_end end place ≡ refuses (open_at end) =
-    ⊎_elim (λ (e : c.words.place ≡ Opened). ap (λ p. at_end end (place_of p objects)) e) (λ (x : (action : Word) × (c.words.place ≡ Inside action)). ap (λ p. at_end end (place_of p objects)) x.1) c.in-Opened.is in
+    ⊎_elim (λ (e : c.words.place ≡ Opened). ap (λ p. at_end end (place_of p objects)) e) (λ (x : (action : PlanWord) × (c.words.place ≡ Inside action)). ap (λ p. at_end end (place_of p objects)) x.1) c.in-Opened.is in
     record {
       plan = tt;
       refused = form_refused (task_of c.args.task.now) text (reported_by c.refusal-in-Opened.result)

@@ -5,7 +5,7 @@ use Rattle.model.specs.Meaning.{cost_of}
 use Rattle.model.specs.ClosedOff.{kept_instances}
 use Rattle.potentials.specs.Potentials.{potentials_of}
 use Rattle.potentials.proofs.FairLemmas.{Decides}
-use Rattle.potentials_drafted.specs.Touching.{number_of}
+use Rattle.potentials_drafted.specs.Incidence.{number_of}
 use Rattle.potentials_improved.specs.Climb.{AreFairAt}
 use Rattle.potentials_improved.proofs.FairAtLemmas.{fair_at-none, fair_at-next, unfair_at}
 use Rattle.potentials_improved.proofs.climb.are_fair_at.Goals as goal

@@ -1,7 +1,7 @@
 use Rattle.std.proofs.Common.{map, take}
 use Rattle.grounding.specs.Ground.{task_in, atoms_in}
 use Rattle.potentials.specs.Potentials.{potentials_of}
-use Rattle.potentials_drafted.specs.Touching.{number_of}
+use Rattle.potentials_drafted.specs.Incidence.{number_of}
 use Rattle.potentials_improved.specs.Climb.{AreFairAt}
 use Rattle.potentials_improved.proofs.climb.are_fair_at.Given as goal
 

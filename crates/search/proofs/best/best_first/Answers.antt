@@ -1,6 +1,6 @@
 use Rattle.std.proofs.Common.{List, Bool, ◌≡◌, ℕ, ◌+◌, length, ap, sym, ◌∙◌, subst, arith, Some, get_or, true, false}
 use Rattle.std.specs.Prelude.{slice_get}
-use Rattle.search.specs.Queue.{waiting_in}
+use Rattle.search.specs.OpenList.{waiting_in}
 use Rattle.std.proofs.lemmas.List.Sums.{count_by-le-length}
 use Rattle.std.proofs.lemmas.Option.{same_Some, get_or_from_slice_get, slice_get_within}
 use Rattle.packed_state.specs.Packed.{bits_of}
@@ -13,7 +13,7 @@ use Rattle.search.specs.Outcome.{AreFound, AreExpandedWithin}
 use Rattle.search.specs.Nodes.{Found, found_of, expanded_count, IsEntryOf}
 use Rattle.search.proofs.Linked.{length-found_of}
 use Rattle.search.proofs.Closed.{reached_in, optimal, unsolvable}
-use Rattle.search.proofs.Queue.{All-among}
+use Rattle.search.proofs.OpenList.{All-among}
 use Rattle.search.proofs.Steps.{entries_of, at_turn, none_waits}
 use Rattle.search.proofs.best.best_first.Goals as goal
 
@@ -85,7 +85,7 @@ expand-requires-clause-turn g c =
     let next = at_turn _ _ _ _ _ _ search.one_each search.nodes _ c.in-Some.turn c.in-Some.ensures.some in
     record {
       one_each = rw (c.in-Some.ensures.nodes, c.in-Some.ensures.store) search.one_each;
-      queue = waiting_in c.loop-turn.progress.queue;
+      open_list = waiting_in c.loop-turn.progress.open_list;
       nodes = rw (c.in-Some.ensures.store, c.in-Some.ensures.nodes) search.nodes;
       heap = c.in-Some.ensures.heap;
       found = next.found;

@@ -3,7 +3,7 @@ use Rattle.std.proofs.lemmas.List.{length-append}
 use Rattle.search.specs.declared.nodes.Node.{Node}
 use Rattle.search.specs.Nodes.{parent_of}
 use Rattle.search.proofs.Lists.{get_there}
-use Rattle.search.proofs.Queue.{IsWayBack, way_back-start, way_back-within, way_back-more, way_back-end}
+use Rattle.search.proofs.OpenList.{IsWayBack, way_back-start, way_back-within, way_back-more, way_back-end}
 use Rattle.search.proofs.nodes.steps_to.Goals.{In_ok-push}
 use Rattle.search.proofs.nodes.steps_to.Goals as goal
 

@@ -1,5 +1,5 @@
 use Rattle.std.proofs.Common.{◌-◌, length}
-use Rattle.search.proofs.Queue.{IsWayBack}
+use Rattle.search.proofs.OpenList.{IsWayBack}
 use Rattle.search.proofs.nodes.steps_to.Given as goal
 
 abbrev pub invariant-loop-at : goal.invariant-loop-at

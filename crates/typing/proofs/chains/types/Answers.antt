@@ -5,7 +5,7 @@ use Rattle.syntax_tree.specs.Tree.{domain_of, problem_of, group_of}
 use Rattle.typing.specs.Chains.{cycles}
 use Rattle.typing.specs.Task.{ReportsLeastOf}
 use Rattle.task_parts.specs.TypedLists.{declared_of}
-use Rattle.typing.specs.Names.{type_faults_of, AreTypesOf}
+use Rattle.typing.specs.Declarations.{type_faults_of, AreTypesOf}
 use Rattle.model.specs.Trees.{domain_file}
 use Rattle.model.specs.Trees as tree
 use Rattle.model.specs.Typing as typing

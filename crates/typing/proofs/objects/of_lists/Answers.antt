@@ -3,7 +3,7 @@ use Rattle.std.proofs.Math.Seq.{take-append_seam}
 use Rattle.std.proofs.lemmas.List.{length-append, length-map}
 use Rattle.syntax_tree.specs.Tree as read
 use Rattle.task_parts.specs.Scope.{keys_in}
-use Rattle.typing.specs.Objects.{AreMade}
+use Rattle.typing.specs.DeclaredObjects.{AreMade}
 use Rattle.typing.specs.Task.{ReportsLeastOf}
 use Rattle.task_parts.specs.TypedLists.{declared_of}
 use Rattle.model.specs.Trees.{domain_file, problem_file}

@@ -2,7 +2,7 @@ use Rattle.std.proofs.Common.{◌≡◌, ◌∙◌, ◌++◌, map, ap, sym, subs
 use Rattle.std.proofs.lemmas.Result.{IfOk-weaker}
 use Rattle.syntax_tree.specs.Tree as read
 use Rattle.task_parts.specs.Scope.{keys_in}
-use Rattle.typing.specs.Objects.{AreObjects}
+use Rattle.typing.specs.DeclaredObjects.{AreObjects}
 use Rattle.typing.specs.Task.{ReportsLeastOf}
 use Rattle.model.specs.Trees.{domain_file, problem_file}
 use Rattle.model.specs.Typing as typing

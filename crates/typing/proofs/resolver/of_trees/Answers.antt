@@ -2,10 +2,10 @@ use Rattle.std.proofs.Common.{◌≡◌, List, [], ◌∙◌, map, ap, sym, subs
 use Rattle.syntax_tree.specs.Tree.{domain_of, problem_of, name_of}
 use Rattle.task.specs.TaskParts.{task_of_parts}
 use Rattle.typing.specs.Task.{ReportsLeastFault, ReportsLeastOf}
-use Rattle.typing.specs.Names.{domain_faults, known_by, stated_faults_in, AreContents, AreDeclared, AreTypesOf, Starts}
-use Rattle.typing.specs.Objects.{AreObjects, AreObjectsOf}
-use Rattle.typing.specs.declared.names.Names.{Names}
-use Rattle.typing.specs.declared.names.Objects.{Objects}
+use Rattle.typing.specs.Declarations.{domain_faults, known_by, stated_faults_in, AreContents, AreDeclared, AreTypesOf, Starts}
+use Rattle.typing.specs.DeclaredObjects.{AreObjects, AreObjectsOf}
+use Rattle.typing.specs.declared.names.Declarations.{Declarations}
+use Rattle.typing.specs.declared.names.DeclaredObjects.{DeclaredObjects}
 use Rattle.task_parts.specs.declared.type_names.TypeTable.{TypeTable}
 use Rattle.model.specs.Task.{Name}
 use Rattle.model.specs.Trees.{problem_file, Domain, Problem}
@@ -17,17 +17,17 @@ use Rattle.faults.proofs.Results.{passed_on}
 use Rattle.typing.proofs.resolver.of_trees.Goals.{After-is_some}
 use Rattle.typing.proofs.resolver.of_trees.Goals as goal
 
-no_object : {ns : List Name} {d : Domain} {p : Problem} {o : Objects} → AreObjects ns d p o → ns ≡ type_names d → object_faults d p ≡ []
+no_object : {ns : List Name} {d : Domain} {p : Problem} {o : DeclaredObjects} → AreObjects ns d p o → ns ≡ type_names d → object_faults d p ≡ []
 no_object {d = d} {p = p} are same = sym (ap (λ ns. objects_faults ns (declared_objects d p)) same) ∙ are.right
 
-objects_named : {ns : List Name} {d : Domain} {p : Problem} {o : Objects} → AreObjects ns d p o → ns ≡ type_names d → AreObjectsOf d p o
+objects_named : {ns : List Name} {d : Domain} {p : Problem} {o : DeclaredObjects} → AreObjects ns d p o → ns ≡ type_names d → AreObjectsOf d p o
 objects_named {d = d} {p = p} are same = record {
   constants = are.constants ∙ ap (λ ns. map (object_in ns) (declared_constants d)) same;
   all = are.all ∙ ap (λ ns. map (object_in ns) (declared_objects d p)) same;
 }
 
 -- what may be named in the problem
-known : {d : Domain} {p : Problem} {t : TypeTable} {o : Objects} {n : Names} → AreTypesOf d t → AreObjectsOf d p o → AreDeclared d n → known_by t o n ≡ known_in_problem d p
+known : {d : Domain} {p : Problem} {t : TypeTable} {o : DeclaredObjects} {n : Declarations} → AreTypesOf d t → AreObjectsOf d p o → AreDeclared d n → known_by t o n ≡ known_in_problem d p
 known types objects names = λ i. record {
   type_names = types.names i;
   types = types.all i;

@@ -1,6 +1,6 @@
 use Rattle.std.proofs.Common.{refl}
 use Rattle.std.proofs.lemmas.Result.{err_from_is_err_and}
-use Rattle.planner_main.specs.declared.program.inputs.Pair.{Pair}
+use Rattle.planner_main.specs.declared.program.inputs.TaskTexts.{TaskTexts}
 use Rattle.planner_main.proofs.ProgramWords.{refused_on_two, device_counted}
 use Rattle.planner_main.proofs.program.solution.report_of_solve.Goals as goal
 
@@ -24,7 +24,7 @@ returns-clause-report g c =
 pub returns-in_err-pair-clause-failures : goal.returns-in_err-pair-clause-failures
 returns-in_err-pair-clause-failures g c =
     let p = err_from_is_err_and c.from_residual.result c.from_residual.ensures.1 in
-    rw (p.1, p.2) (device_counted Pair _ _ _ _ refl c.in_err-pair.ensures.failures)
+    rw (p.1, p.2) (device_counted TaskTexts _ _ _ _ refl c.in_err-pair.ensures.failures)
 
 pub returns-in_err-solve_files-clause-failures : goal.returns-in_err-solve_files-clause-failures
 returns-in_err-solve_files-clause-failures g c =

@@ -1,7 +1,7 @@
 use Rattle.std.proofs.Common.{ℕ, refl, ◌∙◌}
 use Rattle.std.specs.Global.{Vec}
 use Rattle.std.proofs.lemmas.Result.{err_from_is_err_and}
-use Rattle.planner_main.specs.declared.program.inputs.Pair.{Pair}
+use Rattle.planner_main.specs.declared.program.inputs.TaskTexts.{TaskTexts}
 use Rattle.planner_main.proofs.ProgramWords.{text_kept, refused_on_three, device_counted}
 use Rattle.planner_main.proofs.program.validation.report_of_validate.Goals as goal
 
@@ -31,7 +31,7 @@ returns-clause-report g c =
 pub returns-in_err-task-clause-failures : goal.returns-in_err-task-clause-failures
 returns-in_err-task-clause-failures g c =
     let p = err_from_is_err_and c.from_residual.result c.from_residual.ensures.1 in
-    rw (p.1, p.2) (device_counted Pair _ _ _ _ refl c.in_err-task.ensures.failures)
+    rw (p.1, p.2) (device_counted TaskTexts _ _ _ _ refl c.in_err-task.ensures.failures)
 
 pub returns-in_err-plan-clause-failures : goal.returns-in_err-plan-clause-failures
 returns-in_err-plan-clause-failures g c =

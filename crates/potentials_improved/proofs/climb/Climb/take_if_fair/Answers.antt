@@ -6,10 +6,10 @@ use Rattle.grounding.specs.Ground.{task_in, atoms_in}
 use Rattle.potential_functions.specs.PotentialFunctions.{PotentialFunction}
 use Rattle.potential_functions.proofs.Settling.{potentials}
 use Rattle.potentials.specs.Potentials.{potentials_of}
-use Rattle.potentials_drafted.specs.Touching.{number_of, row_of}
+use Rattle.potentials_drafted.specs.Incidence.{number_of, row_of}
 use Rattle.potentials_improved.specs.Climb.{AreFairAt}
 use Rattle.potentials_improved.proofs.ClimbLemmas.{back-again, set-long, tried-kept, tried-raised}
-use Rattle.potentials_improved.proofs.FairAtLemmas.{fair-by_touching, none-unfair_among, row-below}
+use Rattle.potentials_improved.proofs.FairAtLemmas.{fair-by_incidence, none-unfair_among, row-below}
 use Rattle.potentials_improved.proofs.climb.Climb.take_if_fair.Goals as goal
 
 pub weight-old-requires : goal.weight-old-requires
@@ -22,7 +22,7 @@ pub are_fair_at-requires-clause-width : goal.are_fair_at-requires-clause-width
 are_fair_at-requires-clause-width c = set-long (potentials_of c.args.self.now.potentials) (potentials_of c.set_weight.new.self) c.args.atom _ _ c.set_weight.ensures ∙ c.requires.climb.width
 
 pub are_fair_at-requires-clause-within : goal.are_fair_at-requires-clause-within
-are_fair_at-requires-clause-within c = row-below (task_in c.args.ground.now) (atoms_in c.args.ground.now) c.args.touching.now c.args.atom (map number_of c.of.result.now) c.requires.touching (ap (map number_of) c.of.ensures)
+are_fair_at-requires-clause-within c = row-below (task_in c.args.ground.now) (atoms_in c.args.ground.now) c.args.incidence.now c.args.atom (map number_of c.of.result.now) c.requires.incidence (ap (map number_of) c.of.ensures)
 
 pub set_weight-requires-then-not-are_fair_at-clause-within : goal.set_weight-requires-then-not-are_fair_at-clause-within
 set_weight-requires-then-not-are_fair_at-clause-within c =
@@ -51,10 +51,10 @@ returns c =
     let ew = to_z-of_z w64 c.args.weight c.ranges.weight in
     let there : potentials_of c.set_weight.new.self ≡ potentials old.potentials.constant (set old.potentials.weights.items c.args.atom c.args.weight)
     = c.set_weight.ensures ∙ ap (λ w. potentials old.potentials.constant (set old.potentials.weights.items c.args.atom w)) ew in
-    let fair : AreFairAt t a (potentials_of c.set_weight.new.self) (row_of c.args.touching.now c.args.atom)
+    let fair : AreFairAt t a (potentials_of c.set_weight.new.self) (row_of c.args.incidence.now c.args.atom)
     = subst (AreFairAt t a (potentials_of c.set_weight.new.self)) (ap (map number_of) c.of.ensures) (c.are_fair_at.ensures.0 c.if-not-are_fair_at.false) in
     tried-raised t a old _ n c.args.atom c.args.weight c.requires.climb c.requires.next
-    (fair-by_touching t a (potentials_of old.potentials) (potentials_of c.set_weight.new.self) old.potentials.constant c.args.atom c.args.weight c.args.touching.now c.requires.touching c.requires.climb.fair.instances there fair)
+    (fair-by_incidence t a (potentials_of old.potentials) (potentials_of c.set_weight.new.self) old.potentials.constant c.args.atom c.args.weight c.args.incidence.now c.requires.incidence c.requires.climb.fair.instances there fair)
     (c.set_constant.ensures ∙ ap (λ k. potentials k (potentials_of c.set_weight.new.self).weights) (to_z-of_z w64 n.constant (search rules))
     ∙ ap (λ (q : PotentialFunction). potentials n.constant q.weights) there)
     (to_z-of_z w64 n.goal (search rules)) (to_z-of_z w64 n.score (search rules))

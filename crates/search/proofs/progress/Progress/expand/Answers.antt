@@ -1,6 +1,6 @@
 use Rattle.std.proofs.Common.{rules, ◌≡◌, ℕ, Bool, List, ◌+◌, get_or, drop, set, sym, ap, ◌∙◌, subst, arith, Some, true, false}
 use Rattle.std.specs.Prelude.{IsTrue, is_some, slice_get}
-use Rattle.search.specs.Queue.{waiting_in}
+use Rattle.search.specs.OpenList.{waiting_in}
 use Rattle.std.proofs.lemmas.List.{drop_more, drop_all}
 use Rattle.std.proofs.lemmas.Option.{same_Some}
 use Rattle.model.proofs.ListLemmas.{Contains-here}
@@ -35,14 +35,14 @@ reports g c =
 
 has_begun : (g : Over) (c : After-deref-action-items g) → HasBegun (g.T.TransitionSystem.means c.args.system.now) (value_by (g.E.Estimate.score_of c.args.guide.now.estimate.now)) (g.D.DeadEnd.is_dead c.args.guide.now.dead_ends.now)
     (found_of (g.S.StateStore.states c.args.self.now.store) c.args.self.now.nodes.items) (g.S.StateStore.states c.mark.new.self.store) c.mark.new.self.nodes.items
-    (waiting_in c.args.self.now.queue) c.args.turn.id.0 c.requires.turn.found
+    (waiting_in c.args.self.now.open_list) c.args.turn.id.0 c.requires.turn.found
 has_begun g c =
     let turn = c.requires.turn in
     let t = g.T.TransitionSystem.means c.args.system.now in
     let states = g.S.StateStore.states c.args.self.now.store in
     let all = c.args.self.now.nodes.items in
     turn_begins t _ _ (consistent g c) (reports g c) states all
-    turn.queue _ turn.one_each turn.nodes _ turn.found turn.occurs turn.waits turn.least turn.rest turn.entries
+    turn.open_list _ turn.one_each turn.nodes _ turn.found turn.occurs turn.waits turn.least turn.rest turn.entries
     (subst (λ x. t.meets_goal x ≡ false) (is_state g c) c.requires.no_goal) c.requires.open _ _ (ap g.S.StateStore.states c.mark.ensures.store)
     (c.mark.ensures.nodes turn.found.node (found_of-get states all _ turn.found turn.occurs).1)
 
@@ -54,7 +54,7 @@ loop-action-init g c =
     let begins = has_begun g (goal.at.loop-action-init g c).After-deref-action-items in
     record {
       expanding = record {
-        search = record { one_each = begins.one_each; nodes = rw c.mark.ensures.queue begins.nodes; heap = rw c.mark.ensures.queue turn.heap };
+        search = record { one_each = begins.one_each; nodes = rw c.mark.ensures.open_list begins.nodes; heap = rw c.mark.ensures.open_list turn.heap };
         turn = begins.turn;
         others_open = begins.others_open;
       };
@@ -136,7 +136,7 @@ returns-then-not-branch-clause-listed g c =
     let taken_back : back.nodes.items ≡ set all i (marked_as false e.turn.found.node) =
     c.mark-then-not-branch.ensures.nodes e.turn.found.node stood ∙ ap (λ (ns : List Node). set ns i (marked_as false e.turn.found.node)) full.nodes in (
       full.more,
-      at_limit (g.T.TransitionSystem.means c.args.system.now) value is_dead states all (waiting_in c.loop-action.self.queue) e.search.one_each e.search.nodes i e.turn e.others_open
+      at_limit (g.T.TransitionSystem.means c.args.system.now) value is_dead states all (waiting_in c.loop-action.self.open_list) e.search.one_each e.search.nodes i e.turn e.others_open
           (consistent g here) (reports g here) (g.S.StateStore.states back.store) back.nodes.items c.args.max_states c.args.turn.sum stored taken_back full.full sum,
     )
 

@@ -1,6 +1,6 @@
 use Rattle.std.proofs.Common.{◌≡◌, ℕ, ◌+◌, ◌<◌, ◌≤◌, List, [], ◌∷◌, length, get_or, Bool, ap, sym, subst, refl, ◌∙◌, arith, vec_len, Some, false}
 use Rattle.std.specs.Prelude.{Contains, slice_get}
-use Rattle.search.specs.Queue.{waiting_in}
+use Rattle.search.specs.OpenList.{waiting_in}
 use Rattle.std.proofs.lemmas.List.{length-append}
 use Rattle.std.proofs.lemmas.Option.{get_or_from_slice_get, slice_get_read, slice_get_within}
 use Rattle.packed_state.specs.Packed.{bits_of}
@@ -87,7 +87,7 @@ returns-in_default-clause-listed g c =
     let full : (¬ Contains states s) × (length states ≡ c.args.max_states) × (g.S.StateStore.states c.place_of_state.new.store ≡ states) = rw c.in_default.is at c.in_ok-id.ensures.placed in
     record {
       more = more_reachable (g.T.TransitionSystem.means c.args.system.now) (value_by (g.E.Estimate.score_of c.args.guide.now.estimate.now)) (g.D.DeadEnd.is_dead c.args.guide.now.dead_ends.now) states
-          c.args.self.now.nodes.items (waiting_in c.args.self.now.queue) e.search.one_each e.search.nodes c.args.parent.now.id.0 e.turn c.args.action s
+          c.args.self.now.nodes.items (waiting_in c.args.self.now.open_list) e.search.one_each e.search.nodes c.args.parent.now.id.0 e.turn c.args.action s
           (leads g (goal.at.returns-in_default-clause-listed g c).After-from) full.0 c.args.max_states full.1;
       full = full.1;
       store = full.2;
@@ -115,14 +115,14 @@ returns-in_ok-add-clause-listed g c =
     let placed : IsPlaced states after s c.in-Some.id.0 c.in-Some.is_new = rw c.in-Some.is at c.in_ok-id.ensures.placed in
     let new = placed_new states after s c.in-Some.id.0 c.in-Some.is_new c.if-is_new.true placed in
     let stored : g.S.StateStore.states c.add.new.self.store ≡ after = rw c.in_ok-add.ensures.store refl in
-    let joined = joined_by (value_by (g.E.Estimate.score_of c.args.guide.now.estimate.now)) (g.D.DeadEnd.is_dead c.args.guide.now.dead_ends.now) s c.value_after-value.result c.args.self.now.queue c.add.new.self.queue
-    (c.index-before.result.now.cost + c.from.result) c.in-Some.id.0 c.value_after-value.ensures c.in_ok-add.ensures.queue in
-    let step = stepped_new (g.T.TransitionSystem.means c.args.system.now) (value_by (g.E.Estimate.score_of c.args.guide.now.estimate.now)) (g.D.DeadEnd.is_dead c.args.guide.now.dead_ends.now) states all (waiting_in c.args.self.now.queue) c.args.parent.now.id.0
+    let joined = joined_by (value_by (g.E.Estimate.score_of c.args.guide.now.estimate.now)) (g.D.DeadEnd.is_dead c.args.guide.now.dead_ends.now) s c.value_after-value.result c.args.self.now.open_list c.add.new.self.open_list
+    (c.index-before.result.now.cost + c.from.result) c.in-Some.id.0 c.value_after-value.ensures c.in_ok-add.ensures.open_list in
+    let step = stepped_new (g.T.TransitionSystem.means c.args.system.now) (value_by (g.E.Estimate.score_of c.args.guide.now.estimate.now)) (g.D.DeadEnd.is_dead c.args.guide.now.dead_ends.now) states all (waiting_in c.args.self.now.open_list) c.args.parent.now.id.0
     e.search.one_each e.search.nodes e.turn e.others_open s
     (record { cost = c.index-before.result.now.cost + c.from.result; is_expanded = false; parent = c.new.result; action = c.args.action }) refl c.new.ensures
     (omega (arith, same, c.from.ensures, c.cost.ensures)) (omega (arith, c.cost.ensures))
     (leads g here) (falls g here)
-    new.0 (g.S.StateStore.states c.add.new.self.store) c.add.new.self.nodes.items c.in-Some.id.0 (waiting_in c.add.new.self.queue)
+    new.0 (g.S.StateStore.states c.add.new.self.store) c.add.new.self.nodes.items c.in-Some.id.0 (waiting_in c.add.new.self.open_list)
     (stored ∙ new.1) c.in_ok-add.ensures.nodes new.2
     joined.0 in
     record {
@@ -149,15 +149,15 @@ returns-in_ok-improve-clause-listed g c =
     let was : slice_get all c.in-Some.id.0 ≡ Some c.index.result.now =
     slice_get_read all (length all) c.in-Some.id.0 c.index.result.now refl known.2 c.index.ensures in
     let stored : g.S.StateStore.states c.improve.new.self.store ≡ after = rw c.in_ok-improve.ensures.store refl in
-    let joined = joined_by (value_by (g.E.Estimate.score_of c.args.guide.now.estimate.now)) (g.D.DeadEnd.is_dead c.args.guide.now.dead_ends.now) s c.value_after-value-then-cost-index.result c.args.self.now.queue c.improve.new.self.queue
-    (c.index-before.result.now.cost + c.from.result) c.in-Some.id.0 c.value_after-value-then-cost-index.ensures c.in_ok-improve.ensures.queue in
-    let step = stepped_cheaper (g.T.TransitionSystem.means c.args.system.now) (value_by (g.E.Estimate.score_of c.args.guide.now.estimate.now)) (g.D.DeadEnd.is_dead c.args.guide.now.dead_ends.now) states all (waiting_in c.args.self.now.queue) c.args.parent.now.id.0
+    let joined = joined_by (value_by (g.E.Estimate.score_of c.args.guide.now.estimate.now)) (g.D.DeadEnd.is_dead c.args.guide.now.dead_ends.now) s c.value_after-value-then-cost-index.result c.args.self.now.open_list c.improve.new.self.open_list
+    (c.index-before.result.now.cost + c.from.result) c.in-Some.id.0 c.value_after-value-then-cost-index.ensures c.in_ok-improve.ensures.open_list in
+    let step = stepped_cheaper (g.T.TransitionSystem.means c.args.system.now) (value_by (g.E.Estimate.score_of c.args.guide.now.estimate.now)) (g.D.DeadEnd.is_dead c.args.guide.now.dead_ends.now) states all (waiting_in c.args.self.now.open_list) c.args.parent.now.id.0
     e.search.one_each e.search.nodes e.turn e.others_open s
     (record { cost = c.index-before.result.now.cost + c.from.result; is_expanded = false; parent = c.new.result; action = c.args.action }) refl c.new.ensures
     (omega (arith, same, c.from.ensures, c.cost.ensures)) (omega (arith, c.cost.ensures))
     (leads g here) (falls g here)
     c.in-Some.id.0 c.index.result.now known.0 was c.if-cost-index.true
-    (g.S.StateStore.states c.improve.new.self.store) c.improve.new.self.nodes.items (waiting_in c.improve.new.self.queue)
+    (g.S.StateStore.states c.improve.new.self.store) c.improve.new.self.nodes.items (waiting_in c.improve.new.self.open_list)
     (stored ∙ known.1) c.in_ok-improve.ensures.nodes
     joined.0 in
     record {
@@ -183,7 +183,7 @@ returns-else-cost-index-clause-listed g c =
     let known = was_listed g (goal.at.returns-else-cost-index-clause-listed g c).In-Some c.if-is_new.false in
     let was : slice_get all c.in-Some.id.0 ≡ Some c.index.result.now =
     slice_get_read all (length all) c.in-Some.id.0 c.index.result.now refl known.2 c.index.ensures in
-    let step = stepped_same (g.T.TransitionSystem.means c.args.system.now) (value_by (g.E.Estimate.score_of c.args.guide.now.estimate.now)) (g.D.DeadEnd.is_dead c.args.guide.now.dead_ends.now) states all (waiting_in c.args.self.now.queue) c.args.parent.now.id.0
+    let step = stepped_same (g.T.TransitionSystem.means c.args.system.now) (value_by (g.E.Estimate.score_of c.args.guide.now.estimate.now)) (g.D.DeadEnd.is_dead c.args.guide.now.dead_ends.now) states all (waiting_in c.args.self.now.open_list) c.args.parent.now.id.0
     e.search.one_each e.search.nodes e.turn e.others_open s
     (record { cost = c.index-before.result.now.cost + c.from.result; is_expanded = false; parent = c.new.result; action = c.args.action }) refl c.new.ensures
     (omega (arith, same, c.from.ensures, c.cost.ensures)) (omega (arith, c.cost.ensures))

@@ -1,5 +1,5 @@
 use Rattle.std.proofs.Common.{◌≡◌, refl, ◌∙◌, arith}
-use Rattle.search.specs.Queue.{waiting_in}
+use Rattle.search.specs.OpenList.{waiting_in}
 use Rattle.packed_state.specs.Packed.{bits_of}
 use Rattle.search.specs.Estimates.{value_by}
 use Rattle.search.proofs.Steps.{value_fits, joined_by, placed_first, nodes_start}
@@ -14,12 +14,12 @@ returns-clause-search g c =
     let same : states c.add.new.self.store ≡ stored = rw c.in_ok-add.ensures.store refl in
     let value = value_by (g.E.Estimate.score_of c.args.guide.now.estimate.now) in
     let is_dead = g.D.DeadEnd.is_dead c.args.guide.now.dead_ends.now in
-    let joined = joined_by value is_dead s c.value_in-value.result c.new-2.result c.add.new.self.queue 0 c.in_ok-place.place c.value_in-value.ensures c.in_ok-add.ensures.queue in
+    let joined = joined_by value is_dead s c.value_in-value.result c.new-2.result c.add.new.self.open_list 0 c.in_ok-place.place c.value_in-value.ensures c.in_ok-add.ensures.open_list in
     let nodes = nodes_start (g.T.TransitionSystem.means c.args.system.now) value is_dead (states c.add.new.self.store) c.add.new.self.nodes.items
-    (waiting_in c.new-2.result) (waiting_in c.add.new.self.queue) s c.in_ok-place.place _ _ (same ∙ placed.0)
+    (waiting_in c.new-2.result) (waiting_in c.add.new.self.open_list) s c.in_ok-place.place _ _ (same ∙ placed.0)
     (rw c.new.ensures.items at c.in_ok-add.ensures.nodes)
     c.in_ok-initial.ensures.initial placed.1 c.new-2.ensures.none joined.0 in
-    record { one_each = nodes.0; nodes = nodes.1; heap = joined.1 c.new-2.ensures.queue }
+    record { one_each = nodes.0; nodes = nodes.1; heap = joined.1 c.new-2.ensures.open_list }
 
 pub add-requires-clause-place : goal.add-requires-clause-place
 add-requires-clause-place g c =

@@ -3,7 +3,7 @@ use Rattle.std.specs.List.{flat_map}
 use Rattle.syntax_tree.specs.Tree.{problem_of}
 use Rattle.typing.specs.Task.{file_of, ReportsLeastOf}
 use Rattle.task_parts.specs.Scope.{known_outside, known_over, narrow_atoms_in}
-use Rattle.typing.specs.Names.{stated_faults_in}
+use Rattle.typing.specs.Declarations.{stated_faults_in}
 use Rattle.model.specs.Typing.{init_faults, formula_faults, first_filled, values_after}
 use Rattle.task_parts.proofs.Reports.{reports_here, reports_later}
 use Rattle.faults.proofs.Results.{passed_on}

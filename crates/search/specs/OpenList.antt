@@ -1,0 +1,41 @@
+-- The open list of a search: what its two heaps hold, and what they keep.
+use Rattle.std.specs.Prelude.{◌≡◌, ℕ, ◌/◌, ◌%◌, ◌≤◌, ◌<◌, List, ◌∷◌, ◌++◌, map, Option, None, Some, All, IsPermutation}
+use Rattle.std.specs.declared.cmp.Ordering.{Ordering}
+use Rattle.std.specs.declared.cmp.Reverse.{Reverse}
+use Rattle.std.specs.Ordering.{nat_cmp, ordering_then}
+use Rattle.std.specs.BinaryHeap.{IsHeap, heap_items}
+use Rattle.search.specs.declared.open_list.OpenList.{OpenList}
+use Rattle.search.specs.Nodes.{Waiting, sum_of, entry_at, entry}
+
+-- the open list's order: the least sum is on top, then the least estimate, and then the least place
+abbrev pub by_sum : Waiting → Waiting → Ordering
+by_sum x y = ordering_then (ordering_then (nat_cmp y.0.0 x.0.0) (nat_cmp y.0.1 x.0.1)) (nat_cmp y.0.2.0 x.0.2.0)
+
+-- the least word is on top
+abbrev pub by_word : Reverse ℕ → Reverse ℕ → Ordering
+by_word x y = nat_cmp y.0 x.0
+
+-- the entry in a word: its place in the lowest 24 bits, its estimate in the next 20, and its sum above them
+abbrev pub entry_of : Reverse ℕ → Waiting
+entry_of word = entry_at (word.0 / 16777216 / 1048576) (word.0 / 16777216 % 1048576) (word.0 % 16777216)
+
+-- the states that wait, in whatever order
+abbrev pub waiting_in : OpenList → List Waiting
+waiting_in open_list = map entry_of (heap_items open_list.near) ++ heap_items open_list.far
+
+-- both heaps are in order, and each far sum is above each near one
+pub record IsOpenList (open_list : OpenList) : Type 0 where
+  pub near_heap : IsHeap by_word (heap_items open_list.near)
+  pub far_heap : IsHeap by_sum (heap_items open_list.far)
+  pub near : All (λ word. sum_of (entry_of word) < 1048576) (heap_items open_list.near)
+  pub far : All (λ w. 1048576 ≤ sum_of w) (heap_items open_list.far)
+
+-- an entry joins the open list
+pub record Joins (old new : OpenList) (w : Waiting) : Type 0 where
+  pub joins : IsPermutation (w ∷ waiting_in old) (waiting_in new)
+  pub heap : IsOpenList old → IsOpenList new
+
+-- the state at this place, of this cost, joins the open list by its estimate, or, where there is none, the open list stays as it is
+abbrev pub JoinsBy : OpenList → OpenList → ℕ → ℕ → Option ℕ → Type 0
+JoinsBy old new cost place None = new ≡ old
+JoinsBy old new cost place (Some estimate) = Joins old new (entry cost estimate place)

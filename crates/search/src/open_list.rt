@@ -1,0 +1,93 @@
+//! The open list of a search: the states that wait, in the order in which their turns come.
+//!
+//! Most sums are small. Where one is below 2^20, an entry's sum, estimate and place are in one word, whose order is theirs, so
+//! that it takes 8 bytes and is compared at once. Such entries are in a heap of their own, and the others come after them.
+ghost use Rattle.std.specs.Prelude.{◌≡◌, ◌+◌, ◌*◌, ◌≤◌, ◌<◌, [], ◌∷◌, length, All, IsPermutation, IfNone, IfSome, OnOk, false};
+ghost use Rattle.std.specs.Ordering.{is_lt};
+ghost use Rattle.search.specs.Nodes.{sum_of, estimate_of, place_of, entry_at};
+ghost use Rattle.search.specs.OpenList.{by_sum, entry_of, waiting_in, IsOpenList, Joins};
+
+use crate::best::MAX_STATES;
+use crate::nodes::StateId;
+use faults::NoMemory;
+use std::alloc::Global;
+use std::cmp::Reverse;
+use std::collections::BinaryHeap;
+
+/// A waiting state: the sum of its cost and its estimate, the estimate, and its place. The one that comes next is the
+/// greatest: of the least sum, then of the least estimate, then the one found first.
+pub(crate) type OpenListEntry = Reverse<(u64, u64, StateId)>;
+
+/// The sums of near entries are below this, and so are their estimates.
+const FAR: u64 = 1_048_576;
+
+/// The places are below this.
+const PLACES: u64 = 16_777_216;
+
+/// The states that wait.
+#[derive(Drop)]
+pub(crate) struct OpenList {
+    /// The entries whose sum is near, each in one word.
+    near: BinaryHeap<Reverse<u64>>,
+    /// The others.
+    far: BinaryHeap<OpenListEntry>,
+}
+
+impl OpenList {
+    /// No state waits.
+    pub(crate) fn new(alloc: Global) -> OpenList
+        ensures none { waiting_in result ≡ [] }
+        ensures open_list { IsOpenList result }
+    {
+        OpenList {
+            near: BinaryHeap::new(alloc),
+            far: BinaryHeap::new(alloc),
+        }
+    }
+
+    /// The entry joins the others.
+    pub(crate) fn push(&mut self, entry: OpenListEntry) -> Result<(), NoMemory>
+        requires part { estimate_of entry ≤ sum_of entry }
+        requires place { place_of entry < MAX_STATES }
+        ensures { OnOk result (Joins self.old self.new entry) }
+    {
+        let Reverse((sum, estimate, id)) = entry;
+        if sum < FAR {
+            self.near.push(Reverse(word_of(sum, estimate, id)))?;
+        } else {
+            self.far.push(entry)?;
+        }
+        Ok(())
+    }
+
+    /// The entry that comes next leaves the open list.
+    pub(crate) fn pop(&mut self) -> Option<OpenListEntry>
+        ensures none { IfNone result (waiting_in self.old ≡ []) }
+        ensures permutation { IfSome result (λ w. IsPermutation (waiting_in self.old) (w ∷ waiting_in self.new)) }
+        ensures order { IfSome result (λ w.
+            IsOpenList self.old → IsOpenList self.new × All (λ x. is_lt (by_sum w x) ≡ false) (waiting_in self.old)) }
+    {
+        match self.near.pop() {
+            Some(Reverse(word)) => Some(entry_in(word)),
+            None => self.far.pop(),
+        }
+    }
+}
+
+/// The entry in one word.
+fn word_of(sum: u64, estimate: u64, id: StateId) -> u64
+    requires near { sum < 1048576 }
+    requires part { estimate ≤ sum }
+    requires place { id.0 < MAX_STATES }
+    ensures { result ≡ (sum * 1048576 + estimate) * 16777216 + id.0 }
+{
+    (sum * FAR + estimate) * PLACES + u64::from(id.0)
+}
+
+/// The entry that is in the word.
+fn entry_in(word: u64) -> OpenListEntry
+    ensures { result ≡ entry_of (record { 0 = word }) }
+{
+    let upper = word / PLACES;
+    Reverse((upper / FAR, upper % FAR, StateId((word % PLACES) as u32)))
+}
