@@ -7,7 +7,7 @@ ghost use Rattle.certificate_reader.specs.Words.{text_in, then_words, is_no_capi
 
 use crate::first_word::first_word;
 use std::alloc::{AllocError, Global};
-use tokens::is_name;
+use names::is_name;
 
 /// The most bytes that a name may have.
 const LONGEST_NAME: usize = 255;

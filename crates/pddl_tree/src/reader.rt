@@ -12,7 +12,8 @@ ghost use Rattle.tokens.specs.Reported.{reported_by};
 ghost use Rattle.tokens.specs.Word.{word_of};
 ghost use Rattle.model.specs.Fault as model;
 ghost use Rattle.model.specs.Words as text;
-ghost use Rattle.model.specs.Trees.{TaskFile, domain_file, problem_file};
+ghost use Rattle.model.specs.Trees as tree;
+ghost use Rattle.model.specs.Trees.{domain_file, problem_file};
 ghost use Rattle.model.specs.GrammarWords.{tokens_of};
 ghost use Rattle.model.specs.Grammar.{EachIsOneDomain, EachIsOneProblem, IsDomain, IsProblem, IsFile, tree_from};
 ghost use Rattle.model.specs.Refusals.{IsWhole, IsRefused, span_of_place};
@@ -126,9 +127,9 @@ pub fn one_reading()
 
 /// A law of refusals: at most one fault is reported for words, and none of a whole file.
 pub fn one_fault()
-    ensures one { (file : TaskFile) (words : List text.Word) (fault other : model.Fault)
+    ensures one { (file : tree.TaskFile) (words : List text.Word) (fault other : model.Fault)
         → IsRefused file words fault → IsRefused file words other → fault ≡ other }
-    ensures none { (file : TaskFile) (words : List text.Word) (fault : model.Fault)
+    ensures none { (file : tree.TaskFile) (words : List text.Word) (fault : model.Fault)
         → IsWhole file (tokens_of words) → IsRefused file words fault → ⊥ }
 {}
 

@@ -7,7 +7,8 @@ ghost use Rattle.model.specs.Words.{is_gap};
 ghost use Rattle.model.specs.PlanText.{is_stamp};
 
 use faults::{Code, Fault, NoMemory, Refused, Span, TextRefusal};
-use tokens::{Form, is_name, part_end};
+use names::is_name;
+use tokens::{Form, part_end};
 
 /// What a word may be in a step.
 #[derive(Clone, Copy)]

@@ -2,7 +2,8 @@
 use std::alloc::Global;
 use std::process::Abort;
 use std::test::Fail;
-use tokens::{Form, is_name, part_end, scan};
+use names::is_name;
+use tokens::{Form, part_end, scan};
 
 /// The words of a text, each with its kind and its span, which is where its bytes are.
 fn reported(rt: &impl Abort, alloc: Global, text: &[u8]) -> Result<String, Fail> {

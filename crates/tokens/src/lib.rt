@@ -9,6 +9,5 @@ mod word;
 
 pub use form::{Form, part_end};
 pub use laws::{one_fault, one_reading};
-pub use run::is_name;
 pub use scanner::{LONGEST_TEXT, scan};
 pub use word::{Kind, Word};

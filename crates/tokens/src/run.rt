@@ -4,9 +4,10 @@ ghost use Rattle.std.specs.Option.{option_map};
 ghost use Rattle.std.specs.List.{list_all};
 ghost use Rattle.std.specs.Char.{is_ascii_digit};
 ghost use Rattle.tokens.specs.Word.{kind_of};
-ghost use Rattle.model.specs.Words.{is_name_byte, is_name, is_marked_name, is_number, is_only, kind_of_run};
+ghost use Rattle.model.specs.Words.{is_name, is_marked_name, is_number, is_only, kind_of_run};
 
 use crate::word::Kind;
+use names::is_name;
 
 /// The kind of the word that a run is, if it is one.
 pub(crate) fn kind_of_run(run: &[u8]) -> Option<Kind>
@@ -29,32 +30,10 @@ pub(crate) fn kind_of_run(run: &[u8]) -> Option<Kind>
     }
 }
 
-fn is_name_byte(byte: u8) -> bool
-    ensures { result ≡ is_name_byte byte }
-{
-    byte.is_ascii_alphabetic() || byte.is_ascii_digit() || byte == b'-' || byte == b'_'
-}
-
-fn are_name_bytes(bytes: &[u8]) -> bool
-    ensures { result ≡ list_all is_name_byte bytes.now }
-{
-    bytes.iter().all(|byte| is_name_byte(*byte))
-}
-
 fn are_digits(bytes: &[u8]) -> bool
     ensures { result ≡ list_all is_ascii_digit bytes.now }
 {
     bytes.iter().all(|byte| byte.is_ascii_digit())
-}
-
-/// Whether the bytes are a letter, and then letters, digits, `-` and `_`.
-pub fn is_name(bytes: &[u8]) -> bool
-    ensures { result ≡ is_name bytes.now }
-{
-    match bytes.split_first() {
-        Some((first, others)) => first.is_ascii_alphabetic() && are_name_bytes(others),
-        None => false,
-    }
 }
 
 /// Whether the bytes are this mark and a name.
