@@ -2,7 +2,7 @@
 use crate::files::CaseFiles;
 use crate::follow_up::FollowUp;
 use crate::holdings::Holdings;
-use crate::section::{Section, Escapes};
+use crate::section::{Escapes, Section};
 use crate::stream::Stream;
 use faults::NoMemory;
 use std::alloc::{AllocError, Global};

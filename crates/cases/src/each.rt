@@ -1,5 +1,5 @@
 //! The bytes for each of which a case is run.
-use crate::section::{Section, Escapes};
+use crate::section::{Escapes, Section};
 use std::alloc::{AllocError, Global};
 
 /// The section `each` of a case, if it has one.

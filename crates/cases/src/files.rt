@@ -1,5 +1,5 @@
 //! The files of a case.
-use devices::{Files, Memory, IoFault};
+use devices::{Files, IoFault, Memory};
 use std::alloc::Global;
 use test_devices::{FailsAt, InPieces, Table};
 

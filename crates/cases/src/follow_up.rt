@@ -1,7 +1,7 @@
 //! A further run over the files that a case leaves.
 use crate::case::CaseFault;
 use crate::files::CaseFiles;
-use crate::section::{Section, Escapes};
+use crate::section::{Escapes, Section};
 use devices::Memory;
 use std::alloc::{AllocError, Global};
 
@@ -14,7 +14,11 @@ pub struct FollowUp<'a> {
 
 impl<'a> FollowUp<'a> {
     /// What a section says of it: its words, and below them what it is to report.
-    pub fn of(alloc: Global, section: Section<'a>, turn: Escapes) -> Result<FollowUp<'a>, CaseFault> {
+    pub fn of(
+        alloc: Global,
+        section: Section<'a>,
+        turn: Escapes,
+    ) -> Result<FollowUp<'a>, CaseFault> {
         Ok(FollowUp {
             words: section.words.split_whitespace().collect(alloc)?,
             wanted: section.bytes(alloc, turn)?,

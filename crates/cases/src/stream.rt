@@ -1,6 +1,6 @@
 //! The standard output and the standard error of a case.
 use crate::case::{CaseFault, number_of, read_number};
-use crate::section::{Section, Escapes};
+use crate::section::{Escapes, Section};
 use devices::Memory;
 use std::alloc::{AllocError, Global};
 use test_devices::{FailsAt, InPieces};

@@ -17,7 +17,7 @@ pub use certificate_reader::{
     Mark, NUMBER_LIMIT, NamedAtom, StateLine, TextFault, Version, Weights,
     texts_are_certificates_one_for_one,
 };
-pub use devices::{Device, DeviceFault, Memory, Sink, Source, IoFault, write_all};
+pub use devices::{Device, DeviceFault, IoFault, Memory, Sink, Source, write_all};
 pub use header::{Bounds, Header, Potential};
 pub use states::{Listed, States};
 pub use writer::write_cert;

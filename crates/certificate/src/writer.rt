@@ -11,7 +11,7 @@ ghost use Rattle.certificate.specs.Gathering.{IsPassedOn, atom_line, atoms_weigh
 use crate::cert::Cert;
 use crate::line_text::{add_atom, add_head, add_last, add_state, weights_in};
 use certificate_reader::{Mark, StateLine};
-use devices::{Sink, IoFault, write_all};
+use devices::{IoFault, Sink, write_all};
 use packed_state::{Packed, StateStore};
 use std::alloc::Global;
 use task::Task;

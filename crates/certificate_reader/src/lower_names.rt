@@ -6,8 +6,8 @@ ghost use Rattle.certificate_reader.specs.Lines.{name_of};
 ghost use Rattle.certificate_reader.specs.Words.{text_in, then_words, is_no_capital};
 
 use crate::first_word::first_word;
-use std::alloc::{AllocError, Global};
 use names::is_name;
+use std::alloc::{AllocError, Global};
 
 /// The most bytes that a name may have.
 const LONGEST_NAME: usize = 255;

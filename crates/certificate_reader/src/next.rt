@@ -11,7 +11,7 @@ use crate::line::CertLine;
 use crate::ready::{Ready, await_line};
 use crate::stage::{Stage, read_line};
 use crate::waiting::Waiting;
-use devices::{Source, IoFault};
+use devices::{IoFault, Source};
 use std::alloc::Global;
 
 /// The next line, and the stage after it; it is read only where none waits.
@@ -50,10 +50,7 @@ fn take_line(
 }
 
 /// Whether nothing comes after the last line; it is read only where nothing waits.
-pub(crate) fn is_at_end<S: Source>(
-    waiting: &mut Waiting,
-    source: &mut S,
-) -> Result<bool, IoFault>
+pub(crate) fn is_at_end<S: Source>(waiting: &mut Waiting, source: &mut S) -> Result<bool, IoFault>
     ensures end { IsEnd (waiting_of waiting.old) (waiting_of waiting.new) (S.remaining source.old) (S.remaining source.new) result }
     ensures lazy { waiting_of waiting.old ≢ [] → source.new ≡ source.old }
     ensures failures { CountsDevice (S.failures source.old) (S.failures source.new) result }

@@ -7,7 +7,7 @@ ghost use Rattle.certificate_reader.specs.Ready.{IsGrown, IsLineIn, IsReady, IsU
 
 use crate::line::LONGEST_LINE;
 use crate::waiting::Waiting;
-use devices::{Source, IoFault};
+use devices::{IoFault, Source};
 
 /// What waits of a text.
 #[derive(Clone, Copy, Debug, PartialEq, Eq)]
@@ -21,10 +21,7 @@ pub(crate) enum Ready {
 }
 
 /// Reads until a line waits, or too long a one, or the end of the text has come.
-pub(crate) fn await_line<S: Source>(
-    waiting: &mut Waiting,
-    source: &mut S,
-) -> Result<Ready, IoFault>
+pub(crate) fn await_line<S: Source>(waiting: &mut Waiting, source: &mut S) -> Result<Ready, IoFault>
     ensures grown { IfOk result (λ _. IsGrown (S.remaining source.old) (S.remaining source.new) (waiting_of waiting.old) (waiting_of waiting.new)) }
     ensures ready { IfOk result (IsReady (waiting_of waiting.new) (S.remaining source.new)) }
     ensures lazy { IsTrue (is_ready (waiting_of waiting.old)) → source.new ≡ source.old }

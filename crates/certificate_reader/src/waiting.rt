@@ -5,7 +5,7 @@ ghost use Rattle.certificate_reader.specs.Ends.{is_end};
 ghost use Rattle.devices.specs.Devices.{CountsDevice, ReadsSome};
 ghost use Rattle.devices.specs.declared.device.IoFault.TheVariants.{Device as device_failed};
 
-use devices::{Source, IoFault};
+use devices::{IoFault, Source};
 use std::alloc::{AllocError, Global};
 
 /// How many bytes are asked for at a read.

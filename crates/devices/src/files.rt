@@ -8,7 +8,7 @@ mod reading;
 mod system;
 mod writing;
 
-use crate::device::{Sink, Source, IoFault};
+use crate::device::{IoFault, Sink, Source};
 pub use reading::read_file;
 pub use system::SystemFiles;
 pub use writing::{Bytes, Document, write_file};

@@ -6,7 +6,7 @@ mod files;
 mod memory;
 mod system;
 
-pub use device::{DeviceFault, Sink, Source, IoFault, write_all};
+pub use device::{DeviceFault, IoFault, Sink, Source, write_all};
 pub use files::{Bytes, Document, Files, SystemFiles, read_file, write_file};
 pub use memory::{Memory, fill};
 pub use system::Device;

@@ -1,7 +1,7 @@
 //! A device over memory.
 ghost use Rattle.std.specs.Prelude.{◌≡◌, ◌≤◌, ◌++◌, drop, length, min, take, vec_len, Some, []};
 
-use crate::device::{DeviceFault, Sink, Source, IoFault};
+use crate::device::{DeviceFault, IoFault, Sink, Source};
 use std::alloc::Global;
 
 /// A device over bytes in memory: reads give what is left of them, and writes go to their end. It never fails.

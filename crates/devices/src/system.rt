@@ -2,7 +2,7 @@
 ghost use Rattle.std.specs.Prelude.{◌≡◌, false};
 ghost use Rattle.devices.specs.Devices.{one_more};
 
-use crate::device::{DeviceFault, Sink, Source, IoFault};
+use crate::device::{DeviceFault, IoFault, Sink, Source};
 use std::io::{Read, Write};
 
 /// The most bytes that come at a read.

@@ -7,7 +7,7 @@ ghost use Rattle.explained_faults.specs.Explained.{BeginsWith, heading};
 use crate::explanation::{FaultExplanation, FileRefusal, reported_bytes};
 use crate::help::{CostFault, Counts, Help, Limit, Named, Types};
 use crate::near::{Others, is_near};
-use crate::shown::{Chain, Name, NameList, FilePlace, add_words};
+use crate::shown::{Chain, FilePlace, Name, NameList, add_words};
 use faults::{Code, NoMemory};
 use source_text::{LineColumn, NamedTexts, marked};
 use std::alloc::{AllocError, Global};
@@ -75,7 +75,11 @@ impl FaultExplanation<'_> {
         match &self.help {
             Help::Plain => add_plain(self.fault.code, word, out),
             Help::Length(length) => add_length(self.fault, *length, out),
-            Help::Open(at) => write!(out, "the `(` at {} is never closed.", FilePlace::of(texts, *at)),
+            Help::Open(at) => write!(
+                out,
+                "the `(` at {} is never closed.",
+                FilePlace::of(texts, *at)
+            ),
             Help::Earlier(at) => add_earlier(self.fault.code, word, FilePlace::of(texts, *at), out),
             Help::Valued(at) => add_valued(word, FilePlace::of(texts, *at), out),
             Help::BuiltIn => out.push_str("the type `object` is built in."),
@@ -241,7 +245,11 @@ fn add_unknown(
         )
     } else {
         let last = " and ";
-        write!(out, "; the {kind}s{ending} are {}.", NameList { names, last })
+        write!(
+            out,
+            "; the {kind}s{ending} are {}.",
+            NameList { names, last }
+        )
     }
 }
 

@@ -1,5 +1,6 @@
 //! Which bytes are a name, in PDDL and in the texts of plans and certificates.
 #![tactic(auto)]
+
 ghost use Rattle.std.specs.Prelude.{◌≡◌};
 ghost use Rattle.std.specs.List.{list_all};
 ghost use Rattle.model.specs.Words.{is_name_byte, is_name};

@@ -2,7 +2,7 @@
 #![tactic(auto)]
 
 use devices::Device;
-use planner_main::{SystemFiles, run, report_no_memory};
+use planner_main::{SystemFiles, report_no_memory, run};
 use std::alloc::AllocError;
 use std::process::ExitCode;
 use std::{env, io};

@@ -12,9 +12,9 @@ ghost use Rattle.pddl_tree.specs.Sections.{contents_of, sections_on, section_int
 use crate::action::action;
 use faults::{NoMemory, Refused, Span};
 use pddl_tree_values::{
-    Key, Keyword, ListElement, Parsed, Place, SectionKeyword, Token, WordFault, WordRefusal, allowed,
-    close, functions, has_section, is_close, last, list, metric, name, no_condition, open, put,
-    refusal, replace, required, token_at, typed,
+    Key, Keyword, ListElement, Parsed, Place, SectionKeyword, Token, WordFault, WordRefusal,
+    allowed, close, functions, has_section, is_close, last, list, metric, name, no_condition, open,
+    put, refusal, replace, required, token_at, typed,
 };
 use std::alloc::Global;
 use syntax_tree::{Action, Fact, Formula, Group, Name, Predicate, TaskFile};
@@ -173,7 +173,10 @@ fn section_rest<'a>(
             let (_, next) = list::<Key>(alloc, words, at)?;
             Ok(next)
         }
-        SectionKeyword::Types => put(&mut contents.types, typed(alloc, words, at, ListElement::Names)),
+        SectionKeyword::Types => put(
+            &mut contents.types,
+            typed(alloc, words, at, ListElement::Names),
+        ),
         SectionKeyword::Constants => {
             put(
                 &mut contents.constants,

@@ -69,7 +69,12 @@ fn group<'a>(alloc: Global, words: &[Word<'a>], at: usize, listed: ListElement) 
 
 /// The type after a `-`, or the types of an `either`, and the index after it.
 #[tactic(auto, using(crate::proofs::Groups::type_here))]
-fn types<'a>(alloc: Global, words: &[Word<'a>], at: usize, listed: ListElement) -> Parsed<Vec<Name<'a>>>
+fn types<'a>(
+    alloc: Global,
+    words: &[Word<'a>],
+    at: usize,
+    listed: ListElement,
+) -> Parsed<Vec<Name<'a>>>
     ensures { Reads (part (wants_type (listed_view listed))) words.now at (λ names. map name_of names.items) result }
 {
     match token_at(words, at) {

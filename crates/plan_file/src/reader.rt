@@ -13,7 +13,7 @@ ghost use Rattle.model.specs.Task as model;
 ghost use Rattle.model.specs.Fault as reported;
 
 use crate::steps::Meaning;
-use crate::text::{PlanPlace, Advance};
+use crate::text::{Advance, PlanPlace};
 use crate::word::{PlanWord, refusal};
 use faults::{Code, Fault};
 use formulas::{Instance, Plan};
@@ -91,7 +91,9 @@ fn instances_of(alloc: Global, task: &Task, text: &[u8]) -> Result<Vec<Instance>
     }
     match place {
         PlanPlace::Outside => meaning.into_instances(),
-        PlanPlace::Opened | PlanPlace::Inside(_) => { Err(refusal(Code::PlanForm, text.len(), text.len())) }
+        PlanPlace::Opened | PlanPlace::Inside(_) => {
+            Err(refusal(Code::PlanForm, text.len(), text.len()))
+        }
     }
 }
 

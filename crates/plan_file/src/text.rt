@@ -4,7 +4,7 @@ ghost use Rattle.tokens.specs.Reported.{reported_by};
 ghost use Rattle.plan_file.specs.PlanFile.{place_of, turn_of, sort_of, name_of, span_of, ReportsStop};
 ghost use Rattle.model.specs.PlanMachine.{turn};
 
-use crate::word::{Sort, PlanWord};
+use crate::word::{PlanWord, Sort};
 use faults::{Code, Fault};
 
 /// Where in a plan text a word is. The names of the objects of a step that is open are in a buffer beside it.

@@ -15,7 +15,7 @@ ghost use Rattle.model.specs.PlanWriting.{plan_text, step_text, step_line, cost_
 ghost use Rattle.model.specs.PlanWritingExamples.{AreWritten};
 ghost use Rattle.model.specs.Words.{longest_text};
 
-use devices::{Sink, IoFault, write_all};
+use devices::{IoFault, Sink, write_all};
 use faults::NoMemory;
 use formulas::{Instance, Plan};
 use std::alloc::{AllocError, Global};

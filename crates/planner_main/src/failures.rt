@@ -9,7 +9,7 @@ ghost use Rattle.devices.specs.Devices.{IsWritten};
 
 use crate::printing::{DEVICE, NO_MEMORY, REFUSED, WRONG_WORDS};
 use command_line::WordsFault;
-use devices::{Sink, IoFault, write_all};
+use devices::{IoFault, Sink, write_all};
 use faults::{Code, NoMemory, Span};
 use file_answers::{File, FileFault};
 use std::alloc::{AllocError, Global};

@@ -3,8 +3,8 @@
 #![tactic(auto)]
 
 mod failures;
-mod program;
 mod printing;
+mod program;
 
 pub use cert_checker::{Accepted, Refusal, RefusalCode};
 pub use command_line::{MaxCount, Order, WordsFault, read_words};
@@ -15,7 +15,7 @@ pub use file_answers::{
     explain_files, one_task, solve_files, solved_certificates_are_accepted,
     tasks_of_files_are_well_typed, validate_files,
 };
+pub use printing::{Report, json_examples_are_written, json_line};
 pub use program::run;
 pub use solver::{Answer, Exceeded, Limits};
-pub use printing::{Report, json_examples_are_written, json_line};
 pub use validator::Verdict;

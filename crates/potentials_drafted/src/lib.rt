@@ -7,14 +7,14 @@
 mod aims;
 mod dead_drafts;
 mod drafts;
+mod incidence;
 mod linear_program;
 mod mending;
 mod samples;
 mod simplex;
 mod tables;
-mod incidence;
 
 pub use dead_drafts::DeadDrafts;
 pub use drafts::drafted_weights;
+pub use incidence::{Incidence, IncidenceEntry};
 pub use tables::Tables;
-pub use incidence::{IncidenceEntry, Incidence};

@@ -1,7 +1,7 @@
 //! Weights that are whole numbers: rounded ones, mended where they are not fair.
 use crate::aims::{Aims, Gain, Move};
-use crate::tables::Tables;
 use crate::incidence::IncidenceEntry;
+use crate::tables::Tables;
 use faults::NoMemory;
 use potentials::is_in_range;
 use std::alloc::Global;
@@ -212,7 +212,12 @@ impl Mending {
     }
 
     /// What an instance has left, where a weight changes.
-    fn shift_slack(&mut self, touch: IncidenceEntry, before: i64, after: i64) -> Result<(), NoMemory> {
+    fn shift_slack(
+        &mut self,
+        touch: IncidenceEntry,
+        before: i64,
+        after: i64,
+    ) -> Result<(), NoMemory> {
         let less = touch.loss(before).saturating_sub(touch.loss(after));
         let place = touch.number as usize;
         if place < self.slacks.len() {

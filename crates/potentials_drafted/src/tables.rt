@@ -2,8 +2,8 @@
 ghost use Rattle.std.specs.Prelude.{◌≡◌, IfOk};
 ghost use Rattle.potentials_drafted.specs.Tables.{AreTablesOf};
 
+use crate::incidence::{Incidence, IncidenceEntry};
 use crate::samples::{sampled, true_atoms};
-use crate::incidence::{IncidenceEntry, Incidence};
 use faults::NoMemory;
 use grounding::Ground;
 use potentials::{goal_gives, instance_count, is_in_range};

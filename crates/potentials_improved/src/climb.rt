@@ -20,7 +20,7 @@ use packed_state::Packed;
 use potentials::{
     MAX_WEIGHT, Potentials, goal_gives, goal_gives_at_most, is_in_range, or_zero, says,
 };
-use potentials_drafted::{IncidenceEntry, Incidence};
+use potentials_drafted::{Incidence, IncidenceEntry};
 
 /// Fair potentials of the greatest constant, with what they give at most at a goal, and with their score in the initial
 /// state.
@@ -232,7 +232,11 @@ impl Climb {
 }
 
 /// Whether each of these instances is fair by the potentials.
-pub(crate) fn are_fair_at(potentials: &Potentials, ground: &Ground<'_>, instances: &[IncidenceEntry]) -> bool
+pub(crate) fn are_fair_at(
+    potentials: &Potentials,
+    ground: &Ground<'_>,
+    instances: &[IncidenceEntry],
+) -> bool
     requires width { length (potentials_of potentials.now).weights ≡ length (atoms_in ground.now) }
     requires within { All (λ n. n < length (kept_instances (task_in ground.now))) (map number_of instances.now) }
     ensures { IsTrue result ↔ AreFairAt (task_in ground.now) (atoms_in ground.now) (potentials_of potentials.now) (map number_of instances.now) }

@@ -2,7 +2,7 @@
 ghost use Rattle.std.specs.Prelude.{◌≡◌};
 ghost use Rattle.devices.specs.Devices.{one_more};
 
-use devices::{Files, Memory, IoFault};
+use devices::{Files, IoFault, Memory};
 use std::alloc::{AllocError, Global};
 use test_devices::{Endless, FailsAt, InPieces, Table};
 

@@ -128,7 +128,10 @@ fn run_without_an_end(alloc: Global) -> (u8, bool) {
     let (mut out, mut err) = (Memory::empty(alloc), Memory::empty(alloc));
     let status = run(alloc, &SOLVE, &mut files, &mut out, &mut err);
     let reported = b"fault 5 TooLong in domain at 16777216..16777217\n".as_slice();
-    (status, out.as_slice().is_empty() & (err.as_slice() == reported))
+    (
+        status,
+        out.as_slice().is_empty() & (err.as_slice() == reported),
+    )
 }
 
 #[test]

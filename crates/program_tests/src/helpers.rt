@@ -8,7 +8,7 @@ ghost use Rattle.model.specs.Meaning.{is_instance};
 
 use cert_checker::{Accepted, Refusal, RefusalCode, check};
 use certificate::{Cert, CertReader, write_cert};
-use devices::{Memory, Source, IoFault};
+use devices::{IoFault, Memory, Source};
 use formulas::Plan;
 use std::alloc::Global;
 use task::{SchemaId, Task};

@@ -25,8 +25,8 @@ mod machine_files;
 #[cfg(test)]
 mod reading_certificates;
 #[cfg(test)]
-mod reports;
-#[cfg(test)]
 mod reported;
+#[cfg(test)]
+mod reports;
 #[cfg(test)]
 mod writing;

@@ -1,5 +1,5 @@
 //! The machine's files.
-use devices::{DeviceFault, Files, Source, SystemFiles, IoFault, write_all};
+use devices::{DeviceFault, Files, IoFault, Source, SystemFiles, write_all};
 use std::alloc::Global;
 use std::test::Fail;
 use std::{env, fs, process};

@@ -28,7 +28,10 @@ fn faults_are_reported_in_words(rt: HostRuntime) -> Result<(), Fail> {
     let files = "domain: BadForm in domain at 4..17; problem: BadForm in problem at 4..17; \
 plan: BadForm in plan at 4..17; ";
     let failures = "out of memory, out of memory, out of memory, device failed, device failed";
-    assert_eq!(rt; [reported[0].as_str(), reported[1].as_str()], [files, failures]);
+    assert_eq!(rt;
+        [reported[0].as_str(), reported[1].as_str()],
+        [files, failures]
+    );
     Ok(())
 }
 

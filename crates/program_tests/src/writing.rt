@@ -2,7 +2,7 @@
 ghost use Rattle.std.specs.Prelude.{◌<◌};
 
 use certificate::{Bounds, Cert, Claim, Header, Mark, Potential, StateLine, Version, write_cert};
-use devices::{Memory, IoFault};
+use devices::{IoFault, Memory};
 use faults::NoMemory;
 use indexmap::IndexSet;
 use std::alloc::{AllocError, Global};

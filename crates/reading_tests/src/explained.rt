@@ -1,7 +1,7 @@
 //! What is said of a plan in memory, of where its steps are, of a task, and of a fault.
 use explained_faults::{File, FileRefusal, NamedText, NamedTexts, explain_fault};
 use explained_plans::{
-    Summary, explain_plan, false_parts_report, step_place, report_details, report_verdict,
+    Summary, explain_plan, false_parts_report, report_details, report_verdict, step_place,
 };
 use faults::{Code, NoMemory, Span};
 use plan_file::read_plan;

@@ -11,7 +11,7 @@ use std::alloc::Global;
 use std::process::Abort;
 use std::test::Fail;
 use task::Task;
-use test_texts::{GO, HOP, PAIRS, PATH, TIE, Application, Texts, UNTIED, atom, is_of, on_task};
+use test_texts::{Application, GO, HOP, PAIRS, PATH, TIE, Texts, UNTIED, atom, is_of, on_task};
 
 /// A lamp, and a way from the first place to the second, which is seen where the lamp is lit.
 pub(crate) const LAMP: Texts = [

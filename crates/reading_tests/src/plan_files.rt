@@ -1,7 +1,7 @@
 //! Plans that are written to devices, and read back.
 ghost use Rattle.std.specs.Prelude.{◌<◌};
 
-use devices::{Memory, IoFault};
+use devices::{IoFault, Memory};
 use formulas::Plan;
 use plan_file::{read_plan, step_text, write_plan};
 use std::alloc::Global;
@@ -9,7 +9,7 @@ use std::process::Abort;
 use std::test::Fail;
 use task::Task;
 use test_devices::{FailsAt, InPieces};
-use test_texts::{HOP, Application, instance, is_of, on_task};
+use test_texts::{Application, HOP, instance, is_of, on_task};
 
 /// Two hops, as they are written.
 const TWO_HOPS: &[u8] = b"(hop a b)\n(hop b c)\n; cost = 6\n";

@@ -1,8 +1,8 @@
 //! Trees of domains and problems in memory, and what is reported for words that stop too early.
 use faults::{Code, Fault, Span, TextRefusal};
 use pddl_tree::{
-    Action, Amount, Domain, Effect, EffectLiteral, Fact, Formula, Group, Increase, Name, Predicate,
-    Problem, Application, domain, problem,
+    Action, Amount, Application, Domain, Effect, EffectLiteral, Fact, Formula, Group, Increase,
+    Name, Predicate, Problem, domain, problem,
 };
 use std::test::Fail;
 use test_texts::{read_domain, read_problem};

@@ -1,8 +1,8 @@
 //! Words of texts, with their kinds and places, and parts of texts.
+use names::is_name;
 use std::alloc::Global;
 use std::process::Abort;
 use std::test::Fail;
-use names::is_name;
 use tokens::{Form, part_end, scan};
 
 /// The words of a text, each with its kind and its span, which is where its bytes are.

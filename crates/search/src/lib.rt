@@ -6,10 +6,10 @@ mod dead_ends;
 mod estimates;
 mod guide;
 mod nodes;
+mod open_list;
 mod progress;
 mod transitions;
 mod turns;
-mod open_list;
 
 pub use best::{MAX_STATES, Outcome, best_first};
 pub use dead_ends::{DeadEnd, NoDeadEnd};

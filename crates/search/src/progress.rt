@@ -13,9 +13,9 @@ use crate::dead_ends::DeadEnd;
 use crate::estimates::Estimate;
 use crate::guide::Guide;
 use crate::nodes::{FoundStates, Node, ShortId, StateId, steps_to};
+use crate::open_list::OpenList;
 use crate::transitions::TransitionSystem;
 use crate::turns::{Parent, Turn};
-use crate::open_list::OpenList;
 use faults::NoMemory;
 use packed_state::{Packed, StateStore};
 use std::alloc::Global;
@@ -175,7 +175,9 @@ impl<S: StateStore> Progress<S> {
             (JoinsBy self.old.open_list self.new.open_list cost id.0 estimate) }
     {
         match estimate {
-            Some(estimate) => self.open_list.push(Reverse((cost + estimate, estimate, id))),
+            Some(estimate) => self
+                .open_list
+                .push(Reverse((cost + estimate, estimate, id))),
             None => Ok(()),
         }
     }

@@ -122,7 +122,10 @@ fn improved(alloc: Global, ground: &Ground<'_>, rounds: u32) -> Result<Option<u6
 }
 
 /// What is reported for three potentials for the ground task of `HOP`.
-fn reported_of_three(alloc: Global, ground: &Ground<'_>) -> Result<[Option<Fairness>; 3], NoMemory> {
+fn reported_of_three(
+    alloc: Global,
+    ground: &Ground<'_>,
+) -> Result<[Option<Fairness>; 3], NoMemory> {
     Ok([
         reported(alloc, ground, 6, &[0, -3, -6])?,
         reported(alloc, ground, 6, &[0, -2, -6])?,

@@ -3,7 +3,7 @@ ghost use Rattle.std.specs.Prelude.{◌≡◌, [], length};
 ghost use Rattle.packed_state.specs.Packed.{bits_of};
 
 use crate::blind_rooms::{Blind, is_blind};
-use crate::packed_states::{set_of, is_at};
+use crate::packed_states::{is_at, set_of};
 use crate::rooms::Rooms;
 use crate::signs::Signs;
 use faults::NoMemory;

@@ -2,7 +2,7 @@
 ghost use Rattle.std.specs.Prelude.{◌≡◌, ◌<◌, length};
 ghost use Rattle.devices.specs.Devices.{one_more};
 
-use devices::{DeviceFault, Sink, Source, IoFault};
+use devices::{DeviceFault, IoFault, Sink, Source};
 
 /// A device that fails at one call, and else does what the device in it does.
 #[derive(Drop)]

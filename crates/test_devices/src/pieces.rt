@@ -1,7 +1,7 @@
 //! A device that comes in pieces, for tests.
 ghost use Rattle.std.specs.Prelude.{◌≡◌, ◌<◌, ◌≤◌, length, min};
 
-use devices::{DeviceFault, Sink, Source, IoFault};
+use devices::{DeviceFault, IoFault, Sink, Source};
 
 /// A device that moves at most so many bytes at a call.
 #[derive(Drop)]

@@ -7,7 +7,7 @@ ghost use Rattle.std.specs.String.{string_bytes};
 ghost use Rattle.test_devices.specs.Table.{contents_of, draft_name, is_named, KeepsFiles, PutsFile, reads_before};
 
 use crate::failing::FailsAt;
-use devices::{Files, Memory, Sink, Source, IoFault};
+use devices::{Files, IoFault, Memory, Sink, Source};
 use faults::NoMemory;
 use std::alloc::Global;
 

@@ -57,7 +57,14 @@ impl Declarations {
     {
         let predicates = declarations::predicates(alloc, types, domain)?;
         let functions = functions::functions(alloc, types, domain, problem)?;
-        let schemas = Declarations::schemas(alloc, types, objects, &predicates, &functions, domain)?;
+        let schemas = Declarations::schemas(
+            alloc,
+            types,
+            objects,
+            &predicates,
+            &functions,
+            domain,
+        )?;
         Ok(Declarations {
             predicates,
             functions,

@@ -4,7 +4,7 @@ ghost use Rattle.devices.specs.Texts.{AreKept, IsText};
 ghost use Rattle.devices.specs.declared.device.IoFault.TheVariants.{Device};
 ghost use Rattle.devices.specs.Devices.{CountsDevice, IsReading, ReadsSome};
 
-use crate::device::{Source, IoFault};
+use crate::device::{IoFault, Source};
 use crate::files::Files;
 use std::alloc::{AllocError, Global};
 

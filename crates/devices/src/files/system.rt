@@ -3,7 +3,7 @@ ghost use Rattle.std.specs.Prelude.{◌≡◌, ◌<◌, Err, IfSome, IsOk, IsTru
 ghost use Rattle.devices.specs.Devices.{CountsDevice};
 ghost use Rattle.devices.specs.Written.{HoldsBeginning};
 
-use crate::device::{Sink, IoFault};
+use crate::device::{IoFault, Sink};
 use crate::files::Files;
 use crate::system::Device;
 use std::{fs, io, rt};

@@ -4,7 +4,7 @@ ghost use Rattle.std.specs.Io.KnownBytes.{Appends};
 ghost use Rattle.devices.specs.Written.{HoldsBeginning};
 ghost use Rattle.devices.specs.Devices.{AppendsBeginning, CountsDevice};
 
-use crate::device::{Sink, IoFault, write_all};
+use crate::device::{IoFault, Sink, write_all};
 use crate::files::Files;
 
 /// A text that can be written to any device.

@@ -12,7 +12,7 @@ ghost use Rattle.model.specs.Meaning.{is_instance, system_of};
 use crate::explaining::of_fault::explain_refused;
 use crate::explanation::{Explanation, Subject};
 use crate::files::plan_of_file;
-use explained_plans::{PlanExplanation, explain_plan, step_place, report_details, report_verdict};
+use explained_plans::{PlanExplanation, explain_plan, report_details, report_verdict, step_place};
 use faults::NoMemory;
 use formulas::Plan;
 use source_text::{NamedText, NamedTexts, marked, place_of};

@@ -12,8 +12,8 @@ ghost use Rattle.planner_main.specs.Program.{CountsFailure, IsCheckOn, IsChecked
 ghost use Rattle.devices.specs.Devices.{IsKept};
 
 use crate::failures::Failure;
-use crate::program::inputs::{TaskTexts, read_named, read_pair};
 use crate::printing::{Report, failure_of};
+use crate::program::inputs::{TaskTexts, read_named, read_pair};
 use certificate::CertReader;
 use devices::{Files, Source};
 use file_answers::check_files;

@@ -6,8 +6,8 @@ ghost use Rattle.devices.specs.InputTexts.{AreKept, items_in};
 ghost use Rattle.file_answers.specs.Explanations as explanations;
 
 use crate::failures::Failure;
-use crate::program::inputs::{read_named, read_pair};
 use crate::printing::Report;
+use crate::program::inputs::{read_named, read_pair};
 use devices::Files;
 use file_answers::{NamedText, explain_files};
 use std::alloc::Global;

@@ -5,8 +5,8 @@ ghost use Rattle.devices.specs.InputTexts.{AreKept};
 ghost use Rattle.model.specs.Files.{IsTaskFault};
 
 use crate::failures::Failure;
-use crate::program::inputs::read_pair;
 use crate::printing::Report;
+use crate::program::inputs::read_pair;
 use devices::Files;
 use file_answers::solve_files;
 use solver::Limits;

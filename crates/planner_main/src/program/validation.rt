@@ -5,8 +5,8 @@ ghost use Rattle.devices.specs.InputTexts.{AreKept};
 ghost use Rattle.model.specs.Files.{IsFileFault};
 
 use crate::failures::Failure;
-use crate::program::inputs::read_pair;
 use crate::printing::Report;
+use crate::program::inputs::read_pair;
 use devices::{Files, read_file};
 use file_answers::validate_files;
 use std::alloc::Global;

@@ -13,10 +13,10 @@ ghost use Rattle.certificate.specs.Certificate.{certificate_of};
 ghost use Rattle.certificate_definitions.specs.CertificateNames.{certificate_text};
 
 use crate::failures::Failure;
+use crate::printing::{Report, json_text, report_text, said, status_of};
 use crate::program::outputs::Outputs;
-use crate::printing::{Report, json_text, report_text, status_of, said};
 use certificate::{Cert, write_cert};
-use devices::{Bytes, Document, Files, Sink, IoFault, write_all, write_file};
+use devices::{Bytes, Document, Files, IoFault, Sink, write_all, write_file};
 use solver::{Answer, Exceeded};
 use std::alloc::Global;
 use task::Task;
