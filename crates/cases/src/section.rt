@@ -31,7 +31,7 @@ pub struct Section<'a> {
 }
 
 impl<'a> Section<'a> {
-    /// The section of a text that stood between two lines of dashes.
+    /// The section of a text that was between two lines of dashes.
     pub fn of(text: &'a str) -> Section<'a> {
         let (first, below) = text.split_once('\n').unwrap_or((text, ""));
         match first.split_once(": ") {

@@ -1,4 +1,4 @@
--- Atoms that are taken, and atoms that stood before.
+-- Atoms that are taken, and atoms that came before.
 use Rattle.std.proofs.Common.{◌≡◌, Bool, true, false, not, List, [], ◌∷◌, ◌++◌, map, refl, sym, ap, ◌∙◌, subst}
 use Rattle.std.specs.Prelude.{IsTrue, Contains, if◌then◌else◌}
 use Rattle.std.specs.List.{list_any}

@@ -29,9 +29,9 @@ IsCut mark = (rest : ℕ) × (mark ≡ cut rest)
 pub data IsWrongAfter (task : Task) (before : List TextLine) : TextLine → ℕ → Type 0 where
   -- an atom that is not one of the task's, or whose predicate is static
   not_fluent : (a : WeightedAtom) → ¬ NamesFluent task a.atom → IsWrongAfter task before (atom a) 43
-  -- an atom that stood in a line before, with whatever weight
+  -- an atom that was in a line before, with whatever weight
   repeated_atom : (a : WeightedAtom) → NamesFluent task a.atom → HasAtom before a.atom → IsWrongAfter task before (atom a) 44
-  -- a state that stood in a line before
+  -- a state that was in a line before
   repeated_state : (l : StateLine) → ListsAtoms before l.atoms → IsWrongAfter task before (listed l) 44
   -- a cut, where it is claimed that no list of actions solves
   cut_not_allowed : (l : StateLine) → ¬ ListsAtoms before l.atoms → IsCut l.mark → Contains before (claims none) → IsWrongAfter task before (listed l) 52

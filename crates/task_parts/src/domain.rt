@@ -40,7 +40,7 @@ fn refuse_again(walk: &mut Walk, file: TaskFile, name: &Name<'_>, again: bool)
     }
 }
 
-/// Puts what a name stands for into a table. It gives whether the name stood there before.
+/// Puts what a name stands for into a table. It gives whether the name was there before.
 pub fn put<V: Drop>(
     alloc: Global,
     table: &mut IndexMap<Vec<u8>, V>,

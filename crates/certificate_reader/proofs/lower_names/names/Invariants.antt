@@ -1,4 +1,4 @@
--- What stood there is the names so far and then what is left.
+-- What was there is the names so far and then what is left.
 use Rattle.std.proofs.Common.{◌≡◌, map}
 use Rattle.std.specs.Prelude.{IsTrue}
 use Rattle.std.specs.List.{list_all}

@@ -1,4 +1,4 @@
--- What stood there is the numbers so far and then what is left, and a list that goes on from them rises where all of it does.
+-- What was there is the numbers so far and then what is left, and a list that goes on from them rises where all of it does.
 use Rattle.std.proofs.Common.{◌≡◌, ℕ, List, ◌++◌, map}
 use Rattle.std.specs.Fmt.{decimal}
 use Rattle.certificate_definitions.specs.Certificates.{rise}
