@@ -9,11 +9,11 @@ use Rattle.model.specs.Task.{Atom, Task, Instance}
 use Rattle.model.specs.Meaning.{State, step, cost_of, system_of}
 use Rattle.model.specs.Fluents.{is_fluent}
 use Rattle.model.specs.Instances.{all_instances, leading_to, successors_of}
-use Rattle.model.specs.ClosedOff.{is_kept, kept_instances}
+use Rattle.model.specs.StaticallyFalse.{is_kept, kept_instances}
 use Rattle.model.specs.NumberedAtoms.{numbered_atoms}
 use Rattle.model.specs.Grounding.{state_of_bits, bits_of_state, ground_step, ground_system, applicable_numbers}
 use Rattle.model.proofs.ListLemmas.{filter-Contains}
-use Rattle.model.proofs.ClosedOffLemmas.{closed_off_is_not_applicable}
+use Rattle.model.proofs.StaticallyFalseLemmas.{statically_false_is_not_applicable}
 use Rattle.model.proofs.GroundTaskLemmas.{packs_states, ground_task_is_bisimilar}
 
 -- ---- lists
@@ -89,7 +89,7 @@ module _ (task : Task) (more : List Atom) (fluent : All (λ (a : Atom). IsTrue (
       (λ k n i is at. applies-number n i (ap (slice_get (kept_instances task)) (omega (arith, is)) ∙ at))
       (λ k n i y is at leads. leads-number n i y (ap (slice_get (kept_instances task)) (omega (arith, is)) ∙ at) leads)
       ∙ sym (filter_map-filter (leading_to task here) (is_kept task)
-      (λ i closed. ap (option_map (λ (next : State). (i, next))) (closed_off_is_not_applicable task i here ((packs_states task more fluent).statics bits) closed)) (all_instances task))
+      (λ i closed. ap (option_map (λ (next : State). (i, next))) (statically_false_is_not_applicable task i here ((packs_states task more fluent).statics bits) closed)) (all_instances task))
 
 -- ---- a number of the list
 

@@ -8,7 +8,7 @@ use Rattle.model.specs.Task.{Atom, Task, Instance}
 use Rattle.model.specs.WellTyped.{is_atom}
 use Rattle.model.specs.Runs.{Solves}
 use Rattle.model.specs.Meaning.{State, cost_of, system_of, initial_state}
-use Rattle.model.specs.ClosedOff.{kept_instances}
+use Rattle.model.specs.StaticallyFalse.{kept_instances}
 use Rattle.model.specs.NumberedAtoms.{numbered_atoms}
 use Rattle.model.specs.Limits.{max_numbered_atoms}
 use Rattle.model.specs.Grounding.{exceeded_limit}

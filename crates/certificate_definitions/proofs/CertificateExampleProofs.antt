@@ -10,7 +10,7 @@ use Rattle.std.proofs.lemmas.List.Kept.{AllPairs-cons}
 use Rattle.std.specs.FinSet.{contains, from_list, contains-from_list}
 use Rattle.model.specs.Task.{Atom, Instance}
 use Rattle.model.specs.Examples.{ground, instance, tie, tie_task}
-use Rattle.model.specs.ClosedOff.{kept_instances}
+use Rattle.model.specs.StaticallyFalse.{kept_instances}
 use Rattle.model.specs.NumberedAtoms.{numbered_atoms}
 use Rattle.model.specs.Meaning.{State, cost_of, atom_cmp, step, changes_of, meets_goal}
 use Rattle.model.specs.WellTyped.{is_atom}

@@ -5,7 +5,7 @@ use Rattle.model.specs.WellTyped.{is_atom}
 use Rattle.model.specs.Runs.{cost_of_all, Solves}
 use Rattle.model.specs.Meaning.{State, cost_of, initial_state, step, meets_goal, system_of}
 use Rattle.model.specs.Limits.{max_numbered_atoms}
-use Rattle.model.specs.ClosedOff.{kept_instances}
+use Rattle.model.specs.StaticallyFalse.{kept_instances}
 use Rattle.model.specs.NumberedAtoms.{numbered_atoms}
 use Rattle.model.specs.Grounding.{exceeded_limit}
 use Rattle.model.specs.Claims.{Claim, bound, none, Allows, opened, cut, dead, Line, IsListedWithin}

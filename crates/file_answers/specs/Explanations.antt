@@ -29,7 +29,7 @@ use Rattle.model.specs.Meaning.{system_of}
 use Rattle.model.specs.Runs.{IsVerdict}
 use Rattle.model.specs.Files.{IsTaskOf, IsVerdictOf}
 use Rattle.model.specs.Limits.{max_numbered_atoms}
-use Rattle.model.specs.ClosedOff.{kept_instances}
+use Rattle.model.specs.StaticallyFalse.{kept_instances}
 use Rattle.model.specs.NumberedAtoms.{numbered_atoms}
 use Rattle.model.specs.Grounding.{exceeded_limit}
 

@@ -10,7 +10,7 @@ use Rattle.formulas.specs.State.{FitsFormula}
 use Rattle.model.specs.Task.{Atom, Task, Instance}
 use Rattle.model.specs.WellTyped.{is_task}
 use Rattle.model.specs.Meaning.{State, GroundLiteral, adds, deletes, Change, changes_of_instance, is_instance}
-use Rattle.model.specs.ClosedOff.{counts, is_unconditional}
+use Rattle.model.specs.StaticallyFalse.{counts, is_unconditional}
 use Rattle.model.specs.NumberedAtoms.{number_of}
 use Rattle.model.specs.NumberedLiterals.{NumberedLiteral, numbered_ground_literal}
 use Rattle.model.proofs.ListLemmas.{Contains-got, Contains-place, filter_map-Contains, drop-here}

@@ -6,7 +6,7 @@ use Rattle.std.specs.List.{filter_map, cons_option}
 use Rattle.std.specs.Option.{option_map, option_map_or}
 use Rattle.model.specs.Task.{Atom, Formula, Task, Instance, atom, equal, and, or, not, imply, exists, forall, no_formula, more_formulas}
 use Rattle.model.specs.Meaning.{State, holds, GroundLiteral, adds, deletes, Change, changes_of_instance, literals_in}
-use Rattle.model.specs.ClosedOff.{counts, counting_changes, is_empty_and, is_unconditional}
+use Rattle.model.specs.StaticallyFalse.{counts, counting_changes, is_empty_and, is_unconditional}
 use Rattle.model.specs.NumberedAtoms.{number_of}
 use Rattle.model.specs.NumberedLiterals.{NumberedLiteral, NumberedChange, numbered_ground_literal, numbered_change, counting_of_instance}
 use Rattle.grounding.specs.ChangedBits.{number_changed, numbers_changed}

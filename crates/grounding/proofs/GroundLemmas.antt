@@ -12,7 +12,7 @@ use Rattle.grounding.specs.declared.ground.Ground.{Ground}
 use Rattle.grounding.specs.Conditions.{literals_in}
 use Rattle.model.specs.Task.{Atom, Schema, Task, Instance}
 use Rattle.model.specs.Meaning.{is_instance, fits, Change, changes_of_instance}
-use Rattle.model.specs.ClosedOff.{kept_instances}
+use Rattle.model.specs.StaticallyFalse.{kept_instances}
 use Rattle.model.specs.NumberedLiterals.{NumberedLiteral, NumberedChange, numbered_literals, literals_of_instance, literals_of_number, counting_of_instance, counting_of_number}
 use Rattle.model.proofs.ListLemmas.{drop-here}
 use Rattle.grounding.specs.declared.changes.CountingChange.{CountingChange}

@@ -11,13 +11,13 @@ use Rattle.std.proofs.lemmas.List.Sums.{length-filter, count_by-le-length}
 use Rattle.model.specs.Task.{Atom, Schema, Task, Instance}
 use Rattle.model.specs.Meaning.{State, holds, has_amount, can_apply, fits, is_instance, literals_in, after_changes, changes_of, step}
 use Rattle.model.specs.Fluents.{is_fluent, HasInitialStatics}
-use Rattle.model.specs.ClosedOff.{is_closed_off, kept_instances, counting_changes}
+use Rattle.model.specs.StaticallyFalse.{is_statically_false, kept_instances, counting_changes}
 use Rattle.model.specs.NumberedAtoms.{occurs_in, are_distinct}
 use Rattle.model.specs.Grounding.{state_of_bits, bits_of_state, ground_step}
 use Rattle.formulas.proofs.Quantifiers.{among}
 use Rattle.model.proofs.Atoms.{atoms_total}
 use Rattle.model.proofs.ListLemmas.{Contains-got}
-use Rattle.model.proofs.ClosedOffLemmas.{kept-Contains}
+use Rattle.model.proofs.StaticallyFalseLemmas.{kept-Contains}
 use Rattle.model.proofs.GroundTaskLemmas.{step-counting}
 use Rattle.model.proofs.PackedStates.{contains-static}
 use Rattle.grounding.proofs.ChangedBitsLemmas.{after_bits, after_literals-bits}
@@ -58,14 +58,14 @@ module _ (t : Task) (atoms : List Atom) (bits : List Bool) (number : ℕ) (i : I
   applies schema at =
       let of : fits t schema i.objects ≡ true =
       sym (ap (λ o. option_map_or (λ (s : Schema). fits t s i.objects) o false) at) ∙ kept-is_instance t number i named in
-      let kept : (has_amount t schema i.objects && not (is_closed_off t schema.precondition i.objects)) ≡ true =
-      sym (ap (λ o. option_map_or (λ (s : Schema). has_amount t s i.objects && not (is_closed_off t s.precondition i.objects)) o false) at)
+      let kept : (has_amount t schema i.objects && not (is_statically_false t schema.precondition i.objects)) ≡ true =
+      sym (ap (λ o. option_map_or (λ (s : Schema). has_amount t s i.objects && not (is_statically_false t s.precondition i.objects)) o false) at)
       ∙ (kept-Contains t i (Contains-got (kept_instances t) number i named)).1 in
       ap is_some ground_step-named
       ∙ ap (λ o. is_some (option_map (bits_of_state atoms) (option_and_then (λ (s : Schema).
       if fits t s i.objects && can_apply t s i.objects before then Some (after_changes t before (changes_of t s.effect i.objects)) else None) o))) at
       ∙ some_if (fits t schema i.objects) (has_amount t schema i.objects) (holds t schema.precondition i.objects before) (after_changes t before (changes_of t schema.effect i.objects)) of
-      (and_parts (has_amount t schema i.objects) (not (is_closed_off t schema.precondition i.objects)) kept).0
+      (and_parts (has_amount t schema i.objects) (not (is_statically_false t schema.precondition i.objects)) kept).0
 
   -- and then its changes that count set bits
   pub leads-bits : are_distinct atoms ≡ true → ((a : Atom) → occurs_in atoms a ≡ true → is_fluent t a.predicate ≡ true) → length bits ≡ length atoms

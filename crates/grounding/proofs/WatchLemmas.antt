@@ -32,7 +32,7 @@ use Rattle.grounding.proofs.GroundLemmas.{named, schema-of, condition-at}
 use Rattle.grounding.proofs.StepLemmas.{kept-is_instance, applies}
 use Rattle.model.specs.NumberedLiterals as model
 use Rattle.model.specs.NumberedLiterals.{agrees}
-use Rattle.model.specs.ClosedOff.{kept_instances}
+use Rattle.model.specs.StaticallyFalse.{kept_instances}
 use Rattle.model.specs.Grounding.{ground_step, applicable_numbers}
 use Rattle.model.proofs.Tests.{passes_not_index, passes_map}
 

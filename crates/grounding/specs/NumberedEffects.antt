@@ -5,7 +5,7 @@ use Rattle.std.specs.List.{filter_map}
 use Rattle.std.specs.Option.{option_map, option_map_or}
 use Rattle.model.specs.Task.{Atom, Formula, Task, Instance}
 use Rattle.model.specs.Meaning.{State, holds, GroundLiteral, adds, deletes, Change, changes_of_instance}
-use Rattle.model.specs.ClosedOff.{kept_instances, counts, is_unconditional}
+use Rattle.model.specs.StaticallyFalse.{kept_instances, counts, is_unconditional}
 use Rattle.model.specs.NumberedLiterals.{NumberedLiteral, NumberedChange, numbered_ground_literal}
 use Rattle.model.specs.Grounding.{state_of_bits}
 

@@ -4,7 +4,7 @@ ghost use Rattle.task.specs.TaskParts.{atom_of, object_of, formula_of};
 ghost use Rattle.formulas.specs.State.{instance_of, FitsFormula};
 ghost use Rattle.formulas.specs.Effects.{ground_literal_of, change_of};
 ghost use Rattle.model.specs.Meaning.{is_instance};
-ghost use Rattle.model.specs.ClosedOff as closed_off;
+ghost use Rattle.model.specs.StaticallyFalse as statically_false;
 ghost use Rattle.model.specs.NumberedAtoms.{atom_of_literal};
 ghost use Rattle.grounding_kept.specs.Numbering.{task_in, atoms_in};
 ghost use Rattle.grounding_kept.specs.Atoms.{AllFit};
@@ -171,7 +171,7 @@ fn compiled<'t>(
 
 /// Whether the formula is `(and)`, as it is written.
 fn is_empty_and(formula: &Formula) -> bool
-    ensures { result ≡ closed_off.is_empty_and (formula_of formula.now) }
+    ensures { result ≡ statically_false.is_empty_and (formula_of formula.now) }
 {
     match formula {
         Formula::And(parts) => parts.is_empty(),

@@ -47,7 +47,7 @@ impl<'t> Ground<'t> {
     ghost use Rattle.task.specs.TaskParts.{atom_of};
     ghost use Rattle.formulas.specs.State.{instance_of};
     ghost use Rattle.model.specs.Fluents.{is_fluent_atom};
-    ghost use Rattle.model.specs.ClosedOff.{kept_instances};
+    ghost use Rattle.model.specs.StaticallyFalse.{kept_instances};
     ghost use Rattle.model.specs.NumberedAtoms as numbered;
     ghost use Rattle.model.specs.NumberedLiterals.{literals_of_number, literals_of_goal, counting_of_number};
     ghost use Rattle.model.specs.Grounding.{ground_system};

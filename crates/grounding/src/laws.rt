@@ -2,7 +2,7 @@
 ghost use Rattle.std.specs.Prelude.{List, All, IsTrue};
 ghost use Rattle.model.specs.Task.{Atom, Task};
 ghost use Rattle.model.specs.Fluents.{is_fluent};
-ghost use Rattle.model.specs.ClosedOff.{ClosedOffIsNotApplicable, OnlyCountingChangesAreMade};
+ghost use Rattle.model.specs.StaticallyFalse.{StaticallyFalseIsNotApplicable, OnlyCountingChangesAreMade};
 ghost use Rattle.model.specs.NumberedAtoms.{numbered_atoms, AreNumbered};
 ghost use Rattle.model.specs.Grounding.{GroundTaskIsBisimilar, GroundTaskSolvesAlike, PacksStates, NumberedLiteralsHold};
 ghost use Rattle.model.specs.GroundingExamples.{AreGrounded};
@@ -29,9 +29,9 @@ pub fn atoms_are_numbered()
     ensures { (task : Task) (more : List Atom) → AreNumbered task more (numbered_atoms task more) }
 {}
 
-/// An instance whose precondition is closed off is applicable in no state with the static atoms of the start.
-pub fn closed_off_is_not_applicable()
-    ensures { ClosedOffIsNotApplicable }
+/// An instance whose precondition is statically false is applicable in no state with the static atoms of the start.
+pub fn statically_false_is_not_applicable()
+    ensures { StaticallyFalseIsNotApplicable }
 {}
 
 /// In no such state is a change made that does not count.
@@ -44,7 +44,7 @@ pub fn numbered_literals_hold()
     ensures { NumberedLiteralsHold }
 {}
 
-/// The worked examples of grounding: what is closed off, kept and numbered, and where instances lead, as written beside
+/// The worked examples of grounding: what is statically false, kept and numbered, and where instances lead, as written beside
 /// them.
 pub fn grounding_examples_are_judged()
     ensures { AreGrounded }

@@ -1,4 +1,4 @@
--- Instances of which some objects are chosen: what the objects so far close off, and one object after another.
+-- Instances of which some objects are chosen: what the objects so far make statically false, and one object after another.
 use Rattle.std.proofs.Common.{◌≡◌, ◌∙◌, ℕ, zero, suc, ◌+◌, ◌≤◌, Bool, true, false, List, [], ◌∷◌, ◌++◌, length, map, drop, None, Some, refl, sym, ap, subst, arith, append_assoc, append-nil}
 use Rattle.std.specs.Prelude.{IsTrue, slice_get, filter, cond}
 use Rattle.std.specs.Cmp.{first_so, second_so}
@@ -18,7 +18,7 @@ use Rattle.model.specs.Task.{Task, Union, Instance, Schema}
 use Rattle.model.specs.Meaning.{is_of, objects_of, fits, is_instance}
 use Rattle.model.specs.WellTyped.{is_task, is_schema, is_formula}
 use Rattle.model.specs.Instances.{instances_of_schema}
-use Rattle.model.specs.ClosedOff.{is_closed_off, is_kept}
+use Rattle.model.specs.StaticallyFalse.{is_statically_false, is_kept}
 use Rattle.model.proofs.Tests.{passes_got}
 use Rattle.model.proofs.EnumerationLemmas.{closed_within, begun, begun-one, begun-next, begun-pruned, flat_map-here, found-more, instances_left, instances-here, instances-end}
 use Rattle.grounding_kept.specs.declared.fault.GroundLimit.TheVariants.{Instances, Atoms}
@@ -53,12 +53,12 @@ module _ (t : Task) (schema : ℕ) (objects : List ℕ) (literals : List task.Fo
   counts : length so_far.scope ≡ length objects
   counts = as_long (is_of t) so_far.scope objects so_far.fits
 
-  -- where they close off a literal that they decide, no instance that begins with them is kept
-  pub pruned : list_any (λ f. is_closed_off t f objects) literals ≡ true → filter (is_kept t) (begun schema objects (ranges_of left)) ≡ []
+  -- where they make a literal statically false that they decide, no instance that begins with them is kept
+  pub pruned : list_any (λ f. is_statically_false t f objects) literals ≡ true → filter (is_kept t) (begun schema objects (ranges_of left)) ≡ []
   pruned some =
       begun-pruned t schema objects (ranges_of left)
       (ap (λ o. option_map_or (λ (s : Schema). closed_within t s.precondition objects) o false) so_far.at
-      ∙ literals-close t so_far.found.precondition objects (ap (list_any (λ f. is_closed_off t f objects)) (sym so_far.decided) ∙ some))
+      ∙ literals-close t so_far.found.precondition objects (ap (list_any (λ f. is_statically_false t f objects)) (sym so_far.decided) ∙ some))
 
   typed_schema : IsTrue (is_task t) → is_schema t so_far.found ≡ true
   typed_schema well =

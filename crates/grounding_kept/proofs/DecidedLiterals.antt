@@ -1,4 +1,4 @@
--- The literals that some first variables decide, part by part, and what they close off.
+-- The literals that some first variables decide, part by part, and what they make statically false.
 use Rattle.std.proofs.Common.{◌≡◌, ◌∙◌, ℕ, zero, suc, ◌-◌, ◌<◌, Bool, true, false, not, ◌&&◌, ◌||◌, List, [], ◌∷◌, ◌++◌, length, None, Some, refl, sym, ap, arith, true≢false, inl, inr}
 use Rattle.std.specs.Prelude.{◌==◌, slice_get, filter, cond}
 use Rattle.std.specs.Global.{Vec}
@@ -16,7 +16,7 @@ use Rattle.model.specs.Task as task
 use Rattle.model.specs.Task.{Task, Union, Term, variable, object, atom, equal, and, or, imply, exists, forall, no_formula, more_formulas}
 use Rattle.model.specs.WellTyped.{is_formula, are_formulas, is_term, is_some_term}
 use Rattle.model.specs.Meaning.{is_below}
-use Rattle.model.specs.ClosedOff.{is_closed_off}
+use Rattle.model.specs.StaticallyFalse.{is_statically_false}
 use Rattle.model.proofs.StaticLemmas.{or_false}
 use Rattle.model.proofs.EnumerationLemmas.{is_bound, are_bound, closed_within, some_closed_within}
 use Rattle.grounding_kept.specs.Literals.{conjuncts, conjuncts_of_all, is_decided, is_first_decided, decided_literals}
@@ -67,7 +67,7 @@ decided_by_parts count f parts items is same =
     ∙ filter-flat_map (is_first_decided count) (λ part. conjuncts (formula_of part)) parts.items
     ∙ ap (flat_map (λ part. decided_literals count (formula_of part))) (sym same)
 
--- ---- what they close off
+-- ---- what they make statically false
 
 mutual
   closed-conjuncts : (t : Task) (f : task.Formula) (objects : List ℕ) → closed_within t f objects ≡ list_any (λ g. closed_within t g objects) (conjuncts f)
@@ -89,21 +89,21 @@ mutual
 first_decided : (count : ℕ) (f : task.Formula) → is_first_decided count f ≡ true → is_decided count f ≡ true
 first_decided count f first = (and_parts (is_decided count f) (count == 0 || not (is_decided (count - 1) f)) first).0
 
-decided-closed : (t : Task) (f : task.Formula) (objects : List ℕ) → is_decided (length objects) f ≡ true → is_closed_off t f objects ≡ true → closed_within t f objects ≡ true
-decided-closed t (atom a) objects decided closed = and_from (are_bound (length objects) (atom a)) (is_closed_off t (atom a) objects) decided closed
-decided-closed t (equal x y) objects decided closed = and_from (are_bound (length objects) (equal x y)) (is_closed_off t (equal x y) objects) decided closed
+decided-closed : (t : Task) (f : task.Formula) (objects : List ℕ) → is_decided (length objects) f ≡ true → is_statically_false t f objects ≡ true → closed_within t f objects ≡ true
+decided-closed t (atom a) objects decided closed = and_from (are_bound (length objects) (atom a)) (is_statically_false t (atom a) objects) decided closed
+decided-closed t (equal x y) objects decided closed = and_from (are_bound (length objects) (equal x y)) (is_statically_false t (equal x y) objects) decided closed
 decided-closed t (and parts) objects decided closed = absurd (true≢false (sym decided))
 decided-closed t (or parts) objects decided closed = absurd (true≢false (sym decided))
-decided-closed t (task.not part) objects decided closed = and_from (are_bound (length objects) part) (is_closed_off t (task.not part) objects) decided closed
+decided-closed t (task.not part) objects decided closed = and_from (are_bound (length objects) part) (is_statically_false t (task.not part) objects) decided closed
 decided-closed t (imply premise conclusion) objects decided closed = absurd (true≢false (sym decided))
 decided-closed t (exists types part) objects decided closed = absurd (true≢false (sym decided))
 decided-closed t (forall types part) objects decided closed = absurd (true≢false (sym decided))
 
--- where the objects so far close off a literal that they decide, they close off the formula
-pub literals-close : (t : Task) (f : task.Formula) (objects : List ℕ) → list_any (λ g. is_closed_off t g objects) (decided_literals (length objects) f) ≡ true → closed_within t f objects ≡ true
+-- where the objects so far make a literal statically false that they decide, they make the formula statically false
+pub literals-close : (t : Task) (f : task.Formula) (objects : List ℕ) → list_any (λ g. is_statically_false t g objects) (decided_literals (length objects) f) ≡ true → closed_within t f objects ≡ true
 literals-close t f objects some =
     closed-conjuncts t f objects
-    ∙ any_passing (is_first_decided (length objects)) (λ g. is_closed_off t g objects) (λ g. closed_within t g objects)
+    ∙ any_passing (is_first_decided (length objects)) (λ g. is_statically_false t g objects) (λ g. closed_within t g objects)
     (λ g first closed. decided-closed t g objects (first_decided (length objects) g first) closed) (conjuncts f) some
 
 -- ---- they are well-typed for the types of those variables alone

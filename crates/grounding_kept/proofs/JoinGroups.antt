@@ -23,7 +23,7 @@ use Rattle.model.specs.Task as task
 use Rattle.model.specs.Task.{Task, Term}
 use Rattle.model.specs.Meaning as meaning
 use Rattle.model.specs.Meaning.{initial_state, ground_atom}
-use Rattle.model.specs.ClosedOff.{is_closed_off}
+use Rattle.model.specs.StaticallyFalse.{is_statically_false}
 use Rattle.model.proofs.Atoms.{atoms_total}
 use Rattle.model.proofs.ListLemmas.{Contains-place}
 use Rattle.model.proofs.NumberingLemmas.{occurs_in-Contains}
@@ -53,7 +53,7 @@ placed-more j before after items i listed below is grows placed so_far n a n_bel
     some-same : (x y : task.Atom) → Some x ≡ Some y → x ≡ y
     some-same x y same = cc
 
--- ---- what is in no group closes its literal off
+-- ---- what is in no group makes its literal statically false
 
 last-at : (xs : List ℕ) (x : ℕ) → slice_index (xs ++ x ∷ []) (length xs) ≡ x
 last-at [] x = refl
@@ -100,7 +100,7 @@ module _ (t : Task) (number : ℕ) (j : Joint) (joint : IsJoint t number j) (obj
       ] joint.key
 
   pub left_out : (groups : List (BTreeSet ObjectId)) (set : BTreeSet ObjectId) → ArePlaced j groups t.init (length t.init) → slice_get groups (key_number j objects) ≡ Some set → has set one ≡ false
-      → is_closed_off t (task.atom (lifted_atom_of j.atom.now)) chosen ≡ true
+      → is_statically_false t (task.atom (lifted_atom_of j.atom.now)) chosen ≡ true
   left_out groups set placed at none =
       let absent : contains (initial_state t) ground ≡ false =
       elim (contains (initial_state t) ground) as (λ b. contains (initial_state t) ground ≡ b → b ≡ false) [
@@ -132,7 +132,7 @@ group-candidates t number choice j join objects long found those =
     record {
       may = has those.set;
       are = ap (map object_of) those.are ∙ rising-objects t (union_of j.types.now) those.set.keys those.ordered ∙ sym (ap (filter (has those.set)) join.objects);
-      closes = λ one none. any-at (λ f. is_closed_off t f (objects ++ one ∷ [])) choice.literals index.place (task.atom (lifted_atom_of group.index.joint.atom.now)) index.at
+      closes = λ one none. any-at (λ f. is_statically_false t f (objects ++ one ∷ [])) choice.literals index.place (task.atom (lifted_atom_of group.index.joint.atom.now)) index.at
           (left_out t number group.index.joint index.joint objects long one group.index.groups.items those.set index.placed group.at none);
     }
 

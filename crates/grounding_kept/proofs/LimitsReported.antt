@@ -7,7 +7,7 @@ use Rattle.grounding_kept.specs.Atoms.{ReportsAtoms}
 use Rattle.grounding_kept.specs.Numbering.{ReportsLimit}
 use Rattle.model.specs.Task.{Task, Atom}
 use Rattle.model.specs.Limits.{max_numbered_atoms}
-use Rattle.model.specs.ClosedOff.{kept_instances}
+use Rattle.model.specs.StaticallyFalse.{kept_instances}
 use Rattle.model.specs.NumberedAtoms.{numbered_atoms}
 use Rattle.model.proofs.GroundTaskLemmas.{reported_instances, reported_atoms}
 

@@ -18,13 +18,13 @@ use Rattle.model.specs.Task.{Task}
 use Rattle.model.specs.Meaning.{is_instance}
 use Rattle.model.specs.Limits.{max_numbered_atoms}
 use Rattle.model.specs.Fluents.{is_fluent}
-use Rattle.model.specs.ClosedOff.{kept_instances, counts}
+use Rattle.model.specs.StaticallyFalse.{kept_instances, counts}
 use Rattle.formulas.specs.Effects.{change_of}
 use Rattle.formulas.specs.declared.effects.Change.{Change}
 use Rattle.model.specs.Meaning as meaning
 use Rattle.model.specs.NumberedAtoms.{occurs_in, with_atom, with_atoms, initial_fluent_atoms, atom_of_literal}
 use Rattle.model.proofs.ListLemmas.{Contains-here, Contains-there}
-use Rattle.model.proofs.ClosedOffLemmas.{kept-Contains}
+use Rattle.model.proofs.StaticallyFalseLemmas.{kept-Contains}
 use Rattle.model.proofs.NumberingLemmas.{length-with_atoms, with_atoms-append, numbered-more, numbered-too_many}
 use Rattle.grounding_kept.specs.Kept.{GroundFault}
 use Rattle.grounding_kept.specs.Atoms.{ReportsAtoms, atoms_changed}

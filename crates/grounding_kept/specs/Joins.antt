@@ -16,7 +16,7 @@ use Rattle.grounding_kept.specs.Parameters.{Choice, choice_of}
 use Rattle.model.specs.Task as task
 use Rattle.model.specs.Meaning as meaning
 use Rattle.model.specs.Fluents.{is_fluent}
-use Rattle.model.specs.ClosedOff.{is_closed_off}
+use Rattle.model.specs.StaticallyFalse.{is_statically_false}
 use Rattle.model.proofs.EnumerationLemmas.{is_bound}
 
 -- the set has the object of this number
@@ -102,9 +102,9 @@ abbrev pub AreJoined : task.Task → ℕ → List Parameter → Type 0
 AreJoined t number [] = Unit {0}
 AreJoined t number (p ∷ parameters) = IsJoined t number p × AreJoined t (number + 1) parameters
 
--- These are the choice's objects, in order, but for some that close off one of its literals, where the earlier parameters
+-- These are the choice's objects, in order, but for some that make one of its literals statically false, where the earlier parameters
 -- have these objects.
 pub record AreCandidates (t : task.Task) (objects : List ℕ) (choice : Choice) (candidates : List ℕ) : Type 0 where
   pub may : ℕ → Bool
   pub are : candidates ≡ filter may choice.objects
-  pub closes : (one : ℕ) → may one ≡ false → list_any (λ f. is_closed_off t f (objects ++ one ∷ [])) choice.literals ≡ true
+  pub closes : (one : ℕ) → may one ≡ false → list_any (λ f. is_statically_false t f (objects ++ one ∷ [])) choice.literals ≡ true

@@ -10,7 +10,7 @@ use Rattle.grounding_kept.specs.declared.fault.GroundLimit.TheVariants.{Instance
 use Rattle.grounding_kept.specs.Kept.{GroundFault}
 use Rattle.model.specs.Task.{Task, Atom, Instance}
 use Rattle.model.specs.Limits.{max_numbered_atoms}
-use Rattle.model.specs.ClosedOff.{kept_instances}
+use Rattle.model.specs.StaticallyFalse.{kept_instances}
 use Rattle.model.specs.NumberedAtoms.{numbered_atoms}
 use Rattle.model.specs.Grounding as model
 

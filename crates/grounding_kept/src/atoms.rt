@@ -7,7 +7,7 @@ ghost use Rattle.formulas.specs.State.{instance_of, FitsFormula};
 ghost use Rattle.formulas.specs.Effects.{change_of, ground_literal_of};
 ghost use Rattle.model.specs.Meaning.{is_instance};
 ghost use Rattle.model.specs.Fluents as model_fluents;
-ghost use Rattle.model.specs.ClosedOff as closed_off;
+ghost use Rattle.model.specs.StaticallyFalse as statically_false;
 ghost use Rattle.model.specs.NumberedAtoms as numbered;
 ghost use Rattle.grounding_kept.specs.Atoms.{AllFit, ReportsAtoms, atoms_changed};
 
@@ -32,7 +32,7 @@ pub(crate) fn numbered_atoms(
     more: &[Atom],
     kept: &[Instance],
 ) -> Result<IndexSet<Atom>, GroundFault>
-    requires { map instance_of kept.now ≡ closed_off.kept_instances (task_of statics.now.task.now) }
+    requires { map instance_of kept.now ≡ statically_false.kept_instances (task_of statics.now.task.now) }
     ensures numbered { IfOk result (λ atoms. map atom_of atoms.keys ≡ numbered.numbered_atoms (task_of statics.now.task.now) (map atom_of more.now)) }
     ensures few { IfOk result (λ atoms. length atoms.keys ≤ MAX_ATOMS) }
     ensures reported { IfErr result (ReportsAtoms (numbered.numbered_atoms (task_of statics.now.task.now) (map atom_of more.now))) }
@@ -133,9 +133,9 @@ fn number_counting(
 ) -> Result<(), GroundFault>
     requires few { length atoms.old.keys ≤ MAX_ATOMS }
     requires fit { AllFit (task_of statics.now.task.now) (map change_of changes.now) }
-    ensures numbered { OnOk result (map atom_of atoms.new.keys ≡ numbered.with_atoms (map atom_of atoms.old.keys) (atoms_changed (filter (closed_off.counts (task_of statics.now.task.now)) (map change_of changes.now)))) }
+    ensures numbered { OnOk result (map atom_of atoms.new.keys ≡ numbered.with_atoms (map atom_of atoms.old.keys) (atoms_changed (filter (statically_false.counts (task_of statics.now.task.now)) (map change_of changes.now)))) }
     ensures few { OnOk result (length atoms.new.keys ≤ MAX_ATOMS) }
-    ensures reported { IfErr result (ReportsAtoms (numbered.with_atoms (map atom_of atoms.old.keys) (atoms_changed (filter (closed_off.counts (task_of statics.now.task.now)) (map change_of changes.now))))) }
+    ensures reported { IfErr result (ReportsAtoms (numbered.with_atoms (map atom_of atoms.old.keys) (atoms_changed (filter (statically_false.counts (task_of statics.now.task.now)) (map change_of changes.now))))) }
 {
     for change in changes {
         number_if_counting(statics, change, atoms)?;
@@ -152,10 +152,10 @@ fn number_if_counting(
     requires few { length atoms.old.keys ≤ MAX_ATOMS }
     requires fits { FitsFormula (task_of statics.now.task.now) (change_of change.now).condition (change_of change.now).binding }
     ensures numbered { OnOk result (map atom_of atoms.new.keys ≡ numbered.with_atoms (map atom_of atoms.old.keys)
-        (if closed_off.counts (task_of statics.now.task.now) (change_of change.now) then numbered.atom_of_literal (change_of change.now).literal ∷ [] else [])) }
+        (if statically_false.counts (task_of statics.now.task.now) (change_of change.now) then numbered.atom_of_literal (change_of change.now).literal ∷ [] else [])) }
     ensures few { OnOk result (length atoms.new.keys ≤ MAX_ATOMS) }
     ensures reported { IfErr result (ReportsAtoms (numbered.with_atoms (map atom_of atoms.old.keys)
-        (if closed_off.counts (task_of statics.now.task.now) (change_of change.now) then numbered.atom_of_literal (change_of change.now).literal ∷ [] else []))) }
+        (if statically_false.counts (task_of statics.now.task.now) (change_of change.now) then numbered.atom_of_literal (change_of change.now).literal ∷ [] else []))) }
 {
     if !statics.counts(change) {
         return Ok(());

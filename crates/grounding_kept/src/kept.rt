@@ -1,6 +1,6 @@
 //! The kept instances, in order.
 //!
-//! A schema's parameters get objects one after another, by backtracking: objects that close the precondition off already
+//! A schema's parameters get objects one after another, by backtracking: objects that make the precondition statically false already
 //! are not gone on with. So does Helmert 2009, "Concise finite-domain representations for PDDL planning tasks", with static
 //! atoms; which atoms the actions can make true is not asked here.
 ghost use Rattle.std.specs.Prelude.{◌≡◌, ◌+◌, ◌≤◌, ◌++◌, [], ◌∷◌, map, filter, length, IfOk, IfErr, OnOk, IsTrue};
@@ -8,7 +8,7 @@ ghost use Rattle.task.specs.Task.{task_of};
 ghost use Rattle.task.specs.TaskParts.{object_of};
 ghost use Rattle.formulas.specs.State.{instance_of};
 ghost use Rattle.model.specs.Meaning.{is_instance};
-ghost use Rattle.model.specs.ClosedOff as closed_off;
+ghost use Rattle.model.specs.StaticallyFalse as statically_false;
 ghost use Rattle.model.proofs.EnumerationLemmas.{begun};
 ghost use Rattle.grounding_kept.specs.Parameters.{choice_of, lent_formula, ranges_of};
 ghost use Rattle.grounding_kept.specs.Joins.{AreJoined};
@@ -30,9 +30,9 @@ pub(crate) fn kept_instances(
     statics: &Statics<'_>,
     max: u32,
 ) -> Result<Vec<Instance>, GroundFault>
-    ensures kept { IfOk result (λ found. map instance_of found.items ≡ closed_off.kept_instances (task_of statics.now.task.now)) }
+    ensures kept { IfOk result (λ found. map instance_of found.items ≡ statically_false.kept_instances (task_of statics.now.task.now)) }
     ensures few { IfOk result (λ found. length found.items ≤ max) }
-    ensures reported { IfErr result (ReportsInstances max (closed_off.kept_instances (task_of statics.now.task.now))) }
+    ensures reported { IfErr result (ReportsInstances max (statically_false.kept_instances (task_of statics.now.task.now))) }
 {
     let mut found = Vec::new(alloc);
     for number in 0..statics.task.schema_count() {
@@ -59,10 +59,10 @@ impl Enumeration<'_, '_> {
     fn add_all(&self, alloc: Global, found: &mut Vec<Instance>) -> Result<(), GroundFault>
         requires { length found.old.items ≤ self.now.max }
         ensures kept { OnOk result (map instance_of found.new.items ≡ map instance_of found.old.items
-            ++ filter (closed_off.is_kept (task_of self.now.statics.now.task.now)) (instances_of_number (task_of self.now.statics.now.task.now) self.now.schema.0)) }
+            ++ filter (statically_false.is_kept (task_of self.now.statics.now.task.now)) (instances_of_number (task_of self.now.statics.now.task.now) self.now.schema.0)) }
         ensures few { OnOk result (length found.new.items ≤ self.now.max) }
         ensures reported { IfErr result (ReportsInstances self.now.max (map instance_of found.old.items
-            ++ filter (closed_off.is_kept (task_of self.now.statics.now.task.now)) (instances_of_number (task_of self.now.statics.now.task.now) self.now.schema.0))) }
+            ++ filter (statically_false.is_kept (task_of self.now.statics.now.task.now)) (instances_of_number (task_of self.now.statics.now.task.now) self.now.schema.0))) }
     {
         let Some(schema) = self.statics.task.schema(self.schema) else {
             return Ok(());
@@ -94,12 +94,12 @@ impl Enumeration<'_, '_> {
         requires room { length objects.items + length left.now ≤ 16 }
         requires few { length found.old.items ≤ self.now.max }
         ensures kept { OnOk result (map instance_of found.new.items ≡ map instance_of found.old.items
-            ++ filter (closed_off.is_kept (task_of self.now.statics.now.task.now)) (begun self.now.schema.0 (map object_of objects.items) (ranges_of (map choice_of left.now)))) }
+            ++ filter (statically_false.is_kept (task_of self.now.statics.now.task.now)) (begun self.now.schema.0 (map object_of objects.items) (ranges_of (map choice_of left.now)))) }
         ensures few { OnOk result (length found.new.items ≤ self.now.max) }
         ensures reported { IfErr result (ReportsInstances self.now.max (map instance_of found.old.items
-            ++ filter (closed_off.is_kept (task_of self.now.statics.now.task.now)) (begun self.now.schema.0 (map object_of objects.items) (ranges_of (map choice_of left.now))))) }
+            ++ filter (statically_false.is_kept (task_of self.now.statics.now.task.now)) (begun self.now.schema.0 (map object_of objects.items) (ranges_of (map choice_of left.now))))) }
     {
-        if self.statics.closes_off_literal(literals, &objects) {
+        if self.statics.literal_is_statically_false(literals, &objects) {
             return Ok(());
         }
         let Some((parameter, rest)) = left.split_first() else {
@@ -122,10 +122,10 @@ impl Enumeration<'_, '_> {
         requires instance { IsTrue (is_instance (task_of self.now.statics.now.task.now) (instance_of instance)) }
         requires few { length found.old.items ≤ self.now.max }
         ensures kept { OnOk result (map instance_of found.new.items ≡ map instance_of found.old.items
-            ++ filter (closed_off.is_kept (task_of self.now.statics.now.task.now)) (instance_of instance ∷ [])) }
+            ++ filter (statically_false.is_kept (task_of self.now.statics.now.task.now)) (instance_of instance ∷ [])) }
         ensures few { OnOk result (length found.new.items ≤ self.now.max) }
         ensures reported { IfErr result (ReportsInstances self.now.max (map instance_of found.old.items
-            ++ filter (closed_off.is_kept (task_of self.now.statics.now.task.now)) (instance_of instance ∷ []))) }
+            ++ filter (statically_false.is_kept (task_of self.now.statics.now.task.now)) (instance_of instance ∷ []))) }
     {
         if !self.statics.is_kept(&instance) {
             return Ok(());

@@ -1,4 +1,4 @@
-//! Grounding: the instances of a task that its start does not close off, in order, and the atoms that have numbers.
+//! Grounding: the instances of a task that are statically applicable, in order, and the atoms that have numbers.
 #![tactic(auto)]
 
 mod atoms;

@@ -6,7 +6,7 @@ ghost use Rattle.task.specs.TaskParts.{atom_of};
 ghost use Rattle.formulas.specs.State.{instance_of};
 ghost use Rattle.model.specs.Task as model_task;
 ghost use Rattle.model.specs.Fluents.{is_fluent};
-ghost use Rattle.model.specs.ClosedOff.{kept_instances};
+ghost use Rattle.model.specs.StaticallyFalse.{kept_instances};
 ghost use Rattle.model.specs.NumberedAtoms.{occurs_in, are_distinct};
 ghost use Rattle.grounding_kept.specs.declared.atoms.TheConstants.{MAX_ATOMS};
 
@@ -44,7 +44,7 @@ impl<'t> Numbering<'t> {
     ghost use Rattle.formulas.specs.Literals.{literal_of};
     ghost use Rattle.model.specs.Meaning.{initial_state};
     ghost use Rattle.model.specs.Fluents.{is_fluent_atom};
-    ghost use Rattle.model.specs.ClosedOff as closed_off;
+    ghost use Rattle.model.specs.StaticallyFalse as statically_false;
     ghost use Rattle.model.specs.NumberedAtoms as model_atoms;
     ghost use Rattle.model.specs.NumberedLiterals as model_literals;
     ghost use Rattle.grounding_kept.specs.Numbers.{numbered_of};
@@ -139,22 +139,22 @@ impl<'t> Numbering<'t> {
         self.statics.is_initial_static(atom)
     }
 
-    /// Whether the change counts: its condition is not closed off.
+    /// Whether the change counts: its condition is not statically false.
     pub fn counts(&self, change: &Change<'_>) -> bool
         requires { FitsFormula (task_in self.now) (change_of change.now).condition (change_of change.now).binding }
-        ensures { result ≡ closed_off.counts (task_in self.now) (change_of change.now) }
+        ensures { result ≡ statically_false.counts (task_in self.now) (change_of change.now) }
     {
         self.statics.counts(change)
     }
 
-    /// Whether the formula is closed off, where the variables in scope have these objects: one of its sure literals is
+    /// Whether the formula is statically false, where the variables in scope have these objects: one of its sure literals is
     /// static, or of an equality, and is false at the start. The formula is well-typed for variables of some types that
     /// the objects are of. No memory is taken.
-    pub fn is_closed_off(&self, formula: &Formula, binding: &Binding) -> bool
+    pub fn is_statically_false(&self, formula: &Formula, binding: &Binding) -> bool
         requires { FitsFormula (task_in self.now) (formula_of formula.now) (map object_of binding.now.items) }
-        ensures { result ≡ closed_off.is_closed_off (task_in self.now) (formula_of formula.now) (map object_of binding.now.items) }
+        ensures { result ≡ statically_false.is_statically_false (task_in self.now) (formula_of formula.now) (map object_of binding.now.items) }
     {
-        self.statics.is_closed_off(formula, binding)
+        self.statics.is_statically_false(formula, binding)
     }
 
     /// The sure literals of the formula that are of numbered atoms, in order, where the variables in scope have these

@@ -36,7 +36,7 @@ impl<'t> Statics<'t> {
     ghost use Rattle.grounding_kept.specs.Parameters.{lent_formula};
     ghost use Rattle.model.specs.Meaning.{is_instance};
     ghost use Rattle.model.specs.Fluents as model_fluents;
-    ghost use Rattle.model.specs.ClosedOff as closed_off;
+    ghost use Rattle.model.specs.StaticallyFalse as statically_false;
 
     /// Those of the task.
     pub(crate) fn new(alloc: Global, task: &'t Task) -> Result<Statics<'t>, NoMemory>
@@ -75,51 +75,55 @@ impl<'t> Statics<'t> {
         !self.is_fluent(atom.predicate)
     }
 
-    /// Whether the instance's precondition is not closed off, and what it increases the total cost by has a value.
+    /// Whether the instance's precondition is not statically false, and what it increases the total cost by has a value.
     pub(crate) fn is_kept(&self, instance: &Instance) -> bool
         requires { IsTrue (is_instance (task_of self.now.task.now) (instance_of instance.now)) }
-        ensures { result ≡ closed_off.is_kept (task_of self.now.task.now) (instance_of instance.now) }
+        ensures { result ≡ statically_false.is_kept (task_of self.now.task.now) (instance_of instance.now) }
     {
         if amount(self.task, instance).is_none() {
             return false;
         }
         match self.task.schema(instance.schema) {
-            Some(schema) => !self.is_closed_off(&schema.precondition, &instance.objects),
+            Some(schema) => !self.is_statically_false(&schema.precondition, &instance.objects),
             None => false,
         }
     }
 
-    /// Whether the change counts: its condition is not closed off.
+    /// Whether the change counts: its condition is not statically false.
     pub(crate) fn counts(&self, change: &Change<'_>) -> bool
         requires { FitsFormula (task_of self.now.task.now) (change_of change.now).condition (change_of change.now).binding }
-        ensures { result ≡ closed_off.counts (task_of self.now.task.now) (change_of change.now) }
+        ensures { result ≡ statically_false.counts (task_of self.now.task.now) (change_of change.now) }
     {
         match change.condition {
-            Some(condition) => !self.is_closed_off(condition, &change.binding),
+            Some(condition) => !self.is_statically_false(condition, &change.binding),
             None => true,
         }
     }
 
-    /// Whether one of the literals is closed off.
-    pub(crate) fn closes_off_literal(&self, literals: &[&Formula], binding: &Binding) -> bool
+    /// Whether one of the literals is statically false.
+    pub(crate) fn literal_is_statically_false(
+        &self,
+        literals: &[&Formula],
+        binding: &Binding,
+    ) -> bool
         requires { FitsFormulas (task_of self.now.task.now) (map lent_formula literals.now) (map object_of binding.now.items) }
-        ensures { result ≡ list_any (λ part. closed_off.is_closed_off (task_of self.now.task.now) part (map object_of binding.now.items)) (map lent_formula literals.now) }
+        ensures { result ≡ list_any (λ part. statically_false.is_statically_false (task_of self.now.task.now) part (map object_of binding.now.items)) (map lent_formula literals.now) }
     {
         for literal in literals {
-            if self.is_closed_off(literal, binding) {
+            if self.is_statically_false(literal, binding) {
                 return true;
             }
         }
         false
     }
 
-    /// Whether the formula is closed off, where the variables in scope have these objects: one of its sure literals is
+    /// Whether the formula is statically false, where the variables in scope have these objects: one of its sure literals is
     /// static, or of an equality, and is false at the start. The formula is well-typed for variables of some types that
     /// the objects are of. No memory is taken.
-    #[cycle(closed_off)]
-    pub(crate) fn is_closed_off(&self, formula: &Formula, binding: &Binding) -> bool
+    #[cycle(statically_false)]
+    pub(crate) fn is_statically_false(&self, formula: &Formula, binding: &Binding) -> bool
         requires { FitsFormula (task_of self.now.task.now) (formula_of formula.now) (map object_of binding.now.items) }
-        ensures { result ≡ closed_off.is_closed_off (task_of self.now.task.now) (formula_of formula.now) (map object_of binding.now.items) }
+        ensures { result ≡ statically_false.is_statically_false (task_of self.now.task.now) (formula_of formula.now) (map object_of binding.now.items) }
     {
         match formula {
             Formula::Atom(atom) => {
@@ -129,19 +133,19 @@ impl<'t> Statics<'t> {
                 !holds(self.task, formula, binding, &self.initial)
             }
             Formula::Equal(_, _) => !holds(self.task, formula, binding, &self.initial),
-            Formula::Not(part) => self.closes_off_not(part, binding),
-            Formula::And(parts) => self.closes_off_some(parts, binding),
-            Formula::Forall(types, part) => self.closes_off_for_some(types, part, binding),
+            Formula::Not(part) => self.not_is_statically_false(part, binding),
+            Formula::And(parts) => self.some_is_statically_false(parts, binding),
+            Formula::Forall(types, part) => self.is_statically_false_for_some(types, part, binding),
             Formula::Or(_) => false,
             Formula::Imply(_, _) => false,
             Formula::Exists(_, _) => false,
         }
     }
 
-    /// Whether the `not` of the formula is closed off.
-    fn closes_off_not(&self, part: &Formula, binding: &Binding) -> bool
+    /// Whether the `not` of the formula is statically false.
+    fn not_is_statically_false(&self, part: &Formula, binding: &Binding) -> bool
         requires { FitsFormula (task_of self.now.task.now) (formula_of part.now) (map object_of binding.now.items) }
-        ensures { result ≡ closed_off.is_closed_off (task_of self.now.task.now) (model_task.not (formula_of part.now)) (map object_of binding.now.items) }
+        ensures { result ≡ statically_false.is_statically_false (task_of self.now.task.now) (model_task.not (formula_of part.now)) (map object_of binding.now.items) }
     {
         match part {
             Formula::Atom(atom) => {
@@ -155,30 +159,35 @@ impl<'t> Statics<'t> {
         }
     }
 
-    /// Whether one of the formulas is closed off.
-    #[cycle(closed_off)]
-    pub(crate) fn closes_off_some(&self, parts: &[Formula], binding: &Binding) -> bool
+    /// Whether one of the formulas is statically false.
+    #[cycle(statically_false)]
+    pub(crate) fn some_is_statically_false(&self, parts: &[Formula], binding: &Binding) -> bool
         requires { FitsFormulas (task_of self.now.task.now) (map formula_of parts.now) (map object_of binding.now.items) }
-        ensures { result ≡ list_any (λ part. closed_off.is_closed_off (task_of self.now.task.now) part (map object_of binding.now.items)) (map formula_of parts.now) }
+        ensures { result ≡ list_any (λ part. statically_false.is_statically_false (task_of self.now.task.now) part (map object_of binding.now.items)) (map formula_of parts.now) }
     {
         for part in parts {
-            if self.is_closed_off(part, binding) {
+            if self.is_statically_false(part, binding) {
                 return true;
             }
         }
         false
     }
 
-    /// Whether the formula is closed off for one of the objects of these types, as that of the next variable.
-    #[cycle(closed_off)]
-    fn closes_off_for_some(&self, types: &TypeUnion, part: &Formula, binding: &Binding) -> bool
+    /// Whether the formula is statically false for one of the objects of these types, as that of the next variable.
+    #[cycle(statically_false)]
+    fn is_statically_false_for_some(
+        &self,
+        types: &TypeUnion,
+        part: &Formula,
+        binding: &Binding,
+    ) -> bool
         requires { FitsFormula (task_of self.now.task.now) (model_task.forall (union_of types.now) (formula_of part.now)) (map object_of binding.now.items) }
-        ensures { result ≡ closed_off.is_closed_off (task_of self.now.task.now) (model_task.forall (union_of types.now) (formula_of part.now)) (map object_of binding.now.items) }
+        ensures { result ≡ statically_false.is_statically_false (task_of self.now.task.now) (model_task.forall (union_of types.now) (formula_of part.now)) (map object_of binding.now.items) }
     {
         let mut tried = copied(binding);
         for object in objects_of(self.task, types) {
             tried.push(object);
-            if self.is_closed_off(part, &tried) {
+            if self.is_statically_false(part, &tried) {
                 return true;
             }
             tried.pop();

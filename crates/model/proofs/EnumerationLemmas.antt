@@ -13,7 +13,7 @@ use Rattle.model.specs.Task as task_of
 use Rattle.model.specs.Meaning.{object_of, objects_of, ground_atom, initial_state, has_amount}
 use Rattle.model.specs.Instances.{product, instances_of_schema, instances_from}
 use Rattle.model.specs.SureLiterals.{Literal, is_true, is_false, are_same, are_different, literal_holds, sure, sure_not, all_sure}
-use Rattle.model.specs.ClosedOff.{is_fixed, is_closed_off, is_kept}
+use Rattle.model.specs.StaticallyFalse.{is_fixed, is_statically_false, is_kept}
 use Rattle.model.proofs.ListLemmas.{drop-here, drop-absent}
 
 -- ---- one part after another
@@ -82,7 +82,7 @@ begun-next schema objects (first ∷ firsts) left =
     map-append (instance_with schema objects) (map (λ rest. first ∷ rest) (product left)) (flat_map (λ one. map (λ rest. one ∷ rest) (product left)) firsts)
     ∙ (λ i. begun-with schema objects first (product left) i ++ begun-next schema objects firsts left i)
 
--- ---- what the first objects close off already
+-- ---- what the first objects make statically false already
 
 -- none is kept of the instances that begin so, where no more objects can change that
 pub begun-none : (task : Task) (schema : ℕ) (objects : List ℕ) (left : List (List ℕ)) → ((rest : List ℕ) → is_kept task (record { schema = schema; objects = objects ++ rest }) ≡ false)
@@ -125,12 +125,12 @@ are_bound count (atom a) = list_all (is_bound count) a.terms
 are_bound count (equal t u) = is_bound count t && is_bound count u
 are_bound count _ = false
 
--- A sure literal all of whose variables have objects, and which is under no `forall`, closes the formula off.
+-- A sure literal all of whose variables have objects, and which is under no `forall`, makes the formula statically false.
 abbrev mutual
   pub closed_within : Task → Formula → List ℕ → Bool
-  closed_within task (atom a) objects = are_bound (length objects) (atom a) && is_closed_off task (atom a) objects
-  closed_within task (equal t u) objects = are_bound (length objects) (equal t u) && is_closed_off task (equal t u) objects
-  closed_within task (task_of.not part) objects = are_bound (length objects) part && is_closed_off task (task_of.not part) objects
+  closed_within task (atom a) objects = are_bound (length objects) (atom a) && is_statically_false task (atom a) objects
+  closed_within task (equal t u) objects = are_bound (length objects) (equal t u) && is_statically_false task (equal t u) objects
+  closed_within task (task_of.not part) objects = are_bound (length objects) part && is_statically_false task (task_of.not part) objects
   closed_within task (and parts) objects = some_closed_within task parts objects
   closed_within task _ objects = false
 
@@ -155,16 +155,16 @@ sure_not-more (exists types part) objects rest bound = refl
 sure_not-more (forall types part) objects rest bound = refl
 
 mutual
-  pub closed-later : (task : Task) (f : Formula) (objects rest : List ℕ) → closed_within task f objects ≡ true → is_closed_off task f (objects ++ rest) ≡ true
+  pub closed-later : (task : Task) (f : Formula) (objects rest : List ℕ) → closed_within task f objects ≡ true → is_statically_false task f (objects ++ rest) ≡ true
   closed-later task (atom a) objects rest closed =
-      let parts = and_parts (are_bound (length objects) (atom a)) (is_closed_off task (atom a) objects) closed in
+      let parts = and_parts (are_bound (length objects) (atom a)) (is_statically_false task (atom a) objects) closed in
       ap (λ b. some_closes task (is_true b ∷ [])) (ground_atom-more objects rest a parts.0) ∙ parts.1
   closed-later task (equal t u) objects rest closed =
-      let parts = and_parts (are_bound (length objects) (equal t u)) (is_closed_off task (equal t u) objects) closed in
+      let parts = and_parts (are_bound (length objects) (equal t u)) (is_statically_false task (equal t u) objects) closed in
       let bound = and_parts (is_bound (length objects) t) (is_bound (length objects) u) parts.0 in
       (λ i. some_closes task (are_same (object_of-more objects rest t bound.0 i) (object_of-more objects rest u bound.1 i) ∷ [])) ∙ parts.1
   closed-later task (task_of.not part) objects rest closed =
-      let parts = and_parts (are_bound (length objects) part) (is_closed_off task (task_of.not part) objects) closed in
+      let parts = and_parts (are_bound (length objects) part) (is_statically_false task (task_of.not part) objects) closed in
       ap (some_closes task) (sure_not-more part objects rest parts.0) ∙ parts.1
   closed-later task (and parts) objects rest closed = some_closed-later task parts objects rest closed
   closed-later task (or parts) objects rest closed = absurd (cc)
@@ -177,11 +177,11 @@ mutual
   some_closed-later task (more_formulas first others) objects rest closed =
       list_any-append (λ l. is_fixed task l && not (literal_holds (initial_state task) l)) (sure task first (objects ++ rest)) (all_sure task others (objects ++ rest))
       ∙ elim (or_cases (closed_within task first objects) (some_closed_within task others objects) closed) [
-        | inl here ↦ or_left (is_closed_off task first (objects ++ rest)) (some_closes task (all_sure task others (objects ++ rest))) (closed-later task first objects rest here)
-        | inr later ↦ or_right (is_closed_off task first (objects ++ rest)) (some_closes task (all_sure task others (objects ++ rest))) (some_closed-later task others objects rest later)
+        | inl here ↦ or_left (is_statically_false task first (objects ++ rest)) (some_closes task (all_sure task others (objects ++ rest))) (closed-later task first objects rest here)
+        | inr later ↦ or_right (is_statically_false task first (objects ++ rest)) (some_closes task (all_sure task others (objects ++ rest))) (some_closed-later task others objects rest later)
       ]
 
--- the first objects close off the precondition of the schema of this number
+-- the first objects make the precondition statically false of the schema of this number
 abbrev pub is_pruned : Task → ℕ → List ℕ → Bool
 is_pruned task schema objects = option_map_or (λ (s : Schema). closed_within task s.precondition objects) (slice_get task.schemas schema) false
 
@@ -189,7 +189,7 @@ pub begun-pruned : (task : Task) (schema : ℕ) (objects : List ℕ) (left : Lis
 begun-pruned task schema objects left pruned =
     begun-none task schema objects left (λ rest.
     elim (slice_get task.schemas schema) as (λ o. option_map_or (λ (s : Schema). closed_within task s.precondition objects) o false ≡ true
-    → option_map_or (λ (s : Schema). has_amount task s (objects ++ rest) && not (is_closed_off task s.precondition (objects ++ rest))) o false ≡ false) [
+    → option_map_or (λ (s : Schema). has_amount task s (objects ++ rest) && not (is_statically_false task s.precondition (objects ++ rest))) o false ≡ false) [
       | None ↦ λ none. refl
-      | Some s ↦ λ closed. and_right (has_amount task s (objects ++ rest)) (not (is_closed_off task s.precondition (objects ++ rest))) (ap not (closed-later task s.precondition objects rest closed))
+      | Some s ↦ λ closed. and_right (has_amount task s (objects ++ rest)) (not (is_statically_false task s.precondition (objects ++ rest))) (ap not (closed-later task s.precondition objects rest closed))
     ] pruned)

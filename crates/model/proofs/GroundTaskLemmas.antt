@@ -13,14 +13,14 @@ use Rattle.std.proofs.lemmas.List.Elements.{All-contains}
 use Rattle.model.specs.Task.{Atom, Schema, Task, Instance}
 use Rattle.model.specs.Meaning.{State, atom_cmp, initial_state, holds, fits, can_apply, GroundLiteral, adds, deletes, Change, changes_of, changes_of_instance, literals_in, added_by, deleted_by, after_literals, after_changes, step, meets_goal, cost_of, system_of}
 use Rattle.model.specs.Fluents.{touches, is_fluent, HasInitialStatics}
-use Rattle.model.specs.ClosedOff.{kept_instances, counts, counting_changes}
+use Rattle.model.specs.StaticallyFalse.{kept_instances, counts, counting_changes}
 use Rattle.model.specs.NumberedAtoms.{occurs_in, with_atoms, atom_of_literal, touched_by, initial_fluent_atoms, numbered_atoms, are_distinct, AreNumbered, HasNumberedFluents}
 use Rattle.model.specs.Grounding.{state_of_bits, bits_of_state, ground_step, ground_system, applicable_numbers, GroundLimit, of_instances, of_atoms, exceeded_limit, StandsFor, NamesKept, GroundTaskIsBisimilar, GroundTaskSolvesAlike, PacksStates}
 use Rattle.model.proofs.Atoms.{atoms_total, occurs_in-append}
 use Rattle.model.proofs.BisimulationLemmas.{solve_alike}
 use Rattle.model.proofs.ListLemmas.{Contains-place, Contains-filter, filter-Contains, Contains-range}
 use Rattle.model.proofs.StaticLemmas.{contains-after_literals, is_changed, untouched, none_of_all, contains-step, occurs_in-filter}
-use Rattle.model.proofs.ClosedOffLemmas.{only_counting_changes_are_made, Contains-kept}
+use Rattle.model.proofs.StaticallyFalseLemmas.{only_counting_changes_are_made, Contains-kept}
 use Rattle.model.proofs.NumberingLemmas.{occurs_in-Contains, occurs_in-flat_map, occurs_in-flat_map_any, flat_map-occurs_in, occurs_in-with_atoms, distinct-with_atoms, numbered-first}
 use Rattle.model.proofs.PackedStates.{contains-static, contains-fluent, chosen-occurs_in, packed-bits_of_state, bits_of-packed_state}
 

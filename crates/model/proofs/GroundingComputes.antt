@@ -9,14 +9,14 @@ use Rattle.model.specs.Meaning.{State, initial_state, fits, has_amount, can_appl
 use Rattle.model.specs.Fluents.{static_atoms}
 use Rattle.model.specs.Instances.{all_instances}
 use Rattle.model.specs.SureLiterals.{Literal, is_true, is_false, are_same, are_different, literal_holds, sure}
-use Rattle.model.specs.ClosedOff.{is_fixed, is_closed_off, kept_instances, counting_changes}
+use Rattle.model.specs.StaticallyFalse.{is_fixed, is_statically_false, kept_instances, counting_changes}
 use Rattle.model.specs.NumberedAtoms.{occurs_in, with_atoms, atom_of_literal, initial_fluent_atoms, numbered_atoms}
 use Rattle.model.specs.NumberedLiterals.{numbered_change, counting_of_instance}
 use Rattle.model.specs.Grounding.{chosen, state_of_bits, bits_of_state, ground_step, ground_system, applicable_numbers, of_instances, of_atoms, exceeded_limit}
 use Rattle.model.proofs.Atoms.{atoms_total}
 use Rattle.model.proofs.Steps.{holds_where, true_after, contains-state_after, holds-after}
 
--- ---- what is closed off
+-- ---- what is statically false
 
 abbrev holds_among : List Atom → Literal → Bool
 holds_among init (is_true a) = occurs_in init a
@@ -30,25 +30,25 @@ literal-holds task (is_false a) = ap not (contains-from_list atoms_total task.in
 literal-holds task (are_same a b) = refl
 literal-holds task (are_different a b) = refl
 
-abbrev pub closed_off : Task → Formula → List ℕ → Bool
-closed_off task f binding = list_any (λ l. is_fixed task l && not (holds_among task.init l)) (sure task f binding)
+abbrev pub statically_false : Task → Formula → List ℕ → Bool
+statically_false task f binding = list_any (λ l. is_fixed task l && not (holds_among task.init l)) (sure task f binding)
 
-pub closed_off-is : (task : Task) (f : Formula) (binding : List ℕ) → is_closed_off task f binding ≡ closed_off task f binding
-closed_off-is task f binding = λ i. list_any (λ l. is_fixed task l && not (literal-holds task l i)) (sure task f binding)
+pub statically_false-is : (task : Task) (f : Formula) (binding : List ℕ) → is_statically_false task f binding ≡ statically_false task f binding
+statically_false-is task f binding = λ i. list_any (λ l. is_fixed task l && not (literal-holds task l i)) (sure task f binding)
 
 abbrev pub kept : Task → List Instance
-kept task = filter (λ j. option_map_or (λ schema. has_amount task schema j.objects && not (closed_off task schema.precondition j.objects)) (slice_get task.schemas j.schema) false) (all_instances task)
+kept task = filter (λ j. option_map_or (λ schema. has_amount task schema j.objects && not (statically_false task schema.precondition j.objects)) (slice_get task.schemas j.schema) false) (all_instances task)
 
 pub kept-is : (task : Task) → kept_instances task ≡ kept task
-kept-is task = λ i. filter (λ j. option_map_or (λ schema. has_amount task schema j.objects && not (closed_off-is task schema.precondition j.objects i)) (slice_get task.schemas j.schema) false) (all_instances task)
+kept-is task = λ i. filter (λ j. option_map_or (λ schema. has_amount task schema j.objects && not (statically_false-is task schema.precondition j.objects i)) (slice_get task.schemas j.schema) false) (all_instances task)
 
 -- ---- what counts, and what has a number
 
 abbrev pub counting : Task → Instance → List Change
-counting task j = filter (λ c. not (closed_off task c.condition c.binding)) (changes_of_instance task j)
+counting task j = filter (λ c. not (statically_false task c.condition c.binding)) (changes_of_instance task j)
 
 pub counting-is : (task : Task) (j : Instance) → counting_changes task j ≡ counting task j
-counting-is task j = λ i. filter (λ c. not (closed_off-is task c.condition c.binding i)) (changes_of_instance task j)
+counting-is task j = λ i. filter (λ c. not (statically_false-is task c.condition c.binding i)) (changes_of_instance task j)
 
 pub counting_numbers-is : (task : Task) (atoms : List Atom) (j : Instance) → counting_of_instance task atoms j ≡ filter_map (numbered_change atoms) (counting task j)
 counting_numbers-is task atoms j = ap (filter_map (numbered_change atoms)) (counting-is task j)

@@ -10,12 +10,12 @@ use Rattle.model.specs.Examples.{ground, instance, priced, by_length, p, q, doer
 use Rattle.model.specs.GroundingExamples.{adding_q, deleting_q, acting, Closes, Keeps, Numbers, Leads, Meets, Reports, unreached, conditional_task, at_places, at_a, AreGrounded}
 use Rattle.model.proofs.PackedStates.{contains-unnumbered}
 use Rattle.model.proofs.Steps.{leads_nowhere}
-use Rattle.model.proofs.GroundingComputes.{closed_off, closed_off-is, kept, kept-is, counting_numbers-is, numbered, numbered-is, exceeded_limit-is, initial-is, cost-is, holds_packed, meets_goal-is, leads_packed, ground_step-is, applicable-is}
+use Rattle.model.proofs.GroundingComputes.{statically_false, statically_false-is, kept, kept-is, counting_numbers-is, numbered, numbered-is, exceeded_limit-is, initial-is, cost-is, holds_packed, meets_goal-is, leads_packed, ground_step-is, applicable-is}
 
 -- where this computes, the definition says so
 
-closes : {before : List LiftedAtom} {f : Formula} {binding : List ℕ} {answer : Bool} → closed_off (adding_q before) f binding ≡ answer → Closes before f binding answer
-closes {before} {f} {binding} is = record { is_closed = closed_off-is (adding_q before) f binding ∙ is }
+closes : {before : List LiftedAtom} {f : Formula} {binding : List ℕ} {answer : Bool} → statically_false (adding_q before) f binding ≡ answer → Closes before f binding answer
+closes {before} {f} {binding} is = record { is_closed = statically_false-is (adding_q before) f binding ∙ is }
 
 keeps : {task : Task} {found : List Instance} → kept task ≡ found → Keeps task found
 keeps {task} is = record { are_kept = kept-is task ∙ is }
@@ -60,7 +60,7 @@ are_grounded = record {
   not_static_and_true = closes refl;
   not_static_and_false = closes refl;
   not_fluent_and_true = closes refl;
-  only_deleted = closed_off-is (deleting_q (q ∷ [])) (not (atom q)) [] ∙ refl;
+  only_deleted = statically_false-is (deleting_q (q ∷ [])) (not (atom q)) [] ∙ refl;
   are_not_same = closes refl;
   are_same = closes refl;
   do_not_differ = closes refl;
@@ -74,7 +74,7 @@ are_grounded = record {
   not_of_and = closes refl;
   conclusion = closes refl;
   under_exists = closes refl;
-  never_added = closed_off-is (acting [] (atom p) (adds q) []) (atom q) [] ∙ refl;
+  never_added = statically_false-is (acting [] (atom p) (adds q) []) (atom q) [] ∙ refl;
   is_not_kept = keeps refl;
   has_no_atoms = numbers refl;
   any_two = keeps refl;
@@ -114,11 +114,11 @@ are_grounded = record {
   a_value_of_zero = cost-is (by_length true) at_places 2 ∙ refl;
   a_value_without_the_metric = cost-is (by_length false) at_places 0 ∙ refl;
   leads_by_its_number = λ has_metric. leads refl;
-  value_and_closed_off = keeps refl;
+  value_and_statically_false = keeps refl;
   too_many_instances = reports refl;
   both_too_many = reports refl;
   too_many_atoms = reports refl;
   neither = reports refl;
-  closed_off_does_not_count = reports refl;
+  statically_false_does_not_count = reports refl;
   more_counts = reports refl;
 }

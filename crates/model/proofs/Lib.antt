@@ -10,7 +10,7 @@ pub mod StaticLemmas
 pub mod NumberingLemmas
 pub mod PackedStates
 pub mod SureLiteralsHold
-pub mod ClosedOffLemmas
+pub mod StaticallyFalseLemmas
 pub mod Steps
 pub mod EnumerationLemmas
 pub mod GroundTaskLemmas

@@ -7,7 +7,7 @@ use Rattle.std.proofs.lemmas.Bool.{or_left, or_right}
 use Rattle.std.proofs.lemmas.List.{append_assoc}
 use Rattle.model.specs.Task.{Atom, Task}
 use Rattle.model.specs.Meaning.{atom_cmp}
-use Rattle.model.specs.ClosedOff.{kept_instances}
+use Rattle.model.specs.StaticallyFalse.{kept_instances}
 use Rattle.model.specs.NumberedAtoms.{occurs_in, with_atom, with_atoms, touched_by, initial_fluent_atoms, numbered_atoms}
 use Rattle.model.specs.Grounding.{of_instances, of_atoms, exceeded_limit}
 use Rattle.model.proofs.NumberingLemmas.{same_itself, occurs_in-with_atoms, with_atoms-append, with_atoms-distinct}

@@ -11,7 +11,7 @@ use Rattle.model.specs.Task.{Atom, Task, Instance}
 use Rattle.model.specs.Meaning.{State, literals_in, added_by, deleted_by, step}
 use Rattle.model.specs.Fluents.{is_fluent}
 use Rattle.model.specs.SureLiterals.{Literal, is_true, is_false, are_same, are_different, literal_holds, sure}
-use Rattle.model.specs.ClosedOff.{counting_changes}
+use Rattle.model.specs.StaticallyFalse.{counting_changes}
 use Rattle.model.specs.NumberedAtoms.{occurs_in, numbered_atoms, number_of}
 use Rattle.model.specs.NumberedLiterals.{NumberedLiteral, numbered_literal, agrees}
 use Rattle.model.specs.Grounding.{state_of_bits, bits_of_state, NumberedLiteralsHold}

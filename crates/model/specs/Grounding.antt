@@ -8,7 +8,7 @@ use Rattle.model.specs.Task.{Atom, Formula, Task, Instance}
 use Rattle.model.specs.Runs.{System}
 use Rattle.model.specs.Meaning.{State, initial_state, holds, cost_of, step, meets_goal, system_of}
 use Rattle.model.specs.Fluents.{is_fluent, static_atoms, HasInitialStatics}
-use Rattle.model.specs.ClosedOff.{kept_instances}
+use Rattle.model.specs.StaticallyFalse.{kept_instances}
 use Rattle.model.specs.NumberedAtoms.{numbered_atoms, HasNumberedFluents}
 use Rattle.model.specs.NumberedLiterals.{agrees, numbered_literals}
 use Rattle.model.specs.Bisimulation.{IsBisimulation, SolveAlike}

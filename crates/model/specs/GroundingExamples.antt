@@ -1,9 +1,9 @@
--- Worked examples of grounding: what is closed off, which instances are kept, which changes count, which atoms have numbers
+-- Worked examples of grounding: what is statically false, which instances are kept, which changes count, which atoms have numbers
 -- and what packed states mean. Each is chosen so that a wrong reading says otherwise.
 use Rattle.std.specs.Prelude.{◌≡◌, ℕ, Bool, true, false, List, [], ◌∷◌, Option, None, Some}
 use Rattle.model.specs.Task.{Union, Atom, LiftedAtom, variable, object, Formula, atom, equal, and, or, not, imply, exists, forall, add, delete, Effect, each, when, Task, Instance}
 use Rattle.model.specs.Examples.{formulas, ground, instance, walk_to, a_to_b, b_to_c, priced, go_along, by_length, b_to_a, trucks, vehicles, boats, seen, p, q, r, doer, doing, adds, deletes, all, the_truck, the_vehicle}
-use Rattle.model.specs.ClosedOff.{is_closed_off, kept_instances}
+use Rattle.model.specs.StaticallyFalse.{is_statically_false, kept_instances}
 use Rattle.model.specs.NumberedAtoms.{numbered_atoms, number_of}
 use Rattle.model.specs.NumberedLiterals.{NumberedLiteral, literals_of_instance, literals_of_goal, NumberedChange, counting_of_instance}
 use Rattle.model.specs.Grounding.{ground_step, ground_system, applicable_numbers, GroundLimit, of_instances, of_atoms, exceeded_limit}
@@ -16,9 +16,9 @@ adding_q before = doing [] (adds q) before []
 abbrev pub deleting_q : List LiftedAtom → Task
 deleting_q before = doing [] (deletes q) before []
 
--- whether the formula is closed off there, where the variables have these objects
+-- whether the formula is statically false there, where the variables have these objects
 pub record Closes (before : List LiftedAtom) (formula : Formula) (binding : List ℕ) (answer : Bool) : Type 0 where
-  pub is_closed : is_closed_off (adding_q before) formula binding ≡ answer
+  pub is_closed : is_statically_false (adding_q before) formula binding ≡ answer
 
 -- which instances are kept, and which atoms have numbers
 pub record Keeps (task : Task) (found : List Instance) : Type 0 where
@@ -60,7 +60,7 @@ unreached = record (acting (trucks ∷ []) (atom (seen the_vehicle)) (adds (seen
 abbrev pub closed_by_length : Task
 closed_by_length = record (by_length true) { schemas = record go_along { precondition = equal (variable 1) (object 0) } ∷ [] }
 
--- changes under (and), under (and (and)), under none, and under a condition that is closed off
+-- changes under (and), under (and (and)), under none, and under a condition that is statically false
 abbrev pub conditional : Effect
 conditional = all (
     when (and (formulas [])) (add (seen the_truck) ∷ [])
@@ -93,7 +93,7 @@ abbrev pub at_c : List Bool
 at_c = false ∷ false ∷ true ∷ []
 
 pub record AreGrounded : Type 0 where
-  -- A static atom that is false at the start closes off; one that is true does not, nor one that is fluent.
+  -- A static atom that is false at the start makes a precondition statically false; one that is true does not, nor one that is fluent.
   pub static_and_false : Closes [] (atom p) [] true
   pub static_and_true : Closes (p ∷ []) (atom p) [] false
   pub fluent_and_false : Closes [] (atom q) [] false
@@ -101,7 +101,7 @@ pub record AreGrounded : Type 0 where
   pub not_static_and_true : Closes (p ∷ []) (not (atom p)) [] true
   pub not_static_and_false : Closes [] (not (atom p)) [] false
   pub not_fluent_and_true : Closes (q ∷ []) (not (atom q)) [] false
-  pub only_deleted : is_closed_off (deleting_q (q ∷ [])) (not (atom q)) [] ≡ false
+  pub only_deleted : is_statically_false (deleting_q (q ∷ [])) (not (atom q)) [] ≡ false
   -- So does an equality, by the objects of the variables.
   pub are_not_same : Closes [] both_same (0 ∷ 1 ∷ []) true
   pub are_same : Closes [] both_same (0 ∷ 0 ∷ []) false
@@ -118,11 +118,11 @@ pub record AreGrounded : Type 0 where
   pub not_of_and : Closes (p ∷ []) (not (and (formulas (atom p ∷ [])))) [] false
   pub conclusion : Closes [] (imply (and (formulas [])) (atom p)) [] false
   pub under_exists : Closes [] (exists trucks (atom p)) [] false
-  -- What an action adds is fluent, also where its one instance is closed off; that instance's atoms have no numbers.
-  pub never_added : is_closed_off (acting [] (atom p) (adds q) []) (atom q) [] ≡ false
+  -- What an action adds is fluent, also where its one instance is statically inapplicable; that instance's atoms have no numbers.
+  pub never_added : is_statically_false (acting [] (atom p) (adds q) []) (atom q) [] ≡ false
   pub is_not_kept : Keeps (acting [] (atom p) (adds q) []) []
   pub has_no_atoms : Numbers (acting [] (atom p) (adds q) []) [] []
-  -- Two parameters may have one object; where they must differ, those instances are closed off, and the others keep their
+  -- Two parameters may have one object; where they must differ, those instances are statically inapplicable, and the others keep their
   -- order.
   pub any_two : Keeps (of_two (and (formulas []))) (instance 0 (0 ∷ 0 ∷ []) ∷ instance 0 (0 ∷ 1 ∷ []) ∷ instance 0 (1 ∷ 0 ∷ []) ∷ instance 0 (1 ∷ 1 ∷ []) ∷ [])
   pub two_that_differ : Keeps (of_two (not both_same)) (instance 0 (0 ∷ 1 ∷ []) ∷ instance 0 (1 ∷ 0 ∷ []) ∷ [])
@@ -179,13 +179,13 @@ pub record AreGrounded : Type 0 where
   pub a_value_of_zero : (ground_system (by_length true) at_places).cost 2 ≡ 0
   pub a_value_without_the_metric : (ground_system (by_length false) at_places).cost 0 ≡ 1
   pub leads_by_its_number : (has_metric : Bool) → Leads (by_length has_metric) at_places at_b 2 (Some at_c)
-  -- Nor is one that has a value and is closed off.
-  pub value_and_closed_off : Keeps closed_by_length (b_to_a ∷ [])
+  -- Nor is one that has a value and is statically false.
+  pub value_and_statically_false : Keeps closed_by_length (b_to_a ∷ [])
   -- A limit is reported where there are more, and not where there are just as many; that of instances first.
   pub too_many_instances : Reports 3 2 (of_two (and (formulas []))) [] (Some of_instances)
   pub both_too_many : Reports 3 1 (of_two (and (formulas []))) [] (Some of_instances)
   pub too_many_atoms : Reports 4 1 (of_two (and (formulas []))) [] (Some of_atoms)
   pub neither : Reports 4 2 (of_two (and (formulas []))) [] None
-  -- What is closed off does not count, and `more` does.
-  pub closed_off_does_not_count : Reports 2 2 (of_two (not both_same)) [] None
+  -- What is statically false does not count, and `more` does.
+  pub statically_false_does_not_count : Reports 2 2 (of_two (not both_same)) [] None
   pub more_counts : Reports 2 2 (of_two (not both_same)) (ground 0 (2 ∷ []) ∷ []) (Some of_atoms)

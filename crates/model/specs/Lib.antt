@@ -18,7 +18,7 @@ pub mod Meaning
 pub mod Instances
 pub mod SureLiterals
 pub mod Fluents
-pub mod ClosedOff
+pub mod StaticallyFalse
 pub mod NumberedAtoms
 pub mod NumberedLiterals
 pub mod Bisimulation

@@ -6,7 +6,7 @@ use Rattle.std.specs.FinSet.{contains}
 use Rattle.model.specs.Task.{Atom, Task, Instance}
 use Rattle.model.specs.Meaning.{State, initial_state, atom_cmp, GroundLiteral, adds, deletes, Change}
 use Rattle.model.specs.Fluents.{is_fluent}
-use Rattle.model.specs.ClosedOff.{kept_instances, counting_changes}
+use Rattle.model.specs.StaticallyFalse.{kept_instances, counting_changes}
 
 -- the atom is in the list
 abbrev pub occurs_in : List Atom → Atom → Bool

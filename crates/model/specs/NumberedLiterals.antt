@@ -6,7 +6,7 @@ use Rattle.std.specs.Option.{option_map, option_map_or}
 use Rattle.model.specs.Task.{Atom, Formula, Schema, Task, Instance}
 use Rattle.model.specs.Meaning.{GroundLiteral, adds, deletes, Change}
 use Rattle.model.specs.SureLiterals.{Literal, is_true, is_false, sure}
-use Rattle.model.specs.ClosedOff.{kept_instances, counting_changes, is_unconditional}
+use Rattle.model.specs.StaticallyFalse.{kept_instances, counting_changes, is_unconditional}
 use Rattle.model.specs.NumberedAtoms.{number_of}
 
 -- a numbered atom is true, or false

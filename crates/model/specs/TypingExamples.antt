@@ -7,7 +7,7 @@ use Rattle.model.specs.Trees as tree
 use Rattle.model.specs.Trees.{TaskFile, domain_file, problem_file, Name, Group, GroundAtom, Fact, Predicate, Increase, Action, Domain, Problem, Term, Atom, Formula, Effect, formulas, effects}
 use Rattle.model.specs.Meaning.{State, holds, changes_of_instance}
 use Rattle.model.specs.SureLiterals.{Literal, is_true, sure}
-use Rattle.model.specs.ClosedOff.{is_unconditional}
+use Rattle.model.specs.StaticallyFalse.{is_unconditional}
 use Rattle.model.specs.Resolution.{TypingFault, Placed, exists_over, forall_over, task_of_trees}
 use Rattle.model.specs.TypingFaults.{Phase, IsFaultIn, IsWellTyped, IsReported}
 

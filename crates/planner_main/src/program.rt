@@ -32,7 +32,7 @@ use writing::write_report;
 /// error, and the status that it ends with. What the words ask for is `read_words`' matter.
 ///
 /// `solve` reports a cheapest plan, or that there is none. At most so many states are listed, and so many instances kept, those that
-/// the start does not close off. Where so many states do not suffice, it says what each plan costs at least; at another limit
+/// are statically applicable. Where so many states do not suffice, it says what each plan costs at least; at another limit
 /// nothing is claimed of plans. The certificate of the answer, at the limit of states too, is written to the file of `--cert`, then a
 /// plan's text to the file of `--plan`, and then the standard output; where one of them fails, those after it are not touched, and
 /// neither is a file for which there is nothing to write. `validate` says whether the plan solves the task. `check` says what the

@@ -7,7 +7,7 @@ use Rattle.std.proofs.lemmas.List.Elements.{All-cons, All-nil}
 use Rattle.std.proofs.lemmas.Int.{ints}
 use Rattle.model.specs.Task.{Atom, Task, Instance}
 use Rattle.model.specs.Meaning.{cost_of}
-use Rattle.model.specs.ClosedOff.{kept_instances}
+use Rattle.model.specs.StaticallyFalse.{kept_instances}
 use Rattle.model.specs.NumberedLiterals.{numbered_change, literals_of_instance}
 use Rattle.model.proofs.GroundingComputes.{kept-is, counting, counting_numbers-is, initial-is}
 use Rattle.potential_functions.specs.PotentialFunctions.{PotentialFunction, value}

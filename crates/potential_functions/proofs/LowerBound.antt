@@ -13,14 +13,14 @@ use Rattle.model.specs.Task.{Atom, Task, Instance}
 use Rattle.model.specs.Runs.{System, run}
 use Rattle.model.specs.Meaning.{State, cost_of, step, meets_goal, system_of}
 use Rattle.model.specs.Fluents.{is_fluent, HasInitialStatics}
-use Rattle.model.specs.ClosedOff.{kept_instances}
+use Rattle.model.specs.StaticallyFalse.{kept_instances}
 use Rattle.model.specs.NumberedAtoms.{occurs_in}
 use Rattle.model.specs.NumberedLiterals.{literals_of_instance, literals_of_goal, counting_of_instance}
 use Rattle.model.specs.Grounding.{state_of_bits, bits_of_state, ground_step, ground_system}
 use Rattle.model.proofs.NumberingLemmas.{occurs_in-Contains}
 use Rattle.model.proofs.PackedStates.{contains-static, bits_of-packed_state}
 use Rattle.model.proofs.Atoms.{atoms_total}
-use Rattle.model.proofs.ClosedOffLemmas.{Contains-kept}
+use Rattle.model.proofs.StaticallyFalseLemmas.{Contains-kept}
 use Rattle.model.proofs.GroundTaskLemmas.{step-HasInitialStatics}
 use Rattle.std.specs.FinSet.{contains-from_list}
 use Rattle.potential_functions.specs.PotentialFunctions.{PotentialFunction, score, value, value_of_state, is_dead_by}

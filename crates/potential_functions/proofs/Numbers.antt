@@ -6,7 +6,7 @@ use Rattle.std.proofs.lemmas.Option.{slice_get_within}
 use Rattle.model.specs.Task.{Atom, Formula, Task, Instance}
 use Rattle.model.specs.Meaning.{GroundLiteral, adds, deletes, Change}
 use Rattle.model.specs.SureLiterals.{Literal, is_true, is_false, are_same, are_different, sure}
-use Rattle.model.specs.ClosedOff.{kept_instances, is_unconditional, counting_changes}
+use Rattle.model.specs.StaticallyFalse.{kept_instances, is_unconditional, counting_changes}
 use Rattle.model.specs.NumberedAtoms.{number_of}
 use Rattle.model.specs.NumberedLiterals.{NumberedLiteral, NumberedChange, numbered_literal, numbered_literals, numbered_ground_literal, numbered_change, literals_of_instance, literals_of_number, counting_of_instance, counting_of_number}
 use Rattle.model.proofs.ListLemmas.{Contains-none, filter_map-Contains}

@@ -11,7 +11,7 @@ use Rattle.model.specs.Task.{Atom, Formula, and, no_formula, Schema, Task, Insta
 use Rattle.model.specs.Meaning.{State, atom_cmp, fits, holds, has_amount, can_apply, GroundLiteral, adds, deletes, Change, changes_of, literals_in, added_by, deleted_by, after_changes, step}
 use Rattle.model.specs.Fluents.{HasInitialStatics}
 use Rattle.model.specs.SureLiterals.{Literal, is_true, is_false, are_same, are_different, literal_holds, sure}
-use Rattle.model.specs.ClosedOff.{is_empty_and, is_unconditional, counting_changes}
+use Rattle.model.specs.StaticallyFalse.{is_empty_and, is_unconditional, counting_changes}
 use Rattle.model.specs.NumberedAtoms.{occurs_in, atom_of_literal, number_of, are_distinct}
 use Rattle.model.specs.NumberedLiterals.{NumberedLiteral, NumberedChange, numbered_literal, numbered_literals, numbered_change, literals_of_instance, counting_of_instance}
 use Rattle.model.proofs.SureLiteralsHold.{sure_literals_hold}

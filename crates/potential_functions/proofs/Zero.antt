@@ -5,7 +5,7 @@ use Rattle.std.specs.Int.{int_max}
 use Rattle.std.proofs.lemmas.Int.{ints, clamps}
 use Rattle.model.specs.Task.{Atom, Task, Instance}
 use Rattle.model.specs.Meaning.{cost_of}
-use Rattle.model.specs.ClosedOff.{kept_instances}
+use Rattle.model.specs.StaticallyFalse.{kept_instances}
 use Rattle.model.specs.NumberedLiterals.{NumberedLiteral, NumberedChange, literals_of_instance, literals_of_goal, counting_of_instance}
 use Rattle.potential_functions.specs.PotentialFunctions.{PotentialFunction, weight, IsInRange}
 use Rattle.potential_functions.specs.Fair.{says, touches, Pair, pairs, loss, greatest, worst, loses, loses_at_most, goal_gives, goal_gives_at_most, AreFairAt, AreFair, nothing, AreDeadFair}

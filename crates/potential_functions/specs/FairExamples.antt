@@ -3,7 +3,7 @@
 use Rattle.std.specs.Prelude.{◌≡◌, ℕ, true, false, ℤ, pos, neg_ℤ, List, [], ◌∷◌, codes, All}
 use Rattle.model.specs.Task.{Atom, variable, object, atom, and, not, forall, add, when, by_number, Schema, Task, Instance}
 use Rattle.model.specs.Meaning.{cost_of}
-use Rattle.model.specs.ClosedOff.{kept_instances}
+use Rattle.model.specs.StaticallyFalse.{kept_instances}
 use Rattle.model.specs.NumberedLiterals.{NumberedLiteral, NumberedChange}
 use Rattle.model.specs.Examples.{formulas, lifted, ground, instance, root, untyped, any, fact, adds, deletes, all}
 use Rattle.model.specs.GroundingExamples.{value, becomes}

@@ -2,7 +2,7 @@
 use Rattle.std.specs.Prelude.{ℕ, List, All}
 use Rattle.model.specs.Task.{Atom, Task, Instance}
 use Rattle.model.specs.Meaning.{cost_of}
-use Rattle.model.specs.ClosedOff.{kept_instances}
+use Rattle.model.specs.StaticallyFalse.{kept_instances}
 use Rattle.potential_functions.specs.PotentialFunctions.{PotentialFunction}
 use Rattle.potential_functions.specs.Fair.{IsFairAt, IsFairAtGoals, AreFairAt, nothing, IsFirstUnfairAt}
 use Rattle.potentials.specs.declared.fairness.Allowance.{Allowance}

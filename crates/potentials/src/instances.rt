@@ -1,7 +1,7 @@
 //! How many instances a ground task keeps.
 ghost use Rattle.std.specs.Prelude.{◌≡◌, length};
 ghost use Rattle.grounding.specs.Ground.{task_in};
-ghost use Rattle.model.specs.ClosedOff.{kept_instances};
+ghost use Rattle.model.specs.StaticallyFalse.{kept_instances};
 
 use grounding::Ground;
 

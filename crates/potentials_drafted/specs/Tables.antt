@@ -2,7 +2,7 @@
 use Rattle.std.specs.Prelude.{length}
 use Rattle.grounding.specs.declared.ground.Ground.{Ground}
 use Rattle.grounding.specs.Ground.{task_in, atoms_in}
-use Rattle.model.specs.ClosedOff.{kept_instances}
+use Rattle.model.specs.StaticallyFalse.{kept_instances}
 use Rattle.potentials_drafted.specs.Incidence.{IsIncidence}
 use Rattle.potentials_drafted.specs.declared.tables.Tables.{Tables}
 

@@ -2,7 +2,7 @@
 ghost use Rattle.std.specs.Prelude.{◌≡◌, ℕ, ◌+◌, ◌<◌, ◌++◌, ◌∷◌, [], ◌==◌, if◌then◌else◌, All, IfOk, List, OnOk, length, map, take};
 ghost use Rattle.grounding.specs.Changes.{counting_of};
 ghost use Rattle.grounding.specs.Ground.{task_in, atoms_in};
-ghost use Rattle.model.specs.ClosedOff.{kept_instances};
+ghost use Rattle.model.specs.StaticallyFalse.{kept_instances};
 ghost use Rattle.model.specs.NumberedLiterals.{NumberedChange};
 ghost use Rattle.potentials_drafted.specs.Incidence.{touches_at, IsAdded, IsIncidence};
 

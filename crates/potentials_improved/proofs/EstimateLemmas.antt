@@ -12,7 +12,7 @@ use Rattle.std.proofs.lemmas.Option.{slice_get-get_or}
 use Rattle.model.specs.Task.{Atom, Task, Instance}
 use Rattle.model.specs.Meaning.{State, step, meets_goal}
 use Rattle.model.specs.Fluents.{is_fluent}
-use Rattle.model.specs.ClosedOff.{kept_instances}
+use Rattle.model.specs.StaticallyFalse.{kept_instances}
 use Rattle.model.specs.NumberedAtoms.{occurs_in}
 use Rattle.model.specs.Grounding.{state_of_bits, bits_of_state, ground_step, ground_system}
 use Rattle.model.proofs.NumberingLemmas.{occurs_in-Contains}

@@ -8,7 +8,7 @@ use Rattle.std.proofs.lemmas.List.{take_more}
 use Rattle.model.proofs.ListLemmas.{Contains-none, Contains-got}
 use Rattle.model.specs.Task.{Atom, Task, Instance}
 use Rattle.model.specs.Meaning.{cost_of}
-use Rattle.model.specs.ClosedOff.{kept_instances}
+use Rattle.model.specs.StaticallyFalse.{kept_instances}
 use Rattle.model.specs.NumberedLiterals.{NumberedLiteral, NumberedChange, literals_of_instance, counting_of_instance}
 use Rattle.potential_functions.specs.PotentialFunctions.{PotentialFunction, weight}
 use Rattle.potential_functions.specs.Fair.{touches, worst, loses, loses_at_most, IsFairAt}

@@ -2,7 +2,7 @@
 use Rattle.std.specs.Prelude.{◌≡◌, ℕ, ◌<◌, Bool, true, false, ℤ, pos, ◌+ℤ◌, ◌≤ℤ◌, List, Some, set, length, slice_get, Contains}
 use Rattle.model.specs.Task.{Atom, Task, Instance}
 use Rattle.model.specs.Meaning.{cost_of}
-use Rattle.model.specs.ClosedOff.{kept_instances}
+use Rattle.model.specs.StaticallyFalse.{kept_instances}
 use Rattle.model.specs.NumberedLiterals.{literals_of_goal}
 use Rattle.model.specs.Grounding.{ground_system}
 use Rattle.potential_functions.specs.PotentialFunctions.{PotentialFunction, score, or_zero, IsInRange}

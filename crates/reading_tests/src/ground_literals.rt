@@ -7,7 +7,7 @@ use std::test::Fail;
 use task::Task;
 use test_texts::{HOP, PAIRS, Texts, UNTIED, on_task};
 
-/// A door is shut. One of the changes is under a condition that the start closes off, one under `(and)`.
+/// A door is shut. One of the changes is under a condition that is statically false, one under `(and)`.
 const LATCH: Texts = [
     "(define (domain latch) (:predicates (open) (locked) (heard) (stuck) (broken))
  (:action shut :parameters () :precondition (and (open) (not (locked)))

@@ -127,7 +127,7 @@ fn some_atoms_come_first(rt: HostRuntime) -> Result<(), Fail> {
 const WIDE_DOMAIN: &str = "(define (domain wide) (:predicates (p))
  (:action go :parameters (?a ?b ?c ?d ?e ?f ?g ?h ?i ?j ?k ?l ?m ?n ?o ?p) :effect (p)))";
 
-/// Three objects for each of sixteen parameters: 43,046,721 instances, and none is closed off.
+/// Three objects for each of sixteen parameters: 43,046,721 instances, and none is statically inapplicable.
 #[rattlefmt::skip]
 const WIDE_3: Texts = [WIDE_DOMAIN, "(define (problem w) (:domain wide) (:objects a b c) (:init) (:goal (p)))"];
 

@@ -2,9 +2,9 @@
 //! numbers that the contracts name.
 use formulas::{MAX_STEPS, formula_examples_are_judged, one_state, sure_literals_hold};
 use grounding::{
-    atoms_are_numbered, closed_off_is_not_applicable, ground_task_is_bisimilar,
-    ground_task_solves_alike, grounding_examples_are_judged, numbered_literals_hold,
-    only_counting_changes_are_made, packs_states,
+    atoms_are_numbered, ground_task_is_bisimilar, ground_task_solves_alike,
+    grounding_examples_are_judged, numbered_literals_hold, only_counting_changes_are_made,
+    packs_states, statically_false_is_not_applicable,
 };
 use task::{MAX_ARGUMENTS, MAX_OBJECTS, MAX_VARIABLES};
 use tokens::LONGEST_TEXT;
@@ -39,7 +39,7 @@ fn laws_of_meaning_are_called() {
 #[test]
 fn laws_of_ground_tasks_are_called() {
     atoms_are_numbered();
-    closed_off_is_not_applicable();
+    statically_false_is_not_applicable();
     only_counting_changes_are_made();
     numbered_literals_hold();
     packs_states();

@@ -30,7 +30,7 @@ use Rattle.certificate_definitions.specs.Certificates.{is_claim}
 use Rattle.potential_functions.specs.PotentialFunctions.{PotentialFunction, score, value, is_dead_by, AreInRange}
 use Rattle.potential_functions.specs.Laws.{AreLowerBounds, DetectDeadEnds}
 use Rattle.model.specs.Fluents.{is_fluent}
-use Rattle.model.specs.ClosedOff.{kept_instances}
+use Rattle.model.specs.StaticallyFalse.{kept_instances}
 use Rattle.model.specs.NumberedAtoms.{numbered_atoms}
 use Rattle.model.specs.Grounding.{ground_system, StandsFor, NamesKept}
 use Rattle.model.proofs.ClaimsLemmas.{claim-of_closed}

@@ -14,7 +14,7 @@ use Rattle.model.specs.Runs.{run, cost_of_all, CostsAtLeast, IsReachable}
 use Rattle.model.specs.Meaning.{State, system_of}
 use Rattle.model.specs.Bisimulation.{IsBisimulation}
 use Rattle.model.specs.Fluents.{is_fluent}
-use Rattle.model.specs.ClosedOff.{kept_instances}
+use Rattle.model.specs.StaticallyFalse.{kept_instances}
 use Rattle.model.specs.NumberedAtoms.{numbered_atoms}
 use Rattle.model.specs.Grounding.{state_of_bits, bits_of_state, ground_step, ground_system, applicable_numbers, NamesKept}
 use Rattle.model.proofs.ListLemmas.{Contains-got, map-Contains}

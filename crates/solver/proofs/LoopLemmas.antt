@@ -17,7 +17,7 @@ use Rattle.model.specs.NumberedAtoms.{occurs_in, are_distinct}
 use Rattle.model.proofs.NumberingLemmas.{occurs_in-got}
 use Rattle.formulas.proofs.Equality.{atom_eq, equal_atoms, one_atom}
 use Rattle.indexmap.specs.IndexSet.{insert_key}
-use Rattle.model.specs.ClosedOff.{kept_instances}
+use Rattle.model.specs.StaticallyFalse.{kept_instances}
 use Rattle.model.specs.Grounding.{NamesKept}
 use Rattle.model.proofs.ListLemmas.{Contains-got, Contains-cases, Contains-map, Contains-none}
 

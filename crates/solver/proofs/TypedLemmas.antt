@@ -11,11 +11,11 @@ use Rattle.model.specs.Task.{ObjectType, Object, Union, Atom, LiftedAtom, Term, 
 use Rattle.model.specs.WellTyped.{is_term, is_lifted_atom, is_atom, is_formula, is_effect_literal, is_effect, are_effects, is_increase, is_schema, is_whole_chain, has_few_arguments, is_task, max_variables}
 use Rattle.model.specs.Meaning.{atom_cmp, supertypes_of, is_below, is_of, object_of, ground_atom, Change, ground_literal, change_under, changes_of, changes_of_all, fits, is_instance}
 use Rattle.model.specs.Fluents.{is_fluent}
-use Rattle.model.specs.ClosedOff.{kept_instances, counts}
+use Rattle.model.specs.StaticallyFalse.{kept_instances, counts}
 use Rattle.model.specs.NumberedAtoms.{occurs_in, atom_of_literal, touched_by, initial_fluent_atoms, numbered_atoms}
 use Rattle.model.proofs.Tests.{passes_got}
 use Rattle.model.proofs.StaticLemmas.{same_atom, occurs_in-filter}
-use Rattle.model.proofs.ClosedOffLemmas.{kept-Contains}
+use Rattle.model.proofs.StaticallyFalseLemmas.{kept-Contains}
 use Rattle.model.proofs.NumberingLemmas.{flat_map-occurs_in}
 use Rattle.model.proofs.GroundTaskLemmas.{occurs_in-numbered}
 

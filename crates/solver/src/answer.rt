@@ -49,7 +49,7 @@ pub enum Answer {
 /// A limit that a task exceeds, and what is known of plans then: of the first two limits nothing.
 #[derive(Drop)]
 pub enum Exceeded {
-    /// That of the kept instances. Those that the start closes off are not counted.
+    /// That of the kept instances. Those that are statically inapplicable are not counted.
     Instances,
     /// That of the atoms that have numbers, 1,048,576.
     Atoms,
@@ -82,7 +82,7 @@ pub enum Exceeded {
 /// A certificate then lists at most 100,000 states. Where more would have to be listed, `Unknown(Exceeded::States { .. })` has a
 /// certificate of 100,000, and in it the bound is the least sum of cost and value of a state that is still to be expanded: no
 /// open state has a greater sum. Two limits are reported before any potentials are looked for: `Unknown(Exceeded::Instances)`
-/// exactly where the task has more than 10,000 kept instances, which are those that its start does not close off, and
+/// exactly where the task has more than 10,000 kept instances, which are those that are statically applicable, and
 /// `Unknown(Exceeded::Atoms)` exactly where it has no more, and more than 1,048,576 atoms would have numbers.
 pub fn solve(alloc: Global, task: &Task, limits: Limits) -> Result<Answer, NoMemory>
     ensures { IfOk result (IsTrueAnswer (task_of task.now) limits.states limits.instances) }

@@ -4,7 +4,7 @@ ghost use Rattle.std.specs.List.{AllZip};
 ghost use Rattle.formulas.specs.State.{instance_of, plan_of};
 ghost use Rattle.model.specs.Limits.{max_steps};
 ghost use Rattle.grounding.specs.Ground.{task_in};
-ghost use Rattle.model.specs.ClosedOff.{kept_instances};
+ghost use Rattle.model.specs.StaticallyFalse.{kept_instances};
 ghost use Rattle.model.specs.Grounding.{NamesKept};
 
 use faults::NoMemory;

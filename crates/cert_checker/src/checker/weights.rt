@@ -8,7 +8,7 @@ ghost use Rattle.certificate.specs.Certificate.{certificate_of};
 ghost use Rattle.cert_checker.specs.FluentAtoms.{AreFluent};
 ghost use Rattle.cert_checker.specs.CheckedLines.{IsFirstGrounded, IsTrueAnyway};
 ghost use Rattle.cert_checker.specs.Weights.{HasItsWeights};
-ghost use Rattle.model.specs.ClosedOff.{kept_instances};
+ghost use Rattle.model.specs.StaticallyFalse.{kept_instances};
 ghost use Rattle.model.specs.NumberedAtoms.{numbered_atoms};
 ghost use Rattle.potential_functions.specs.PotentialFunctions.{AreInRange};
 ghost use Rattle.potential_functions.specs.Fair.{AreFair, AreDeadFair};

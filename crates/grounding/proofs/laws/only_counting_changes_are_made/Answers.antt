@@ -1,4 +1,4 @@
-use Rattle.model.proofs.ClosedOffLemmas.{only_counting_changes_are_made}
+use Rattle.model.proofs.StaticallyFalseLemmas.{only_counting_changes_are_made}
 use Rattle.grounding.proofs.laws.only_counting_changes_are_made.Goals as goal
 
 pub returns : goal.returns

@@ -4,7 +4,7 @@ use Rattle.faults.proofs.Results.{passed_on}
 use Rattle.task.specs.Task.{task_of}
 use Rattle.task.specs.TaskParts.{atom_of}
 use Rattle.formulas.specs.Effects.{change_of}
-use Rattle.model.specs.ClosedOff.{counts}
+use Rattle.model.specs.StaticallyFalse.{counts}
 use Rattle.model.specs.NumberedAtoms.{with_atoms}
 use Rattle.model.proofs.NumberingLemmas.{numbered-end}
 use Rattle.grounding_kept.specs.Atoms.{ReportsAtoms, atoms_changed}

@@ -4,7 +4,7 @@ use Rattle.std.specs.List.{flat_map}
 use Rattle.task.specs.Task.{task_of}
 use Rattle.task.specs.TaskParts.{atom_of}
 use Rattle.model.specs.NumberedAtoms.{with_atoms}
-use Rattle.model.specs.ClosedOff.{counts}
+use Rattle.model.specs.StaticallyFalse.{counts}
 use Rattle.formulas.specs.Effects.{change_of}
 use Rattle.grounding_kept.specs.Atoms.{atoms_changed}
 use Rattle.grounding_kept.proofs.NumberLists.{if_counting}

@@ -5,7 +5,7 @@ use Rattle.task.specs.Task.{task_of}
 use Rattle.task.specs.TaskParts.{atom_of}
 use Rattle.model.specs.Task.{Atom}
 use Rattle.model.specs.Meaning.{is_instance}
-use Rattle.model.specs.ClosedOff.{kept_instances}
+use Rattle.model.specs.StaticallyFalse.{kept_instances}
 use Rattle.model.specs.NumberedAtoms as numbered
 use Rattle.model.specs.NumberedAtoms.{with_atoms, touched_by, initial_fluent_atoms}
 use Rattle.grounding_kept.specs.Atoms.{ReportsAtoms}

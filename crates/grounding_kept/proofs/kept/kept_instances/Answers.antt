@@ -2,7 +2,7 @@ use Rattle.std.proofs.Common.{◌+◌, map}
 use Rattle.faults.proofs.Results.{passed_on}
 use Rattle.task.specs.Task.{task_of}
 use Rattle.formulas.specs.State.{instance_of}
-use Rattle.model.specs.ClosedOff.{is_kept, kept_instances}
+use Rattle.model.specs.StaticallyFalse.{is_kept, kept_instances}
 use Rattle.model.proofs.EnumerationLemmas.{instances_left}
 use Rattle.grounding_kept.specs.Kept.{ReportsInstances, instances_of_number}
 use Rattle.grounding_kept.proofs.ChosenObjects.{left-here, part-more, part-reported}

@@ -2,7 +2,7 @@ use Rattle.std.proofs.Common.{◌≡◌, ◌≤◌, ◌++◌, map, length}
 use Rattle.std.specs.Prelude.{filter}
 use Rattle.task.specs.Task.{task_of}
 use Rattle.formulas.specs.State.{instance_of}
-use Rattle.model.specs.ClosedOff.{is_kept, kept_instances}
+use Rattle.model.specs.StaticallyFalse.{is_kept, kept_instances}
 use Rattle.model.proofs.EnumerationLemmas.{instances_left}
 use Rattle.grounding_kept.proofs.kept.kept_instances.Given as goal
 

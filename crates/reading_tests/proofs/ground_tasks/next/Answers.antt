@@ -5,7 +5,7 @@ use Rattle.std.specs.List.{list_any, range_with_len}
 use Rattle.std.proofs.lemmas.List.FromFn.{length-map-range_with_len}
 use Rattle.packed_state.specs.Packed.{bits_of}
 use Rattle.grounding.specs.Ground.{task_in, atoms_in}
-use Rattle.model.specs.ClosedOff.{kept_instances}
+use Rattle.model.specs.StaticallyFalse.{kept_instances}
 use Rattle.model.specs.Grounding.{ground_step}
 use Rattle.model.proofs.ListLemmas.{filter-Contains}
 use Rattle.reading_tests.proofs.ground_tasks.next.Goals as goal

@@ -12,7 +12,7 @@ use Rattle.potential_functions.specs.PotentialFunctions.{value, is_dead_by}
 use Rattle.potential_functions.specs.Fair.{AreFair}
 use Rattle.potentials_improved.specs.FairPotentials.{potentials_in}
 use Rattle.model.specs.Claims.{bound, none}
-use Rattle.model.specs.ClosedOff.{kept_instances}
+use Rattle.model.specs.StaticallyFalse.{kept_instances}
 use Rattle.model.specs.Grounding.{ground_system}
 use Rattle.potentials_improved.specs.DeadFairPotentials as dead
 use Rattle.solver.specs.Listing.{found_certificate}

@@ -9,7 +9,7 @@ use Rattle.potential_functions.specs.Fair.{nothing}
 use Rattle.potentials.specs.Potentials.{potentials_of}
 use Rattle.potentials.specs.Fairness.{DetectsDead}
 use Rattle.certificate.specs.Certificate.{certificate_of}
-use Rattle.model.specs.ClosedOff.{kept_instances}
+use Rattle.model.specs.StaticallyFalse.{kept_instances}
 use Rattle.certificate_definitions.specs.CertificateRefusals.{dead_unfair, dead_unfair_goal}
 use Rattle.cert_checker.specs.Weights.{HasItsWeights}
 use Rattle.cert_checker.proofs.OrderLemmas.{atoms_right, dead_instances_asked, values_asked, states_right_all, first_asked}

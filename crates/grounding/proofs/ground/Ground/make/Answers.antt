@@ -4,7 +4,7 @@ use Rattle.std.specs.Option.{option_map_or}
 use Rattle.std.proofs.lemmas.List.{drop_all, length-map}
 use Rattle.packed_state.specs.Packed.{bits_of}
 use Rattle.model.specs.Task.{Instance}
-use Rattle.model.specs.ClosedOff.{kept_instances}
+use Rattle.model.specs.StaticallyFalse.{kept_instances}
 use Rattle.model.specs.Grounding.{state_of_bits}
 use Rattle.grounding.specs.ChangedBits.{with_bits}
 use Rattle.grounding.specs.NumberedEffects.{NumberedEffect, effects_of_instance, numbers_made}

@@ -10,7 +10,7 @@ use Rattle.formulas.proofs.Instances.{precondition_fits}
 use Rattle.grounding.specs.Conditions.{IsConditionOf}
 use Rattle.model.specs.Task.{Task, Formula, Schema}
 use Rattle.model.specs.Meaning.{holds}
-use Rattle.model.specs.ClosedOff.{kept_instances}
+use Rattle.model.specs.StaticallyFalse.{kept_instances}
 use Rattle.model.specs.Grounding.{state_of_bits}
 use Rattle.grounding.specs.Ground.{task_in, atoms_in}
 use Rattle.grounding.proofs.GroundLemmas.{got-mapped, schema-of, condition-at}

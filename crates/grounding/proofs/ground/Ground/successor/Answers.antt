@@ -4,7 +4,7 @@ use Rattle.std.proofs.lemmas.Option.{slice_get_within}
 use Rattle.packed_state.specs.Packed.{bits_of}
 use Rattle.model.specs.Task.{Instance}
 use Rattle.model.specs.Meaning.{literals_in}
-use Rattle.model.specs.ClosedOff.{kept_instances, counting_changes}
+use Rattle.model.specs.StaticallyFalse.{kept_instances, counting_changes}
 use Rattle.model.specs.Grounding.{state_of_bits}
 use Rattle.grounding.specs.ChangedBits.{with_bits, numbers_changed}
 use Rattle.grounding.specs.NumberedEffects.{effects_of_instance, numbers_made, numbers_set}

@@ -5,7 +5,7 @@ use Rattle.faults.proofs.Results.{passed_on}
 use Rattle.task.specs.Task.{task_of}
 use Rattle.task.specs.TaskParts.{object_of}
 use Rattle.formulas.specs.State.{instance_of}
-use Rattle.model.specs.ClosedOff.{is_kept}
+use Rattle.model.specs.StaticallyFalse.{is_kept}
 use Rattle.model.proofs.EnumerationLemmas.{begun}
 use Rattle.grounding_kept.specs.Parameters.{choice_of, lent_formula, ranges_of}
 use Rattle.grounding_kept.specs.Joins.{AreJoined}
@@ -14,17 +14,17 @@ use Rattle.grounding_kept.proofs.ChosenObjects.{pruned, literals-fit, whole-inst
 use Rattle.grounding_kept.proofs.ObjectLists.{there_is, chosen-more, number-at, no-choices}
 use Rattle.grounding_kept.proofs.kept.Enumeration.+add.Goals as goal
 
-pub closes_off_literal-requires : goal.closes_off_literal-requires
-closes_off_literal-requires t c =
+pub literal_is_statically_false-requires : goal.literal_is_statically_false-requires
+literal_is_statically_false-requires t c =
     literals-fit (task_of c.args.self.now.statics.now.task.now) c.args.self.now.schema.0 (map object_of c.args.objects.items) (map lent_formula c.args.literals.now) (map choice_of c.args.left.now)
     c.requires.begun c.args.self.now.statics.now.task.now.well_typed
 
-pub returns-then-closes_off_literal-clause-kept : goal.returns-then-closes_off_literal-clause-kept
-returns-then-closes_off_literal-clause-kept t c =
+pub returns-then-literal_is_statically_false-clause-kept : goal.returns-then-literal_is_statically_false-clause-kept
+returns-then-literal_is_statically_false-clause-kept t c =
     let now = map instance_of c.args.found.now.items in
     sym (ap (λ l. now ++ l)
     (pruned (task_of c.args.self.now.statics.now.task.now) c.args.self.now.schema.0 (map object_of c.args.objects.items) (map lent_formula c.args.literals.now) (map choice_of c.args.left.now)
-    c.requires.begun (sym c.closes_off_literal.ensures ∙ c.if-closes_off_literal.true))
+    c.requires.begun (sym c.literal_is_statically_false.ensures ∙ c.if-literal_is_statically_false.true))
     ∙ append-nil now)
 
 pub add_one-requires-clause-instance : goal.add_one-requires-clause-instance

@@ -3,7 +3,7 @@ use Rattle.std.specs.Prelude.{filter}
 use Rattle.task.specs.Task.{task_of}
 use Rattle.task.specs.TaskParts.{object_of}
 use Rattle.formulas.specs.State.{instance_of}
-use Rattle.model.specs.ClosedOff.{is_kept}
+use Rattle.model.specs.StaticallyFalse.{is_kept}
 use Rattle.model.proofs.EnumerationLemmas.{begun}
 use Rattle.grounding_kept.specs.Parameters.{choice_of, ranges_of}
 use Rattle.grounding_kept.proofs.ChosenObjects.{begun_from}

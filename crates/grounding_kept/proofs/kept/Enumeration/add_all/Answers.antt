@@ -4,7 +4,7 @@ use Rattle.task.specs.Task.{task_of}
 use Rattle.task.specs.TaskParts.{object_of, formula_of, shape_of}
 use Rattle.formulas.specs.State.{instance_of}
 use Rattle.model.specs.Task.{Instance}
-use Rattle.model.specs.ClosedOff.{is_kept}
+use Rattle.model.specs.StaticallyFalse.{is_kept}
 use Rattle.grounding_kept.specs.Parameters.{choice_of}
 use Rattle.grounding_kept.specs.Kept.{ReportsInstances}
 use Rattle.grounding_kept.proofs.ChosenObjects.{begun-all}

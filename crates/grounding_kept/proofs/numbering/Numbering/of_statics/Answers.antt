@@ -4,7 +4,7 @@ use Rattle.faults.proofs.Results.{passed_on}
 use Rattle.task.specs.Task.{task_of}
 use Rattle.task.specs.TaskParts.{atom_of}
 use Rattle.formulas.specs.State.{instance_of}
-use Rattle.model.specs.ClosedOff as closed_off
+use Rattle.model.specs.StaticallyFalse as statically_false
 use Rattle.model.specs.Limits.{max_numbered_atoms}
 use Rattle.model.proofs.GroundTaskLemmas.{reported_none}
 use Rattle.grounding_kept.specs.Numbering.{ReportsLimit}
@@ -27,7 +27,7 @@ returns-in_err-atoms-clause-reported c =
     let t = task_of c.args.statics.task.now in
     let more = map atom_of c.args.more.now in
     let e = c.in_err-atoms.field-0.0 in
-    let few : length (closed_off.kept_instances t) ≤ c.args.max_instances = omega (arith, c.in_ok-instances.ensures.few, ap length c.in_ok-instances.ensures.kept, length-map c.in_ok-instances.instances.items instance_of) in
+    let few : length (statically_false.kept_instances t) ≤ c.args.max_instances = omega (arith, c.in_ok-instances.ensures.few, ap length c.in_ok-instances.ensures.kept, length-map c.in_ok-instances.instances.items instance_of) in
     passed_on (ReportsLimit t more c.args.max_instances) c.from_residual-in_err-atoms.result e c.from_residual-in_err-atoms.ensures.1
     (second-reported t more c.args.max_instances e few c.in_err-atoms.ensures.reported)
 

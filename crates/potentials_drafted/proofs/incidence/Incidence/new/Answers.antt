@@ -1,6 +1,6 @@
 use Rattle.std.proofs.Common.{◌≡◌, ◌∙◌, ap, length, map, subst, arith}
 use Rattle.grounding.specs.Ground.{task_in, atoms_in}
-use Rattle.model.specs.ClosedOff.{kept_instances}
+use Rattle.model.specs.StaticallyFalse.{kept_instances}
 use Rattle.potentials_drafted.specs.Incidence.{number_of, IsIncidence}
 use Rattle.potentials_drafted.proofs.IncidenceLemmas.{incidence-none, incidence-more, atoms-below}
 use Rattle.potentials_drafted.proofs.incidence.Incidence.new.Goals as goal

@@ -3,7 +3,7 @@ use Rattle.task.specs.Task.{task_of}
 use Rattle.task.specs.TaskParts.{object_of}
 use Rattle.grounding_kept.specs.Initial.{facts_of}
 use Rattle.grounding_kept.proofs.Closings.{not_atom-fluent, not_atom-static, not_equal-closed}
-use Rattle.grounding_kept.proofs.statics.Statics.closes_off_not.Goals as goal
+use Rattle.grounding_kept.proofs.statics.Statics.not_is_statically_false.Goals as goal
 
 pub returns-then-is_fluent : goal.returns-then-is_fluent
 returns-then-is_fluent c =

@@ -2,16 +2,16 @@ use Rattle.std.proofs.Common.{Bool, ◌∙◌, sym, map}
 use Rattle.task.specs.Task.{task_of}
 use Rattle.task.specs.TaskParts.{object_of}
 use Rattle.model.specs.Task.{Formula}
-use Rattle.model.specs.ClosedOff.{is_closed_off}
+use Rattle.model.specs.StaticallyFalse.{is_statically_false}
 use Rattle.model.specs.WellTyped.{is_formula}
 use Rattle.model.proofs.Tests.{passes_at, passes_map}
 use Rattle.formulas.proofs.FluentTests.{any_here, any_nowhere}
 use Rattle.formulas.proofs.Trees.{list_any_map}
 use Rattle.grounding_kept.specs.Parameters.{lent_formula}
-use Rattle.grounding_kept.proofs.statics.Statics.closes_off_literal.Goals as goal
+use Rattle.grounding_kept.proofs.statics.Statics.literal_is_statically_false.Goals as goal
 
-pub is_closed_off-requires : goal.is_closed_off-requires
-is_closed_off-requires c =
+pub is_statically_false-requires : goal.is_statically_false-requires
+is_statically_false-requires c =
     let typed = is_formula (task_of c.args.self.now.task.now) c.requires.scope in
     record {
       scope = c.requires.scope;
@@ -20,15 +20,15 @@ is_closed_off-requires c =
       fits = c.requires.fits;
     }
 
-pub returns-then-is_closed_off : goal.returns-then-is_closed_off
-returns-then-is_closed_off c =
-    let test : Formula → Bool = λ part. is_closed_off (task_of c.args.self.now.task.now) part (map object_of c.args.binding.now.items) in
+pub returns-then-is_statically_false : goal.returns-then-is_statically_false
+returns-then-is_statically_false c =
+    let test : Formula → Bool = λ part. is_statically_false (task_of c.args.self.now.task.now) part (map object_of c.args.binding.now.items) in
     any_here (λ part. test (lent_formula part)) c.args.literals.now c.loop-literal.literal-index c.literal-item.result c.loop-literal-test.true c.literal-item.is
-    (sym c.is_closed_off.ensures ∙ c.if-is_closed_off.true)
+    (sym c.is_statically_false.ensures ∙ c.if-is_statically_false.true)
     ∙ sym (list_any_map test lent_formula c.args.literals.now)
 
 pub returns : goal.returns
 returns c =
-    let test : Formula → Bool = λ part. is_closed_off (task_of c.args.self.now.task.now) part (map object_of c.args.binding.now.items) in
+    let test : Formula → Bool = λ part. is_statically_false (task_of c.args.self.now.task.now) part (map object_of c.args.binding.now.items) in
     any_nowhere (λ part. test (lent_formula part)) c.args.literals.now c.loop-literal.literal-index c.loop-literal-test.false c.loop-literal.invariant
     ∙ sym (list_any_map test lent_formula c.args.literals.now)

@@ -1,4 +1,4 @@
--- What is closed off holds in no state with the initial static atoms.
+-- What is statically false holds in no state with the initial static atoms.
 use Rattle.std.proofs.Common.{◌≡◌, ◌∙◌, ℕ, Bool, true, false, not, ◌&&◌, inl, inr, List, [], ◌∷◌, Option, None, Some, refl, sym, ap, true≢false}
 use Rattle.std.specs.Prelude.{Contains, slice_get, if◌then◌else◌}
 use Rattle.std.specs.List.{list_any, list_all}
@@ -9,7 +9,7 @@ use Rattle.model.specs.Meaning.{State, initial_state, holds, fits, has_amount, c
 use Rattle.model.specs.Instances.{all_instances}
 use Rattle.model.specs.Fluents.{is_fluent, HasInitialStatics}
 use Rattle.model.specs.SureLiterals.{Literal, is_true, is_false, are_same, are_different, literal_holds, sure}
-use Rattle.model.specs.ClosedOff.{is_fixed, is_closed_off, is_kept, kept_instances, ClosedOffIsNotApplicable, OnlyCountingChangesAreMade}
+use Rattle.model.specs.StaticallyFalse.{is_fixed, is_statically_false, is_kept, kept_instances, StaticallyFalseIsNotApplicable, OnlyCountingChangesAreMade}
 use Rattle.model.proofs.SureLiteralsHold.{sure_literals_hold}
 use Rattle.model.proofs.ListLemmas.{Contains-filter, filter-Contains}
 use Rattle.model.proofs.InstancesLemmas.{Contains-all_instances, all_instances-Contains, is_instance-of_step}
@@ -34,13 +34,13 @@ not_all_hold task s (l ∷ ls) statics all some =
       | inr later ↦ not_all_hold task s ls statics both.1 later
     ]
 
-pub closed_off-fails : (task : Task) (f : Formula) (b : List ℕ) (s : State) → HasInitialStatics task s → is_closed_off task f b ≡ true → holds task f b s ≡ false
-closed_off-fails task f b s statics closed =
+pub statically_false-fails : (task : Task) (f : Formula) (b : List ℕ) (s : State) → HasInitialStatics task s → is_statically_false task f b ≡ true → holds task f b s ≡ false
+statically_false-fails task f b s statics closed =
     false_from_ne_true (holds task f b s) (λ holding. not_all_hold task s (sure task f b) statics (sure_literals_hold task f b s holding) closed)
 
 pub only_counting_changes_are_made : OnlyCountingChangesAreMade
 only_counting_changes_are_made task c s statics uncounted =
-    closed_off-fails task c.condition c.binding s statics (not-false (is_closed_off task c.condition c.binding) uncounted)
+    statically_false-fails task c.condition c.binding s statics (not-false (is_statically_false task c.condition c.binding) uncounted)
 
 abbrev leads_by : Task → State → Instance → Schema → Option State
 leads_by task s i schema =
@@ -50,21 +50,21 @@ nowhere : (a b : Bool) (x : State) → b ≡ false → (if a && b then Some x el
 nowhere true b x is = ap (λ c. if c then Some x else None) is
 nowhere false b x is = refl
 
--- what has a value but is closed off, or has none
+-- what has a value but is statically false, or has none
 cannot_be : (valued closed holding : Bool) → (closed ≡ true → holding ≡ false) → (valued && not closed) ≡ false → (valued && holding) ≡ false
 cannot_be true true holding fails is = fails refl
 cannot_be true false holding fails is = absurd (true≢false is)
 cannot_be false closed holding fails is = refl
 
-pub closed_off_is_not_applicable : ClosedOffIsNotApplicable
-closed_off_is_not_applicable task i s statics closed =
-    elim (slice_get task.schemas i.schema) as (λ o. option_map_or (λ (schema : Schema). has_amount task schema i.objects && not (is_closed_off task schema.precondition i.objects)) o false ≡ false
+pub statically_false_is_not_applicable : StaticallyFalseIsNotApplicable
+statically_false_is_not_applicable task i s statics closed =
+    elim (slice_get task.schemas i.schema) as (λ o. option_map_or (λ (schema : Schema). has_amount task schema i.objects && not (is_statically_false task schema.precondition i.objects)) o false ≡ false
     → option_and_then (leads_by task s i) o ≡ None) [
       | None ↦ λ _. refl
       | Some schema ↦ λ is.
           nowhere (fits task schema i.objects) (can_apply task schema i.objects s) _
-          (cannot_be (has_amount task schema i.objects) (is_closed_off task schema.precondition i.objects) (holds task schema.precondition i.objects s)
-          (closed_off-fails task schema.precondition i.objects s statics) is)
+          (cannot_be (has_amount task schema i.objects) (is_statically_false task schema.precondition i.objects) (holds task schema.precondition i.objects s)
+          (statically_false-fails task schema.precondition i.objects s statics) is)
     ] closed
 
 -- so only a kept instance leads anywhere
@@ -73,9 +73,9 @@ Contains-kept task s next i statics leads =
     Contains-filter (is_kept task) (all_instances task) i (Contains-all_instances task i (is_instance-of_step task s i next leads))
     (elim (cases_Bool (is_kept task i)) [
       | inl kept ↦ kept
-      | inr closed ↦ let nowhere_at_all = closed_off_is_not_applicable task i s statics closed in absurd (cc)
+      | inr closed ↦ let nowhere_at_all = statically_false_is_not_applicable task i s statics closed in absurd (cc)
     ])
 
--- and what is kept is an instance that is not closed off
+-- and what is kept is an instance that is statically applicable
 pub kept-Contains : (task : Task) (i : Instance) → Contains (kept_instances task) i → (is_instance task i ≡ true) × (is_kept task i ≡ true)
 kept-Contains task i at = let both = filter-Contains (is_kept task) (all_instances task) i at in (all_instances-Contains task i both.0, both.1)

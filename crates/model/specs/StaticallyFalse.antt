@@ -1,5 +1,5 @@
--- What no reachable state allows, as the initial state already reports: formulas that are closed off, the instances that are
--- not, and the changes that count (a planner's own notions; the meaning of a task does not rest on them).
+-- What no reachable state allows, as the initial state already shows: formulas that are statically false, the instances that are
+-- statically applicable, and the changes that count (a planner's own notions; the meaning of a task does not rest on them).
 use Rattle.std.specs.Prelude.{◌≡◌, ℕ, Bool, true, false, not, ◌&&◌, List, filter, slice_get, None}
 use Rattle.std.specs.List.{list_any}
 use Rattle.std.specs.Option.{option_map_or}
@@ -16,24 +16,25 @@ is_fixed task (is_false a) = not (is_fluent task a.predicate)
 is_fixed task (are_same a b) = true
 is_fixed task (are_different a b) = true
 
--- A formula is closed off, where the variables have these objects, where one of its sure literals is static, or of an
+-- A formula is statically false, where the variables have these objects, where one of its sure literals is static, or of an
 -- equality, and is false at the start.
-abbrev pub is_closed_off : Task → Formula → List ℕ → Bool
-is_closed_off task formula binding =
+abbrev pub is_statically_false : Task → Formula → List ℕ → Bool
+is_statically_false task formula binding =
     list_any (λ l. is_fixed task l && not (literal_holds (initial_state task) l)) (sure task formula binding)
 
--- an instance is kept where its precondition is not closed off, and what it increases the total cost by has a value
+-- An instance is kept where it is statically applicable: its precondition is not statically false, and what it increases the
+-- total cost by has a value.
 abbrev pub is_kept : Task → Instance → Bool
 is_kept task i =
-    option_map_or (λ schema. has_amount task schema i.objects && not (is_closed_off task schema.precondition i.objects)) (slice_get task.schemas i.schema) false
+    option_map_or (λ schema. has_amount task schema i.objects && not (is_statically_false task schema.precondition i.objects)) (slice_get task.schemas i.schema) false
 
 -- The instances that are kept, in the order of all instances. The number of one is its place, from 0.
 abbrev pub kept_instances : Task → List Instance
 kept_instances task = filter (is_kept task) (all_instances task)
 
--- a change counts where its condition is not closed off
+-- a change counts where its condition is not statically false
 abbrev pub counts : Task → Change → Bool
-counts task c = not (is_closed_off task c.condition c.binding)
+counts task c = not (is_statically_false task c.condition c.binding)
 
 -- the changes of an instance that count
 abbrev pub counting_changes : Task → Instance → List Change
@@ -49,8 +50,8 @@ abbrev pub is_unconditional : Change → Bool
 is_unconditional c = is_empty_and c.condition
 
 -- an instance that is not kept is applicable in no state with the initial static atoms
-abbrev pub ClosedOffIsNotApplicable : Type 0
-ClosedOffIsNotApplicable =
+abbrev pub StaticallyFalseIsNotApplicable : Type 0
+StaticallyFalseIsNotApplicable =
     (task : Task) (i : Instance) (state : State) → HasInitialStatics task state → is_kept task i ≡ false → step task state i ≡ None
 
 -- in no such state is the condition of a change met that does not count
