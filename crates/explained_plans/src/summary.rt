@@ -1,12 +1,12 @@
 //! What a task holds, in a few lines.
-ghost use Rattle.std.specs.Prelude.{◌≡◌, ◌<◌, ◌≤◌, ◌-◌, ◌^◌, length};
+ghost use Rattle.std.specs.Prelude.{◌≡◌, length};
 ghost use Rattle.task.specs.Task.{task_of};
 ghost use Rattle.explained_plans.specs.Forms.{AreForms};
 
 use crate::forms::Forms;
 use faults::NoMemory;
 use std::alloc::Global;
-use task::{PredicateId, Task};
+use task::Task;
 
 /// What a task holds.
 #[derive(Clone, Copy, Debug, PartialEq, Eq)]
@@ -32,8 +32,8 @@ impl Summary {
     pub fn of(task: &Task) -> Summary
         ensures types { result.types ≡ length (task_of task.now).types }
         ensures objects { result.objects ≡ length (task_of task.now).objects }
-        ensures predicates { result.predicates < 2 ^ 64 - 1 → result.predicates ≡ length (task_of task.now).predicates }
-        ensures functions { result.functions < 2 ^ 64 - 1 → result.functions ≡ length (task_of task.now).functions }
+        ensures predicates { result.predicates ≡ length (task_of task.now).predicates }
+        ensures functions { result.functions ≡ length (task_of task.now).functions }
         ensures actions { result.actions ≡ length (task_of task.now).schemas }
         ensures costs { result.has_costs ≡ (task_of task.now).has_metric }
         ensures forms { AreForms (task_of task.now) result.forms }
@@ -41,8 +41,8 @@ impl Summary {
         Summary {
             types: task.type_count(),
             objects: task.object_count(),
-            predicates: predicate_count(task),
-            functions: function_count(task),
+            predicates: task.predicate_count(),
+            functions: task.function_count(),
             actions: task.schema_count(),
             has_costs: task.has_metric(),
             forms: Forms::of(task),
@@ -68,30 +68,4 @@ impl Summary {
 
 pub(crate) fn yes_or_no(is_so: bool) -> &'static str {
     if is_so { "yes" } else { "no" }
-}
-
-/// How many predicates there are, up to the greatest number.
-fn predicate_count(task: &Task) -> usize
-    ensures at_most { result ≤ length (task_of task.now).predicates }
-    ensures all { result < 2 ^ 64 - 1 → result ≡ length (task_of task.now).predicates }
-{
-    for number in 0..usize::MAX {
-        if task.predicate_name(PredicateId(number)).is_none() {
-            return number;
-        }
-    }
-    usize::MAX
-}
-
-/// How many functions there are, up to the greatest number.
-fn function_count(task: &Task) -> usize
-    ensures at_most { result ≤ length (task_of task.now).functions }
-    ensures all { result < 2 ^ 64 - 1 → result ≡ length (task_of task.now).functions }
-{
-    for number in 0..usize::MAX {
-        if task.function_name(PredicateId(number)).is_none() {
-            return number;
-        }
-    }
-    usize::MAX
 }

@@ -135,6 +135,20 @@ impl Task {
         self.parts.objects.len()
     }
 
+    /// How many predicates there are.
+    pub fn predicate_count(&self) -> usize
+        ensures { result ≡ length (task_of self.now).predicates }
+    {
+        self.parts.predicates.len()
+    }
+
+    /// How many functions there are that actions increase the total cost by.
+    pub fn function_count(&self) -> usize
+        ensures { result ≡ length (task_of self.now).functions }
+    {
+        self.parts.functions.len()
+    }
+
     /// How many action schemas there are.
     pub fn schema_count(&self) -> usize
         ensures { result ≡ length (task_of self.now).schemas }
