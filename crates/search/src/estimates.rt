@@ -23,6 +23,14 @@ pub trait Estimate {
         requires { length (bits_of state.now) ≡ width_of self.now }
         ensures { result ≡ score_of self.now (bits_of state.now) };
 
+    /// The state's estimate: the greater of 0 and its score.
+    fn estimate(&self, state: &Packed) -> u64
+        requires { length (bits_of state.now) ≡ width_of self.now }
+        ensures { result ≡ value_by (score_of self.now) (bits_of state.now) }
+    {
+        value_of(self.score(state))
+    }
+
     /// The score of the state that the action leads to, from the score of the state before.
     fn score_after(&self, score: i64, before: &Packed, action: u32, after: &Packed) -> i64
         requires before { length (bits_of before.now) ≡ width_of self.now }
