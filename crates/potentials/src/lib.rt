@@ -5,6 +5,7 @@
 mod fairness;
 mod goals;
 mod instances;
+mod laws;
 mod losses;
 mod potentials;
 mod range;
@@ -14,6 +15,7 @@ mod words;
 pub use fairness::Fairness;
 pub use goals::{goal_gives, goal_gives_at_most};
 pub use instances::instance_count;
+pub use laws::ground_atoms_are_numberable;
 pub use losses::loses_at_most;
 pub use potentials::{Potentials, or_zero};
 pub use range::{MAX_WEIGHT, is_in_range};
