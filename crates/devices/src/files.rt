@@ -13,7 +13,7 @@ pub use reading::read_file;
 pub use system::SystemFiles;
 pub use writing::{Bytes, Document, write_file};
 
-/// Files by name. A name that cannot be opened, created or closed is a failure.
+/// Files by name. A name that cannot be opened or created is a failure, and so is a file of which a write has failed.
 pub trait Files {
     /// A file that is open for reading.
     type Input: Source + Drop;
@@ -67,9 +67,9 @@ pub trait Files {
         ensures kept { (other : List ℕ) → other ≢ name.now → contents self.new other ≡ contents self.old other }
         ensures refused { OnErr result (contents self.new name.now ≡ contents self.old name.now) };
 
-    /// Ends the writing of a file: only then is it sure to hold what was written. A file of which a write has failed
-    /// is a failure. Where the call fails, the file is as it was or holds a beginning of what was written; each other
-    /// file is as it was.
+    /// Ends the writing of a file. A file of which a write has failed is a failure. Where contents are known, the file then
+    /// holds what was written; of the machine's files std loses an error that the system reports only at the close. Where
+    /// the call fails, the file is as it was or holds a beginning of what was written; each other file is as it was.
     fn close(&mut self, output: Self::Output) -> Result<(), IoFault>
         ensures failures { CountsDevice (failures self.old) (failures self.new) result }
         ensures failed { 0 < Self.Output.failures output → result ≡ Err Device }

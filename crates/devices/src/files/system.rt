@@ -64,7 +64,8 @@ impl<'a, R: rt::Files> Files for SystemFiles<'a, R> {
         Ok(Device::new(self.counted(created)?))
     }
 
-    // std's files hold nothing back that is written to them, so nothing is left that could fail here.
+    // std writes at once and closes a file where it is dropped; an error that the system reports only at that close is lost.
+    // So what is reported here is a write that failed before.
     fn close(&mut self, output: Device<R::File>) -> Result<(), IoFault>
         ensures failures { CountsDevice (⟦<SystemFiles<'a, R> as Files>⟧.failures self.old) (⟦<SystemFiles<'a, R> as Files>⟧.failures self.new) result }
         ensures failed { 0 < ⟦<Device<R::File> as Sink>⟧.failures output → result ≡ Err IoFault.Device }

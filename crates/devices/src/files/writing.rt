@@ -33,7 +33,7 @@ impl Document for Bytes<'_> {
 }
 
 /// Writes this document to the file of this name, in place of what it had. It is a device's failure where the file cannot
-/// be made or closed, or a write of it fails: then the file is as it was, or holds a beginning of the document.
+/// be made, or a write of it fails: then the file is as it was, or holds a beginning of the document.
 pub fn write_file<F: Files, D: Document>(
     files: &mut F,
     name: &str,
