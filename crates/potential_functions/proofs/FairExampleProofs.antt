@@ -41,15 +41,15 @@ module _ (task : Task) (atoms : List Atom) where
   pub is_unfair_at : (weights : List ℤ) (i : Instance) (cost : ℕ) (more : ℤ) → losing weights i ≡ more → cost_of task i ≡ cost → (more ≤ℤ pos cost → ⊥) → IsFairAt (cost_of task i) task atoms weights i → ⊥
   is_unfair_at = is_unfair_within (cost_of task)
 
-abbrev hop : ℕ → ℕ → Instance
+abbrev pub hop : ℕ → ℕ → Instance
 hop from to = instance 0 (from ∷ to ∷ [])
 
-abbrev leap : Instance
+abbrev pub leap : Instance
 leap = instance 1 (0 ∷ 2 ∷ [])
 
 -- ---- hops and leaps
 
-hops_kept : kept_instances hop_task ≡ hop 0 1 ∷ hop 1 2 ∷ leap ∷ []
+pub hops_kept : kept_instances hop_task ≡ hop 0 1 ∷ hop 1 2 ∷ leap ∷ []
 hops_kept = kept-is hop_task ∙ refl
 
 hops-fair : AllFair hop_task hop_atoms (cost_of hop_task) hop_weights (kept_instances hop_task)
@@ -79,10 +79,10 @@ second-unfair = record {
 
 -- ---- a condition that may hold or not
 
-abbrev the_one : Instance
+abbrev pub the_one : Instance
 the_one = instance 0 []
 
-one_kept : kept_instances when_task ≡ the_one ∷ []
+pub one_kept : kept_instances when_task ≡ the_one ∷ []
 one_kept = kept-is when_task ∙ refl
 
 one-fair : (weights : List ℤ) → losing when_task when_atoms weights the_one ≤ℤ pos 1 → AllFair when_task when_atoms (cost_of when_task) weights (kept_instances when_task)
@@ -118,13 +118,13 @@ flips-fair =
 
 -- ---- a token that is here or there
 
-abbrev fore : Instance
+abbrev pub fore : Instance
 fore = instance 0 []
 
-abbrev back : Instance
+abbrev pub back : Instance
 back = instance 1 []
 
-moves_kept : kept_instances token_task ≡ fore ∷ back ∷ []
+pub moves_kept : kept_instances token_task ≡ fore ∷ back ∷ []
 moves_kept = kept-is token_task ∙ refl
 
 moves-fair : (allowance : Instance → ℕ) (weights : List ℤ) → losing token_task token_atoms weights fore ≤ℤ pos (allowance fore)

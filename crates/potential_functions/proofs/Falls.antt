@@ -13,7 +13,7 @@ use Rattle.potential_functions.proofs.Sums.{sum-least, sum-least_both}
 
 -- ---- one atom
 
-greatest-most : (xs : List ℤ) (x : ℤ) → Contains xs x → x ≤ℤ greatest xs
+pub greatest-most : (xs : List ℤ) (x : ℤ) → Contains xs x → x ≤ℤ greatest xs
 greatest-most [] x at = absurd (Contains-none x at)
 greatest-most (first ∷ xs) x at =
     let bounds = fold-int_max_bounds first xs (fold int_max first xs) refl in
@@ -62,16 +62,16 @@ given-ends w false false false is_no is_yes = omega (arith, ints, clamps)
 
 -- ---- scores
 
-abbrev bit : List Bool → ℕ → Bool
+abbrev pub bit : List Bool → ℕ → Bool
 bit bits number = get_or bits number false
 
-pub score-falls : (p : PotentialFunction) (bits next : List Bool) (literals : List NumberedLiteral) (changes : List NumberedChange) (count cost : ℕ)
+-- a score falls by no more than the literals and changes may make it lose
+pub score-falls : (p : PotentialFunction) (bits next : List Bool) (literals : List NumberedLiteral) (changes : List NumberedChange) (count : ℕ)
     → length bits ≡ count → length next ≡ count
     → ((n : ℕ) → n < count → is_pair literals changes n (record { before = bit bits n; after = bit next n }) ≡ true)
     → ((n : ℕ) → n < count → touches changes n ≡ false → bit bits n ≡ bit next n)
-    → loses_at_most count p.weights literals changes ≤ℤ pos cost
-    → score p bits ≤ℤ (score p next +ℤ pos cost)
-score-falls p bits next literals changes count cost long next_long is_pair untouched within =
+    → score p bits ≤ℤ (score p next +ℤ loses_at_most count p.weights literals changes)
+score-falls p bits next literals changes count long next_long is_pair untouched =
     let most = sum-least_both count (given p.weights bits) (given p.weights next) (loses literals changes p.weights) (λ n below.
     given-falls (weight p.weights n) (worst literals changes (weight p.weights n) n) (touches changes n) (bit bits n) (bit next n)
     (λ touched. loss-most literals changes (weight p.weights n) n (bit bits n) (bit next n) (is_pair n below)) (untouched n below)) in
@@ -79,11 +79,11 @@ score-falls p bits next literals changes count cost long next_long is_pair untou
     let after = ap (λ l. sum_below l (given p.weights next)) next_long in
     omega (arith, ints)
 
+-- and where literals hold it is no more than the constant and what they leave
 pub score-ends : (p : PotentialFunction) (bits : List Bool) (literals : List NumberedLiteral) (count : ℕ) → length bits ≡ count
     → ((n : ℕ) (value : Bool) → n < count → says literals n value ≡ true → bit bits n ≡ value)
-    → (p.constant +ℤ goal_gives_at_most count p.weights literals) ≤ℤ pos 0
-    → score p bits ≤ℤ pos 0
-score-ends p bits literals count long agrees within =
+    → score p bits ≤ℤ (p.constant +ℤ goal_gives_at_most count p.weights literals)
+score-ends p bits literals count long agrees =
     let most = sum-least count (given p.weights bits) (goal_gives literals p.weights) (λ n below.
     given-ends (weight p.weights n) (says literals n false) (says literals n true) (bit bits n) (agrees n false below) (agrees n true below)) in
     let all = ap (λ l. sum_below l (given p.weights bits)) long in

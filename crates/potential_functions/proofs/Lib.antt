@@ -4,6 +4,7 @@ pub mod Passing
 pub mod Falls
 pub mod Steps
 pub mod LowerBound
+pub mod Repacked
 pub mod Numbers
 pub mod Worst
 pub mod Zero

@@ -54,6 +54,24 @@ module _ {S A : Type 0} (t : System S A) (allowance : A → ℕ) (among : S → 
       let later = height-most plan first.0 end (stays s first.0 a here first.1) first.2 goal in
       omega (arith, ints, sum_by-cons allowance a plan)
 
+-- ---- steps of the ground task
+
+module _ (task : Task) (atoms : List Atom) where
+  -- where a step of the ground task leads
+  pub led : (bits next : List Bool) (number : ℕ) → ground_step task atoms bits number ≡ Some next
+      → (i : Instance) × (state : State) × (slice_get (kept_instances task) number ≡ Some i) × (step task (state_of_bits task atoms bits) i ≡ Some state) × (bits_of_state atoms state ≡ next)
+  led bits next number leads =
+      elim (slice_get (kept_instances task) number) as (λ o. slice_get (kept_instances task) number ≡ o → option_and_then (λ (j : Instance). option_map (bits_of_state atoms) (step task (state_of_bits task atoms bits) j)) o ≡ Some next
+      → (i : Instance) × (state : State) × (slice_get (kept_instances task) number ≡ Some i) × (step task (state_of_bits task atoms bits) i ≡ Some state) × (bits_of_state atoms state ≡ next)) [
+        | None ↦ λ _ none. absurd (cc)
+        | Some i ↦ λ named some.
+            elim (step task (state_of_bits task atoms bits) i) as (λ o. step task (state_of_bits task atoms bits) i ≡ o → option_map (bits_of_state atoms) o ≡ Some next
+            → (i : Instance) × (state : State) × (slice_get (kept_instances task) number ≡ Some i) × (step task (state_of_bits task atoms bits) i ≡ Some state) × (bits_of_state atoms state ≡ next)) [
+              | None ↦ λ _ none. absurd (cc)
+              | Some state ↦ λ here is. (i, state, named, here, cc)
+            ] refl some
+      ] refl leads
+
 -- ---- states of a task
 
 module _ (allowance : Instance → ℕ) (task : Task) (atoms : List Atom) (p : PotentialFunction) (numberable : AreNumberable task atoms) (fair : AreFairAt allowance task atoms p) where
@@ -75,20 +93,22 @@ module _ (allowance : Instance → ℕ) (task : Task) (atoms : List Atom) (p : P
   pub state-falls : (s next : State) (i : Instance) → HasInitialStatics task s → step task s i ≡ Some next → score p (bits_of s) ≤ℤ (score p (bits_of next) +ℤ pos (allowance i))
   state-falls s next i statics leads =
       let kept = All-contains (λ (j : Instance). IsFairAt (allowance j) task atoms p.weights j) (kept_instances task) i fair.instances (Contains-kept task s next i statics leads) in
-      score-falls p (bits_of s) (bits_of next) (literals_of_instance task atoms i) (counting_of_instance task atoms i) (length atoms) (allowance i) (long s) (long next)
+      let most = score-falls p (bits_of s) (bits_of next) (literals_of_instance task atoms i) (counting_of_instance task atoms i) (length atoms) (long s) (long next)
       (λ n below. subst (λ b. is_pair_of i n b (get_or (bits_of next) n false)) (sym (bit-is s n below)) (subst (λ b. is_pair_of i n (contains s (atom_at n)) b) (sym (bit-is next n below))
       (step-is_pair atoms numberable.distinct n (atom_at n) (at n below) task s next i statics leads)))
-      (λ n below none. bit-is s n below ∙ step-untouched atoms numberable.distinct n (atom_at n) (at n below) task s next i statics leads none ∙ sym (bit-is next n below))
-      kept.within
+      (λ n below none. bit-is s n below ∙ step-untouched atoms numberable.distinct n (atom_at n) (at n below) task s next i statics leads none ∙ sym (bit-is next n below)) in
+      let within = kept.within in
+      omega (arith, ints)
     where
       is_pair_of : Instance → ℕ → Bool → Bool → Type 0
       is_pair_of j n before after = is_pair (literals_of_instance task atoms j) (counting_of_instance task atoms j) n (record { before = before; after = after }) ≡ true
 
   pub state-ends : (s : State) → IsTrue (meets_goal task s) → score p (bits_of s) ≤ℤ pos 0
   state-ends s goal =
-      score-ends p (bits_of s) (literals_of_goal task atoms) (length atoms) (long s)
-      (λ n value below said. bit-is s n below ∙ formula-says atoms numberable.distinct n (atom_at n) (at n below) task s task.goal [] value goal said)
-      fair.goals.within
+      let most = score-ends p (bits_of s) (literals_of_goal task atoms) (length atoms) (long s)
+      (λ n value below said. bit-is s n below ∙ formula-says atoms numberable.distinct n (atom_at n) (at n below) task s task.goal [] value goal said) in
+      let within = fair.goals.within in
+      omega (arith, ints)
 
   -- the value is at most what is allowed to all instances of a list that leads to a goal
   state_bound : (s end : State) (plan : List Instance) → HasInitialStatics task s → run (system_of task) s plan ≡ Some end → IsTrue (meets_goal task end)
@@ -119,28 +139,13 @@ module _ (allowance : Instance → ℕ) (task : Task) (atoms : List Atom) (p : P
   abbrev is_packed : List Bool → Type 0
   is_packed bits = length bits ≡ length atoms
 
-  -- where a step of the ground task leads
-  led : (bits next : List Bool) (number : ℕ) → ground_step task atoms bits number ≡ Some next
-      → (i : Instance) × (state : State) × (slice_get (kept_instances task) number ≡ Some i) × (step task (state_of_bits task atoms bits) i ≡ Some state) × (bits_of state ≡ next)
-  led bits next number leads =
-      elim (slice_get (kept_instances task) number) as (λ o. slice_get (kept_instances task) number ≡ o → option_and_then (λ (j : Instance). option_map (bits_of_state atoms) (step task (state_of_bits task atoms bits) j)) o ≡ Some next
-      → (i : Instance) × (state : State) × (slice_get (kept_instances task) number ≡ Some i) × (step task (state_of_bits task atoms bits) i ≡ Some state) × (bits_of state ≡ next)) [
-        | None ↦ λ _ none. absurd (cc)
-        | Some i ↦ λ named some.
-            elim (step task (state_of_bits task atoms bits) i) as (λ o. step task (state_of_bits task atoms bits) i ≡ o → option_map (bits_of_state atoms) o ≡ Some next
-            → (i : Instance) × (state : State) × (slice_get (kept_instances task) number ≡ Some i) × (step task (state_of_bits task atoms bits) i ≡ Some state) × (bits_of state ≡ next)) [
-              | None ↦ λ _ none. absurd (cc)
-              | Some state ↦ λ here is. (i, state, named, here, cc)
-            ] refl some
-      ] refl leads
-
   -- what is allowed to the instance of a number
   abbrev allowed : ℕ → ℕ
   allowed number = option_map_or allowance (slice_get (kept_instances task) number) 0
 
   ground-falls : (bits next : List Bool) (number : ℕ) → is_packed bits → ground_step task atoms bits number ≡ Some next → score p bits ≤ℤ (score p next +ℤ pos (allowed number))
   ground-falls bits next number as_long leads =
-      let there = led bits next number leads in
+      let there = led task atoms bits next number leads in
       let allows : allowed number ≡ allowance there.0 = ap (λ o. option_map_or allowance o 0) there.2 in
       let falls = state-falls (state_of_bits task atoms bits) there.1 there.0 (packed-statics bits) there.3 in
       let before : score p (bits_of (state_of_bits task atoms bits)) ≡ score p bits = ap (score p) (packed-bits bits as_long) in
@@ -153,7 +158,7 @@ module _ (allowance : Instance → ℕ) (task : Task) (atoms : List Atom) (p : P
   ground-ends bits as_long goal = subst (λ l. score p l ≤ℤ pos 0) (packed-bits bits as_long) (state-ends (state_of_bits task atoms bits) goal)
 
   ground-stays : (bits next : List Bool) (number : ℕ) → is_packed bits → ground_step task atoms bits number ≡ Some next → is_packed next
-  ground-stays bits next number as_long leads = let there = led bits next number leads in sym (ap length there.4) ∙ long there.1
+  ground-stays bits next number as_long leads = let there = led task atoms bits next number leads in sym (ap length there.4) ∙ long there.1
 
   ground_bound : (bits end : List Bool) (plan : List ℕ) → is_packed bits → run (ground_system task atoms) bits plan ≡ Some end → IsTrue ((ground_system task atoms).meets_goal end)
       → value p bits ≤ sum_by allowed plan
@@ -188,21 +193,21 @@ fair_ones_are_lower_bounds = are_lower_bounds
 
 -- ---- nothing is allowed
 
-sum-nothing : {A : Type 0} (f : A → ℕ) → ((a : A) → f a ≡ 0) → (plan : List A) → sum_by f plan ≡ 0
+pub sum-nothing : {A : Type 0} (f : A → ℕ) → ((a : A) → f a ≡ 0) → (plan : List A) → sum_by f plan ≡ 0
 sum-nothing f each [] = refl
 sum-nothing f each (a ∷ plan) =
     let first = each a in
     let rest = sum-nothing f each plan in
     omega (arith, sum_by-cons f a plan)
 
-module _ (task : Task) (atoms : List Atom) (p : PotentialFunction) (numberable : AreNumberable task atoms) (fair : AreDeadFair task atoms p) where
-  nothing-allowed : (number : ℕ) → option_map_or nothing (slice_get (kept_instances task) number) 0 ≡ 0
-  nothing-allowed number =
-      elim (slice_get (kept_instances task) number) as (λ o. option_map_or nothing o 0 ≡ 0) [
-        | None ↦ refl
-        | Some i ↦ refl
-      ]
+pub nothing-allowed : (task : Task) (number : ℕ) → option_map_or nothing (slice_get (kept_instances task) number) 0 ≡ 0
+nothing-allowed task number =
+    elim (slice_get (kept_instances task) number) as (λ o. option_map_or nothing o 0 ≡ 0) [
+      | None ↦ refl
+      | Some i ↦ refl
+    ]
 
+module _ (task : Task) (atoms : List Atom) (p : PotentialFunction) (numberable : AreNumberable task atoms) (fair : AreDeadFair task atoms p) where
   -- what comes only where the value is 0 does not come where a dead end is reported
   never-where : (bits : List Bool) (b : Bool) → IsTrue (is_dead_by p bits) → (b ≡ true → value p bits ≤ 0) → b ≡ false
   never-where bits b dead none_left =
@@ -214,7 +219,7 @@ module _ (task : Task) (atoms : List Atom) (p : PotentialFunction) (numberable :
   ground-never_falls : (bits next : List Bool) (number : ℕ) → length bits ≡ length atoms → ground_step task atoms bits number ≡ Some next → value p bits ≤ value p next
   ground-never_falls bits next number as_long leads =
       let falls = ground_value_falls nothing task atoms p numberable fair bits next number as_long leads in
-      let none = nothing-allowed number in
+      let none = nothing-allowed task number in
       omega arith
 
   ground-no_goal : (bits : List Bool) → length bits ≡ length atoms → IsTrue (is_dead_by p bits) → (ground_system task atoms).meets_goal bits ≡ false
@@ -234,7 +239,7 @@ module _ (task : Task) (atoms : List Atom) (p : PotentialFunction) (numberable :
     };
     ground_dead_ends = λ bits end plan as_long dead runs. never-where bits ((ground_system task atoms).meets_goal end) dead (λ goal.
         let most = ground_bound nothing task atoms p numberable fair bits end plan as_long runs goal in
-        let none = sum-nothing (λ number. option_map_or nothing (slice_get (kept_instances task) number) 0) nothing-allowed plan in
+        let none = sum-nothing (λ number. option_map_or nothing (slice_get (kept_instances task) number) 0) (nothing-allowed task) plan in
         omega arith);
     ground_consistent = record {
       never_falls = ground-never_falls;

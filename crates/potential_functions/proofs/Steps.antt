@@ -29,7 +29,7 @@ made_by true literals = added_by literals
 made_by false literals = deleted_by literals
 
 -- what comes of it is one of the things that may, where some of the changes that may be made are made, and all unconditional ones
-comes : (added deleted : Bool) (may : Bool → Bool) (adding deleting before : Bool)
+pub comes : (added deleted : Bool) (may : Bool → Bool) (adding deleting before : Bool)
     → (added ≡ true → adding ≡ true) → (deleted ≡ true → deleting ≡ true) → (adding ≡ true → (added || may true) ≡ true) → (deleting ≡ true → (deleted || may false) ≡ true)
     → (let after = (before && not deleting) || adding in if added then after else beq after (before && not deleted) || may after) ≡ true
 comes true deleted may adding deleting before sure_add sure_delete may_add may_delete = or_right (before && not deleting) adding (sure_add refl)
@@ -246,7 +246,7 @@ module _ (atoms : List Atom) (distinct : are_distinct atoms ≡ true) (n : ℕ) 
         held false v y t is = absurd (cc)
 
     -- what the literals of the instance say of the atom is so before
-    instance-says : (value : Bool) → says (literals_of_instance task atoms i) n value ≡ true → contains s a ≡ value
+    pub instance-says : (value : Bool) → says (literals_of_instance task atoms i) n value ≡ true → contains s a ≡ value
     instance-says value is =
         elim (slice_get task.schemas i.schema) as (λ o. slice_get task.schemas i.schema ≡ o
         → says (option_map_or (λ (schema : Schema). numbered_literals task atoms schema.precondition i.objects) o []) n value ≡ true → contains s a ≡ value) [

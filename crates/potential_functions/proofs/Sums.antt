@@ -1,6 +1,6 @@
 -- Sums over the numbers below one.
-use Rattle.std.proofs.Common.{◌≡◌, ◌≢◌, ℕ, zero, suc, ◌+◌, ◌*◌, ◌<◌, inl, inr, refl, ap, arith, ℤ, pos, ◌+ℤ◌, neg_ℤ, ◌≤ℤ◌}
-use Rattle.std.proofs.lemmas.Bool.{cases_eq}
+use Rattle.std.proofs.Common.{◌≡◌, ◌≢◌, ℕ, zero, suc, ◌+◌, ◌*◌, ◌<◌, ◌≤◌, inl, inr, refl, ap, arith, ℤ, pos, ◌+ℤ◌, neg_ℤ, ◌≤ℤ◌}
+use Rattle.std.proofs.lemmas.Bool.{cases_eq, cases_lt}
 use Rattle.std.proofs.lemmas.Int.{ints}
 use Rattle.potential_functions.specs.PotentialFunctions.{sum_below, IsInRange}
 
@@ -32,6 +32,18 @@ sum-least_both (suc n) f g h each =
     let rest = sum-least_both n f g h (λ k below. each k (omega arith)) in
     let last = each n (omega arith) in
     omega (arith, ints)
+
+-- what is 0 from a number on adds nothing
+pub sum-past : (n m : ℕ) (f : ℕ → ℤ) → n ≤ m → ((k : ℕ) → n ≤ k → f k ≡ pos 0) → sum_below m f ≡ sum_below n f
+sum-past n zero f within none = ap (λ k. sum_below k f) (let e : zero ≡ n = omega arith in e)
+sum-past n (suc m) f within none =
+    elim (cases_lt n (suc m)) [
+      | inl below ↦
+          let rest = sum-past n m f (omega arith) none in
+          let last = none m (omega arith) in
+          omega (arith, ints)
+      | inr not_below ↦ ap (λ k. sum_below k f) (let e : suc m ≡ n = omega arith in e)
+    ]
 
 -- two that are alike save at one place
 pub sum-changed : (n : ℕ) (f g : ℕ → ℤ) (place : ℕ) → place < n → ((k : ℕ) → k < n → k ≢ place → f k ≡ g k) → (sum_below n f +ℤ g place) ≡ (sum_below n g +ℤ f place)

@@ -1,0 +1,136 @@
+-- The value of a fair table function, and the greatest of several: what is so of it across a step of the task and at a goal.
+use Rattle.std.proofs.Common.{◌≡◌, ℕ, ◌+◌, ◌<◌, ◌≤◌, max, Bool, true, false, true≢false, not, ◌||◌, List, [], ◌∷◌, length, Some, refl, sym, ap, subst, arith, pos, ◌+ℤ◌, ◌≤ℤ◌}
+use Rattle.std.specs.Prelude.{IsTrue, Contains, nat_lt, slice_get, if◌then◌else◌, is_some}
+use Rattle.std.specs.List.{list_all}
+use Rattle.std.specs.Option.{option_map_or}
+use Rattle.std.specs.FinSet.{contains}
+use Rattle.std.proofs.lemmas.Bool.{ltb-true}
+use Rattle.std.proofs.lemmas.List.{length-map}
+use Rattle.std.proofs.lemmas.List.Elements.{All-contains}
+use Rattle.model.specs.Task.{Atom, Schema, Task, Instance}
+use Rattle.model.specs.Meaning.{State, step, meets_goal}
+use Rattle.model.specs.Fluents.{HasInitialStatics}
+use Rattle.model.specs.StaticallyFalse.{kept_instances, counting_changes}
+use Rattle.model.specs.NumberedAtoms.{HasNumberedFluents}
+use Rattle.model.specs.NumberedLiterals.{literals_of_instance, literals_of_goal, counting_of_instance}
+use Rattle.model.specs.Grounding.{bits_of_state}
+use Rattle.model.proofs.ListLemmas.{Contains-here, Contains-there}
+use Rattle.model.proofs.StaticallyFalseLemmas.{Contains-kept}
+use Rattle.potential_functions.specs.PotentialFunctions.{score, or_zero}
+use Rattle.potential_functions.specs.Fair.{loses_at_most, goal_gives_at_most}
+use Rattle.potential_functions.specs.Laws.{AreNumberable}
+use Rattle.potential_functions.proofs.Falls.{score-falls, score-ends}
+use Rattle.potential_functions.proofs.Repacked.{repacked, repacked-bit, repacked-score}
+use Rattle.table_functions.specs.TableFunctions.{Table, TableFunction, is_among, projection, row_of, row_in, has_rows, given_by, value, greatest_value}
+use Rattle.table_functions.specs.FairTables.{is_shut_out, wants_unnumbered, is_asked, changes_in, IsFairAt, conditional_of_instance, AreFairAt}
+use Rattle.table_functions.specs.Laws.{IsOver}
+use Rattle.table_functions.proofs.Lists.{all-at, all-among, over-alike}
+use Rattle.table_functions.proofs.Rows.{projection-alike, not-shut_out}
+use Rattle.table_functions.proofs.Falls.{has-next, total-falls, total-ends, value-falls, value-ends}
+use Rattle.table_functions.proofs.Steps.{all_changes-are, formula-bit, formula-within, pair-bits, untouched-bits, instance-wants_none, instance-within, steps-within}
+
+-- as every reachable state: its static atoms are those of the start, and its fluent atoms have numbers
+pub record IsOfAtoms (task : Task) (atoms : List Atom) (state : State) : Type 0 where
+  pub statics : HasInitialStatics task state
+  pub numbered : HasNumberedFluents task atoms state
+
+-- The value of such a state falls by no more than is allowed to an instance, and is 0 where the goal is met; and it looks at no
+-- bits but those of the numbered atoms.
+pub record IsEstimate (allowance : Instance → ℕ) (task : Task) (atoms : List Atom) (value : List Bool → ℕ) : Type 0 where
+  pub falls : (s next : State) (i : Instance) → IsOfAtoms task atoms s → step task s i ≡ Some next
+      → value (bits_of_state atoms s) ≤ value (bits_of_state atoms next) + allowance i
+  pub ends : (s : State) → meets_goal task s ≡ true → value (bits_of_state atoms s) ≡ 0
+  pub by_numbered : (bits : List Bool) → value (repacked task atoms bits) ≡ value bits
+
+-- ---- one value
+
+module _ (allowance : Instance → ℕ) (task : Task) (atoms : List Atom) (h : TableFunction) (numberable : AreNumberable task atoms) (over : IsOver (length atoms) h)
+    (fair : AreFairAt (is_asked task atoms h.tables) allowance task atoms h) where
+  abbrev bits_of : State → List Bool
+  bits_of s = bits_of_state atoms s
+
+  long : (s : State) → length (bits_of s) ≡ length atoms
+  long s = length-map atoms (contains s)
+
+  below : (t : Table) → Contains h.tables t → (n : ℕ) → is_among t.scope n ≡ true → n < length atoms
+  below t at n there =
+      ltb-true n (length atoms) (all-among (λ k. nat_lt k (length atoms)) t.scope n (all-at (λ (u : Table). list_all (λ k. nat_lt k (length atoms)) u.scope) h.tables t over.scopes at) there)
+
+  -- an instance that leads from a state that has its rows to another is not shut out
+  asked : (s next : State) (i : Instance) → IsOfAtoms task atoms s → step task s i ≡ Some next → has_rows h.tables (bits_of s) ≡ true → is_asked task atoms h.tables i ≡ true
+  asked s next i here leads has =
+      neither (option_map_or (λ (schema : Schema). wants_unnumbered task atoms schema.precondition i.objects) (slice_get task.schemas i.schema) false) (is_shut_out (literals_of_instance task atoms i) h.tables)
+      (instance-wants_none task atoms numberable.distinct s next i here.statics leads here.numbered)
+      (not-shut_out (bits_of s) (literals_of_instance task atoms i) h.tables has (λ t at. instance-within task atoms numberable.distinct s next i here.statics leads here.numbered t.scope (below t at)))
+    where
+      neither : (x y : Bool) → x ≡ false → y ≡ false → not (x || y) ≡ true
+      neither false false e f = refl
+      neither false true e f = absurd (true≢false f)
+      neither true y e f = absurd (true≢false e)
+
+  one-falls : (s next : State) (i : Instance) → IsOfAtoms task atoms s → step task s i ≡ Some next → value h (bits_of s) ≤ value h (bits_of next) + allowance i
+  one-falls s next i here leads =
+      value-falls h (bits_of s) (bits_of next) (allowance i) (λ has.
+      let literals = literals_of_instance task atoms i in
+      let changes = conditional_of_instance task atoms i in
+      let lost = loses_at_most (length atoms) h.potentials.weights literals (changes_in changes) in
+      let steps = λ (t : Table) (at : Contains h.tables t). steps-within task atoms numberable.distinct s next i here.statics leads here.numbered t.scope (below t at) in
+      let across = All-contains (λ (j : Instance). IsTrue (is_asked task atoms h.tables j) → IsFairAt (allowance j) task atoms h j) (kept_instances task) i fair.instances
+      (Contains-kept task s next i here.statics leads) (asked s next i here leads has) in
+      let falls : score h.potentials (bits_of s) ≤ℤ (score h.potentials (bits_of next) +ℤ lost) =
+      subst (λ l. score h.potentials (bits_of s) ≤ℤ (score h.potentials (bits_of next) +ℤ loses_at_most (length atoms) h.potentials.weights literals l)) (sym (all_changes-are task atoms (counting_changes task i)))
+      (score-falls h.potentials (bits_of s) (bits_of next) literals (counting_of_instance task atoms i) (length atoms) (long s) (long next)
+      (pair-bits task atoms numberable.distinct s next i here.statics leads) (untouched-bits task atoms numberable.distinct s next i here.statics leads)) in (
+        has-next literals changes (bits_of s) (bits_of next) h.tables steps has across.closed,
+        total-falls h literals changes (bits_of s) (bits_of next) lost (allowance i) steps has across.closed falls across.within,
+      ))
+
+  one-ends : (s : State) → meets_goal task s ≡ true → value h (bits_of s) ≡ 0
+  one-ends s goal =
+      value-ends h (bits_of s) (λ has.
+      let literals = literals_of_goal task atoms in
+      let holding = λ (t : Table) (at : Contains h.tables t). formula-within task atoms numberable.distinct t.scope (below t at) s task.goal [] goal in
+      total-ends h literals (bits_of s) (h.potentials.constant +ℤ goal_gives_at_most (length atoms) h.potentials.weights literals) holding has
+      (score-ends h.potentials (bits_of s) literals (length atoms) (long s) (λ n said_value under said. formula-bit task atoms numberable.distinct s task.goal [] goal n said_value under said))
+      (fair.goals.within (not-shut_out (bits_of s) literals h.tables has holding)))
+
+  -- tables look only at bits of their scopes
+  repacked-projection : (bits : List Bool) (t : Table) → Contains h.tables t → projection (repacked task atoms bits) t.scope ≡ projection bits t.scope
+  repacked-projection bits t at = projection-alike (repacked task atoms bits) bits t.scope (λ n there. repacked-bit task atoms numberable bits n (below t at n there))
+
+  has-alike : (bits other : List Bool) (tables : List Table) → ((t : Table) → Contains tables t → projection bits t.scope ≡ projection other t.scope) → has_rows tables bits ≡ has_rows tables other
+  has-alike bits other [] each = refl
+  has-alike bits other (t ∷ ts) each =
+      let rest = has-alike bits other ts (λ u at. each u (Contains-there t ts u at)) in
+      let first = ap (λ trues. is_some (row_of t trues)) (each t (Contains-here t ts)) in
+      cc
+
+  repacked-value : (bits : List Bool) → value h (repacked task atoms bits) ≡ value h bits
+  repacked-value bits =
+      let has = has-alike (repacked task atoms bits) bits h.tables (repacked-projection bits) in
+      let tables = over-alike h.tables (λ t. given_by h.place (row_in (repacked task atoms bits) t)) (λ t. given_by h.place (row_in bits t))
+      (λ t at. ap (λ trues. given_by h.place (row_of t trues)) (repacked-projection bits t at)) in
+      let atoms_give = repacked-score task atoms numberable h.potentials over.weights bits in
+      (λ i. or_zero (if has i then (atoms_give i +ℤ tables i) else pos 0))
+
+  pub one-estimate : IsEstimate allowance task atoms (value h)
+  one-estimate = record { falls = one-falls; ends = one-ends; by_numbered = repacked-value }
+
+-- ---- the greatest of several
+
+greater-falls : (a b c d allowed : ℕ) → a ≤ c + allowed → b ≤ d + allowed → max a b ≤ max c d + allowed
+greater-falls a b c d allowed one other = omega arith
+
+pub greatest-estimate : (allowance : Instance → ℕ) (task : Task) (atoms : List Atom) (functions : List TableFunction)
+    → ((h : TableFunction) → Contains functions h → IsEstimate allowance task atoms (value h)) → IsEstimate allowance task atoms (greatest_value functions)
+greatest-estimate allowance task atoms [] each = record { falls = λ s next i here leads. omega arith; ends = λ s goal. refl; by_numbered = λ bits. refl }
+greatest-estimate allowance task atoms (h ∷ others) each =
+    let first = each h (Contains-here h others) in
+    let rest = greatest-estimate allowance task atoms others (λ g at. each g (Contains-there h others g at)) in
+    record {
+      falls = λ s next i here leads.
+          greater-falls (value h (bits_of_state atoms s)) (greatest_value others (bits_of_state atoms s)) (value h (bits_of_state atoms next)) (greatest_value others (bits_of_state atoms next)) (allowance i)
+          (first.falls s next i here leads) (rest.falls s next i here leads);
+      ends = λ s goal. (λ i. max (first.ends s goal i) (rest.ends s goal i));
+      by_numbered = λ bits. (λ i. max (first.by_numbered bits i) (rest.by_numbered bits i));
+    }

@@ -1,0 +1,9 @@
+pub mod Lists
+pub mod Rows
+pub mod Falls
+pub mod Steps
+pub mod Estimates
+pub mod LowerBound
+pub mod WithoutTables
+pub mod Certain
+pub mod TableExampleProofs

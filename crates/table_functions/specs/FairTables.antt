@@ -1,0 +1,190 @@
+-- Fair table functions: no kept instance makes the value fall by more than it costs, and at a goal it is at most 0. This looks
+-- at each instance and at the goal once, and at no state: what an instance may lose by each part, by single atoms and by each
+-- table, adds up to no more than it costs, as in a cost partitioning (Seipp, Keller & Helmert 2020, JAIR 67). What it may lose
+-- by a table is the least cost that its abstract transitions need, the saturated cost, which may be negative.
+use Rattle.std.specs.Prelude.{◌≡◌, ℕ, ◌<◌, Bool, true, false, not, ◌&&◌, ◌||◌, IsTrue, slice_get, if◌then◌else◌, ℤ, pos, ◌+ℤ◌, neg_ℤ, ◌≤ℤ◌, List, [], ◌∷◌, ◌++◌, length, map, filter, All, Option, Some, is_some}
+use Rattle.std.specs.Bool.{beq}
+use Rattle.std.specs.List.{list_any, list_all, flat_map, filter_map}
+use Rattle.std.specs.Option.{option_map, option_map_or}
+use Rattle.model.specs.Task.{Atom, Formula, Schema, Task, Instance}
+use Rattle.model.specs.Meaning.{Change, cost_of}
+use Rattle.model.specs.Fluents.{is_fluent}
+use Rattle.model.specs.SureLiterals.{Literal, is_true, sure}
+use Rattle.model.specs.NumberedAtoms.{occurs_in}
+use Rattle.model.specs.StaticallyFalse.{kept_instances, counting_changes}
+use Rattle.model.specs.NumberedLiterals.{NumberedLiteral, NumberedChange, numbered_change, numbered_literals, literals_of_instance, literals_of_goal}
+use Rattle.potential_functions.specs.Fair.{touches, may_become, greatest, loses_at_most, goal_gives_at_most, nothing}
+use Rattle.table_functions.specs.TableFunctions.{Row, Table, is_among, row_of, TableFunction, weight_at, sum_over, SeveralValues, functions_of, dead_ends_of}
+
+-- ---- rows and literals
+
+-- Where these atoms of the scope are true, each literal of an atom of the scope is as it says.
+abbrev pub agrees : List NumberedLiteral → List ℕ → List ℕ → Bool
+agrees literals scope atoms = list_all (λ (l : NumberedLiteral). not (is_among scope l.atom) || beq (is_among atoms l.atom) l.value) literals
+
+-- the rows of the table that agree with the literals
+abbrev pub agreeing : List NumberedLiteral → Table → List Row
+agreeing literals table = filter (λ (r : Row). agrees literals table.scope r.atoms) table.rows
+
+-- The literals are shut out, if some table has no row that agrees with them: they hold in no state that has its rows.
+abbrev pub is_shut_out : List NumberedLiteral → List Table → Bool
+is_shut_out literals tables = list_any (λ (t : Table). not (list_any (λ (r : Row). agrees literals t.scope r.atoms) t.rows)) tables
+
+-- ---- rows after a row
+
+-- a change of a numbered atom, with the sure literals of its condition that are of numbered atoms, and whether another of
+-- these wants an atom that has no number, which is false
+pub record ConditionalChange : Type 0 where
+  pub change : NumberedChange
+  pub condition : List NumberedLiteral
+  pub wants_unnumbered : Bool
+
+abbrev pub changes_in : List ConditionalChange → List NumberedChange
+changes_in changes = map (λ (c : ConditionalChange). c.change) changes
+
+-- where these atoms of the scope are true, nothing contradicts the condition, so the change may be made
+abbrev pub is_open : List ℕ → List ℕ → ConditionalChange → Bool
+is_open scope atoms c = not c.wants_unnumbered && agrees c.condition scope atoms
+
+abbrev pub open_changes : List ConditionalChange → List ℕ → List ℕ → List NumberedChange
+open_changes changes scope atoms = changes_in (filter (is_open scope atoms) changes)
+
+-- The sets of atoms of the scope that may be true after these changes, where those were true before. Of each atom by itself:
+-- unconditional deletes and then unconditional adds are made, and of those under a `when`, deletes before adds, any; an
+-- unconditional add wins over all.
+abbrev pub afters : List NumberedChange → List ℕ → List ℕ → List (List ℕ)
+afters changes [] before = [] ∷ []
+afters changes (number ∷ scope) before =
+    (if may_become changes number (is_among before number) true then map (λ rest. number ∷ rest) (afters changes scope before) else [])
+    ++ (if may_become changes number (is_among before number) false then afters changes scope before else [])
+
+-- those that may come after a row of these atoms
+abbrev pub afters_of : List ConditionalChange → List ℕ → List ℕ → List (List ℕ)
+afters_of changes scope atoms = afters (open_changes changes scope atoms) scope atoms
+
+-- one of the changes is of an atom of the scope
+abbrev pub touches_scope : List ConditionalChange → Table → Bool
+touches_scope changes table = list_any (touches (changes_in changes)) table.scope
+
+-- Of each row that agrees with the literals, all that may come after it are rows. Where no change is of an atom of the scope,
+-- a row comes after itself.
+abbrev pub is_closed : List NumberedLiteral → List ConditionalChange → Table → Bool
+is_closed literals changes table =
+    not (touches_scope changes table)
+    || list_all (λ (r : Row). list_all (λ after. is_some (row_of table after)) (afters_of changes table.scope r.atoms)) (agreeing literals table)
+
+-- ---- what may be lost
+
+-- the weight of the row less that of each row that may come after it
+abbrev pub losses_from : ℕ → List ConditionalChange → Table → Row → List ℤ
+losses_from place changes table row =
+    map (λ (after : Row). weight_at place row +ℤ neg_ℤ (weight_at place after)) (filter_map (row_of table) (afters_of changes table.scope row.atoms))
+
+-- the most that is lost from a row that agrees, which may be negative
+abbrev pub most_lost : ℕ → List NumberedLiteral → List ConditionalChange → Table → ℤ
+most_lost place literals changes table = greatest (flat_map (losses_from place changes table) (agreeing literals table))
+
+-- the loss of the table: that, and nothing where no change is of an atom of its scope
+abbrev pub table_loses : ℕ → List NumberedLiteral → List ConditionalChange → Table → ℤ
+table_loses place literals changes table = if touches_scope changes table then most_lost place literals changes table else pos 0
+
+-- the most that is lost by single atoms, of which so many have numbers, and by tables
+abbrev pub all_lose : ℕ → TableFunction → List NumberedLiteral → List ConditionalChange → ℤ
+all_lose count h literals changes = loses_at_most count h.potentials.weights literals (changes_in changes) +ℤ sum_over h.tables (table_loses h.place literals changes)
+
+-- An instance of these literals and changes is fair at this allowance: from rows it leads to rows, and loses no more.
+pub record IsFairAcross (allowance count : ℕ) (h : TableFunction) (literals : List NumberedLiteral) (changes : List ConditionalChange) : Type 0 where
+  pub closed : IsTrue (list_all (is_closed literals changes) h.tables)
+  pub within : all_lose count h literals changes ≤ℤ pos allowance
+
+-- ---- what is left at a goal
+
+-- the greatest weight of a row that agrees with the goal's literals
+abbrev pub table_gives : ℕ → List NumberedLiteral → Table → ℤ
+table_gives place literals table = greatest (map (weight_at place) (agreeing literals table))
+
+-- the most that the constant, single atoms and tables give in a state that agrees with the goal's literals
+abbrev pub all_give : ℕ → TableFunction → List NumberedLiteral → ℤ
+all_give count h literals = (h.potentials.constant +ℤ goal_gives_at_most count h.potentials.weights literals) +ℤ sum_over h.tables (table_gives h.place literals)
+
+-- nothing is asked where no row of a table meets the goal
+pub record IsFairAtGoals (task : Task) (atoms : List Atom) (h : TableFunction) : Type 0 where
+  pub within : is_shut_out (literals_of_goal task atoms) h.tables ≡ false → all_give (length atoms) h (literals_of_goal task atoms) ≤ℤ pos 0
+
+-- ---- instances of a task
+
+-- the literal wants a fluent atom that has no number
+abbrev pub is_unnumbered : Task → List Atom → Literal → Bool
+is_unnumbered task atoms (is_true a) = is_fluent task a.predicate && not (occurs_in atoms a)
+is_unnumbered task atoms _ = false
+
+-- one of the formula's sure literals does
+abbrev pub wants_unnumbered : Task → List Atom → Formula → List ℕ → Bool
+wants_unnumbered task atoms formula binding = list_any (is_unnumbered task atoms) (sure task formula binding)
+
+abbrev pub conditional_change : Task → List Atom → Change → Option ConditionalChange
+conditional_change task atoms c =
+    option_map (λ (k : NumberedChange). record {
+      change = k;
+      condition = numbered_literals task atoms c.condition c.binding;
+      wants_unnumbered = wants_unnumbered task atoms c.condition c.binding;
+    }) (numbered_change atoms c)
+
+-- the changes of an instance that count
+abbrev pub conditional_of_instance : Task → List Atom → Instance → List ConditionalChange
+conditional_of_instance task atoms i = filter_map (conditional_change task atoms) (counting_changes task i)
+
+-- An instance is shut out, if its precondition wants an atom that has no number, or its sure literals are: in a state that has
+-- all its rows it is not applicable.
+abbrev pub is_instance_shut_out : Task → List Atom → List Table → Instance → Bool
+is_instance_shut_out task atoms tables i =
+    option_map_or (λ (s : Schema). wants_unnumbered task atoms s.precondition i.objects) (slice_get task.schemas i.schema) false
+    || is_shut_out (literals_of_instance task atoms i) tables
+
+-- of others it is asked that they are fair
+abbrev pub is_asked : Task → List Atom → List Table → Instance → Bool
+is_asked task atoms tables i = not (is_instance_shut_out task atoms tables i)
+
+-- of all, as potential functions are asked
+abbrev pub each_instance : Instance → Bool
+each_instance i = true
+
+-- an instance of the task is fair at this allowance
+abbrev pub IsFairAt : ℕ → Task → List Atom → TableFunction → Instance → Type 0
+IsFairAt allowance task atoms h i = IsFairAcross allowance (length atoms) h (literals_of_instance task atoms i) (conditional_of_instance task atoms i)
+
+-- ---- fair table functions
+
+-- each kept instance that is asked is fair at its allowance, and so are the goals
+pub record AreFairAt (asked : Instance → Bool) (allowance : Instance → ℕ) (task : Task) (atoms : List Atom) (h : TableFunction) : Type 0 where
+  pub instances : All (λ (i : Instance). IsTrue (asked i) → IsFairAt (allowance i) task atoms h i) (kept_instances task)
+  pub goals : IsFairAtGoals task atoms h
+
+-- fair: no instance that is not shut out makes the value fall by more than it costs
+abbrev pub IsFair : Task → List Atom → TableFunction → Type 0
+IsFair task atoms h = AreFairAt (is_asked task atoms h.tables) (cost_of task) task atoms h
+
+-- dead-fair: none makes it fall at all
+abbrev pub IsDeadFair : Task → List Atom → TableFunction → Type 0
+IsDeadFair task atoms h = AreFairAt (is_asked task atoms h.tables) nothing task atoms h
+
+-- several values are fair, each by itself, and that of dead ends is dead-fair
+pub record AreFair (task : Task) (atoms : List Atom) (s : SeveralValues) : Type 0 where
+  pub values : All (IsFair task atoms) (functions_of s)
+  pub dead_ends : IsDeadFair task atoms (dead_ends_of s)
+
+-- ---- the first that is not fair
+
+-- the instance of this number is the first that is asked and is not fair at its allowance
+pub record IsFirstUnfairAt (asked : Instance → Bool) (allowance : Instance → ℕ) (task : Task) (atoms : List Atom) (h : TableFunction) (number : ℕ) : Type 0 where
+  pub instance : Instance
+  pub named : slice_get (kept_instances task) number ≡ Some instance
+  pub is_asked : IsTrue (asked instance)
+  pub unfair : ¬ IsFairAt (allowance instance) task atoms h instance
+  pub earlier : (n : ℕ) (i : Instance) → n < number → slice_get (kept_instances task) n ≡ Some i → IsTrue (asked i) → IsFairAt (allowance i) task atoms h i
+
+abbrev pub IsFirstUnfair : Task → List Atom → TableFunction → ℕ → Type 0
+IsFirstUnfair task atoms h = IsFirstUnfairAt (is_asked task atoms h.tables) (cost_of task) task atoms h
+
+abbrev pub IsFirstDeadUnfair : Task → List Atom → TableFunction → ℕ → Type 0
+IsFirstDeadUnfair task atoms h = IsFirstUnfairAt (is_asked task atoms h.tables) nothing task atoms h

@@ -1,0 +1,131 @@
+-- Values over sets of atoms. A table is a pattern database (Culberson & Schaeffer 1998, "Pattern Databases"; Edelkamp 2001,
+-- "Planning with Pattern Databases"): it looks at the atoms of a pattern, its scope, and at no others, so its rows are abstract
+-- states, and it gives a weight to each. A table function adds up a constant, weights of single atoms and one row of each table,
+-- as a cost partitioning divides what an action costs among abstractions (Seipp, Keller & Helmert 2020, "Saturated Cost
+-- Partitioning for Optimal Classical Planning", JAIR 67). Without tables it is a potential function.
+use Rattle.std.specs.Prelude.{ℕ, suc, zero, max, ◌==◌, nat_le, Bool, false, not, ◌||◌, ℤ, pos, ◌+ℤ◌, List, [], ◌∷◌, length, filter, get_or, if◌then◌else◌, Option, is_some}
+use Rattle.std.specs.List.{list_any, list_all, find}
+use Rattle.std.specs.Option.{option_map_or}
+use Rattle.std.specs.Cmp.Lexicographic.{pointwise}
+use Rattle.std.specs.FinSet.{items}
+use Rattle.model.specs.Task.{Atom, Task}
+use Rattle.model.specs.Meaning.{State}
+use Rattle.model.specs.Fluents.{is_fluent}
+use Rattle.model.specs.NumberedAtoms.{occurs_in}
+use Rattle.model.specs.Grounding.{bits_of_state}
+use Rattle.potential_functions.specs.PotentialFunctions.{PotentialFunction, score, or_zero}
+
+-- ---- tables
+
+-- A row of a table is an abstract state: the numbers of those atoms of the scope that are true, rising. It has a weight for
+-- each of several values and, last, one for dead ends.
+pub record Row : Type 0 where
+  pub atoms : List ℕ
+  pub weights : List ℤ
+
+-- A table: the numbers of the atoms of its pattern, rising, and its rows, each set of atoms once. Not each set needs a row.
+pub record Table : Type 0 where
+  pub scope : List ℕ
+  pub rows : List Row
+
+-- the number is among these
+abbrev pub is_among : List ℕ → ℕ → Bool
+is_among numbers number = list_any (λ k. k == number) numbers
+
+-- the packed state's projection to the scope: its atoms that are true
+abbrev pub projection : List Bool → List ℕ → List ℕ
+projection bits scope = filter (λ number. get_or bits number false) scope
+
+-- the table's row of these atoms, if it has one
+abbrev pub row_of : Table → List ℕ → Option Row
+row_of table atoms = find (λ (r : Row). pointwise (λ k number. k == number) r.atoms atoms) table.rows
+
+-- a packed state's row: that whose atoms are those of the scope that are true in it
+abbrev pub row_in : List Bool → Table → Option Row
+row_in bits table = row_of table (projection bits table.scope)
+
+-- each table has a row for the packed state
+abbrev pub has_rows : List Table → List Bool → Bool
+has_rows tables bits = list_all (λ (t : Table). is_some (row_in bits t)) tables
+
+-- ---- one value
+
+-- A constant and weights of single atoms, and tables, of whose rows the weights at this place, from 0, count.
+pub record TableFunction : Type 0 where
+  pub potentials : PotentialFunction
+  pub tables : List Table
+  pub place : ℕ
+
+-- the row's weight at this place, 0 where none is given
+abbrev pub weight_at : ℕ → Row → ℤ
+weight_at place row = get_or row.weights place (pos 0)
+
+-- that of the row, if there is one
+abbrev pub given_by : ℕ → Option Row → ℤ
+given_by place row = option_map_or (weight_at place) row (pos 0)
+
+-- the sum of f over the tables
+abbrev pub sum_over : List Table → (Table → ℤ) → ℤ
+sum_over [] f = pos 0
+sum_over (t ∷ tables) f = f t +ℤ sum_over tables f
+
+-- the constant, the weights of the atoms that are true, and of each table that of the packed state's row
+abbrev pub total : TableFunction → List Bool → ℤ
+total h bits = score h.potentials bits +ℤ sum_over h.tables (λ t. given_by h.place (row_in bits t))
+
+-- that, and 0 where a table has no row for the packed state
+abbrev pub score_by_tables : TableFunction → List Bool → ℤ
+score_by_tables h bits = if has_rows h.tables bits then total h bits else pos 0
+
+-- the value of a packed state: the greater of 0 and that
+abbrev pub value : TableFunction → List Bool → ℕ
+value h bits = or_zero (score_by_tables h bits)
+
+-- the packed state is dead by it, if its value is at least 1
+abbrev pub is_dead_by : TableFunction → List Bool → Bool
+is_dead_by h bits = nat_le 1 (value h bits)
+
+-- ---- several values
+
+-- the greatest of the values
+abbrev pub greatest_value : List TableFunction → List Bool → ℕ
+greatest_value [] bits = 0
+greatest_value (h ∷ others) bits = max (value h bits) (greatest_value others bits)
+
+-- What a certificate gives: several values over the same tables, of which the greatest counts, and one by which states are
+-- dead. Of a row, the weights are theirs in this order.
+pub record SeveralValues : Type 0 where
+  pub values : List PotentialFunction
+  pub dead_ends : PotentialFunction
+  pub tables : List Table
+
+-- these over the tables, one after another, whose weights are at this place and the next ones
+abbrev pub over_tables : List Table → ℕ → List PotentialFunction → List TableFunction
+over_tables tables place [] = []
+over_tables tables place (p ∷ others) = record { potentials = p; tables = tables; place = place } ∷ over_tables tables (suc place) others
+
+abbrev pub functions_of : SeveralValues → List TableFunction
+functions_of s = over_tables s.tables zero s.values
+
+abbrev pub dead_ends_of : SeveralValues → TableFunction
+dead_ends_of s = record { potentials = s.dead_ends; tables = s.tables; place = length s.values }
+
+-- ---- values of states
+
+-- the fluent atoms that are true in the state have numbers
+abbrev pub has_numbered_fluents : Task → List Atom → State → Bool
+has_numbered_fluents task atoms state = list_all (λ (a : Atom). not (is_fluent task a.predicate) || occurs_in atoms a) (items state)
+
+-- The value of a state, where these atoms have numbers: that of its packed state, and 0 where a fluent atom is true that has
+-- no number.
+abbrev pub in_state : Task → List Atom → (List Bool → ℕ) → State → ℕ
+in_state task atoms value state = if has_numbered_fluents task atoms state then value (bits_of_state atoms state) else 0
+
+abbrev pub value_of_state : Task → List Atom → TableFunction → State → ℕ
+value_of_state task atoms h state = in_state task atoms (value h) state
+
+abbrev pub greatest_of_state : Task → List Atom → List TableFunction → State → ℕ
+greatest_of_state task atoms functions state = in_state task atoms (greatest_value functions) state
+
+abbrev pub is_dead_state : Task → List Atom → TableFunction → State → Bool
+is_dead_state task atoms h state = nat_le 1 (value_of_state task atoms h state)

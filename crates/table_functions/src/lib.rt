@@ -1,0 +1,11 @@
+//! Table functions, which give states values by tables over sets of atoms, what makes them fair, why the values of fair ones are
+//! lower bounds, and why dead-fair ones report dead ends: definitions, in `specs/`, and their laws.
+#![tactic(auto)]
+
+mod laws;
+
+pub use laws::{
+    certain_changes_have_one_after, dead_fair_tables_report_dead_ends, fair_tables_are_lower_bounds,
+    fair_values_are_sound, greatest_of_fair_tables_is_lower_bound, ground_atoms_are_all_numbered,
+    potentials_are_table_functions, table_examples_are_judged, table_task_examples_are_judged,
+};
