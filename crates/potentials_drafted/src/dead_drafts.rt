@@ -118,7 +118,10 @@ impl<'a> DeadDrafts<'a> {
         };
         let width = self.tables.width();
         let aims = Aims::new(Aim::one(alloc, width, atoms)?, Aim::none(alloc, width)?);
-        let Some(along) = self.vertex.endless(self.tables, &self.program, &aims)? else {
+        let Some(along) = self
+            .vertex
+            .unbounded_ray(self.tables, &self.program, &aims)?
+        else {
             return Ok(None);
         };
         let weights = self.program.weights(alloc, along)?;

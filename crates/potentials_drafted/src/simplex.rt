@@ -2,7 +2,7 @@
 //!
 //! It goes from vertex to vertex of the fair potentials, and begins where all weights are 0, so that what it has come to is
 //! fair wherever it stops. Where nothing costs anything, the unbounded rays are of use: along them no instance loses.
-//! At a vertex as many limits are tight as there are variables, and with each goes an edge, along
+//! At a vertex as many constraints are tight as there are variables, and with each goes an edge, along
 //! which it alone loosens. The next edge is the steepest one (Goldfarb & Reid 1977), and costs are taken for a little higher
 //! than they are, each by a part of its own, so that hardly two vertices are in one place (Charnes 1952).
 use crate::aims::Aims;
@@ -13,19 +13,19 @@ use faults::NoMemory;
 use std::alloc::Global;
 use std::num::nearest_i64_to_f64;
 
-/// The most steps.
-const MAX_STEPS: u32 = 65_536;
+/// The most pivots.
+const MAX_PIVOTS: u32 = 65_536;
 
-/// What is no more than this is nothing: a gain, or how fast a limit gets nearer.
+/// What is no more than this is nothing: a gain, or how fast a constraint gets nearer.
 const NOTHING: f64 = 1e-9;
 
 /// What is no more than this is an error of rounding.
 const ERROR: f64 = 1e-12;
 
-/// By which part of the greatest cost a limit may be higher than it is.
+/// By which part of the greatest cost a constraint may be higher than it is.
 const RISE: f64 = 1e-6;
 
-/// What a tight limit has left, which is met again only once it has loosened.
+/// What a tight constraint has left, which is met again only once it has loosened.
 const TIGHT: f64 = f64::INFINITY;
 
 /// What an instance may lose.
@@ -37,47 +37,47 @@ pub(crate) enum Allowance {
     Nothing,
 }
 
-/// A limit that is tight, and the edge along which it alone loosens: how far each variable grows along it, what the states
+/// A constraint that is tight, and the edge along which it alone loosens: how far each variable grows along it, what the states
 /// gain by that, and the square of its length.
 #[derive(Drop)]
 struct Edge {
-    limit: usize,
-    /// The variable that alone grows, as long as the edge was never bent, and has nothing in `along`.
+    constraint: usize,
+    /// The variable that alone grows, as long as the edge was never updated, and has nothing in `along`.
     alone: usize,
     along: Vec<f64>,
     gain: f64,
     square: f64,
 }
 
-/// A limit that is met along an edge, how far it is, and how fast it gets nearer.
+/// A constraint that is met along an edge, how far it is, and how fast it gets nearer.
 #[derive(Clone, Copy)]
-struct Stop {
-    limit: usize,
+struct BlockingConstraint {
+    constraint: usize,
     far: f64,
     rate: f64,
 }
 
-/// What comes of a step.
+/// What comes of a pivot.
 #[derive(Clone, Copy, PartialEq, Eq)]
-enum Step {
+enum Pivot {
     /// The next vertex.
-    Taken,
+    Made,
     /// No edge along which anything is gained.
-    AtBest,
-    /// An edge without an end, the last one now.
-    Endless,
+    Optimal,
+    /// An unbounded ray, the last edge now.
+    Unbounded,
 }
 
-/// A vertex. Its limits are those of the instances, which lose no more than they may, and then those of the variables, which
+/// A vertex. Its constraints are those of the instances, which lose no more than they may, and then those of the variables, which
 /// are at least 0.
 #[derive(Drop)]
 pub(crate) struct Vertex {
     edges: Vec<Edge>,
     instances: usize,
     variables: usize,
-    /// What each limit has left.
+    /// What each constraint has left.
     slacks: Vec<f64>,
-    /// How fast each limit gets nearer along the edge that is taken, and which do.
+    /// How fast each constraint gets nearer along the edge that is taken, and which do.
     rates: Vec<f64>,
     nearing: Vec<usize>,
     /// How many numbers were looked at, and may be before no further step is taken.
@@ -123,7 +123,7 @@ impl Vertex {
         Ok(vertex)
     }
 
-    /// Notes what the limits of the instances have left, and a little more.
+    /// Notes what the constraints of the instances have left, and a little more.
     fn fill_slacks(&mut self, costs: &[i64], allowance: Allowance) -> Result<(), NoMemory> {
         let mut most = 1;
         for cost in costs {
@@ -139,11 +139,11 @@ impl Vertex {
         Ok(())
     }
 
-    /// Adds the limit of a variable, and the edge along which it alone grows.
+    /// Adds the constraint of a variable, and the edge along which it alone grows.
     fn add_edge(&mut self, alloc: Global, variable: usize) -> Result<(), NoMemory> {
         self.slacks.push(TIGHT)?;
         self.edges.push(Edge {
-            limit: self.instances.saturating_add(variable),
+            constraint: self.instances.saturating_add(variable),
             alone: variable,
             along: Vec::new(alloc),
             gain: 0.0,
@@ -162,8 +162,8 @@ impl Vertex {
     ) -> Result<bool, NoMemory> {
         self.aim_at(tables, program, aims, share);
         let before = self.work;
-        for _ in 0..MAX_STEPS {
-            if self.work > self.max_work || self.step(tables, program)? != Step::Taken {
+        for _ in 0..MAX_PIVOTS {
+            if self.work > self.max_work || self.pivot(tables, program)? != Pivot::Made {
                 return Ok(self.work > before);
             }
         }
@@ -172,21 +172,21 @@ impl Vertex {
 
     /// Goes on until it comes to an unbounded ray along which the initial state gains: how far each variable grows
     /// along it.
-    pub(crate) fn endless(
+    pub(crate) fn unbounded_ray(
         &mut self,
         tables: &Tables,
         program: &LinearProgram,
         aims: &Aims,
     ) -> Result<Option<&[f64]>, NoMemory> {
         self.aim_at(tables, program, aims, 0.0);
-        for _ in 0..MAX_STEPS {
+        for _ in 0..MAX_PIVOTS {
             if self.work > self.max_work {
                 return Ok(None);
             }
-            match self.step(tables, program)? {
-                Step::Taken => {}
-                Step::AtBest => return Ok(None),
-                Step::Endless => {
+            match self.pivot(tables, program)? {
+                Pivot::Made => {}
+                Pivot::Optimal => return Ok(None),
+                Pivot::Unbounded => {
                     return Ok(match self.edges.last() {
                         Some(edge) => Some(edge.along.as_slice()),
                         None => None,
@@ -213,32 +213,32 @@ impl Vertex {
     }
 
     /// Goes to the next vertex, if there is one.
-    fn step(&mut self, tables: &Tables, program: &LinearProgram) -> Result<Step, NoMemory> {
-        let Some(place) = self.steepest() else {
-            return Ok(Step::AtBest);
+    fn pivot(&mut self, tables: &Tables, program: &LinearProgram) -> Result<Pivot, NoMemory> {
+        let Some(place) = self.steepest_edge() else {
+            return Ok(Pivot::Optimal);
         };
         if place >= self.edges.len() {
-            return Ok(Step::AtBest);
+            return Ok(Pivot::Optimal);
         }
         let mut edge = self.edges.swap_remove(place);
         edge.fill(self.variables)?;
         self.fill_rates(tables, program, &edge)?;
-        let stop = self.first_stop();
-        self.advance(stop);
-        let mut came_of_it = Step::Endless;
-        if let Some(stop) = stop {
-            self.set_slack(edge.limit, stop.far);
-            self.set_slack(stop.limit, TIGHT);
-            edge.turn(stop);
-            self.bend(tables, program, &edge)?;
-            came_of_it = Step::Taken;
+        let blocking = self.blocking_constraint();
+        self.advance(blocking);
+        let mut pivot = Pivot::Unbounded;
+        if let Some(blocking) = blocking {
+            self.set_slack(edge.constraint, blocking.far);
+            self.set_slack(blocking.constraint, TIGHT);
+            edge.exchange(blocking);
+            self.update_edges(tables, program, &edge)?;
+            pivot = Pivot::Made;
         }
         self.edges.push(edge)?;
-        Ok(came_of_it)
+        Ok(pivot)
     }
 
     /// The place of the edge along which most is gained for its length.
-    fn steepest(&self) -> Option<usize> {
+    fn steepest_edge(&self) -> Option<usize> {
         let mut best = None;
         let mut most = 0.0;
         for (place, edge) in self.edges.iter().enumerate() {
@@ -251,17 +251,17 @@ impl Vertex {
         best
     }
 
-    /// Notes how fast each limit gets nearer along the edge.
+    /// Notes how fast each constraint gets nearer along the edge.
     fn fill_rates(
         &mut self,
         tables: &Tables,
         program: &LinearProgram,
         edge: &Edge,
     ) -> Result<(), NoMemory> {
-        let mut limit = self.instances;
+        let mut constraint = self.instances;
         for (step, far) in program.variables().iter().zip(&edge.along) {
             if *far != 0.0 {
-                self.add_rate(limit, -*far)?;
+                self.add_rate(constraint, -*far)?;
                 for touch in tables.instances_of(step.atom) {
                     let loss = touch.loss(step.by);
                     if loss != 0 {
@@ -269,79 +269,79 @@ impl Vertex {
                     }
                 }
             }
-            limit = limit.saturating_add(1);
+            constraint = constraint.saturating_add(1);
         }
         self.count(edge.along.len());
         Ok(())
     }
 
-    /// The limit gets nearer so much faster.
-    fn add_rate(&mut self, limit: usize, more: f64) -> Result<(), NoMemory> {
+    /// The constraint gets nearer so much faster.
+    fn add_rate(&mut self, constraint: usize, more: f64) -> Result<(), NoMemory> {
         self.count(1);
-        if limit < self.rates.len() {
-            if self.rates[limit] == 0.0 {
-                self.nearing.push(limit)?;
+        if constraint < self.rates.len() {
+            if self.rates[constraint] == 0.0 {
+                self.nearing.push(constraint)?;
             }
-            self.rates[limit] += more;
+            self.rates[constraint] += more;
         }
         Ok(())
     }
 
-    /// Of the limits that get nearer along the edge, the first.
-    fn first_stop(&self) -> Option<Stop> {
+    /// Of the constraints that get nearer along the edge, the first.
+    fn blocking_constraint(&self) -> Option<BlockingConstraint> {
         let mut first = None;
-        for limit in &self.nearing {
-            let rate = at(&self.rates, *limit);
-            let slack = at(&self.slacks, *limit);
+        for constraint in &self.nearing {
+            let rate = at(&self.rates, *constraint);
+            let slack = at(&self.slacks, *constraint);
             if rate > NOTHING && slack < TIGHT {
                 let far = slack.max(0.0) / rate;
-                let stop = Stop {
-                    limit: *limit,
+                let blocking = BlockingConstraint {
+                    constraint: *constraint,
                     far,
                     rate,
                 };
-                first = Some(stop.or_earlier(first));
+                first = Some(blocking.or_earlier(first));
             }
         }
         first
     }
 
     /// Goes along the edge to where it stops, if it does, and forgets it.
-    fn advance(&mut self, stop: Option<Stop>) {
-        let far = match stop {
-            Some(stop) => stop.far,
+    fn advance(&mut self, blocking: Option<BlockingConstraint>) {
+        let far = match blocking {
+            Some(blocking) => blocking.far,
             None => 0.0,
         };
-        for limit in &self.nearing {
-            if *limit < self.slacks.len() && *limit < self.rates.len() {
-                self.slacks[*limit] -= far * self.rates[*limit];
-                self.rates[*limit] = 0.0;
+        for constraint in &self.nearing {
+            if *constraint < self.slacks.len() && *constraint < self.rates.len() {
+                self.slacks[*constraint] -= far * self.rates[*constraint];
+                self.rates[*constraint] = 0.0;
             }
         }
         self.nearing.clear();
     }
 
-    /// Bends the other edges so that the limit of this one stays tight along them.
-    fn bend(
+    /// Updates the other edges so that the constraint of this one stays tight along them.
+    fn update_edges(
         &mut self,
         tables: &Tables,
         program: &LinearProgram,
         by: &Edge,
     ) -> Result<(), NoMemory> {
-        let variable = by.limit.checked_sub(self.instances);
-        let mut bent = 0usize;
+        let variable = by.constraint.checked_sub(self.instances);
+        let mut updated = 0usize;
         for edge in self.edges.iter_mut() {
-            let rate = edge.rate(tables, program, by.limit, variable);
+            let rate = edge.rate(tables, program, by.constraint, variable);
             if rate.abs() > ERROR {
                 edge.fill(by.along.len())?;
                 edge.add(rate, by);
-                bent = bent.saturating_add(1);
+                updated = updated.saturating_add(1);
             }
         }
-        let read = tables.atoms_at(by.limit).len().saturating_add(1);
+        let read = tables.atoms_at(by.constraint).len().saturating_add(1);
         let edges = self.edges.len();
         self.count(read.saturating_mul(edges));
-        self.count(bent.saturating_mul(by.along.len()));
+        self.count(updated.saturating_mul(by.along.len()));
         Ok(())
     }
 
@@ -349,7 +349,7 @@ impl Vertex {
     pub(crate) fn grown(&self, alloc: Global, tables: &Tables) -> Result<Vec<f64>, NoMemory> {
         let mut grown = vec![in alloc; 0.0; self.variables]?;
         for edge in &self.edges {
-            if let Some(cost) = tables.costs().get(edge.limit) {
+            if let Some(cost) = tables.costs().get(edge.constraint) {
                 let back = nearest_i64_to_f64(*cost);
                 for (sum, far) in grown.iter_mut().zip(&edge.along) {
                     *sum -= back * *far;
@@ -364,10 +364,10 @@ impl Vertex {
         self.work = self.work.saturating_add(more as u64);
     }
 
-    /// Notes what the limit has left.
-    fn set_slack(&mut self, limit: usize, slack: f64) {
-        if limit < self.slacks.len() {
-            self.slacks[limit] = slack;
+    /// Notes what the constraint has left.
+    fn set_slack(&mut self, constraint: usize, slack: f64) {
+        if constraint < self.slacks.len() {
+            self.slacks[constraint] = slack;
         }
     }
 }
@@ -386,17 +386,17 @@ impl Edge {
         }
     }
 
-    /// Goes with the limit that was met, from now on.
-    fn turn(&mut self, stop: Stop) {
-        self.limit = stop.limit;
-        self.gain /= -stop.rate;
-        self.square /= stop.rate * stop.rate;
+    /// Belongs to the blocking constraint from now on.
+    fn exchange(&mut self, blocking: BlockingConstraint) {
+        self.constraint = blocking.constraint;
+        self.gain /= -blocking.rate;
+        self.square /= blocking.rate * blocking.rate;
         for far in self.along.iter_mut() {
-            *far /= -stop.rate;
+            *far /= -blocking.rate;
         }
     }
 
-    /// How fast a limit gets nearer along it: that of a variable, or of the instance at this place.
+    /// How fast a constraint gets nearer along it: that of a variable, or of the instance at this place.
     fn rate(
         &self,
         tables: &Tables,
@@ -452,9 +452,9 @@ impl Edge {
     }
 }
 
-impl Stop {
+impl BlockingConstraint {
     /// The earlier one of the first so far and this one; of two, the one that gets nearer faster.
-    fn or_earlier(self, first: Option<Stop>) -> Stop {
+    fn or_earlier(self, first: Option<BlockingConstraint>) -> BlockingConstraint {
         match first {
             Some(first) => {
                 if self.far < first.far || self.far == first.far && self.rate > first.rate {
