@@ -4,7 +4,9 @@ ghost use Rattle.explained_faults.specs.Explained.{AreWanted, IsExplained};
 
 use crate::context::Context;
 use crate::help::Help;
+use crate::hints::{Hint, hint_of};
 use crate::wanted::words_at;
+use crate::wrong::{WrongPlace, wrong_place};
 use crate::{of_names, of_terms, of_words};
 use faults::{Code, NoMemory, Span};
 use pddl_tree::TaskFile;
@@ -35,6 +37,10 @@ pub struct FaultExplanation<'a> {
     pub wanted: Vec<Word<'a>>,
     /// What else helps with it.
     pub help: Help<'a>,
+    /// Where the text goes wrong before the fault, if its parentheses do not match.
+    pub wrong: Option<WrongPlace>,
+    /// The mistake that it comes of, if it is one that is often made.
+    pub hint: Option<Hint>,
 }
 
 /// What helps with a fault of some texts. That it is the first is the caller's to say; where it is none that is reported for
@@ -52,11 +58,15 @@ pub fn explain_fault<'a>(
     let place = place_of(texts.text(fault.file), fault.span.start);
     let wanted = wanted_words(alloc, texts, fault)?;
     let help = help_with(alloc, texts, fault)?;
+    let wrong = wrong_place(alloc, texts, fault)?;
+    let hint = hint_of(alloc, texts, fault)?;
     Ok(FaultExplanation {
         fault,
         place,
         wanted,
         help,
+        wrong,
+        hint,
     })
 }
 

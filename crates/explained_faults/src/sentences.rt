@@ -5,9 +5,11 @@ ghost use Rattle.source_text.specs.Files.{name_in};
 ghost use Rattle.explained_faults.specs.Explained.{BeginsWith, heading};
 
 use crate::explanation::{FaultExplanation, FileRefusal, reported_bytes};
-use crate::help::{CostFault, Counts, Help, Limit, Named, Types};
+use crate::help::{CostFault, Counts, FileOffset, Help, Limit, Named, Types};
+use crate::hints::{Hint, is_comment_elsewhere};
 use crate::near::{Others, is_near};
 use crate::shown::{Chain, FilePlace, Name, NameList, add_words};
+use crate::wrong::Nesting;
 use faults::{Code, NoMemory};
 use source_text::{LineColumn, NamedTexts, marked};
 use std::alloc::{AllocError, Global};
@@ -34,13 +36,44 @@ impl FaultExplanation<'_> {
         let marks = marked(alloc, texts.text(self.fault.file), self.fault.span)?;
         let mut sentence = String::new(alloc);
         self.add_sentence(alloc, texts, &mut sentence)?;
-        if self.is_rewritable(reported_bytes(texts, self.fault)) {
+        let word = reported_bytes(texts, self.fault);
+        if !self.asks_for_another(word) {
+            add_hint(self.hint, &mut sentence)?;
+        }
+        if self.is_rewritable(word) {
             sentence.push_str(" `tools/ipc-files` can rewrite this.")?;
         }
         out.push_str(marks.as_str())?;
         out.push_str(sentence.as_str())?;
         out.push_str("\n")?;
+        let wrong = self.wrong_lines(alloc, texts)?;
+        out.push_str(wrong.as_str())?;
         Ok(out)
+    }
+
+    /// The lines of where the text goes wrong before the fault, if it does: its place, its line with a mark, and a sentence.
+    fn wrong_lines(&self, alloc: Global, texts: &NamedTexts<'_>) -> Result<String, NoMemory> {
+        let Some(wrong) = self.wrong else {
+            return Ok(String::new(alloc));
+        };
+        let file = self.fault.file;
+        let offset = wrong.shown.start;
+        let place = FilePlace::of(texts, FileOffset { file, offset });
+        let mut out = format!(in alloc; "{place}: the text goes wrong here\n")?;
+        let marks = marked(alloc, texts.text(file), wrong.shown)?;
+        out.push_str(marks.as_str())?;
+        let shown = FileRefusal {
+            file,
+            code: wrong.refusal.code,
+            span: wrong.shown,
+        };
+        add_nesting(texts, shown, wrong.nesting, &mut out)?;
+        Ok(out)
+    }
+
+    /// Whether another keyword is asked for in the place of this word, since it is like it.
+    fn asks_for_another(&self, word: &[u8]) -> bool {
+        !self.wanted.is_empty() && are_near(word, self.wanted.as_slice())
     }
 
     /// Whether `tools/ipc-files` knows another form for what competitions' files have here, and the language has not.
@@ -113,16 +146,62 @@ fn heading(alloc: Global, name: &str, place: LineColumn, code: Code) -> Result<S
     format!(in alloc; "{name}:{line}:{column}: fault {number} {code} (columns count bytes)\n")
 }
 
+/// Adds what is said of a mistake that is often made.
+fn add_hint(hint: Option<Hint>, out: &mut String) -> Result<(), AllocError> {
+    match hint {
+        Some(hint) => write!(out, " {}", hint.text()),
+        None => Ok(()),
+    }
+}
+
+/// Adds the sentence on how a word that is not expected is within the lists of its text.
+fn add_nesting(
+    texts: &NamedTexts<'_>,
+    shown: FileRefusal,
+    nesting: Nesting,
+    out: &mut String,
+) -> Result<(), AllocError> {
+    let file = shown.file;
+    let name = Name(reported_bytes(texts, shown));
+    match nesting {
+        Nesting::Inside(offset) => {
+            let list = FilePlace::of(texts, FileOffset { file, offset });
+            write!(
+                out,
+                "{name} begins inside the list of {list}: is a `)` missing before it?\n"
+            )
+        }
+        Nesting::After(offset, close) => {
+            let list = FilePlace::of(texts, FileOffset { file, offset });
+            let offset = close;
+            let end = FilePlace::of(texts, FileOffset { file, offset });
+            write!(
+                out,
+                "the list of {list} ends before {name}: is the `)` at {end} one too many?\n"
+            )
+        }
+        Nesting::Closes(offset) => {
+            let list = FilePlace::of(texts, FileOffset { file, offset });
+            write!(
+                out,
+                "something is missing in the list of {list}, which ends here: is this `)` one too many?\n"
+            )
+        }
+        Nesting::Elsewhere => write!(out, "{name} {}.\n", after_word(shown.code)),
+    }
+}
+
 /// What is left out here, and said in other words by `tools/ipc-files`.
 static REWRITABLE: [&[u8]; 5] = [b":derived", b":length", b"total-time", b"forall", b"when"];
 
 /// Whether a word that is none here is a name or a number in other planners' files: it has `#` or `.`, or begins with a digit or
-/// an underscore.
+/// an underscore, and begins no comment.
 fn is_name_elsewhere(word: &[u8]) -> bool {
     let is_number_first = word
         .first()
         .is_some_and(|byte| byte.is_ascii_digit() || *byte == b'_');
-    is_number_first || word.contains(&b'#') || word.contains(&b'.')
+    let is_marked = word.contains(&b'#') || word.contains(&b'.');
+    is_number_first || (is_marked && !is_comment_elsewhere(word))
 }
 
 /// Whether the word is a keyword, and all of these are like it.
@@ -153,6 +232,9 @@ fn add_plain(code: Code, word: &[u8], out: &mut String) -> Result<(), AllocError
         Code::Unbalanced => out.push_str("this `)` closes no list."),
         Code::TooDeep => {
             out.push_str("this `(` opens a list at depth 65; lists may be at most 64 deep.")
+        }
+        Code::LeftOut if word == b"(".as_slice() => {
+            out.push_str("only variables may be of several types, as `(either ..)`.")
         }
         Code::BadMetric => out.push_str(cost_text(CostFault::Undeclared)),
         Code::NegativeInit => {
