@@ -1,5 +1,5 @@
 -- The sections of a file, one after another.
-use Rattle.pddl_tree_values.proofs.Names.{◌≡◌, ℕ, ◌+◌, true, false, cond, ◌||◌, List, [], ◌∷◌, map, fold, Option, Some, None, Result, Ok, Err, refl, sym, ◌∙◌, ap, arith, option_and_then, section_view, Word, from, first, WordFault, made, stops, bind, part, phrase, number_seen, closes_first, opens_first, ReadsInto, GoesOn, Stops, File, Token, opens, closes, keyword, of_section, of_part, Section, Contents, Phrase, gives, ◌>>=◌, and_then, after, sections, define_word, with_section, is_section, has_section, sections_of, required_of}
+use Rattle.pddl_tree_values.proofs.Names.{◌≡◌, ℕ, ◌+◌, true, false, cond, ◌||◌, List, [], ◌∷◌, map, fold, Option, Some, None, Result, Ok, Err, refl, sym, ◌∙◌, ap, arith, option_and_then, section_view, Word, from, first, WordFault, made, stops, bind, part, phrase, number_seen, closes_first, opens_first, ReadsInto, GoesOn, Stops, TaskFile, Token, opens, closes, keyword, of_section, of_part, Section, Contents, Phrase, gives, ◌>>=◌, and_then, after, sections, define_word, with_section, is_section, has_section, sections_of, required_of}
 use Rattle.std.proofs.Common.{Bool, ◌&&◌}
 use Rattle.std.specs.List.{list_all}
 use Rattle.model.proofs.Tests.{passes_map}
@@ -70,7 +70,7 @@ of_kind words.goal q = refl
 of_kind words.metric q = refl
 
 -- the `(` and the keyword of a section that is new: what follows them
-begun : (f : File) (seen : List SectionKeyword) (j : SectionKeyword) (c : Contents) (list : List Word) (at : ℕ) → first (from list at) ≡ Some opens → first (from list (at + 1)) ≡ Some (keyword (of_section j))
+begun : (f : TaskFile) (seen : List SectionKeyword) (j : SectionKeyword) (c : Contents) (list : List Word) (at : ℕ) → first (from list at) ≡ Some opens → first (from list (at + 1)) ≡ Some (keyword (of_section j))
     → has_section (sections_of f) j ≡ true → has_section seen j ≡ false → phrase (sections_on f seen c) (from list at) ≡ bind (phrase (section_into j c) (from list (at + 2))) (λ d w. phrase (sections_on f (seen_with seen j) d) w)
 begun f seen j c list at o e here new = by_left (left_of (sections_of f) seen) refl (is_left j (sections_of f) seen here new)
   where
@@ -85,21 +85,21 @@ begun f seen j c list at o e here new = by_left (left_of (sections_of f) seen) r
         ∙ sym (read_in_turn (section_after j) (λ x. gives (with_section c x)) (λ d. sections_on f (seen_with seen j) d) (from list (at + 1 + 1)))
         ∙ ap (λ n. bind (phrase (section_into j c) (from list n)) (λ d w. phrase (sections_on f (seen_with seen j) d) w)) (omega arith)
 
-pub section_answers : (f : File) (seen : List SectionKeyword) (j : SectionKeyword) (c d : Contents) (list : List Word) (at : ℕ) (r : Result ℕ WordFault) → first (from list at) ≡ Some opens → first (from list (at + 1)) ≡ Some (keyword (of_section j))
+pub section_answers : (f : TaskFile) (seen : List SectionKeyword) (j : SectionKeyword) (c d : Contents) (list : List Word) (at : ℕ) (r : Result ℕ WordFault) → first (from list at) ≡ Some opens → first (from list (at + 1)) ≡ Some (keyword (of_section j))
     → has_section (sections_of f) j ≡ true → has_section seen j ≡ false → ReadsInto (phrase (section_into j c)) list (at + 2) d r → GoesOn (phrase (sections_on f seen c)) (phrase (sections_on f (seen_with seen j) d)) list at r
 section_answers f seen j c d list at (Ok next) o e here new h = (begun f seen j c list at o e here new ∙ ap (λ r. bind r (λ d w. phrase (sections_on f (seen_with seen j) d) w)) h.0, (omega (arith, h.1.0), h.1.1))
 section_answers f seen j c d list at (Err fault) o e here new h =
     reported_along list _ _ fault (begun f seen j c list at o e here new) (reported_first list _ (λ d w. phrase (sections_on f (seen_with seen j) d) w) fault h)
 
 -- `)` after what is required
-pub sections_end : (f : File) (seen : List SectionKeyword) (c : Contents) (list : List Word) (at : ℕ) → closes_first (first (from list at)) ≡ true → has_all (required_of f) seen ≡ true → phrase (sections_on f seen c) (from list at) ≡ made c (from list (at + 1))
+pub sections_end : (f : TaskFile) (seen : List SectionKeyword) (c : Contents) (list : List Word) (at : ℕ) → closes_first (first (from list at)) ≡ true → has_all (required_of f) seen ≡ true → phrase (sections_on f seen c) (from list at) ≡ made c (from list (at + 1))
 sections_end f seen c list at e all =
     ap (λ r. bind r (λ ss w. made (fold with_section c ss) w)) (taken (sections f seen) list at closes (is_closes (first (from list at)) e) (ap (λ b. cond b (Some (gives [])) None) all))
 
 -- ---- words that may not occur there
 
 -- any word, where all sections are
-pub sections_full : (f : File) (seen : List SectionKeyword) (list : List Word) (at : ℕ) → has_all (sections_of f) seen ≡ true → closes_first (first (from list at)) ≡ false → part (sections f seen) (from list at) ≡ stops (number_seen define_word (first (from list at))) (from list at)
+pub sections_full : (f : TaskFile) (seen : List SectionKeyword) (list : List Word) (at : ℕ) → has_all (sections_of f) seen ≡ true → closes_first (first (from list at)) ≡ false → part (sections f seen) (from list at) ≡ stops (number_seen define_word (first (from list at))) (from list at)
 sections_full f seen list at all e = let h = by_word (first (from list at)) e in refused_here (sections f seen) define_word list at h.0 h.1
   where
     by_word : (o : Option Token) → closes_first o ≡ false → (option_and_then (after (sections f seen)) o ≡ None) × (number_seen define_word o ≡ number_seen (sections f seen) o)
@@ -109,7 +109,7 @@ sections_full f seen list at all e = let h = by_word (first (from list at)) e in
     by_word (Some t) e = (refl, refl)
 
 -- a word that is no `(`
-pub sections_not_open : (f : File) (seen : List SectionKeyword) (list : List Word) (at : ℕ) → opens_first (first (from list at)) ≡ false → closes_first (first (from list at)) ≡ false → part (sections f seen) (from list at) ≡ stops (number_seen define_word (first (from list at))) (from list at)
+pub sections_not_open : (f : TaskFile) (seen : List SectionKeyword) (list : List Word) (at : ℕ) → opens_first (first (from list at)) ≡ false → closes_first (first (from list at)) ≡ false → part (sections f seen) (from list at) ≡ stops (number_seen define_word (first (from list at))) (from list at)
 sections_not_open f seen list at n e = let h = by_word (first (from list at)) n e in refused_here (sections f seen) define_word list at h.0 h.1
   where
     by_word : (o : Option Token) → opens_first o ≡ false → closes_first o ≡ false → (option_and_then (after (sections f seen)) o ≡ None) × (number_seen define_word o ≡ number_seen (sections f seen) o)
@@ -119,7 +119,7 @@ sections_not_open f seen list at n e = let h = by_word (first (from list at)) n 
     by_word (Some t) n e = (refl, refl)
 
 -- `)` before what is required
-pub sections_missing : (f : File) (seen : List SectionKeyword) (c : Contents) (list : List Word) (at : ℕ) → has_all (required_of f) seen ≡ false → closes_first (first (from list at)) ≡ true → phrase (sections_on f seen c) (from list at) ≡ stops (number_seen define_word (first (from list at))) (from list at)
+pub sections_missing : (f : TaskFile) (seen : List SectionKeyword) (c : Contents) (list : List Word) (at : ℕ) → has_all (required_of f) seen ≡ false → closes_first (first (from list at)) ≡ true → phrase (sections_on f seen c) (from list at) ≡ stops (number_seen define_word (first (from list at))) (from list at)
 sections_missing f seen c list at none e = let h = by_word (first (from list at)) e in ap (λ r. bind r (λ ss w. made (fold with_section c ss) w)) (refused_here (sections f seen) define_word list at h.0 h.1)
   where
     by_word : (o : Option Token) → closes_first o ≡ true → (option_and_then (after (sections f seen)) o ≡ None) × (number_seen define_word o ≡ number_seen (sections f seen) o)
@@ -127,7 +127,7 @@ sections_missing f seen c list at none e = let h = by_word (first (from list at)
     by_word o e = absurd (cc)
 
 -- no keyword of a new section after `(`
-pub no_section : (f : File) (seen : List SectionKeyword) (list : List Word) (at : ℕ) (refusal : WordRefusal) → first (from list at) ≡ Some opens → has_all (sections_of f) seen ≡ false → IsNotNew list (at + 1) f seen refusal → Stops list (part (sections f seen) (from list at)) refusal
+pub no_section : (f : TaskFile) (seen : List SectionKeyword) (list : List Word) (at : ℕ) (refusal : WordRefusal) → first (from list at) ≡ Some opens → has_all (sections_of f) seen ≡ false → IsNotNew list (at + 1) f seen refusal → Stops list (part (sections f seen) (from list at)) refusal
 no_section f seen list at refusal o some h = by_left (are_left (sections_of f) seen some)
   where
     by_left : AreLeft (left_of (sections_of f) seen) → Stops list (part (sections f seen) (from list at)) refusal

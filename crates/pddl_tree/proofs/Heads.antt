@@ -1,5 +1,5 @@
 -- The head of a file, from its words one by one.
-use Rattle.pddl_tree_values.proofs.Names.{◌≡◌, ℕ, ◌+◌, suc, List, [], ◌∷◌, map, length, false, Option, Some, None, refl, sym, ◌∙◌, ap, subst, arith, option_map, option_and_then, Word, word_of, from, first, made, stops, by_rule, part, number_seen, opens_first, File, Name, Token, opens, closes, free, reserved, token_of, tokens_of, Sort, Value, Phrase, gives, ◌>>=◌, and_then, after, file, define_word, a_name, close, start, number_at}
+use Rattle.pddl_tree_values.proofs.Names.{◌≡◌, ℕ, ◌+◌, suc, List, [], ◌∷◌, map, length, false, Option, Some, None, refl, sym, ◌∙◌, ap, subst, arith, option_map, option_and_then, Word, word_of, from, first, made, stops, by_rule, part, number_seen, opens_first, TaskFile, Name, Token, opens, closes, free, reserved, token_of, tokens_of, Sort, Value, Phrase, gives, ◌>>=◌, and_then, after, file, define_word, a_name, close, start, number_at}
 use Rattle.std.proofs.Common.{inl, inr, take}
 use Rattle.pddl_tree.specs.Head.{HasHead, HasNoHead, after_head}
 use Rattle.model.specs.Trees.{domain_file, problem_file}
@@ -39,7 +39,7 @@ define_alone : (t : Token) → IsAlone (after define_word t)
 define_alone (free words.define n) = tt
 define_alone t = tt
 
-kind_alone : (f : File) (t : Token) → IsAlone (after (kind_word f) t)
+kind_alone : (f : TaskFile) (t : Token) → IsAlone (after (kind_word f) t)
 kind_alone domain_file (free words.domain n) = tt
 kind_alone problem_file (free words.problem n) = tt
 kind_alone domain_file t = tt
@@ -61,7 +61,7 @@ on_word : {T : Type 0} (s : Sort) (t : Token) (w : List Token) (x : Value s) (k 
 on_word s t w x k e = ap (λ o. option_and_then (λ q. after_all w q) (option_map (λ p. and_then p k) o)) e
 
 -- the words of a head lead to what follows it
-head_leads : (f : File) (t1 t3 t4 t5 : Token) (n : Name) → after define_word t1 ≡ Some (gives tt) → after (kind_word f) t3 ≡ Some (gives tt) → after a_name t4 ≡ Some (gives n) → after close t5 ≡ Some (gives tt)
+head_leads : (f : TaskFile) (t1 t3 t4 t5 : Token) (n : Name) → after define_word t1 ≡ Some (gives tt) → after (kind_word f) t3 ≡ Some (gives tt) → after a_name t4 ≡ Some (gives n) → after close t5 ≡ Some (gives tt)
     → after_all (opens ∷ t1 ∷ opens ∷ t3 ∷ t4 ∷ t5 ∷ []) (start f) ≡ Some (after_head f n)
 head_leads f t1 t3 t4 t5 n defines is named closed =
     on_word define_word t1 (opens ∷ t3 ∷ t4 ∷ t5 ∷ []) tt (λ _. kind_list >>= λ _. kind_word f >>= λ _. a_name >>= λ m. close >>= λ _. after_head f m) defines
@@ -72,7 +72,7 @@ head_leads f t1 t3 t4 t5 n defines is named closed =
 pub opened : (list : List Word) (at next : ℕ) → first (from list at) ≡ Some opens → next ≡ at + 1 → from list at ≡ opens ∷ from list next
 opened list at next o is = from_first list at opens o ∙ ap (λ i. opens ∷ from list i) (sym is)
 
-pub has_head : (f : File) (n : Name) {w0 w1 w2 w3 w4 w5 w6 : List Token} → w0 ≡ opens ∷ w1 → part define_word w1 ≡ made tt w2 → w2 ≡ opens ∷ w3 → part (kind_word f) w3 ≡ made tt w4 → part a_name w4 ≡ made n w5 → part close w5 ≡ made tt w6 → HasHead f w0
+pub has_head : (f : TaskFile) (n : Name) {w0 w1 w2 w3 w4 w5 w6 : List Token} → w0 ≡ opens ∷ w1 → part define_word w1 ≡ made tt w2 → w2 ≡ opens ∷ w3 → part (kind_word f) w3 ≡ made tt w4 → part a_name w4 ≡ made n w5 → part close w5 ≡ made tt w6 → HasHead f w0
 has_head f n {w0} {w1} {w2} {w3} {w4} {w5} {w6} o defines p is named closed =
     let d = one_word define_word define_alone w1 tt w2 defines in let k = one_word (kind_word f) (kind_alone f) w3 tt w4 is in
     let a = one_word a_name name_alone w4 n w5 named in let c = one_word close close_alone w5 tt w6 closed in
@@ -82,14 +82,14 @@ has_head f n {w0} {w1} {w2} {w3} {w4} {w5} {w6} o defines p is named closed =
     (omega (arith, size), subst (λ w. Begins f (take 6 w)) (sym whole) (begins f (opens ∷ d.token ∷ opens ∷ k.token ∷ a.token ∷ c.token ∷ []) (after_head f n) (head_leads f d.token k.token a.token c.token n d.rule k.rule a.rule c.rule)))
 
 -- a head is not missing
-pub no_head : (f : File) (list : List Word) → HasHead f (from list 0) → HasNoHead f (tokens_of (map word_of list)) → ⊥
+pub no_head : (f : TaskFile) (list : List Word) → HasHead f (from list 0) → HasNoHead f (tokens_of (map word_of list)) → ⊥
 no_head f list head (inl short) =
     let same : length (map (λ w. token_of (word_of w)) list) ≡ length (tokens_of (map word_of list)) = ap length (same_tokens list) in
     omega (arith, same, head.0)
 no_head f list head (inr none) = none (subst (λ w. Begins f (take 6 w)) (same_tokens list) head.1)
 
 -- no `(` where the file's list, or that of its kind, is wanted
-pub file_not_open : (f : File) (list : List Word) (at : ℕ) → opens_first (first (from list at)) ≡ false → part (file f) (from list at) ≡ stops (number_seen close (first (from list at))) (from list at)
+pub file_not_open : (f : TaskFile) (list : List Word) (at : ℕ) → opens_first (first (from list at)) ≡ false → part (file f) (from list at) ≡ stops (number_seen close (first (from list at))) (from list at)
 file_not_open f list at e = let h = by_word (first (from list at)) e in refused_here (file f) close list at h.0 h.1
   where
     by_word : (o : Option Token) → opens_first o ≡ false → (option_and_then (after (file f)) o ≡ None) × (number_seen close o ≡ number_seen (file f) o)

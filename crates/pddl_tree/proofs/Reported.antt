@@ -1,5 +1,5 @@
 -- What the machine makes of a whole file, in the terms of the public contracts.
-use Rattle.pddl_tree_values.proofs.Names.{◌≡◌, ℕ, zero, suc, ◌-◌, ◌<◌, ◌≤◌, List, [], ◌∷◌, map, drop, length, fold, Option, None, Some, refl, sym, ◌∙◌, ap, arith, option_map, Word, word_of, from, first, At, NoMemory, WordFault, reported, Reading, made, stops, bind, part, phrase, number_seen, Reports, Tree, Section, Contents, gives, close, file, sections, tree_from, with_section, File, Name, Token, token_of, tokens_of, start, Outcome, run, stopped}
+use Rattle.pddl_tree_values.proofs.Names.{◌≡◌, ℕ, zero, suc, ◌-◌, ◌<◌, ◌≤◌, List, [], ◌∷◌, map, drop, length, fold, Option, None, Some, refl, sym, ◌∙◌, ap, arith, option_map, Word, word_of, from, first, At, NoMemory, WordFault, reported, Reading, made, stops, bind, part, phrase, number_seen, Reports, Tree, Section, Contents, gives, close, file, sections, tree_from, with_section, TaskFile, Name, Token, token_of, tokens_of, start, Outcome, run, stopped}
 use Rattle.std.proofs.Common.{◌≢◌}
 use Rattle.std.specs.Prelude.{IfSome, slice_get}
 use Rattle.std.proofs.lemmas.List.{length-drop, length-map}
@@ -24,18 +24,18 @@ pub same_tokens : (words : List Word) → map token words ≡ tokens_of (map wor
 same_tokens [] = refl
 same_tokens (w ∷ words) = ap (λ ts. token w ∷ ts) (same_tokens words)
 
-pub file_read : (f : File) (words : List Word) (t : Tree) → run (from words 0) (start f) ≡ finished t → IsFile f (tokens_of (map word_of words)) t
+pub file_read : (f : TaskFile) (words : List Word) (t : Tree) → run (from words 0) (start f) ≡ finished t → IsFile f (tokens_of (map word_of words)) t
 file_read f words t e = run_file f (tokens_of (map word_of words)) t (ap (λ w. run w (start f)) (sym (same_tokens words)) ∙ e)
 
-abbrev StopsAs : File → List Word → Option (ℕ × ℕ) → Type 0
+abbrev StopsAs : TaskFile → List Word → Option (ℕ × ℕ) → Type 0
 StopsAs f words o = IfSome o (λ p. run (from words 0) (start f) ≡ stopped p.0 (from words p.1))
 
-pub refused_by : (f : File) (words : List Word) (o : Option (ℕ × ℕ)) → StopsAs f words o → IfSome (fault_of (map word_of words) o) (IsRefused f (map word_of words))
+pub refused_by : (f : TaskFile) (words : List Word) (o : Option (ℕ × ℕ)) → StopsAs f words o → IfSome (fault_of (map word_of words) o) (IsRefused f (map word_of words))
 refused_by f words None h = tt
 refused_by f words (Some p) h =
     refused_at f (map word_of words) p.0 p.1 (ap (λ w. run w (start f)) (sym (same_tokens words)) ∙ h ∙ ap (λ w. stopped p.0 (drop p.1 w)) (same_tokens words))
 
-pub taken_by : (f : File) (words : List Word) (o : Option (ℕ × ℕ)) → StopsAs f words o → IsWhole f (tokens_of (map word_of words)) → fault_of (map word_of words) o ≡ None
+pub taken_by : (f : TaskFile) (words : List Word) (o : Option (ℕ × ℕ)) → StopsAs f words o → IsWhole f (tokens_of (map word_of words)) → fault_of (map word_of words) o ≡ None
 taken_by f words None h whole = refl
 taken_by f words (Some p) h whole =
     let same : finished whole.0 ≡ stopped p.0 (from words p.1) = sym (file_run whole.1) ∙ ap (λ w. run w (start f)) (sym (same_tokens words)) ∙ h in
@@ -82,11 +82,11 @@ pub ruleset of_rest = (reported_first, trailing_all)
 -- ---- a file by its sections
 
 -- how the machine ends, by what is read after the head
-abbrev pub outcome : File → Name → Reading Contents → Outcome Tree
+abbrev pub outcome : TaskFile → Name → Reading Contents → Outcome Tree
 outcome f n (made c w) = finished (tree_from f n c)
 outcome f n (stops m w) = stopped m w
 
-pub file_ends : (f : File) (n : Name) (w v : List Token) → part (file f) w ≡ phrase (after_head f n) v → run w (start f) ≡ outcome f n (bind (phrase (sections_on f [] no_contents) v) at_end)
+pub file_ends : (f : TaskFile) (n : Name) (w v : List Token) → part (file f) w ≡ phrase (after_head f n) v → run w (start f) ≡ outcome f n (bind (phrase (sections_on f [] no_contents) v) at_end)
 file_ends f n w v e = run_part (file f) w gives ∙ ap (λ r. ends_as r gives) e ∙ by_sections (part (sections f []) v)
   where
     by_sections : (r : Reading (List Section)) → ends_as (bind r (λ ss u. made (tree_from f n (fold with_section no_contents ss)) u)) gives ≡ outcome f n (bind (bind r (λ ss u. made (fold with_section no_contents ss) u)) at_end)
@@ -95,10 +95,10 @@ file_ends f n w v e = run_part (file f) w gives ∙ ap (λ r. ends_as r gives) e
     by_sections (stops m u) = refl
 
 -- in the terms of what is reported
-pub head_stops : (f : File) (words : List Word) (refusal : WordFault) → Reports words (part (file f) (from words 0)) refusal → StopsAs f words (reported refusal)
+pub head_stops : (f : TaskFile) (words : List Word) (refusal : WordFault) → Reports words (part (file f) (from words 0)) refusal → StopsAs f words (reported refusal)
 head_stops f words (At r) h = run_part (file f) (from words 0) gives ∙ ap (λ r. ends_as r gives) h
 head_stops f words NoMemory h = tt
 
-pub all_stop : (f : File) (n : Name) (words : List Word) (at : ℕ) (refusal : WordFault) → part (file f) (from words 0) ≡ phrase (after_head f n) (from words at) → Reports words (bind (phrase (sections_on f [] no_contents) (from words at)) at_end) refusal → StopsAs f words (reported refusal)
+pub all_stop : (f : TaskFile) (n : Name) (words : List Word) (at : ℕ) (refusal : WordFault) → part (file f) (from words 0) ≡ phrase (after_head f n) (from words at) → Reports words (bind (phrase (sections_on f [] no_contents) (from words at)) at_end) refusal → StopsAs f words (reported refusal)
 all_stop f n words at (At r) e h = file_ends f n (from words 0) (from words at) e ∙ ap (outcome f n) h
 all_stop f n words at NoMemory e h = tt

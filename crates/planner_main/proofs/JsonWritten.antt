@@ -12,7 +12,7 @@ use Rattle.serde_json.specs.Data.{Data, object}
 use Rattle.serde_json.specs.Data as built
 use Rattle.serde_json.specs.View.{items_of}
 use Rattle.serde_json.specs.Written.{compact_text, items_text, members_text, comma_if, outline, items_outline, members_outline, has_float, items_have_float, IsInOrder}
-use Rattle.serde_json.proofs.InputTexts.{tokens_from_order}
+use Rattle.serde_json.proofs.Texts.{tokens_from_order}
 use Rattle.planner_main.specs.JsonText.{Value, Member, number, text, texts, escaped, string_text, joined, value_text, member_text, object_text}
 use Rattle.planner_main.specs.Members.{strings_read, value_read, members_read}
 use Rattle.planner_main.specs.MembersBuilt.{value_built, members_built}
