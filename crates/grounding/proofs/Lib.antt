@@ -11,3 +11,5 @@ pub mod InitialBits
 pub mod GroundLemmas
 pub mod FiledNumbers
 pub mod WatchLemmas
+pub mod TreeLemmas
+pub mod MatchLemmas

@@ -1,6 +1,7 @@
 -- Conditions of the code, in the model's terms.
-use Rattle.std.specs.Prelude.{◌≡◌, ℕ, Bool, true, false, List, map, length, Option, None, Some}
+use Rattle.std.specs.Prelude.{◌≡◌, ℕ, Bool, true, false, List, map, length, slice_get, Option, None, Some}
 use Rattle.std.specs.List.{list_all}
+use Rattle.std.specs.Option.{option_map_or}
 use Rattle.grounding_kept.specs.Numbers.{numbered_of}
 use Rattle.grounding.specs.declared.condition.Condition.{Condition}
 use Rattle.grounding.specs.declared.condition.Beyond.{Beyond}
@@ -30,6 +31,19 @@ decided_by beyond.Formula false = Some false
 
 abbrev pub decided_in : Condition → List Bool → Option Bool
 decided_in c bits = decided_by c.beyond (list_all (agrees bits) (literals_in c))
+
+-- whether the formula holds in some packed state, as far as that is known
+abbrev pub may_of : Beyond → Bool
+may_of beyond.Nothing = true
+may_of beyond.Never = false
+may_of beyond.Formula = true
+
+abbrev pub may_hold_in : Condition → Bool
+may_hold_in c = may_of c.beyond
+
+-- that of this number is of such a formula
+abbrev pub may_hold_at : List Condition → ℕ → Bool
+may_hold_at conditions n = option_map_or may_hold_in (slice_get conditions n) false
 
 -- It has the formula's literals that are of numbered atoms, where these objects stand for the variables, and what it
 -- decides is whether the formula holds.

@@ -5,6 +5,8 @@ pub mod StateView
 pub mod Conditions
 pub mod Watched
 pub mod WatchLists
+pub mod MatchNodes
+pub mod MatchTree
 pub mod ChangedBits
 pub mod NumberedEffects
 pub mod FormulaSet

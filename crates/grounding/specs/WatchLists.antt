@@ -1,11 +1,11 @@
 -- Lists of instances by an atom that they want.
-use Rattle.std.specs.Prelude.{◌≡◌, ℕ, zero, suc, ◌+◌, ◌<◌, ◌==◌, Bool, true, false, List, [], ◌∷◌, ◌++◌, Option, None, Some, if◌then◌else◌, length, slice_get}
+use Rattle.std.specs.Prelude.{◌≡◌, ℕ, zero, suc, ◌+◌, ◌<◌, ◌≤◌, ◌==◌, Bool, true, false, List, [], ◌∷◌, ◌++◌, Option, None, Some, if◌then◌else◌, filter, length, slice_get}
 use Rattle.std.specs.List.{All, range_with_len}
 use Rattle.std.specs.Option.{option_map_or}
 use Rattle.std.specs.Global.{Vec}
 use Rattle.grounding.specs.declared.condition.Condition.{Condition}
 use Rattle.grounding.specs.declared.watch_lists.WatchLists.{WatchLists}
-use Rattle.grounding.specs.Conditions.{literals_in}
+use Rattle.grounding.specs.Conditions.{literals_in, may_hold_at}
 use Rattle.grounding.specs.Watched.{IsWanted}
 
 -- how often a number is in a list
@@ -50,10 +50,10 @@ pub record IsFiled (number : ℕ) (watched : Option ℕ) (old new : WatchLists) 
 abbrev pub IsWantedBy : List Condition → ℕ → ℕ → Type 0
 IsWantedBy conditions a n = (n < length conditions) × ((c : Condition) → slice_get conditions n ≡ Some c → IsWanted (literals_in c) a)
 
--- Each of the first so many conditions has its number in one list, once, and wants the atom of that list.
+-- Each of the first so many conditions that may hold has its number in one list, once, and wants the atom of that list.
 pub record AreWatched (width : ℕ) (conditions : List Condition) (count : ℕ) (w : WatchLists) : Type 0 where
   pub wide : length w.rows.items ≡ width
-  pub as_many : length (filed w) ≡ count
-  pub each : (n : ℕ) → times n (filed w) ≡ times n (range_with_len 0 count)
+  pub few : length (filed w) ≤ count
+  pub each : (n : ℕ) → times n (filed w) ≡ times n (filter (may_hold_at conditions) (range_with_len 0 count))
   pub rows : (a : ℕ) → All (IsWantedBy conditions a) (row_of w a)
   pub unwatched : All (λ n. n < length conditions) w.unwatched.items

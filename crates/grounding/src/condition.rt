@@ -3,7 +3,7 @@
 //! Mostly it is a list of literals by their numbers, as the preconditions of STRIPS are lists of atoms (Fikes & Nilsson 1971,
 //! "STRIPS: A New Approach to the Application of Theorem Proving to Problem Solving"). What a formula says beyond is not
 //! compiled: the formula itself is looked at, and only where its literals are true.
-ghost use Rattle.std.specs.Prelude.{◌≡◌, ◌<◌, length, map, IfOk};
+ghost use Rattle.std.specs.Prelude.{◌≡◌, ◌<◌, true, length, map, IfOk};
 ghost use Rattle.std.specs.List.{All, list_all};
 ghost use Rattle.task.specs.TaskParts.{object_of, formula_of};
 ghost use Rattle.formulas.specs.State.{FitsFormula};
@@ -16,7 +16,7 @@ ghost use Rattle.model.specs.NumberedLiterals as model_literals;
 ghost use Rattle.model.specs.Grounding.{state_of_bits};
 ghost use Rattle.grounding.specs.Outright as outright;
 ghost use Rattle.grounding.specs.Unnumbered as unnumbered;
-ghost use Rattle.grounding.specs.Conditions.{literals_in, decided_in, beyond_of, IsConditionOf};
+ghost use Rattle.grounding.specs.Conditions.{literals_in, decided_by, decided_in, may_hold_in, beyond_of, IsConditionOf};
 
 use crate::outright::is_outright;
 use crate::state_view::StateView;
@@ -83,10 +83,29 @@ impl Condition {
         if !all_agree(self.literals.as_slice(), state) {
             return Some(false);
         }
+        self.decides_beyond()
+    }
+
+    /// Whether the formula holds in the packed states in which its literals are true, where that is decided without a look at
+    /// the formula.
+    pub(crate) fn decides_beyond(&self) -> Option<bool>
+        ensures { result ≡ decided_by self.now.beyond true }
+    {
         match self.beyond {
             Beyond::Nothing => Some(true),
             Beyond::Never => Some(false),
             Beyond::Formula => None,
+        }
+    }
+
+    /// Whether the formula may hold in a packed state.
+    pub(crate) fn may_hold(&self) -> bool
+        ensures { result ≡ may_hold_in self.now }
+    {
+        match self.beyond {
+            Beyond::Nothing => true,
+            Beyond::Never => false,
+            Beyond::Formula => true,
         }
     }
 }
@@ -141,7 +160,7 @@ fn all_agree(literals: &[NumberedLiteral], state: &Packed) -> bool
 }
 
 /// Whether the literal is true in the packed state.
-fn agrees(literal: &NumberedLiteral, state: &Packed) -> bool
+pub(crate) fn agrees(literal: &NumberedLiteral, state: &Packed) -> bool
     requires { literal.now.atom < length (bits_of state.now) }
     ensures { result ≡ model_literals.agrees (bits_of state.now) (numbered_of literal.now) }
 {

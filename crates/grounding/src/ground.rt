@@ -7,13 +7,13 @@ ghost use Rattle.grounding.specs.InPlace.{AreInPlace};
 ghost use Rattle.grounding.specs.FormulaSet.{formula-set};
 ghost use Rattle.grounding.specs.Changes.{AreChangesOf};
 ghost use Rattle.grounding.specs.Preconditions.{IsPrecondition};
-ghost use Rattle.grounding.specs.WatchLists.{AreWatched};
+ghost use Rattle.grounding.specs.MatchTree.{AreMatched};
 ghost use Rattle.model.specs.Meaning.{cost_of};
 
 use crate::changes::CountingChange;
 use crate::condition::Condition;
+use crate::match_tree::MatchTree;
 use crate::parts::{changes_of_all, costs, goal_condition, preconditions};
-use crate::watch_lists::WatchLists;
 use faults::NoMemory;
 use formulas::Instance;
 use grounding_kept::{GroundFault, NumberedLiteral, Numbering};
@@ -31,18 +31,19 @@ pub struct Ground<'t> {
     pub(crate) changes: Vec<Vec<CountingChange<'t>>>,
     pub(crate) costs: Vec<u32>,
     pub(crate) goal: Condition,
-    /// The instances by an atom that their preconditions want, of which few are looked at in a state.
-    pub(crate) lists: WatchLists,
+    /// The instances by the literals that their preconditions want.
+    pub(crate) tree: MatchTree,
     ghost few: { length (numbering_views.instances_in numbering) < 2 ^ 32 },
     ghost preconditions: { AreInPlace (IsPrecondition (numbering_views.task_in numbering) (numbering_views.atoms_in numbering)) (numbering_views.instances_in numbering) conditions.items } by { Prim.hlevel props },
     ghost changes_made: { AreInPlace (AreChangesOf (numbering_views.task_in numbering) (numbering_views.atoms_in numbering)) (numbering_views.instances_in numbering) changes.items } by { Prim.hlevel (props, formula-set) },
     ghost each_cost: { costs.items ≡ map (cost_of (numbering_views.task_in numbering)) (numbering_views.instances_in numbering) } by { Prim.hlevel props },
-    ghost watched: { AreWatched (length (numbering_views.atoms_in numbering)) conditions.items (length conditions.items) lists } by { Prim.hlevel props },
+    ghost matched: { AreMatched (length (numbering_views.atoms_in numbering)) conditions.items tree } by { Prim.hlevel props },
     ghost of_goal: { IsConditionOf (numbering_views.task_in numbering) (numbering_views.atoms_in numbering) (numbering_views.task_in numbering).goal [] goal } by { Prim.hlevel props },
 }
 
 impl<'t> Ground<'t> {
-    ghost use Rattle.std.specs.Prelude.{All, IfOk, IfErr, IsTrue};
+    ghost use Rattle.std.specs.Prelude.{All, IfOk, IfErr, IsTrue, slice_get};
+    ghost use Rattle.std.specs.Option.{option_map};
     ghost use Rattle.task.specs.Task.{task_of};
     ghost use Rattle.task.specs.TaskParts.{atom_of};
     ghost use Rattle.formulas.specs.State.{instance_of};
@@ -82,7 +83,7 @@ impl<'t> Ground<'t> {
         ensures { IfOk result (λ g. numbering_in g ≡ numbering.entry) }
     {
         let conditions = preconditions(alloc, &numbering)?;
-        let lists = WatchLists::new(alloc, numbering.width(), &conditions)?;
+        let tree = MatchTree::new(alloc, numbering.width(), &conditions)?;
         let changes = changes_of_all(alloc, &numbering)?;
         let costs = costs(alloc, &numbering)?;
         let goal = goal_condition(alloc, &numbering)?;
@@ -92,7 +93,7 @@ impl<'t> Ground<'t> {
             changes,
             costs,
             goal,
-            lists,
+            tree,
         })
     }
 
@@ -129,6 +130,20 @@ impl<'t> Ground<'t> {
         ensures { result ≡ numbered.number_of (atoms_in self.now) (atom_of atom.now) }
     {
         self.numbering.number_of(atom)
+    }
+
+    /// The instance of this number, if there is one.
+    pub fn instance(&self, number: u32) -> Option<&Instance>
+        ensures { option_map (λ i. instance_of i.now) result ≡ slice_get (kept_instances (task_in self.now)) number }
+    {
+        self.numbering.instances().get(number as usize)
+    }
+
+    /// The atom of this number, if there is one.
+    pub fn atom(&self, number: u32) -> Option<&Atom>
+        ensures { option_map (λ a. atom_of a.now) result ≡ slice_get (atoms_in self.now) number }
+    {
+        self.numbering.atoms().get_index(number as usize)
     }
 
     /// What the instance of this number costs, and 0 where no instance has the number.

@@ -6,10 +6,12 @@ mod changes;
 mod condition;
 mod ground;
 mod laws;
+mod match_tree;
 mod outright;
 mod parts;
 mod state_view;
 mod steps;
+mod tree_builder;
 mod unnumbered;
 mod watch_lists;
 

@@ -1,19 +1,24 @@
 //! The steps of a ground task.
-ghost use Rattle.std.specs.Prelude.{◌≡◌, ◌+◌, ◌<◌, ◌≤◌, ◌∷◌, ◌++◌, [], All, filter, length, slice_get, slice_set, is_some, IfOk, OnOk, OnErr, IsTrue};
+ghost use Rattle.std.specs.Prelude.{◌≡◌, ◌+◌, ◌<◌, ◌≤◌, ◌^◌, ◌∷◌, ◌++◌, [], if◌then◌else◌, All, filter, length, slice_get, slice_set, is_some, IfOk, OnOk, OnErr, IsTrue};
 ghost use Rattle.std.specs.Vec.{vec_capacity};
 ghost use Rattle.packed_state.specs.Packed.{bits_of};
 ghost use Rattle.model.specs.StaticallyFalse.{kept_instances};
+ghost use Rattle.model.specs.NumberedLiterals as model_literals;
 ghost use Rattle.model.specs.Grounding.{state_of_bits, ground_step, ground_system, applicable_numbers};
+ghost use Rattle.grounding_kept.specs.Numbers.{numbered_of};
 ghost use Rattle.grounding.specs.ChangedBits.{with_bits};
+ghost use Rattle.grounding.specs.MatchNodes.{met, left_out, found, IsWithin, IsMet};
 ghost use Rattle.grounding.specs.NumberedEffects.{is_met, numbers_made, numbers_set};
 ghost use Rattle.grounding.specs.Changes.{guard_in, effect_in, GuardFits, IsCompiled};
 ghost use Rattle.grounding.specs.Ground.{task_in, atoms_in};
 
 use crate::changes::CountingChange;
-use crate::condition::holds_in;
+use crate::condition::{agrees, holds_in};
 use crate::ground::Ground;
+use crate::match_tree::Node;
 use faults::NoMemory;
 use formulas::Binding;
+use grounding_kept::NumberedLiteral;
 use packed_state::Packed;
 use std::alloc::Global;
 
@@ -64,36 +69,69 @@ impl Ground<'_> {
         into.clear();
         let mut atom = state.next(0);
         'lists: while atom < self.width() {
-            self.list_applicable(self.lists.of(atom), state, into);
+            self.list_applicable(self.tree.of(atom), state, into);
             atom = state.next(atom + 1);
         }
-        self.list_applicable(&self.lists.unwatched, state, into);
+        self.list_applicable(&self.tree.unwatched, state, into);
         into.sort_unstable();
         Ok(())
     }
 
-    /// Adds those of the instances of these numbers that are applicable in the state.
-    fn list_applicable(&self, numbers: &[u32], state: &Packed, into: &mut Vec<u32>)
-        requires within { All (λ number. number < length (kept_instances (task_in self.now))) numbers.now }
+    /// Adds the instances that are found by the tree of these nodes and are applicable in the state.
+    fn list_applicable(&self, nodes: &[Node], state: &Packed, into: &mut Vec<u32>)
         requires width { length (bits_of state.now) ≡ length (atoms_in self.now) }
-        requires room { length into.old.items + length numbers.now ≤ vec_capacity into.old }
-        ensures items { into.new.items ≡ into.old.items ++ filter (λ number. is_some (ground_step (task_in self.now) (atoms_in self.now) (bits_of state.now) number)) numbers.now }
+        requires within { All (IsWithin (length (atoms_in self.now))) nodes.now }
+        requires agreed { All (IsMet self.now.conditions.items (bits_of state.now)) (found (bits_of state.now) 0 nodes.now) }
+        requires room { length into.old.items + length (found (bits_of state.now) 0 nodes.now) ≤ vec_capacity into.old }
+        ensures items { into.new.items ≡ into.old.items ++ filter (λ number. is_some (ground_step (task_in self.now) (atoms_in self.now) (bits_of state.now) number)) (found (bits_of state.now) 0 nodes.now) }
         ensures capacity { vec_capacity into.new ≡ vec_capacity into.old }
     {
-        for &number in numbers {
-            if self.is_applicable(number, state) {
-                into.push_reserved(number);
+        let mut place = 0;
+        'nodes: while place < nodes.len() {
+            place += self.visit(&nodes[place], state, into);
+        }
+    }
+
+    /// Adds the instance that is met at the node, if it is applicable in the state. Answers how many nodes to go on by.
+    fn visit(&self, node: &Node, state: &Packed, into: &mut Vec<u32>) -> usize
+        requires width { length (bits_of state.now) ≡ length (atoms_in self.now) }
+        requires within { IsWithin (length (atoms_in self.now)) node.now }
+        requires agreed { All (IsMet self.now.conditions.items (bits_of state.now)) (met node.now) }
+        requires room { length into.old.items + length (met node.now) ≤ vec_capacity into.old }
+        ensures next { result ≡ 1 + left_out (bits_of state.now) node.now }
+        ensures items { into.new.items ≡ into.old.items ++ filter (λ number. is_some (ground_step (task_in self.now) (atoms_in self.now) (bits_of state.now) number)) (met node.now) }
+        ensures capacity { vec_capacity into.new ≡ vec_capacity into.old }
+    {
+        match node {
+            Node::Test(literal, below) => pass(literal, *below, state),
+            Node::Instance(number) => {
+                self.add_if_applicable(*number, state, into);
+                1
             }
         }
     }
 
-    /// Whether the instance of this number is applicable in the state.
-    fn is_applicable(&self, number: u32, state: &Packed) -> bool
-        requires within { number < length (kept_instances (task_in self.now)) }
+    /// Adds the instance of this number, whose literals are true in the state, if it is applicable there.
+    fn add_if_applicable(&self, number: u32, state: &Packed, into: &mut Vec<u32>)
         requires width { length (bits_of state.now) ≡ length (atoms_in self.now) }
+        requires agreed { IsMet self.now.conditions.items (bits_of state.now) number }
+        requires room { length into.old.items < vec_capacity into.old }
+        ensures items { into.new.items ≡ into.old.items ++ filter (λ number. is_some (ground_step (task_in self.now) (atoms_in self.now) (bits_of state.now) number)) (number ∷ []) }
+        ensures capacity { vec_capacity into.new ≡ vec_capacity into.old }
+    {
+        if !self.is_applicable(number, state) {
+            return;
+        }
+        into.push_reserved(number);
+    }
+
+    /// Whether the instance of this number, whose literals are true in the state, is applicable there.
+    fn is_applicable(&self, number: u32, state: &Packed) -> bool
+        requires width { length (bits_of state.now) ≡ length (atoms_in self.now) }
+        requires agreed { IsMet self.now.conditions.items (bits_of state.now) number }
         ensures { result ≡ is_some (ground_step (task_in self.now) (atoms_in self.now) (bits_of state.now) number) }
     {
-        match self.conditions[number as usize].decides(state) {
+        match self.conditions[number as usize].decides_beyond() {
             Some(decided) => decided,
             None => self.precondition_holds(number, state),
         }
@@ -193,4 +231,13 @@ fn set(into: &mut Packed, number: u32, value: bool)
     } else {
         into.remove(number);
     }
+}
+
+/// How many nodes to go on by at the test of the literal: past those below it where it is false.
+fn pass(literal: &NumberedLiteral, below: usize, state: &Packed) -> usize
+    requires within { literal.now.atom < length (bits_of state.now) }
+    requires below { below < 2 ^ 63 }
+    ensures { result ≡ 1 + (if model_literals.agrees (bits_of state.now) (numbered_of literal.now) then 0 else below) }
+{
+    if agrees(literal, state) { 1 } else { 1 + below }
 }

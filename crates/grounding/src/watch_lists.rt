@@ -1,8 +1,8 @@
-//! Lists of instances by an atom that they want, so that a look at a state need not pass over all instances.
+//! Lists of instances by an atom that they want, which the match tree is built of.
 //!
-//! An instance is in the list of one atom that its precondition wants to be true, of these the one that the fewest
-//! instances want, and is looked at only where that atom is true. So do solvers of propositional formulas with watched
-//! literals (Moskewicz et al., 2001); it is a match tree of one level.
+//! An instance is in the list of one atom that its precondition wants to be true, of these the one that the fewest instances
+//! want, as solvers of propositional formulas watch one literal of a clause (Moskewicz et al., 2001). Those that hold in no
+//! packed state are in none.
 ghost use Rattle.std.specs.Prelude.{◌≡◌, ◌<◌, ℕ, [], Some, None, All, IfOk, IfSome, OnOk, length, map, slice_get};
 ghost use Rattle.grounding_kept.specs.Numbers.{numbered_of};
 ghost use Rattle.grounding.specs.Conditions.{literals_in};
@@ -13,12 +13,12 @@ use faults::NoMemory;
 use grounding_kept::NumberedLiteral;
 use std::alloc::Global;
 
-/// The instances' numbers, each in one list.
+/// The numbers of the instances that may hold, each in one list.
 #[derive(Drop)]
 pub(crate) struct WatchLists {
-    /// Of each atom, the instances that are looked at where it is true.
+    /// Of each atom, the instances that are watched for it.
     rows: Vec<Vec<u32>>,
-    /// Those that want no atom, which are looked at in each state.
+    /// Those that want no atom.
     pub(crate) unwatched: Vec<u32>,
 }
 
@@ -38,8 +38,10 @@ impl WatchLists {
         let wanted = wanted(alloc, width, conditions)?;
         let mut lists = WatchLists::empty(alloc, width)?;
         for number in 0..conditions.len() as u32 {
-            let literals = conditions[number as usize].literals();
-            lists.file(number, rarest(literals, &wanted))?;
+            let condition = &conditions[number as usize];
+            if condition.may_hold() {
+                lists.file(number, rarest(condition.literals(), &wanted))?;
+            }
         }
         Ok(lists)
     }
@@ -84,7 +86,7 @@ impl WatchLists {
         Ok(())
     }
 
-    /// The instances that are looked at where the atom is true.
+    /// The instances in the list of the atom.
     pub(crate) fn of(&self, atom: u32) -> &[u32]
         ensures { result.now ≡ row_of self.now atom }
     {

@@ -1,49 +1,47 @@
-use Rattle.std.proofs.Common.{◌≡◌, ◌∙◌, ℕ, true, false, ap, get_or, length, length-append, take, sym, arith}
+use Rattle.std.proofs.Common.{◌≡◌, ◌∙◌, ◌+◌, ◌++◌, ℕ, false, List, ap, drop, get_or, length, length-append, subst, sym, arith}
 use Rattle.std.specs.Prelude.{filter}
-use Rattle.std.specs.Vec.{vec_capacity}
-use Rattle.std.specs.Global.{Vec}
-use Rattle.std.proofs.lemmas.List.{length-take}
+use Rattle.std.specs.List.{All}
+use Rattle.std.proofs.lemmas.Option.{slice_get-get_or}
 use Rattle.packed_state.specs.Packed.{bits_of}
+use Rattle.grounding.specs.declared.match_tree.Node.{Node}
+use Rattle.grounding.specs.declared.match_tree.Node.TheVariants.{Test}
+use Rattle.grounding.specs.MatchNodes.{met, found, IsMet}
 use Rattle.grounding.proofs.FiledNumbers.{length-filter_le}
-use Rattle.grounding.proofs.WatchLemmas.{passes, tested-with, tested-without}
-use Rattle.grounding.proofs.ground.Ground.list_applicable.Goals.{then-is_applicable, else-is_applicable}
+use Rattle.grounding.proofs.MatchLemmas.{passes, found-next, all-first, all-rest, walked}
 use Rattle.grounding.proofs.ground.Ground.list_applicable.Goals as goal
 
-pub is_applicable-requires-clause-within : goal.is_applicable-requires-clause-within
-is_applicable-requires-clause-within c = c.requires.within c.loop-number.number-index 0 c.loop-number-test.true
+pub visit-place-requires-clause-agreed : goal.visit-place-requires-clause-agreed
+visit-place-requires-clause-agreed c =
+    let bits = bits_of c.args.state.now in
+    let nodes = c.args.nodes.now in
+    let i = c.nodes.place in
+    let other : Node = Test (record { atom = 0; value = false }) 0 in
+    let node = get_or nodes i other in
+    let next = found-next bits nodes i node (slice_get-get_or nodes i other c.nodes-test.true) in
+    all-first (IsMet c.args.self.now.conditions.items bits) (met node) _ (subst (All (IsMet c.args.self.now.conditions.items bits)) next c.nodes.invariant.agreed)
 
-pub push_reserved-requires : goal.push_reserved-requires
-push_reserved-requires c =
-    let p = passes c.args.self.now (bits_of c.args.state.now) c.requires.width in
-    let seen = take c.loop-number.number-index c.args.numbers.now in
-    omega (
-      arith,
-      c.loop-number.into.ok.0,
-      ap length c.loop-number.invariant.0,
-      length-append c.args.into.now.items (filter p seen),
-      length-filter_le p seen,
-      length-take c.loop-number.number-index c.args.numbers.now,
-      c.loop-number-test.true,
-      c.requires.room,
-      c.loop-number.invariant.1,
-    )
-
-pub loop-number-preserved : goal.loop-number-preserved
-loop-number-preserved c =
-    let p = passes c.args.self.now (bits_of c.args.state.now) c.requires.width in
-    let numbers = c.args.numbers.now in
-    let i = c.loop-number.number-index in
-    let n : ℕ = get_or numbers i 0 in
-    let before = c.args.into.now.items in
-    elim c.if-is_applicable.branch [
-      | then-is_applicable w ↦
-          let so : p n ≡ true = sym c.is_applicable.ensures ∙ w.if-is_applicable.true in (
-            ap (λ (v : Vec ℕ). v.items) w.into-is ∙ w.push_reserved.ensures.items ∙ tested-with p numbers i 0 before c.loop-number.into.items c.loop-number-test.true so c.loop-number.invariant.0,
-            ap (λ (v : Vec ℕ). vec_capacity v) w.into-is ∙ w.push_reserved.ensures.capacity ∙ c.loop-number.invariant.1,
-          )
-      | else-is_applicable w ↦
-          let not_so : p n ≡ false = sym c.is_applicable.ensures ∙ w.if-is_applicable.false in (
-            ap (λ (v : Vec ℕ). v.items) w.into-is ∙ tested-without p numbers i 0 before c.loop-number.into.items c.loop-number-test.true not_so c.loop-number.invariant.0,
-            ap (λ (v : Vec ℕ). vec_capacity v) w.into-is ∙ c.loop-number.invariant.1,
-          )
-    ]
+pub nodes-preserved : goal.nodes-preserved
+nodes-preserved c =
+    let bits = bits_of c.args.state.now in
+    let p = passes c.args.self.now bits c.requires.width in
+    let nodes = c.args.nodes.now in
+    let i = c.nodes.place in
+    let other : Node = Test (record { atom = 0; value = false }) 0 in
+    let node = get_or nodes i other in
+    let rest : List ℕ = found bits 0 (drop (i + c.visit-place.result) nodes) in
+    let next : found bits 0 (drop i nodes) ≡ met node ++ rest =
+    found-next bits nodes i node (slice_get-get_or nodes i other c.nodes-test.true) ∙ ap (λ n. met node ++ found bits 0 (drop (i + n) nodes)) (sym c.visit-place.ensures.next) in record {
+      items = walked p c.nodes.into.items c.visit-place.new.into.items _ (found bits 0 (drop i nodes)) (met node) rest c.visit-place.ensures.items next c.nodes.invariant.items;
+      agreed = all-rest (IsMet c.args.self.now.conditions.items bits) (met node) rest (subst (All (IsMet c.args.self.now.conditions.items bits)) next c.nodes.invariant.agreed);
+      room = omega (
+        arith,
+        ap length c.visit-place.ensures.items,
+        length-append c.nodes.into.items (filter p (met node)),
+        length-filter_le p (met node),
+        ap length next,
+        length-append (met node) rest,
+        c.nodes.invariant.room,
+        c.visit-place.ensures.capacity,
+      );
+      capacity = c.visit-place.ensures.capacity ∙ c.nodes.invariant.capacity;
+    }

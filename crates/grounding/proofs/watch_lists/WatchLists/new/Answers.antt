@@ -1,12 +1,15 @@
-use Rattle.std.proofs.Common.{◌≡◌, ◌∙◌, ◌<◌, List, map, length, ap, sym, subst, arith}
+use Rattle.std.proofs.Common.{◌≡◌, ◌∙◌, ◌+◌, ◌<◌, Bool, false, List, map, length, ap, sym, subst}
 use Rattle.std.specs.Prelude.{IfSome}
 use Rattle.std.specs.List.{All}
+use Rattle.std.specs.Option.{option_map_or}
 use Rattle.grounding_kept.specs.Numbers.{numbered_of}
-use Rattle.grounding.specs.Conditions.{literals_in}
+use Rattle.grounding.specs.Conditions.{literals_in, may_hold_in}
 use Rattle.grounding.specs.Watched.{IsWatchable}
+use Rattle.grounding.specs.WatchLists.{AreWatched}
 use Rattle.grounding.proofs.GroundLemmas.{got}
-use Rattle.grounding.proofs.WatchLemmas.{watched-none, watched-more}
+use Rattle.grounding.proofs.WatchLemmas.{watched-none, watched-more, watched-same}
 use Rattle.model.specs.NumberedLiterals.{NumberedLiteral}
+use Rattle.grounding.proofs.watch_lists.WatchLists.new.Goals.{then-may_hold+in_ok-file, else-may_hold}
 use Rattle.grounding.proofs.watch_lists.WatchLists.new.Goals as goal
 
 pub loop-number-init : goal.loop-number-init
@@ -17,19 +20,24 @@ rarest-requires c =
     let conditions = c.args.conditions.now in
     let number = c.loop-number.number in
     let condition = c.index-conditions-number.result in
-    let below : number < length conditions = omega (arith, c.loop-number-test.true, c.loop-number.auto.number-end, c.requires.few) in
     let many : length c.deref.result.now ≡ c.args.width = ap length c.deref.ensures.value ∙ c.in_ok-wanted.ensures in
-    subst (λ w. All (λ (l : NumberedLiteral). l.atom < w) (map numbered_of c.literals-literals.result.now)) (sym many)
-    (subst (λ ls. All (λ (l : NumberedLiteral). l.atom < c.args.width) ls) (sym c.literals-literals.ensures) (c.requires.within number condition (got conditions number condition below c.index-conditions-number.is)))
+    subst (λ w. All (λ (l : NumberedLiteral). l.atom < w) (map numbered_of c.literals.result.now)) (sym many)
+    (subst (λ ls. All (λ (l : NumberedLiteral). l.atom < c.args.width) ls) (sym c.literals.ensures) (c.requires.within number condition (got conditions number condition c.loop-number-test.true c.index-conditions-number.is)))
 
 pub loop-number-preserved : goal.loop-number-preserved
 loop-number-preserved c =
     let conditions = c.args.conditions.now in
     let number = c.loop-number.number in
     let condition = c.index-conditions-number.result in
-    let below : number < length conditions = omega (arith, c.loop-number-test.true, c.loop-number.auto.number-end, c.requires.few) in
-    let many : length c.deref.result.now ≡ c.args.width = ap length c.deref.ensures.value ∙ c.in_ok-wanted.ensures in
-    watched-more c.args.width conditions number c.rarest.result c.loop-number.lists c.file.new.self condition c.loop-number.invariant c.in_ok-file.ensures below
-    (got conditions number condition below c.index-conditions-number.is)
-    (subst (λ w. IfSome c.rarest.result (IsWatchable w (literals_in condition))) many
-    (subst (λ (ls : List NumberedLiteral). IfSome c.rarest.result (IsWatchable (length c.deref.result.now) ls)) c.literals-literals.ensures c.rarest.ensures))
+    let at = got conditions number condition c.loop-number-test.true c.index-conditions-number.is in
+    let may = ap (λ o. option_map_or may_hold_in o false) at ∙ sym c.may_hold.ensures in
+    elim c.if-may_hold.branch [
+      | then-may_hold+in_ok-file w ↦
+          let many : length w.deref.result.now ≡ c.args.width = ap length w.deref.ensures.value ∙ c.in_ok-wanted.ensures in
+          subst (AreWatched c.args.width conditions (number + 1)) (sym w.lists-is)
+          (watched-more c.args.width conditions number w.rarest.result c.loop-number.lists w.file.new.self condition c.loop-number.invariant w.in_ok-file.ensures c.loop-number-test.true at
+          (subst (λ v. IfSome w.rarest.result (IsWatchable v (literals_in condition))) many
+          (subst (λ (ls : List NumberedLiteral). IfSome w.rarest.result (IsWatchable (length w.deref.result.now) ls)) w.literals.ensures w.rarest.ensures))
+          (may ∙ w.if-may_hold.true))
+      | else-may_hold w ↦ subst (AreWatched c.args.width conditions (number + 1)) (sym w.lists-is) (watched-same c.args.width conditions number c.loop-number.lists c.loop-number.invariant (may ∙ w.if-may_hold.false))
+    ]

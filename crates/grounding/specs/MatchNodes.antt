@@ -1,0 +1,100 @@
+-- Trees of instances by the literals that they want, as lists of nodes, each before those below it.
+use Rattle.std.specs.Prelude.{◌≡◌, ◌⊎◌, ℕ, zero, suc, ◌<◌, ◌≤◌, Bool, true, false, List, [], ◌∷◌, ◌++◌, if◌then◌else◌, ◌^◌, length, take, filter, slice_get, Some}
+use Rattle.std.specs.List.{All, list_all}
+use Rattle.std.specs.Option.{option_map_or}
+use Rattle.grounding_kept.specs.declared.numbers.NumberedLiteral.{NumberedLiteral}
+use Rattle.grounding_kept.specs.Numbers.{numbered_of}
+use Rattle.grounding.specs.declared.condition.Condition.{Condition}
+use Rattle.grounding.specs.declared.match_tree.Node.{Node}
+use Rattle.grounding.specs.declared.match_tree.Node.TheVariants.{Test, Instance}
+use Rattle.grounding.specs.Conditions.{literals_in}
+use Rattle.model.specs.NumberedLiterals as model
+use Rattle.model.specs.NumberedLiterals.{agrees}
+
+-- ---- what is found by a tree
+
+-- the instance that is met at a node
+abbrev pub met : Node → List ℕ
+met (Test l below) = []
+met (Instance n) = n ∷ []
+
+-- how many nodes after a node are left out: those below a test whose literal is false
+abbrev pub left_out : List Bool → Node → ℕ
+left_out bits (Test l below) = if agrees bits (numbered_of l) then 0 else below
+left_out bits (Instance n) = 0
+
+-- the instances that are met in a packed state, where so many nodes are left out first
+abbrev pub found : List Bool → ℕ → List Node → List ℕ
+found bits skip [] = []
+found bits zero (node ∷ rest) = met node ++ found bits (left_out bits node) rest
+found bits (suc skip) (node ∷ rest) = found bits skip rest
+
+-- all instances in a tree
+abbrev pub numbers_in : List Node → List ℕ
+numbers_in [] = []
+numbers_in (node ∷ rest) = met node ++ numbers_in rest
+
+-- the nodes below a test of the literal
+abbrev pub above : NumberedLiteral → List Node → List Node
+above l nodes = Test l (length nodes) ∷ nodes
+
+-- ---- what is to be found
+
+-- the literals of the condition of this number
+abbrev pub literals_at : List Condition → ℕ → List model.NumberedLiteral
+literals_at conditions n = option_map_or literals_in (slice_get conditions n) []
+
+-- whether they are true
+abbrev pub agrees_at : List Condition → List Bool → ℕ → Bool
+agrees_at conditions bits n = list_all (agrees bits) (literals_at conditions n)
+
+-- there is such a condition, and its literals are true
+abbrev pub IsMet : List Condition → List Bool → ℕ → Type 0
+IsMet conditions bits n = (n < length conditions) × (agrees_at conditions bits n ≡ true)
+
+-- these literals are true
+abbrev pub AgreesWith : List model.NumberedLiteral → List Bool → Type 0
+AgreesWith literals bits = list_all (agrees bits) literals ≡ true
+
+-- so is this one where they are
+abbrev pub Implies : List model.NumberedLiteral → model.NumberedLiteral → Type 0
+Implies literals l = (bits : List Bool) → AgreesWith literals bits → agrees bits l ≡ true
+
+-- the literals of the condition of this number are true only where this one is
+abbrev pub Wants : List Condition → model.NumberedLiteral → ℕ → Type 0
+Wants conditions l n = Implies (literals_at conditions n) l
+
+-- the literals of the conditions are of atoms below the width
+abbrev pub AreWithin : ℕ → List Condition → Type 0
+AreWithin width conditions = (k : ℕ) (c : Condition) → slice_get conditions k ≡ Some c → All (λ (l : model.NumberedLiteral). l.atom < width) (literals_in c)
+
+-- a test is of an atom below the width, with a number of nodes below it that a list can have
+abbrev pub IsWithin : ℕ → Node → Type 0
+IsWithin width node = (l : NumberedLiteral) (below : ℕ) → node ≡ Test l below → (l.atom < width) × (below < 2 ^ 63)
+
+-- In the packed states that are given a tree finds, of its instances, those whose literals are true, in order; and what
+-- comes after it is not left out.
+pub record IsTree (width : ℕ) (conditions : List Condition) (given : List Bool → Type 0) (numbers : List ℕ) (nodes : List Node) : Type 0 where
+  pub within : All (IsWithin width) nodes
+  pub all : numbers_in nodes ≡ numbers
+  pub closed : (bits : List Bool) (rest : List Node) → found bits 0 (nodes ++ rest) ≡ found bits 0 nodes ++ found bits 0 rest
+  pub right : (bits : List Bool) → given bits → found bits 0 nodes ≡ filter (agrees_at conditions bits) numbers
+
+-- ---- how it is built
+
+-- it is the tree of the first so many of these instances, of one at least
+pub record IsGroup (width : ℕ) (conditions : List Condition) (given : List Bool → Type 0) (numbers : List ℕ) (count : ℕ) (nodes : List Node) : Type 0 where
+  pub some : 0 < count
+  pub few : count ≤ length numbers
+  pub tree : IsTree width conditions given (take count numbers) nodes
+
+-- the first so many of these instances, of one at least, want the literal
+pub record IsRun (width : ℕ) (conditions : List Condition) (numbers : List ℕ) (count : ℕ) (l : model.NumberedLiteral) : Type 0 where
+  pub some : 0 < count
+  pub few : count ≤ length numbers
+  pub atom : l.atom < width
+  pub wanted : All (Wants conditions l) (take count numbers)
+
+-- the literal is tested above the nodes, or is true where those on the path are
+abbrev pub IsTested : List model.NumberedLiteral → NumberedLiteral → List Node → List Node → Type 0
+IsTested path l old new = (Implies path (numbered_of l) × (new ≡ old)) ⊎ (new ≡ above l old)

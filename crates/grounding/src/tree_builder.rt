@@ -1,0 +1,271 @@
+//! How match trees are built.
+ghost use Rattle.std.specs.Prelude.{◌≡◌, ◌<◌, ◌≤◌, ◌^◌, ◌∷◌, true, false, [], All, IfOk, IfSome, OnOk, length, map, take, get_or};
+ghost use Rattle.std.proofs.Props.{props};
+ghost use Rattle.grounding_kept.specs.Numbers.{numbered_of};
+ghost use Rattle.grounding.specs.MatchNodes.{above, AreWithin, IsTree, IsGroup, IsRun, IsTested, AgreesWith, Implies, Wants};
+
+use crate::condition::Condition;
+use crate::match_tree::Node;
+use faults::NoMemory;
+use grounding_kept::NumberedLiteral;
+use std::alloc::Global;
+
+/// How many literals, at most, a way through a tree tests that several instances have in common.
+const LEVELS: u32 = 8;
+
+/// What trees are built of: the conditions of the instances, whose literals are of atoms below the width.
+#[derive(Drop)]
+pub(crate) struct TreeBuilder<'a> {
+    pub(crate) width: u32,
+    conditions: &'a [Condition],
+    ghost within: { AreWithin width conditions.now } by { Prim.hlevel props },
+}
+
+/// The nodes of the first of some instances.
+#[derive(Drop)]
+struct Group {
+    nodes: Vec<Node>,
+    /// Of how many.
+    count: usize,
+}
+
+/// A literal that the first of some instances want.
+#[derive(Clone, Copy, Drop)]
+struct Run {
+    literal: NumberedLiteral,
+    /// How many want it.
+    length: usize,
+}
+
+impl<'a> TreeBuilder<'a> {
+    /// That of these conditions.
+    pub(crate) fn new(width: u32, conditions: &'a [Condition]) -> TreeBuilder<'a>
+        requires { AreWithin width conditions.now }
+        ensures width { result.width ≡ width }
+        ensures conditions { result.conditions.now ≡ conditions.now }
+    {
+        TreeBuilder { width, conditions }
+    }
+
+    /// The tree of the instances of these numbers, which is right where the atom is true.
+    pub(crate) fn of_row(
+        &self,
+        alloc: Global,
+        atom: u32,
+        numbers: &[u32],
+    ) -> Result<Vec<Node>, NoMemory>
+        requires { All (λ n. n < length self.now.conditions.now) numbers.now }
+        ensures { IfOk result (λ nodes. IsTree self.now.width self.now.conditions.now (λ bits. get_or bits atom false ≡ true) numbers.now nodes.items) }
+    {
+        let mut path = Vec::new(alloc);
+        path.push(NumberedLiteral { atom, value: true })?;
+        self.subtree(alloc, numbers, &path, LEVELS)
+    }
+
+    /// The tree of the instances of these numbers.
+    pub(crate) fn of_unwatched(&self, alloc: Global, numbers: &[u32]) -> Result<Vec<Node>, NoMemory>
+        requires { All (λ n. n < length self.now.conditions.now) numbers.now }
+        ensures { IfOk result (λ nodes. IsTree self.now.width self.now.conditions.now (AgreesWith []) numbers.now nodes.items) }
+    {
+        self.subtree(alloc, numbers, &[], LEVELS)
+    }
+
+    /// The tree of the instances of these numbers, which is right where the literals on the path to it are true, with at most
+    /// so many tests one below the other that several instances have in common.
+    #[cycle(subtree)]
+    fn subtree(
+        &self,
+        alloc: Global,
+        numbers: &[u32],
+        path: &[NumberedLiteral],
+        levels: u32,
+    ) -> Result<Vec<Node>, NoMemory>
+        requires { All (λ n. n < length self.now.conditions.now) numbers.now }
+        ensures { IfOk result (λ nodes. IsTree self.now.width self.now.conditions.now (AgreesWith (map numbered_of path.now)) numbers.now nodes.items) }
+    {
+        let mut nodes = Vec::new(alloc);
+        let mut seen = 0;
+        'groups: while seen < numbers.len() {
+            let group = self.group(alloc, &numbers[seen..], path, levels)?;
+            nodes.extend_from_slice(&group.nodes)?;
+            seen += group.count;
+        }
+        Ok(nodes)
+    }
+
+    /// The nodes of the first of these instances: those that have the next test in common, or one alone.
+    #[cycle(subtree)]
+    fn group(
+        &self,
+        alloc: Global,
+        numbers: &[u32],
+        path: &[NumberedLiteral],
+        levels: u32,
+    ) -> Result<Group, NoMemory>
+        requires some { 0 < length numbers.now }
+        requires within { All (λ n. n < length self.now.conditions.now) numbers.now }
+        ensures { IfOk result (λ group. IsGroup self.now.width self.now.conditions.now (AgreesWith (map numbered_of path.now)) numbers.now group.count group.nodes.items) }
+    {
+        if levels == 0 {
+            return self.single(alloc, numbers[0], path);
+        }
+        match self.shared(numbers, path) {
+            Some(run) => self.branch(alloc, &numbers[..run.length], path, run.literal, levels - 1),
+            None => self.single(alloc, numbers[0], path),
+        }
+    }
+
+    /// The nodes of these instances, which all want the literal, below its test.
+    #[cycle(subtree)]
+    fn branch(
+        &self,
+        alloc: Global,
+        numbers: &[u32],
+        path: &[NumberedLiteral],
+        literal: NumberedLiteral,
+        levels: u32,
+    ) -> Result<Group, NoMemory>
+        requires within { All (λ n. n < length self.now.conditions.now) numbers.now }
+        requires atom { literal.atom < self.now.width }
+        requires shared { All (Wants self.now.conditions.now (numbered_of literal)) numbers.now }
+        ensures count { IfOk result (λ group. group.count ≡ length numbers.now) }
+        ensures tree { IfOk result (λ group. IsTree self.now.width self.now.conditions.now (AgreesWith (map numbered_of path.now)) numbers.now group.nodes.items) }
+    {
+        let mut longer = Vec::from_slice(alloc, path)?;
+        longer.push(literal)?;
+        let mut nodes = self.subtree(alloc, numbers, &longer, levels)?;
+        put_above(literal, &mut nodes)?;
+        let count = numbers.len();
+        Ok(Group { nodes, count })
+    }
+
+    /// The nodes of one instance: the tests of its literals that are not on the path, and the instance below them.
+    fn single(
+        &self,
+        alloc: Global,
+        number: u32,
+        path: &[NumberedLiteral],
+    ) -> Result<Group, NoMemory>
+        requires { number < length self.now.conditions.now }
+        ensures count { IfOk result (λ group. group.count ≡ 1) }
+        ensures tree { IfOk result (λ group. IsTree self.now.width self.now.conditions.now (AgreesWith (map numbered_of path.now)) (number ∷ []) group.nodes.items) }
+    {
+        let mut nodes = Vec::new(alloc);
+        nodes.push(Node::Instance(number))?;
+        let literals = self.conditions[number as usize].literals();
+        for literal in literals {
+            put_test(literal, path, &mut nodes)?;
+        }
+        Ok(Group { nodes, count: 1 })
+    }
+
+    /// The literal off the path that the most of the first of these instances want, if the first one wants it, and more.
+    fn shared(&self, numbers: &[u32], path: &[NumberedLiteral]) -> Option<Run>
+        requires some { 0 < length numbers.now }
+        requires within { All (λ n. n < length self.now.conditions.now) numbers.now }
+        ensures { IfSome result (λ run. IsRun self.now.width self.now.conditions.now numbers.now run.length (numbered_of run.literal)) }
+    {
+        let mut best = None;
+        let literals = self.conditions[numbers[0] as usize].literals();
+        for literal in literals {
+            best = self.better(best, literal, numbers, path);
+        }
+        best
+    }
+
+    /// The run of the literal, if it is off the path and longer than the other one and than a single instance, and else the
+    /// other one.
+    fn better(
+        &self,
+        other: Option<Run>,
+        literal: &NumberedLiteral,
+        numbers: &[u32],
+        path: &[NumberedLiteral],
+    ) -> Option<Run>
+        requires within { All (λ n. n < length self.now.conditions.now) numbers.now }
+        requires atom { literal.now.atom < self.now.width }
+        requires other { IfSome other (λ run. IsRun self.now.width self.now.conditions.now numbers.now run.length (numbered_of run.literal)) }
+        ensures { IfSome result (λ run. IsRun self.now.width self.now.conditions.now numbers.now run.length (numbered_of run.literal)) }
+    {
+        if is_among(literal, path) {
+            return other;
+        }
+        let length = self.run_length(literal, numbers);
+        if length < 2 || !is_longer(length, other) {
+            return other;
+        }
+        Some(Run {
+            literal: *literal,
+            length,
+        })
+    }
+
+    /// How many of the first of these instances want the literal.
+    fn run_length(&self, literal: &NumberedLiteral, numbers: &[u32]) -> usize
+        requires { All (λ n. n < length self.now.conditions.now) numbers.now }
+        ensures within { result ≤ length numbers.now }
+        ensures wanted { All (Wants self.now.conditions.now (numbered_of literal.now)) (take result numbers.now) }
+    {
+        let mut length = 0;
+        for &number in numbers {
+            if !is_among(literal, self.conditions[number as usize].literals()) {
+                return length;
+            }
+            length += 1;
+        }
+        length
+    }
+}
+
+/// Whether the length is more than that of the run, if there is one.
+fn is_longer(length: usize, run: Option<Run>) -> bool {
+    match run {
+        Some(run) => length > run.length,
+        None => true,
+    }
+}
+
+/// Whether the literal is one of these, so that it is true where they are.
+fn is_among(literal: &NumberedLiteral, literals: &[NumberedLiteral]) -> bool
+    ensures { result ≡ true → Implies (map numbered_of literals.now) (numbered_of literal.now) }
+{
+    for other in literals {
+        if are_same(other, literal) {
+            return true;
+        }
+    }
+    false
+}
+
+/// Whether the literals are the same.
+fn are_same(first: &NumberedLiteral, second: &NumberedLiteral) -> bool
+    ensures atom { result ≡ true → first.now.atom ≡ second.now.atom }
+    ensures value { result ≡ true → first.now.value ≡ second.now.value }
+{
+    first.atom == second.atom && first.value == second.value
+}
+
+/// Puts the test of the literal above the nodes, unless it is on the path.
+fn put_test(
+    literal: &NumberedLiteral,
+    path: &[NumberedLiteral],
+    nodes: &mut Vec<Node>,
+) -> Result<(), NoMemory>
+    ensures nodes { OnOk result (IsTested (map numbered_of path.now) literal.now nodes.old.items nodes.new.items) }
+    ensures few { length nodes.old.items < 2 ^ 63 }
+{
+    if is_among(literal, path) {
+        return Ok(());
+    }
+    put_above(*literal, nodes)
+}
+
+/// Puts the test of the literal above the nodes.
+fn put_above(literal: NumberedLiteral, nodes: &mut Vec<Node>) -> Result<(), NoMemory>
+    ensures nodes { OnOk result (nodes.new.items ≡ above literal nodes.old.items) }
+    ensures few { length nodes.old.items < 2 ^ 63 }
+{
+    let below = nodes.len();
+    nodes.insert(0, Node::Test(literal, below))?;
+    Ok(())
+}
