@@ -1,6 +1,6 @@
 -- The value that fair potentials give is a consistent estimate, whatever bits a state has, and what dead-fair ones report are
--- dead ends.
-use Rattle.std.proofs.Common.{◌≡◌, ◌∙◌, ℕ, zero, suc, ◌<◌, inl, inr, Bool, true, false, List, [], ◌∷◌, length, get_or, sym, ap, subst, arith, ℤ, pos, negsuc, refl, ◌+ℤ◌, ◌≤ℤ◌, nat_le, All}
+-- dead ends; and so whatever an instance is allowed, if that is no more than it costs, or nothing.
+use Rattle.std.proofs.Common.{◌≡◌, ◌∙◌, ℕ, zero, suc, ◌<◌, ◌≤◌, inl, inr, Bool, true, false, List, [], ◌∷◌, length, get_or, sym, ap, subst, arith, ℤ, pos, negsuc, refl, ◌+ℤ◌, ◌≤ℤ◌, nat_le, All}
 use Rattle.std.specs.Prelude.{IsTrue, if◌then◌else◌, slice_get}
 use Rattle.std.specs.Option.{option_map, option_and_then}
 use Rattle.std.specs.FinSet.{contains}
@@ -10,7 +10,7 @@ use Rattle.std.proofs.lemmas.List.{length-map, get_or-map, get_or_past}
 use Rattle.std.proofs.lemmas.List.Elements.{All-contains}
 use Rattle.std.proofs.lemmas.Option.{slice_get-get_or}
 use Rattle.model.specs.Task.{Atom, Task, Instance}
-use Rattle.model.specs.Meaning.{State, step, meets_goal}
+use Rattle.model.specs.Meaning.{State, cost_of, step, meets_goal}
 use Rattle.model.specs.Fluents.{is_fluent}
 use Rattle.model.specs.StaticallyFalse.{kept_instances}
 use Rattle.model.specs.NumberedAtoms.{occurs_in}
@@ -20,16 +20,26 @@ use Rattle.model.proofs.PackedStates.{chosen-occurs_in, contains-fluent, contain
 use Rattle.search.specs.Estimates.{IsConsistent, above_zero, value_by}
 use Rattle.search.specs.DeadEnds.{DetectsDeadEnds}
 use Rattle.potential_functions.specs.PotentialFunctions.{PotentialFunction, weight, sum_below, given, score, or_zero, value, is_dead_by}
-use Rattle.potential_functions.specs.Fair.{AreFair, AreDeadFair}
+use Rattle.potential_functions.specs.Fair.{AreFairAt, AreFair, AreDeadFair, nothing}
 use Rattle.potential_functions.specs.Laws.{AreNumberable}
 use Rattle.potential_functions.proofs.Sums.{sum-alike, sum-least, sum-zero}
 use Rattle.potential_functions.proofs.Falls.{or_zero-most}
 use Rattle.potential_functions.proofs.LowerBound.{are_lower_bounds, detect_dead_ends}
 use Rattle.potentials.proofs.WordLemmas.{sum-past, given-past}
+use Rattle.potentials_improved.specs.Guides.{Guides}
 
 same-value : (z : ℤ) → above_zero z ≡ or_zero z
 same-value (pos n) = refl
 same-value (negsuc n) = refl
+
+-- what is fair at an allowance is so at a greater one
+allowed_more : (task : Task) (atoms : List Atom) (p : PotentialFunction) (less more : Instance → ℕ) → ((i : Instance) → less i ≤ more i) → AreFairAt less task atoms p → AreFairAt more task atoms p
+allowed_more task atoms p less more above fair = record {
+  instances = λ k d below.
+      let within = (fair.instances k d below).within in
+      record { within = omega (arith, ints, within, above (get_or (kept_instances task) k d)) };
+  goals = fair.goals;
+}
 
 module _ (task : Task) (atoms : List Atom) (numberable : AreNumberable task atoms) where
   numbered-fluent : (q : Atom) → occurs_in atoms q ≡ true → is_fluent task q.predicate ≡ true
@@ -83,7 +93,7 @@ module _ (task : Task) (atoms : List Atom) (numberable : AreNumberable task atom
     again-step bits number =
         ap (λ (s : State). option_and_then (λ (i : Instance). option_map (bits_of_state atoms) (step task s i)) (slice_get (kept_instances task) number)) (again-state bits)
 
-    pub fair_is_consistent : AreFair task atoms p → IsConsistent (ground_system task atoms) (value_by (score p))
+    fair_is_consistent : AreFair task atoms p → IsConsistent (ground_system task atoms) (value_by (score p))
     fair_is_consistent fair =
         let laws = (are_lower_bounds task atoms p numberable fair).ground_consistent in
         record {
@@ -99,7 +109,7 @@ module _ (task : Task) (atoms : List Atom) (numberable : AreNumberable task atom
     again-dead : (bits : List Bool) → is_dead_by p (again bits) ≡ is_dead_by p bits
     again-dead bits = ap (λ z. nat_le 1 (or_zero z)) (again-score bits)
 
-    pub dead_fair_detects : AreDeadFair task atoms p → DetectsDeadEnds (ground_system task atoms) (is_dead_by p)
+    dead_fair_detects : AreDeadFair task atoms p → DetectsDeadEnds (ground_system task atoms) (is_dead_by p)
     dead_fair_detects fair =
         let laws = (detect_dead_ends task atoms p numberable fair).ground_stays in
         record {
@@ -107,6 +117,12 @@ module _ (task : Task) (atoms : List Atom) (numberable : AreNumberable task atom
               subst (λ (s : State). meets_goal task s ≡ false) (again-state bits) (laws.no_goal (again bits) (again-long bits) (again-dead bits ∙ reported));
           stays_dead = λ bits next number reported leads. laws.stays (again bits) next number (again-long bits) (again-dead bits ∙ reported) (again-step bits number ∙ leads);
         }
+
+    pub fair_guides : (allowance : Instance → ℕ) → AreFairAt allowance task atoms p → Guides allowance task atoms p
+    fair_guides allowance fair = record {
+      estimate = λ most. fair_is_consistent (allowed_more task atoms p allowance (cost_of task) most fair);
+      dead_ends = λ none. dead_fair_detects (allowed_more task atoms p allowance nothing none fair);
+    }
 
 -- where neither the constant nor a weight is above 0, no state is reported dead
 pub none-reported : (p : PotentialFunction) → p.constant ≤ℤ pos 0 → All (λ w. w ≤ℤ pos 0) p.weights → (bits : List Bool) → is_dead_by p bits ≡ false

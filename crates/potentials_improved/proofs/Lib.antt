@@ -1,3 +1,4 @@
 mod EstimateLemmas
 mod ClimbLemmas
 mod FairAtLemmas
+mod TestedLemmas

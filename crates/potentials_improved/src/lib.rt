@@ -1,22 +1,23 @@
-//! Better potentials: fair ones of a greater value in the initial state, and as an estimate by which a search chooses; and
-//! dead-fair ones, as a test for dead ends.
+//! Potentials that are fair at an allowance, and better ones: fair ones as an estimate by which a search chooses, dead-fair ones
+//! as a test for dead ends. A kind of either has a file of its own (`costs`, `dead_ends`).
 //!
-//! Weights are drafted first, by a linear program and rounded, for the initial state and for others on the way from it. A draft
-//! is taken where it is tested to be fair and no worse. Then single weights are moved.
+//! Weights are drafted, by a linear program and rounded, for the initial state and for others on the way from it. A draft is
+//! taken where it is tested to be fair and no worse. Of fair potentials, single weights are moved then.
 #![tactic(auto)]
 
+mod allowance;
 mod climb;
-mod dead_end;
-mod dead_fair_potentials;
+mod costs;
+mod dead_ends;
 mod drafted;
-mod estimate;
-mod fair_potentials;
+mod fair_at;
+mod groundwork;
 mod improve;
-mod improve_dead;
 
-pub use dead_fair_potentials::DeadFair;
-pub use fair_potentials::Fair;
+pub use allowance::Allowance;
+pub use costs::Costs;
+pub use dead_ends::DeadEnds;
+pub use fair_at::{DeadFair, Fair, FairAt};
+pub use groundwork::Groundwork;
 pub use improve::Improve;
-pub use improve_dead::ImproveDead;
 pub use potentials::{Fairness, Potentials};
-pub use potentials_drafted::Tables;

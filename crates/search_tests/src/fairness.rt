@@ -6,7 +6,7 @@ ghost use Rattle.packed_state.specs.Packed.{bits_of};
 use faults::NoMemory;
 use grounding::Ground;
 use packed_state::Packed;
-use potentials_improved::{DeadFair, Fair, Fairness, Improve, Potentials};
+use potentials_improved::{DeadFair, Fair, Fairness, Groundwork, Improve, Potentials};
 use search::DeadEnd;
 use std::alloc::Global;
 use std::process::Abort;
@@ -109,16 +109,20 @@ fn estimated(
 
 /// The value of the initial state by potentials that are 0 at first and are then made better.
 fn improved(alloc: Global, ground: &Ground<'_>, rounds: u32) -> Result<Option<u64>, NoMemory> {
-    let zero = Potentials::zero(alloc, ground)?;
-    if zero.weights().len() != ground.width() as usize {
+    let potentials = Potentials::zero(alloc, ground)?;
+    if potentials.weights().len() != ground.width() as usize {
         return Ok(None);
     }
-    let better = zero.improve(alloc, ground, rounds)?;
+    let groundwork = Groundwork::new(alloc, ground)?;
+    let Some(zero) = Fair::new(alloc, potentials, ground)? else {
+        return Ok(None);
+    };
+    let better = zero.improve(alloc, &groundwork, rounds)?;
     let initial = ground.initial(alloc)?;
-    if better.weights().len() != initial.width() as usize {
+    if better.potentials().weights().len() != initial.width() as usize {
         return Ok(None);
     }
-    Ok(Some(better.value(&initial)))
+    Ok(Some(better.potentials().value(&initial)))
 }
 
 /// What is reported for three potentials for the ground task of `HOP`.

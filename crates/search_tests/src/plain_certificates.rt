@@ -3,7 +3,6 @@
 //! the potentials, is all that a certificate's text is made of.
 ghost use Rattle.std.specs.Prelude.{◌≡◌};
 ghost use Rattle.potentials_improved.specs.FairPotentials.{ground_in};
-ghost use Rattle.potentials_improved.specs.DeadFairPotentials as dead;
 
 use crate::fairness::weighing;
 use crate::plain_tasks::ROWS;
@@ -162,7 +161,7 @@ fn is_found(
     cert: &Cert,
 ) -> Result<bool, NoMemory>
     requires fair { ground_in fair.now ≡ ground.now }
-    requires dead_ends { dead.ground_in dead_ends.now ≡ ground.now }
+    requires dead_ends { ground_in dead_ends.now ≡ ground.now }
 {
     let system = GroundSystem(ground);
     let store = PlainStore::new(alloc, ground.width());

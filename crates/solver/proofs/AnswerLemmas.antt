@@ -1,5 +1,5 @@
 -- What the answer to the ground task says of its task, and what a list of instances that solves says of them.
-use Rattle.std.proofs.Common.{◌≡◌, ℕ, ◌+◌, ◌<◌, ◌≤◌, ◌*◌, Bool, true, false, List, [], ◌∷◌, length, map, ◌∙◌, None, Some, refl, sym, ap, subst, arith}
+use Rattle.std.proofs.Common.{◌≡◌, ℕ, ◌+◌, ◌<◌, ◌≤◌, ◌*◌, Bool, true, false, List, [], ◌∷◌, length, map, ◌∙◌, None, Some, refl, sym, ap, subst, arith, ℤ}
 use Rattle.std.specs.Prelude.{nat_le, slice_get, Contains, All, IsTrue}
 use Rattle.std.specs.Option.{option_and_then}
 use Rattle.std.specs.List.{list_all, AllZip}
@@ -19,7 +19,7 @@ use Rattle.solver.specs.Reachable.{AreMoreReachable}
 use Rattle.solver.specs.Limit.{is_limit}
 use Rattle.solver.proofs.ByCost.{more_by_cost}
 use Rattle.solver.proofs.GroundLemmas.{length-reachable, more_reachable, numbers_named, one_named}
-use Rattle.solver.proofs.PotentialLemmas.{estimate-value, most_value, value-most, lower_bound, are_dead_ends}
+use Rattle.solver.proofs.PotentialLemmas.{value_by-value, most_value, value-most}
 use Rattle.solver.proofs.FoundLines.{found_line, node_at}
 use Rattle.solver.proofs.LimitLemmas.{limit_claim}
 use Rattle.model.specs.Task.{Task, Atom, Instance}
@@ -28,7 +28,6 @@ use Rattle.model.specs.Claims.{Claim, bound, none, Line, IsClosed, IsLowerBound,
 use Rattle.model.specs.Meaning.{State, step, is_instance, system_of}
 use Rattle.certificate_definitions.specs.Certificates.{is_claim}
 use Rattle.potential_functions.specs.PotentialFunctions.{PotentialFunction, score, value, is_dead_by, AreInRange}
-use Rattle.potential_functions.specs.Laws.{AreLowerBounds, DetectDeadEnds}
 use Rattle.model.specs.Fluents.{is_fluent}
 use Rattle.model.specs.StaticallyFalse.{kept_instances}
 use Rattle.model.specs.NumberedAtoms.{numbered_atoms}
@@ -56,11 +55,13 @@ most_of_limit limit within = leb-true limit 16777216 (and_parts (nat_le 1 limit)
 
 -- ---- an outcome
 
--- what is found by the estimate is found by the values
-pub outcome_by : {Store : Type 0} (t : System (List Bool) ℕ) (p : PotentialFunction) (is_dead : List Bool → Bool) (states_of : Store → List (List Bool)) (max_states : ℕ) (outcome reported : Outcome Store) → outcome ≡ reported
-    → IsTrueOutcome t (value_by (score p)) is_dead states_of max_states outcome → IsTrueOutcome t (value p) is_dead states_of max_states reported
-outcome_by t p is_dead states_of max_states outcome reported is true_outcome =
-    subst (IsTrueOutcome t (value p) is_dead states_of max_states) is (subst (λ (v : List Bool → ℕ). IsTrueOutcome t v is_dead states_of max_states outcome) (estimate-value p) true_outcome)
+-- what is found by an estimate and a test that are those of potentials is found by these
+pub outcome_by : {Store : Type 0} (t : System (List Bool) ℕ) (by : List Bool → ℤ) (p : PotentialFunction) (is_dead : List Bool → Bool) (q : PotentialFunction) (states_of : Store → List (List Bool)) (max_states : ℕ)
+    (outcome reported : Outcome Store) → by ≡ score p → is_dead ≡ is_dead_by q → outcome ≡ reported → IsTrueOutcome t (value_by by) is_dead states_of max_states outcome → IsTrueOutcome t (value p) (is_dead_by q) states_of max_states reported
+outcome_by t by p is_dead q states_of max_states outcome reported same_score same_dead is true_outcome =
+    subst (IsTrueOutcome t (value p) (is_dead_by q) states_of max_states) is
+    (subst (λ (d : List Bool → Bool). IsTrueOutcome t (value p) d states_of max_states outcome) same_dead
+    (subst (λ (v : List Bool → ℕ). IsTrueOutcome t v is_dead states_of max_states outcome) (value_by-value by p same_score) true_outcome))
 
 pub found_among_more : {S A : Type 0} {t : System S A} {value : S → ℕ} {is_dead : S → Bool} {claim : Claim} {count most : ℕ} {states : List S} {nodes : List Node} → AreFound t value is_dead claim count states nodes
     → count ≤ most → AreFound t value is_dead claim most states nodes
@@ -165,11 +166,12 @@ module _ (task : Task) (atoms : List Atom) (numbered : atoms ≡ numbered_atoms 
 
   -- a claim that is shown by potentials of so few atoms is a certificate's: that of a plan, and that of a search that stops at the limit
   pub claim_allowed : (p q : PotentialFunction) (cost max_states : ℕ) (states : List (List Bool)) (nodes : List Node) (plan : List ℕ) → Solves (ground_system task atoms) plan
-      → AreFound (ground_system task atoms) (value p) (is_dead_by q) (bound cost) max_states states nodes → AreInRange p → AreLowerBounds task atoms p → DetectDeadEnds task atoms q
+      → AreFound (ground_system task atoms) (value p) (is_dead_by q) (bound cost) max_states states nodes → AreInRange p → IsLowerBound (ground_system task atoms) (value p)
+      → AreDeadEnds (ground_system task atoms) (is_dead_by q)
       → length atoms ≤ 1048576 → max_states ≤ 16777216 → is_claim (bound cost) ≡ true
-  claim_allowed p q cost max_states states nodes plan solves found range bounds detect few_atoms few =
+  claim_allowed p q cost max_states states nodes plan solves found range lower dead_ends few_atoms few =
       cheap_plan (ground_system task atoms) (value p) (is_dead_by q) cost max_states states nodes plan solves found
-      (found_values p (is_dead_by q) (bound cost) max_states states nodes found range few_atoms) (lower_bound task atoms p bounds) (are_dead_ends task atoms q detect) few
+      (found_values p (is_dead_by q) (bound cost) max_states states nodes found range few_atoms) lower dead_ends few
 
   pub limit_allowed : (p q : PotentialFunction) (least max_states : ℕ) (states : List (List Bool)) (nodes : List Node)
       → search.IsAtLimit (ground_system task atoms) (value p) (is_dead_by q) max_states least states nodes → AreInRange p → length atoms ≤ 1048576 → max_states ≤ 16777216 → is_claim (bound least) ≡ true

@@ -1,27 +1,29 @@
 -- What is known of potentials in range, and of the values that they give to packed states.
-use Rattle.std.proofs.Common.{◌≡◌, ℕ, suc, ◌≤◌, Bool, true, ◌&&◌, List, [], ◌∷◌, length, inl, inr, refl, ap, ◌∙◌, arith, ℤ, pos, negsuc}
+use Rattle.std.proofs.Common.{◌≡◌, ℕ, suc, ◌≤◌, Bool, true, ◌&&◌, List, [], ◌∷◌, length, inl, inr, refl, ap, subst, ◌∙◌, arith, ℤ, pos, negsuc}
 use Rattle.std.specs.Prelude.{◌==◌, All, IsTrue}
 use Rattle.std.specs.List.{list_all}
 use Rattle.std.proofs.lemmas.Bool.{and_from, lt-ltb, le-leb, eq-eqb}
 use Rattle.std.proofs.lemmas.Int.{ints}
 use Rattle.std.proofs.lemmas.List.{length-replicate}
 use Rattle.model.specs.Task.{Task, Atom}
+use Rattle.model.specs.Runs.{System}
 use Rattle.model.specs.Fluents.{is_fluent}
 use Rattle.model.specs.NumberedAtoms.{numbered_atoms}
-use Rattle.model.specs.Grounding.{state_of_bits, bits_of_state, ground_system}
+use Rattle.model.specs.Grounding.{state_of_bits, bits_of_state}
 use Rattle.model.specs.Claims.{IsLowerBound, AreDeadEnds}
 use Rattle.model.proofs.GroundTaskLemmas.{packs_states}
 use Rattle.potential_functions.specs.PotentialFunctions.{PotentialFunction, score, or_zero, value, is_dead_by, given, IsInRange, AreInRange}
-use Rattle.potential_functions.specs.Laws.{AreLowerBounds, DetectDeadEnds}
 use Rattle.potential_functions.specs.Settled.{IsImproved}
 use Rattle.potential_functions.proofs.Zero.{zero_potentials}
 use Rattle.potential_functions.proofs.Falls.{or_zero-most}
 use Rattle.potential_functions.proofs.Sums.{sum-range}
 use Rattle.potential_functions.proofs.Ranges.{given-range}
-use Rattle.search.specs.Estimates.{above_zero, value_by}
+use Rattle.search.specs.Estimates.{IsConsistent, above_zero, value_by}
+use Rattle.search.specs.DeadEnds.{DetectsDeadEnds}
+use Rattle.search.proofs.Consistent.{lower_bound as consistent_below}
+use Rattle.search.proofs.DeadEnds.{are_dead_ends}
 use Rattle.certificate_definitions.specs.Certificates.{is_weight, are_potentials}
 use Rattle.solver.specs.Improved.{AreSettledOrHigh}
-use Rattle.solver.proofs.GroundLemmas.{length-reachable}
 
 -- ---- the estimate of a search and the value are one
 
@@ -29,8 +31,12 @@ above-or : (z : ℤ) → above_zero z ≡ or_zero z
 above-or (pos n) = refl
 above-or (negsuc n) = refl
 
-pub estimate-value : (p : PotentialFunction) → value_by (score p) ≡ value p
+estimate-value : (p : PotentialFunction) → value_by (score p) ≡ value p
 estimate-value p = λ i bits. above-or (score p bits) i
+
+-- where the estimate goes by the score of potentials
+pub value_by-value : (by : List Bool → ℤ) (p : PotentialFunction) → by ≡ score p → value_by by ≡ value p
+value_by-value by p is = ap (λ (s : List Bool → ℤ). value_by s) is ∙ estimate-value p
 
 -- ---- improving
 
@@ -87,8 +93,14 @@ module _ (task : Task) (p : PotentialFunction) where
   pub value-packed : (bits : List Bool) → length bits ≡ length atoms → value p (bits_of_state atoms (state_of_bits task atoms bits)) ≡ value p bits
   value-packed bits long = ap (value p) ((packs_states task [] none_more).one_packed bits long)
 
-pub lower_bound : (task : Task) (atoms : List Atom) (p : PotentialFunction) → AreLowerBounds task atoms p → IsLowerBound (ground_system task atoms) (value p)
-lower_bound task atoms p bounds s end plan reached runs goal = bounds.ground_bound s end plan (length-reachable task atoms s reached) runs goal
+-- so a consistent estimate gives a lower bound
+pub lower_bound : (t u : System (List Bool) ℕ) (by : List Bool → ℤ) (p : PotentialFunction) → IsConsistent t (value_by by) → t ≡ u → by ≡ score p → IsLowerBound u (value p)
+lower_bound t u by p consistent same is =
+    subst (λ (x : System (List Bool) ℕ). IsLowerBound x (value p)) same
+    (subst (λ (v : List Bool → ℕ). IsLowerBound t v) (value_by-value by p is) (consistent_below t (value_by by) consistent))
 
-pub are_dead_ends : (task : Task) (atoms : List Atom) (q : PotentialFunction) → DetectDeadEnds task atoms q → AreDeadEnds (ground_system task atoms) (is_dead_by q)
-are_dead_ends task atoms q detect s end plan reached reported runs = detect.ground_dead_ends s end plan (length-reachable task atoms s reached) reported runs
+-- and what a test reports are dead ends
+pub dead_ends : (t u : System (List Bool) ℕ) (is_dead : List Bool → Bool) (q : PotentialFunction) → DetectsDeadEnds t is_dead → t ≡ u → is_dead ≡ is_dead_by q → AreDeadEnds u (is_dead_by q)
+dead_ends t u is_dead q reports same is =
+    subst (λ (x : System (List Bool) ℕ). AreDeadEnds x (is_dead_by q)) same
+    (subst (λ (d : List Bool → Bool). AreDeadEnds t d) is (are_dead_ends t is_dead reports))

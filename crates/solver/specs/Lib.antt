@@ -1,5 +1,6 @@
 pub mod Limit
 pub mod Improved
+pub mod Guided
 pub mod Listing
 pub mod AtLimit
 pub mod Reachable

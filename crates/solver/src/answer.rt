@@ -2,9 +2,7 @@
 ghost use Rattle.std.specs.Prelude.{[], IfOk, IsTrue};
 ghost use Rattle.task.specs.Task.{task_of};
 ghost use Rattle.grounding.specs.Ground.{task_in, atoms_in, IsGroundOf};
-ghost use Rattle.potential_functions.specs.Fair.{AreDeadFair};
-ghost use Rattle.potentials_improved.specs.FairPotentials.{potentials_in, AreOf};
-ghost use Rattle.potentials_improved.specs.DeadFairPotentials as dead;
+ghost use Rattle.solver.specs.Guided.{IsEstimateBy, IsTestBy};
 ghost use Rattle.solver.specs.Improved.{AreSettledOrHigh};
 ghost use Rattle.solver.specs.Solver.{IsTrueAnswer};
 ghost use Rattle.model.specs.WellTyped.{is_task};
@@ -15,13 +13,14 @@ use crate::limits::Limits;
 use crate::listing::cert_of;
 use crate::steps::plan_of;
 use crate::system::GroundSystem;
+use crate::written::Written;
 use certificate::{Cert, Claim};
 use faults::{NoMemory, Refused};
 use formulas::Plan;
 use grounding::{Ground, GroundLimit};
 use packed_state::PooledStore;
-use potentials_improved::{DeadFair, Fair, Tables};
-use search::{Outcome, best_first};
+use potentials_improved::Groundwork;
+use search::{DeadEnd, Estimate, Outcome, best_first};
 use std::alloc::Global;
 use task::Task;
 
@@ -101,27 +100,26 @@ fn solve_ground(alloc: Global, ground: &Ground<'_>, limits: Limits) -> Result<An
     requires ground { IsGroundOf (task_in ground.now) [] limits.instances ground.now }
     ensures { IfOk result (IsTrueAnswer (task_in ground.now) limits.states limits.instances) }
 {
-    let tables = Tables::new(alloc, ground)?;
-    let estimate = improved_potentials(alloc, ground, &tables)?;
-    let dead_ends = improved_dead_ends(alloc, ground, &tables)?;
-    drop(tables);
+    let groundwork = Groundwork::new(alloc, ground)?;
+    let estimate = improved_potentials(alloc, ground, &groundwork)?;
+    let dead_ends = improved_dead_ends(alloc, ground, &groundwork)?;
+    drop(groundwork);
     solve_by(alloc, ground, &estimate, &dead_ends, limits)
 }
 
-/// The same by this estimate and these dead ends.
-fn solve_by(
+/// The same by this estimate and this test for dead ends.
+fn solve_by<E: Estimate + Written, D: DeadEnd + Written>(
     alloc: Global,
     ground: &Ground<'_>,
-    estimate: &Fair<'_, '_>,
-    dead_ends: &DeadFair<'_, '_>,
+    estimate: &E,
+    dead_ends: &D,
     limits: Limits,
 ) -> Result<Answer, NoMemory>
     requires typed { IsTrue (is_task (task_in ground.now)) }
     requires ground { IsGroundOf (task_in ground.now) [] limits.instances ground.now }
-    requires fair { AreOf ground.now (potentials_in estimate.now) estimate.now }
-    requires improved { AreSettledOrHigh (task_in ground.now) (atoms_in ground.now) (potentials_in estimate.now) }
-    requires dead_ends { dead.AreOf ground.now (dead.potentials_in dead_ends.now) dead_ends.now }
-    requires dead_fair { AreDeadFair (task_in ground.now) (atoms_in ground.now) (dead.potentials_in dead_ends.now) }
+    requires estimate { IsEstimateBy ground.now (E.written estimate.now) (E.system_of estimate.now) (E.width_of estimate.now) (E.score_of estimate.now) }
+    requires improved { AreSettledOrHigh (task_in ground.now) (atoms_in ground.now) (E.written estimate.now) }
+    requires dead_ends { IsTestBy ground.now (D.written dead_ends.now) (D.system_of dead_ends.now) (D.width_of dead_ends.now) (D.is_dead dead_ends.now) }
     ensures { IfOk result (IsTrueAnswer (task_in ground.now) limits.states limits.instances) }
 {
     let system = GroundSystem(ground);
@@ -134,15 +132,18 @@ fn solve_by(
             states,
         } => {
             let steps = plan_of(alloc, ground, &steps)?;
-            let cert = cert_of(alloc, estimate, dead_ends, Claim::Bound(cost), states)?;
+            let claim = Claim::Bound(cost);
+            let cert = cert_of(alloc, ground, estimate, dead_ends, claim, states)?;
             Ok(Answer::Plan { steps, cost, cert })
         }
         Outcome::Exhausted { states } => {
-            let cert = cert_of(alloc, estimate, dead_ends, Claim::Unsolvable, states)?;
+            let claim = Claim::Unsolvable;
+            let cert = cert_of(alloc, ground, estimate, dead_ends, claim, states)?;
             Ok(Answer::Unsolvable { cert })
         }
         Outcome::States { bound, states } => {
-            let cert = cert_of(alloc, estimate, dead_ends, Claim::Bound(bound), states)?;
+            let claim = Claim::Bound(bound);
+            let cert = cert_of(alloc, ground, estimate, dead_ends, claim, states)?;
             Ok(Answer::Unknown(Exceeded::States { bound, cert }))
         }
     }

@@ -1,13 +1,13 @@
 //! The estimate that a search goes by.
-ghost use Rattle.std.specs.Prelude.{IfOk};
+ghost use Rattle.std.specs.Prelude.{◌≡◌, IfOk};
 ghost use Rattle.grounding.specs.Ground.{task_in, atoms_in};
-ghost use Rattle.potentials_improved.specs.FairPotentials.{potentials_in, AreOf};
-ghost use Rattle.potentials_improved.specs.Tables.{AreTablesOf};
+ghost use Rattle.potentials_improved.specs.FairPotentials.{potentials_in, ground_in};
+ghost use Rattle.potentials_improved.specs.Groundwork.{ground_under};
 ghost use Rattle.solver.specs.Improved.{AreSettledOrHigh};
 
 use faults::NoMemory;
 use grounding::Ground;
-use potentials_improved::{Fair, Improve, Potentials, Tables};
+use potentials_improved::{Fair, FairAt, Groundwork, Improve, Potentials};
 use std::alloc::Global;
 
 /// In how many rounds potentials are made better, at most. Each raises the initial state's value, or is the last.
@@ -17,13 +17,14 @@ const IMPROVING_ROUNDS: u32 = 8;
 pub(crate) fn improved_potentials<'g, 't>(
     alloc: Global,
     ground: &'g Ground<'t>,
-    tables: &Tables,
+    groundwork: &Groundwork<'_, '_>,
 ) -> Result<Fair<'g, 't>, NoMemory>
-    requires { AreTablesOf ground.now tables.now }
-    ensures fair { IfOk result (λ f. AreOf ground.now (potentials_in f) f) }
+    requires { ground_under groundwork.now ≡ ground.now }
+    ensures ground { IfOk result (λ f. ground_in f ≡ ground.now) }
     ensures improved { IfOk result (λ f. AreSettledOrHigh (task_in ground.now) (atoms_in ground.now) (potentials_in f)) }
 {
     let zero = Potentials::zero(alloc, ground)?;
-    let potentials = zero.improve_by(alloc, ground, tables, IMPROVING_ROUNDS)?;
-    Ok(Fair::known(potentials, ground))
+    let fair: Fair<'g, 't> = FairAt::known(zero, ground);
+    let better = fair.improve(alloc, groundwork, IMPROVING_ROUNDS)?;
+    Ok(better)
 }

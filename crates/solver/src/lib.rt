@@ -8,6 +8,7 @@ mod limits;
 mod listing;
 mod steps;
 mod system;
+mod written;
 
 pub use answer::{Answer, Exceeded, solve};
 pub use limits::{Limits, MAX_LIMIT};

@@ -17,65 +17,54 @@ ghost use Rattle.certificate.specs.CertificateParts as parts;
 ghost use Rattle.certificate_reader.specs.declared.line.TheConstants.{MAX_ATOMS, MAX_STATE_LINES};
 ghost use Rattle.search.specs.Outcome as search;
 ghost use Rattle.search.specs.Outcome.{AreFound};
+ghost use Rattle.search.specs.Estimates.{value_by};
 ghost use Rattle.grounding.specs.Ground.{task_in, atoms_in};
 ghost use Rattle.potential_functions.specs.PotentialFunctions.{value, is_dead_by};
-ghost use Rattle.potentials_improved.specs.Potentials.{potentials_of};
-ghost use Rattle.potentials_improved.specs.FairPotentials.{potentials_in, ground_in};
-ghost use Rattle.potentials_improved.specs.DeadFairPotentials as dead;
+ghost use Rattle.solver.specs.Guided.{IsEstimateBy, IsTestBy};
 ghost use Rattle.solver.specs.Listing.{found_certificate, mark_of_line};
 ghost use Rattle.model.specs.NumberedAtoms.{numbered_atoms, are_distinct};
 ghost use Rattle.model.specs.Grounding.{ground_system};
 ghost use Rattle.certificate_definitions.specs.Certificates.{is_claim};
 
-use certificate::{Bounds, Cert, Claim, Header, Listed, Mark, Potential, States, Version};
+use crate::written::Written;
+use certificate::{Bounds, Cert, Claim, Header, Listed, Mark, States, Version};
 use faults::NoMemory;
 use formulas::Atom;
+use grounding::Ground;
 use indexmap::IndexSet;
 use packed_state::{Packed, PooledStore, StateStore};
-use potentials_improved::{DeadFair, Fair, Potentials};
-use search::{DeadEnd, FoundStates, Node};
+use search::{DeadEnd, Estimate, FoundStates, Node, value_of};
 use std::alloc::Global;
 
-/// The certificate of the states that a search found by the values and the dead ends of these potentials, and of the
-/// potentials.
-pub(crate) fn cert_of(
+/// The certificate of the states that a search found by this estimate and this test for dead ends, and of both.
+pub(crate) fn cert_of<E: Estimate + Written, D: DeadEnd + Written>(
     alloc: Global,
-    fair: &Fair<'_, '_>,
-    dead_ends: &DeadFair<'_, '_>,
+    ground: &Ground<'_>,
+    estimate: &E,
+    dead_ends: &D,
     claim: Claim,
     found: FoundStates<PooledStore>,
 ) -> Result<Cert, NoMemory>
     requires claim { IsTrue (is_claim (claim_of claim)) }
-    requires dead_ends { dead.ground_in dead_ends.now ≡ ground_in fair.now }
-    requires atoms { atoms_in (ground_in fair.now) ≡ numbered_atoms (task_in (ground_in fair.now)) [] }
-    requires few { length (atoms_in (ground_in fair.now)) ≤ MAX_ATOMS }
-    requires found { AreFound (ground_system (task_in (ground_in fair.now)) (atoms_in (ground_in fair.now))) (value (potentials_in fair.now)) (is_dead_by (dead.potentials_in dead_ends.now)) (claim_of claim) MAX_STATE_LINES (pooled_states found.store) found.nodes.items }
-    ensures { IfOk result (λ cert. certificate_of cert ≡ found_certificate (claim_of claim) (atoms_in (ground_in fair.now)) (potentials_in fair.now) (dead.potentials_in dead_ends.now) (pooled_states found.store) found.nodes.items) }
+    requires estimate { IsEstimateBy ground.now (E.written estimate.now) (E.system_of estimate.now) (E.width_of estimate.now) (E.score_of estimate.now) }
+    requires dead_ends { IsTestBy ground.now (D.written dead_ends.now) (D.system_of dead_ends.now) (D.width_of dead_ends.now) (D.is_dead dead_ends.now) }
+    requires atoms { atoms_in ground.now ≡ numbered_atoms (task_in ground.now) [] }
+    requires few { length (atoms_in ground.now) ≤ MAX_ATOMS }
+    requires found { AreFound (ground_system (task_in ground.now) (atoms_in ground.now)) (value (E.written estimate.now)) (is_dead_by (D.written dead_ends.now)) (claim_of claim) MAX_STATE_LINES (pooled_states found.store) found.nodes.items }
+    ensures { IfOk result (λ cert. certificate_of cert ≡ found_certificate (claim_of claim) (atoms_in ground.now) (E.written estimate.now) (D.written dead_ends.now) (pooled_states found.store) found.nodes.items) }
 {
-    let potentials = fair.potentials();
     let header = Header {
         version: Version::Two,
         claim,
-        atoms: copied(alloc, fair.ground().atoms().as_slice())?,
+        atoms: copied(alloc, ground.atoms().as_slice())?,
         bounds: Bounds {
-            values: potential_of(alloc, potentials)?,
-            dead_ends: potential_of(alloc, dead_ends.potentials())?,
+            values: estimate.potential(alloc)?,
+            dead_ends: dead_ends.potential(alloc)?,
         },
     };
-    let marks = marks(alloc, potentials, dead_ends, &found)?;
+    let marks = marks(alloc, estimate, dead_ends, &found)?;
     let sets = found.store;
     Ok(Cert::from_parts(header, States { marks, sets }))
-}
-
-/// The same constant and weights.
-fn potential_of(alloc: Global, potentials: &Potentials) -> Result<Potential, NoMemory>
-    ensures { IfOk result (λ p. parts.potential_of p ≡ potentials_of potentials.now) }
-{
-    let weights = Vec::from_slice(alloc, potentials.weights())?;
-    Ok(Potential {
-        constant: potentials.constant(),
-        weights,
-    })
 }
 
 /// The same atoms, in order, of which no two are the same.
@@ -91,37 +80,37 @@ fn copied(alloc: Global, atoms: &[Atom]) -> Result<IndexSet<Atom>, NoMemory>
 }
 
 /// A mark for each found state, in order.
-fn marks(
+fn marks<E: Estimate, D: DeadEnd>(
     alloc: Global,
-    potentials: &Potentials,
-    dead_ends: &DeadFair<'_, '_>,
+    estimate: &E,
+    dead_ends: &D,
     found: &FoundStates<PooledStore>,
 ) -> Result<Vec<Listed>, NoMemory>
     requires one_for_each { length found.now.nodes.items ≡ length (pooled_states found.now.store) }
     requires few { length (pooled_states found.now.store) ≤ MAX_STATE_LINES }
-    requires width { All (λ (bits : List Bool). length bits ≡ length (potentials_of potentials.now).weights) (pooled_states found.now.store) }
-    requires dead_end_width { length (atoms_in (dead.ground_in dead_ends.now)) ≡ length (potentials_of potentials.now).weights }
-    ensures { IfOk result (λ marks. map parts.listed_of marks.items ≡ map mark_of_line (search.lines_of (value (potentials_of potentials.now)) (is_dead_by (dead.potentials_in dead_ends.now)) (pooled_states found.now.store) found.now.nodes.items)) }
+    requires width { All (λ (bits : List Bool). length bits ≡ E.width_of estimate.now) (pooled_states found.now.store) }
+    requires dead_end_width { D.width_of dead_ends.now ≡ E.width_of estimate.now }
+    ensures { IfOk result (λ marks. map parts.listed_of marks.items ≡ map mark_of_line (search.lines_of (value_by (E.score_of estimate.now)) (D.is_dead dead_ends.now) (pooled_states found.now.store) found.now.nodes.items)) }
 {
     let mut state = Packed::empty(alloc, found.store.width())?;
     let mut marks = Vec::with_capacity(alloc, found.nodes.len())?;
     for place in 0..found.nodes.len() {
         found.store.get(place as u32, &mut state);
-        marks.push(listed(potentials, dead_ends, &state, found.nodes[place]))?;
+        marks.push(listed(estimate, dead_ends, &state, found.nodes[place]))?;
     }
     Ok(marks)
 }
 
-/// How a state is listed that was reached so. What is not needed of its two values is not computed.
-fn listed(
-    potentials: &Potentials,
-    dead_ends: &DeadFair<'_, '_>,
+/// How a state is listed that was reached so. What is not needed of estimate and test is not asked.
+fn listed<E: Estimate, D: DeadEnd>(
+    estimate: &E,
+    dead_ends: &D,
     state: &Packed,
     node: Node,
 ) -> Listed
-    requires width { length (bits_of state.now) ≡ length (potentials_of potentials.now).weights }
-    requires dead_end_width { length (bits_of state.now) ≡ length (atoms_in (dead.ground_in dead_ends.now)) }
-    ensures { parts.listed_of result ≡ mark_of_line (search.line_of (value (potentials_of potentials.now)) (is_dead_by (dead.potentials_in dead_ends.now)) (bits_of state.now) node) }
+    requires width { length (bits_of state.now) ≡ E.width_of estimate.now }
+    requires dead_end_width { length (bits_of state.now) ≡ D.width_of dead_ends.now }
+    ensures { parts.listed_of result ≡ mark_of_line (search.line_of (value_by (E.score_of estimate.now)) (D.is_dead dead_ends.now) (bits_of state.now) node) }
 {
     let mark = if node.is_expanded {
         Mark::Open
@@ -129,7 +118,7 @@ fn listed(
         Mark::Dead
     } else {
         Mark::Cut {
-            rest: potentials.value(state),
+            rest: value_of(estimate.score(state)),
         }
     };
     Listed {

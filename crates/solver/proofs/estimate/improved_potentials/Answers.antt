@@ -1,22 +1,24 @@
 use Rattle.std.proofs.Common.{◌∙◌, length, subst, sym}
+use Rattle.grounding.specs.declared.ground.Ground.{Ground}
 use Rattle.grounding.specs.Ground.{task_in, atoms_in}
 use Rattle.potentials_improved.specs.Potentials.{potentials_of}
-use Rattle.potentials_improved.specs.FairPotentials.{AreOf}
+use Rattle.potentials_improved.specs.FairPotentials.{potentials_in, ground_in}
 use Rattle.solver.specs.Improved.{AreSettledOrHigh}
 use Rattle.solver.proofs.PotentialLemmas.{zero-width, improved_end}
 use Rattle.solver.proofs.estimate.improved_potentials.Goals as goal
 
-pub improve_by-requires-clause-width : goal.improve_by-requires-clause-width
-improve_by-requires-clause-width c = zero-width (potentials_of c.in_ok-zero.zero) (length (atoms_in c.args.ground.now)) c.in_ok-zero.ensures.zero
+pub known-fair-requires-clause-width : goal.known-fair-requires-clause-width
+known-fair-requires-clause-width c = zero-width (potentials_of c.in_ok-zero.zero) (length (atoms_in c.args.ground.now)) c.in_ok-zero.ensures.zero
 
-pub known-requires-clause-width : goal.known-requires-clause-width
-known-requires-clause-width c = c.in_ok-potentials.ensures.as_many ∙ zero-width (potentials_of c.in_ok-zero.zero) (length (atoms_in c.args.ground.now)) c.in_ok-zero.ensures.zero
+pub improve-requires : goal.improve-requires
+improve-requires c = c.requires ∙ sym c.known-fair.ensures.ground
 
-pub returns-clause-fair : goal.returns-clause-fair
-returns-clause-fair c = subst (λ p. AreOf c.args.ground.now p c.known.result) (sym c.known.ensures.potentials) c.known.ensures
+pub returns-clause-ground : goal.returns-clause-ground
+returns-clause-ground c = c.in_ok-better.ensures.ground ∙ c.known-fair.ensures.ground
 
 pub returns-clause-improved : goal.returns-clause-improved
 returns-clause-improved c =
-    let t = task_in c.args.ground.now in
-    let a = atoms_in c.args.ground.now in
-    subst (AreSettledOrHigh t a) (sym c.known.ensures.potentials) (improved_end t a (potentials_of c.in_ok-zero.zero) (potentials_of c.in_ok-potentials.potentials) c.in_ok-potentials.ensures)
+    let g = ground_in c.known-fair.result in
+    let q = potentials_in c.in_ok-better.better in
+    subst (λ (h : Ground). AreSettledOrHigh (task_in h) (atoms_in h) q) c.known-fair.ensures.ground
+    (improved_end (task_in g) (atoms_in g) (potentials_in c.known-fair.result) q c.in_ok-better.ensures.better)

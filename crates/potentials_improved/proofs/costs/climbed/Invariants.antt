@@ -1,0 +1,12 @@
+use Rattle.std.proofs.Common.{◌+◌, ◌≤◌}
+use Rattle.grounding.specs.Ground.{task_in, atoms_in}
+use Rattle.potential_functions.specs.Settled.{initial_value}
+use Rattle.potentials.specs.Potentials.{potentials_of}
+use Rattle.potentials_improved.specs.Climb.{IsClimb, worth}
+use Rattle.potentials_improved.proofs.costs.climbed.Given as goal
+
+abbrev pub invariant-loop : goal.invariant-loop
+invariant-loop l = record {
+  climb : IsClimb (task_in l.groundwork.ground.now) (atoms_in l.groundwork.ground.now) l.climb;
+  gained : initial_value (task_in l.groundwork.ground.now) (atoms_in l.groundwork.ground.now) (potentials_of l.fn.potentials) + l.counter ≤ worth (task_in l.groundwork.ground.now) (atoms_in l.groundwork.ground.now) l.climb;
+}

@@ -1,0 +1,13 @@
+use Rattle.std.proofs.Common.{length}
+use Rattle.grounding.specs.Ground.{task_in, atoms_in}
+use Rattle.model.specs.StaticallyFalse.{kept_instances}
+use Rattle.potentials_improved.proofs.TestedLemmas.{tested}
+use Rattle.potentials_improved.proofs.groundwork.Groundwork.new.Goals as goal
+
+pub invariant_of-result : goal.invariant_of-result
+invariant_of-result c =
+    let t = task_in c.args.ground.now in
+    record {
+      incidence = tested t (atoms_in c.args.ground.now) (length (kept_instances t)) c.in_ok-tables.tables.incidence c.in_ok-tables.ensures;
+      initial_is = c.in_ok-initial.ensures;
+    }

@@ -1,0 +1,22 @@
+-- Which instances touch which atoms, by tests: this has at most one proof, as what a ghost field says must have.
+use Rattle.std.specs.Prelude.{◌≡◌, ℕ, ◌<◌, true, List, length, nat_eq}
+use Rattle.std.specs.List.{list_any}
+use Rattle.model.specs.Task.{Atom, Task}
+use Rattle.model.specs.StaticallyFalse.{kept_instances}
+use Rattle.model.specs.NumberedLiterals.{counting_of_number}
+use Rattle.grounding.specs.declared.ground.Ground.{Ground}
+use Rattle.grounding.specs.Ground.{task_in, atoms_in}
+use Rattle.potential_functions.specs.Fair.{touches}
+use Rattle.potentials_drafted.specs.declared.tables.Tables.{Tables}
+use Rattle.potentials_drafted.specs.declared.incidence.Incidence.{Incidence}
+use Rattle.potentials_drafted.specs.Incidence.{row_of}
+
+-- `IsIncidence`, with a test where that says that a number is in a row
+pub record IsTestedIncidence (task : Task) (atoms : List Atom) (count : ℕ) (t : Incidence) : Type 0 where
+  pub width : length t.rows.items ≡ length atoms
+  pub within : (a n : ℕ) → list_any (nat_eq n) (row_of t a) ≡ true → n < count
+  pub covers : (a n : ℕ) → n < count → touches (counting_of_number task atoms n) a ≡ true → list_any (nat_eq n) (row_of t a) ≡ true
+
+-- `AreTablesOf`, likewise
+abbrev pub AreTestedTables : Ground → Tables → Type 0
+AreTestedTables g t = IsTestedIncidence (task_in g) (atoms_in g) (length (kept_instances (task_in g))) t.incidence

@@ -1,0 +1,142 @@
+//! What an instance costs, as an allowance: fair potentials are an estimate by which a search chooses.
+ghost use Rattle.std.specs.Prelude.{◌≡◌, ◌≤◌, ℕ, Bool, List, Some, IfOk, IsTrue, length};
+ghost use Rattle.packed_state.specs.Packed.{bits_of};
+ghost use Rattle.grounding.specs.Ground.{task_in, atoms_in};
+ghost use Rattle.model.specs.Runs.{run, cost_of_all};
+ghost use Rattle.model.specs.Grounding.{ground_system};
+ghost use Rattle.potential_functions.specs.PotentialFunctions as potential;
+ghost use Rattle.potential_functions.specs.Fair.{AreFair};
+ghost use Rattle.potential_functions.specs.Laws.{AreLowerBounds};
+ghost use Rattle.potential_functions.specs.Settled.{IsImproved};
+ghost use Rattle.potentials.specs.Potentials.{potentials_of};
+ghost use Rattle.potentials_improved.specs.FairPotentials.{potentials_in, ground_in};
+ghost use Rattle.potentials_improved.specs.Groundwork.{ground_under};
+
+use crate::allowance::Allowance;
+use crate::climb::Climb;
+use crate::drafted::drafted;
+use crate::fair_at::FairAt;
+use crate::groundwork::Groundwork;
+use crate::improve::Improve;
+use faults::NoMemory;
+use grounding::Ground;
+use packed_state::Packed;
+use potentials::{Fairness, Potentials};
+use search::Estimate;
+use std::alloc::Global;
+
+/// To each instance is allowed what it costs. Potentials that are fair so give lower bounds.
+#[derive(Clone, Copy, Debug)]
+pub struct Costs;
+
+impl Allowance for Costs {
+    ghost use Rattle.model.specs.Meaning.{cost_of};
+    ghost use Rattle.potential_functions.specs.Laws.{AreLowerBounds};
+    ghost use Rattle.potential_functions.proofs.LowerBound.{are_lower_bounds};
+
+    ghost allowance = { cost_of };
+
+    ghost Gives = { AreLowerBounds };
+
+    ghost gives = { are_lower_bounds };
+
+    fn fairness(
+        potentials: &Potentials,
+        alloc: Global,
+        ground: &Ground<'_>,
+    ) -> Result<Fairness, NoMemory> {
+        potentials.fair(alloc, ground)
+    }
+}
+
+impl FairAt<'_, '_, Costs> {
+    /// The value of the state, which every list of instances that runs from it to a state that meets the goal costs at
+    /// least. No memory is taken.
+    pub fn estimate(&self, state: &Packed) -> u64
+        requires { length (bits_of state.now) ≡ length (atoms_in (ground_in self.now)) }
+        ensures value { result ≡ potential.value (potentials_in self.now) (bits_of state.now) }
+        ensures laws { AreLowerBounds (task_in (ground_in self.now)) (atoms_in (ground_in self.now)) (potentials_in self.now) }
+        ensures bound { (end : List Bool) (plan : List ℕ) → run (ground_system (task_in (ground_in self.now)) (atoms_in (ground_in self.now))) (bits_of state.now) plan ≡ Some end
+            → IsTrue ((ground_system (task_in (ground_in self.now)) (atoms_in (ground_in self.now))).meets_goal end)
+            → result ≤ cost_of_all (ground_system (task_in (ground_in self.now)) (atoms_in (ground_in self.now))) plan }
+    {
+        self.potentials.value(state)
+    }
+}
+
+/// The score of a state is that of the potentials. A successor's score takes a look at the atoms that differ, and at no
+/// other.
+impl Estimate for FairAt<'_, '_, Costs> {
+    ghost use Rattle.std.specs.Prelude.{length};
+    ghost use Rattle.std.proofs.Common.{le_refl};
+    ghost use Rattle.grounding.specs.Ground.{task_in, atoms_in};
+    ghost use Rattle.model.specs.Grounding.{ground_system};
+    ghost use Rattle.potential_functions.specs.PotentialFunctions as potential;
+    ghost use Rattle.potentials_improved.specs.FairPotentials.{potentials_in, ground_in};
+
+    ghost width_of = { λ estimate. length (atoms_in (ground_in estimate)) };
+
+    ghost system_of = { λ estimate. ground_system (task_in (ground_in estimate)) (atoms_in (ground_in estimate)) };
+
+    ghost score_of = { λ estimate. potential.score (potentials_in estimate) };
+
+    ghost is_consistent = { λ estimate. estimate.guides.estimate (λ i. le_refl _) };
+
+    fn score(&self, state: &Packed) -> i64 {
+        self.potentials().score(state)
+    }
+
+    fn score_after(&self, score: i64, before: &Packed, _action: u32, after: &Packed) -> i64 {
+        self.potentials().score_after(score, before, after)
+    }
+}
+
+/// They are drafted by a linear program first, and then single weights are moved, in a pass over all atoms a round. At the end
+/// they are settled, or have in the initial state a value that is higher by at least the number of rounds.
+impl Improve for FairAt<'_, '_, Costs> {
+    ghost use Rattle.potential_functions.specs.Settled as settled;
+    ghost use Rattle.potentials_improved.specs.FairPotentials.{ground_in, AreBetter};
+
+    ghost ground_of = { ground_in };
+
+    ghost IsImproved = { λ rounds. AreBetter (λ task atoms. settled.IsImproved task atoms rounds) };
+
+    fn improve(
+        self,
+        alloc: Global,
+        groundwork: &Groundwork<'_, '_>,
+        rounds: u32,
+    ) -> Result<Self, NoMemory> {
+        let FairAt {
+            potentials,
+            ground,
+            ..
+        } = self;
+        let better = climbed(alloc, potentials, groundwork, rounds)?;
+        Ok(FairAt::known(better, ground))
+    }
+}
+
+/// Better potentials: those of a draft, if they are no worse, with weights moved.
+fn climbed(
+    alloc: Global,
+    potentials: Potentials,
+    groundwork: &Groundwork<'_, '_>,
+    rounds: u32,
+) -> Result<Potentials, NoMemory>
+    requires width { length (potentials_of potentials).weights ≡ length (atoms_in (ground_under groundwork.now)) }
+    requires fair { AreFair (task_in (ground_under groundwork.now)) (atoms_in (ground_under groundwork.now)) (potentials_of potentials) }
+    ensures { IfOk result (λ p. IsImproved (task_in (ground_under groundwork.now)) (atoms_in (ground_under groundwork.now)) rounds (potentials_of potentials) (potentials_of p)) }
+{
+    let ground = groundwork.ground;
+    let tables = &groundwork.tables;
+    let initial = &groundwork.initial;
+    let drafted = drafted(alloc, potentials, ground, tables, initial)?;
+    let mut climb = Climb::new(drafted, ground, initial);
+    for _ in 0..rounds {
+        if !climb.pass(ground, tables.incidence(), initial) {
+            return Ok(climb.potentials);
+        }
+    }
+    Ok(climb.potentials)
+}

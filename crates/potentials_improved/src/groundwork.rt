@@ -1,0 +1,41 @@
+//! What potentials of a ground task are improved by, whatever they are for.
+ghost use Rattle.std.specs.Prelude.{◌≡◌};
+ghost use Rattle.std.proofs.Props.{props};
+ghost use Rattle.packed_state.specs.Packed.{bits_of};
+ghost use Rattle.grounding.specs.Ground.{task_in, atoms_in};
+ghost use Rattle.model.specs.Grounding.{ground_system};
+ghost use Rattle.potentials_improved.specs.Tested.{AreTestedTables};
+
+use faults::NoMemory;
+use grounding::Ground;
+use packed_state::Packed;
+use potentials_drafted::Tables;
+use std::alloc::Global;
+
+/// What potentials of a ground task are improved by, whatever they are for: its tables, and its initial state. It is made once.
+#[derive(Drop)]
+pub struct Groundwork<'g, 't> {
+    pub(crate) ground: &'g Ground<'t>,
+    pub(crate) tables: Tables,
+    pub(crate) initial: Packed,
+    ghost incidence: { AreTestedTables ground.now tables } by { Prim.hlevel props },
+    ghost initial_is: { bits_of initial ≡ (ground_system (task_in ground.now) (atoms_in ground.now)).initial } by { Prim.hlevel props },
+}
+
+impl<'g, 't> Groundwork<'g, 't> {
+    ghost use Rattle.std.specs.Prelude.{IfOk};
+    ghost use Rattle.potentials_improved.specs.Groundwork.{ground_under};
+
+    /// That of the ground task.
+    pub fn new(alloc: Global, ground: &'g Ground<'t>) -> Result<Groundwork<'g, 't>, NoMemory>
+        ensures { IfOk result (λ g. ground_under g ≡ ground.now) }
+    {
+        let tables = Tables::new(alloc, ground)?;
+        let initial = ground.initial(alloc)?;
+        Ok(Groundwork {
+            ground,
+            tables,
+            initial,
+        })
+    }
+}
