@@ -168,7 +168,7 @@ fn add_nesting(
             let list = FilePlace::of(texts, FileOffset { file, offset });
             write!(
                 out,
-                "{name} begins inside the list of {list}: is a `)` missing before it?\n"
+                "{name} begins inside the list that opens at {list}. Is a `)` missing before it?\n"
             )
         }
         Nesting::After(offset, close) => {
@@ -177,14 +177,14 @@ fn add_nesting(
             let end = FilePlace::of(texts, FileOffset { file, offset });
             write!(
                 out,
-                "the list of {list} ends before {name}: is the `)` at {end} one too many?\n"
+                "the list that opens at {list} ends before {name}. Is the `)` at {end} one too many?\n"
             )
         }
         Nesting::Closes(offset) => {
             let list = FilePlace::of(texts, FileOffset { file, offset });
             write!(
                 out,
-                "something is missing in the list of {list}, which ends here: is this `)` one too many?\n"
+                "something is missing in the list that opens at {list} and ends here. Is this `)` one too many?\n"
             )
         }
         Nesting::Elsewhere => write!(out, "{name} {}.\n", after_word(shown.code)),

@@ -4,3 +4,4 @@ pub mod Forms
 pub mod Parts
 pub mod Explanations
 pub mod StepPlaces
+pub mod Said

@@ -1,14 +1,15 @@
 //! Which forms are in the formulas and effects of a task.
-ghost use Rattle.std.specs.Prelude.{◌≡◌, Some, slice_get};
+ghost use Rattle.std.specs.Prelude.{◌≡◌, IfOk, Some, slice_get};
+ghost use Rattle.std.specs.String.{string_bytes};
 ghost use Rattle.std.specs.List.{flat_map};
 ghost use Rattle.task.specs.Task.{task_of};
 ghost use Rattle.task.specs.TaskParts.{effect_of, formula_of};
 ghost use Rattle.model.specs.Task.{Schema};
 ghost use Rattle.explained_plans.specs.Forms.{AreForms, added, forms_in, forms_in_effect, forms_of_schema};
+ghost use Rattle.explained_plans.specs.Said.{forms_text};
 
 use crate::summary::yes_or_no;
-use faults::NoMemory;
-use std::alloc::Global;
+use std::alloc::{AllocError, Global};
 use task::{Effect, Formula, SchemaId, Task};
 
 /// Which forms are in some formulas and effects.
@@ -108,14 +109,16 @@ impl Forms {
     }
 
     /// Which of them there are, in words.
-    pub(crate) fn text(self, alloc: Global) -> Result<String, NoMemory> {
+    pub(crate) fn text(self, alloc: Global) -> Result<String, AllocError>
+        ensures { IfOk result (λ text. string_bytes text ≡ forms_text self) }
+    {
         let conditional = yes_or_no(self.conditional_effects);
         let quantifiers = yes_or_no(self.quantifiers);
         let negations = yes_or_no(self.negations);
         let disjunctions = yes_or_no(self.disjunctions);
-        Ok(format!(in alloc;
+        format!(in alloc;
             "conditional effects {conditional}, quantifiers {quantifiers}, \
 negations {negations}, disjunctions {disjunctions}"
-        )?)
+        )
     }
 }

@@ -1,4 +1,10 @@
 //! What is said of a plan, as lines of text.
+ghost use Rattle.std.specs.Prelude.{IfOk};
+ghost use Rattle.std.specs.String.{string_bytes};
+ghost use Rattle.explained_plans.specs.Explanations.{verdict_of};
+ghost use Rattle.explained_plans.specs.Said.{IsVerdictLine};
+ghost use Rattle.model.specs.Runs.{goal_missed, not_applicable, valid};
+
 use crate::explanations::{PlanExplanation, Reasons};
 use crate::false_parts::Part;
 use crate::formula_text::{add_atom, add_formula};
@@ -25,18 +31,46 @@ pub fn report_verdict(
     task: &Task,
     plan: &Plan,
     explanation: &PlanExplanation<'_>,
-) -> Result<String, NoMemory> {
+) -> Result<String, NoMemory>
+    ensures { IfOk result (λ line. IsVerdictLine (verdict_of explanation.now) (string_bytes line)) }
+{
     match explanation {
-        PlanExplanation::Solves { total, .. } => { Ok(format!(in alloc; "valid, cost {total}\n")?) }
-        PlanExplanation::NotApplicable { step, .. } => {
-            let words = step_words(alloc, task, plan, *step)?;
-            Ok(format!(in alloc; "{words} is not applicable\n")?)
-        }
-        PlanExplanation::GoalMissed { .. } => Ok(String::from_str(
-            alloc,
-            "every step is applicable, but the goal is not reached\n",
-        )?),
+        PlanExplanation::Solves { total, .. } => cost_line(alloc, *total),
+        PlanExplanation::NotApplicable { step, .. } => step_line(alloc, task, plan, *step),
+        PlanExplanation::GoalMissed { .. } => missed_line(alloc),
     }
+}
+
+/// The line of a plan that solves the task at this cost.
+fn cost_line(alloc: Global, total: u64) -> Result<String, NoMemory>
+    ensures { IfOk result (λ line. IsVerdictLine (valid total) (string_bytes line)) }
+{
+    Ok(format!(in alloc; "valid, cost {total}\n")?)
+}
+
+/// The line of a plan that misses the goal.
+fn missed_line(alloc: Global) -> Result<String, NoMemory>
+    ensures { IfOk result (λ line. IsVerdictLine goal_missed (string_bytes line)) }
+{
+    Ok(String::from_str(
+        alloc,
+        "every step is applicable, but the goal is not reached\n",
+    )?)
+}
+
+/// The line of the step of this number, which is not applicable.
+fn step_line(alloc: Global, task: &Task, plan: &Plan, step: usize) -> Result<String, NoMemory>
+    ensures { IfOk result (λ line. IsVerdictLine (not_applicable step) (string_bytes line)) }
+{
+    let words = step_name(alloc, task, plan, step)?;
+    numbered_line(alloc, step, words.as_str())
+}
+
+/// The same of these words for the step.
+fn numbered_line(alloc: Global, step: usize, words: &str) -> Result<String, NoMemory>
+    ensures { IfOk result (λ line. IsVerdictLine (not_applicable step) (string_bytes line)) }
+{
+    Ok(format!(in alloc; "step {step}, {words}, is not applicable\n")?)
 }
 
 /// The lines that say why, each with LF at its end.
@@ -213,11 +247,16 @@ fn add_step(
 
 /// The words `step 3, (hop a b),`, where steps are counted from 1.
 fn step_words(alloc: Global, task: &Task, plan: &Plan, step: usize) -> Result<String, NoMemory> {
-    let words = match plan.steps().get(step.wrapping_sub(1)) {
-        Some(instance) => step_text(alloc, task, instance)?,
-        None => String::new(alloc),
-    };
+    let words = step_name(alloc, task, plan, step)?;
     Ok(format!(in alloc; "step {step}, {words},")?)
+}
+
+/// The step of this number as a plan has it, and nothing where there is none.
+fn step_name(alloc: Global, task: &Task, plan: &Plan, step: usize) -> Result<String, NoMemory> {
+    match plan.steps().get(step.wrapping_sub(1)) {
+        Some(instance) => step_text(alloc, task, instance),
+        None => Ok(String::new(alloc)),
+    }
 }
 
 /// Adds the line that says that what the step's action increases the total cost by has no value.

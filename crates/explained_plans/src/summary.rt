@@ -1,11 +1,12 @@
 //! What a task holds, in a few lines.
-ghost use Rattle.std.specs.Prelude.{◌≡◌, length};
+ghost use Rattle.std.specs.Prelude.{◌≡◌, IfOk};
+ghost use Rattle.std.specs.String.{string_bytes};
 ghost use Rattle.task.specs.Task.{task_of};
-ghost use Rattle.explained_plans.specs.Forms.{AreForms};
+ghost use Rattle.explained_plans.specs.Said.{IsSummaryOf, answer, forms_line, numbers_line, summary_text};
 
 use crate::forms::Forms;
 use faults::NoMemory;
-use std::alloc::Global;
+use std::alloc::{AllocError, Global};
 use task::Task;
 
 /// What a task holds.
@@ -30,13 +31,7 @@ pub struct Summary {
 impl Summary {
     /// What the task holds.
     pub fn of(task: &Task) -> Summary
-        ensures types { result.types ≡ length (task_of task.now).types }
-        ensures objects { result.objects ≡ length (task_of task.now).objects }
-        ensures predicates { result.predicates ≡ length (task_of task.now).predicates }
-        ensures functions { result.functions ≡ length (task_of task.now).functions }
-        ensures actions { result.actions ≡ length (task_of task.now).schemas }
-        ensures costs { result.has_costs ≡ (task_of task.now).has_metric }
-        ensures forms { AreForms (task_of task.now) result.forms }
+        ensures { IsSummaryOf (task_of task.now) result }
     {
         Summary {
             types: task.type_count(),
@@ -53,19 +48,38 @@ impl Summary {
     ///
     /// # Errors
     /// Memory was refused.
-    pub fn text(&self, alloc: Global) -> Result<String, NoMemory> {
-        let mut text = format!(in alloc;
-            "types {}, objects {}, predicates {}, functions {}, actions {}\n",
-            self.types, self.objects, self.predicates, self.functions, self.actions
-        )?;
-        let costs = yes_or_no(self.has_costs);
-        let forms = self.forms.text(alloc)?;
-        let last = format!(in alloc; "costs {costs}, {}\n", forms.as_str())?;
+    pub fn text(&self, alloc: Global) -> Result<String, NoMemory>
+        ensures { IfOk result (λ text. string_bytes text ≡ summary_text self.now) }
+    {
+        let mut text = self.numbers_line(alloc)?;
+        let last = self.forms_line(alloc)?;
         text.push_str(last.as_str())?;
         Ok(text)
     }
+
+    /// The line of the numbers.
+    fn numbers_line(&self, alloc: Global) -> Result<String, AllocError>
+        ensures { IfOk result (λ line. string_bytes line ≡ numbers_line self.now) }
+    {
+        let (types, objects, predicates) = (self.types, self.objects, self.predicates);
+        let (functions, actions) = (self.functions, self.actions);
+        format!(in alloc;
+            "types {types}, objects {objects}, predicates {predicates}, functions {functions}, actions {actions}\n"
+        )
+    }
+
+    /// The line of the costs and the forms.
+    fn forms_line(&self, alloc: Global) -> Result<String, AllocError>
+        ensures { IfOk result (λ line. string_bytes line ≡ forms_line self.now) }
+    {
+        let costs = yes_or_no(self.has_costs);
+        let forms = self.forms.text(alloc)?;
+        format!(in alloc; "costs {costs}, {forms}\n")
+    }
 }
 
-pub(crate) fn yes_or_no(is_so: bool) -> &'static str {
+pub(crate) fn yes_or_no(is_so: bool) -> &'static str
+    ensures { result.now ≡ answer is_so }
+{
     if is_so { "yes" } else { "no" }
 }

@@ -131,7 +131,7 @@ walk-fair =
     let h = on_the_walk (pos 6) (pos 3) (pos 0) in
     record {
       instances = hops (cost_of hop_task) h (λ _. is_fair hop_task hop_atoms h 3 (hop 0 1) refl (le_z_yes tt)) (λ _. is_fair hop_task hop_atoms h 3 (hop 1 2) refl (le_z_yes tt))
-      (λ _. is_fair hop_task hop_atoms h 10 leap refl (le_z_yes tt));
+          (λ _. is_fair hop_task hop_atoms h 10 leap refl (le_z_yes tt));
       goals = record { within = λ _. le_z_yes tt };
     }
 
@@ -227,7 +227,7 @@ no_dead_ends-fair =
     let h = dead_ends_of hop_by_hop in
     record {
       instances = hops nothing h (λ _. is_fair hop_task hop_atoms h 0 (hop 0 1) refl (le_z_yes tt)) (λ _. is_fair hop_task hop_atoms h 0 (hop 1 2) refl (le_z_yes tt))
-      (λ _. is_fair hop_task hop_atoms h 0 leap refl (le_z_yes tt));
+          (λ _. is_fair hop_task hop_atoms h 0 leap refl (le_z_yes tt));
       goals = record { within = λ _. le_z_yes tt };
     }
 

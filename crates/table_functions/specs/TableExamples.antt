@@ -46,7 +46,7 @@ abbrev pub delivery : Table
 delivery = record {
   scope = 0 ∷ 1 ∷ 2 ∷ 3 ∷ 4 ∷ [];
   rows = row (0 ∷ 3 ∷ []) (pos 3) (pos 0) ∷ row (0 ∷ 4 ∷ []) (pos 4) (pos 0) ∷ row (1 ∷ 3 ∷ []) (pos 2) (pos 0)
-  ∷ row (1 ∷ 4 ∷ []) (pos 1) (pos 0) ∷ row (2 ∷ 3 ∷ []) (pos 0) (pos 0) ∷ row (2 ∷ 4 ∷ []) (pos 0) (pos 0) ∷ [];
+      ∷ row (1 ∷ 4 ∷ []) (pos 1) (pos 0) ∷ row (2 ∷ 3 ∷ []) (pos 0) (pos 0) ∷ row (2 ∷ 4 ∷ []) (pos 0) (pos 0) ∷ [];
 }
 
 -- where the truck is, which counts nothing
@@ -192,7 +192,7 @@ hop_by_hop = record {
   tables = record {
     scope = 0 ∷ 1 ∷ 2 ∷ [];
     rows = record { atoms = 0 ∷ []; weights = pos 3 ∷ pos 3 ∷ pos 0 ∷ [] } ∷ record { atoms = 1 ∷ []; weights = pos 0 ∷ pos 3 ∷ pos 0 ∷ [] }
-    ∷ record { atoms = 2 ∷ []; weights = pos 0 ∷ pos 0 ∷ pos 0 ∷ [] } ∷ [];
+        ∷ record { atoms = 2 ∷ []; weights = pos 0 ∷ pos 0 ∷ pos 0 ∷ [] } ∷ [];
   } ∷ [];
 }
 

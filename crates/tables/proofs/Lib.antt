@@ -1,0 +1,4 @@
+pub mod RowLemmas
+pub mod StoreLemmas
+pub mod PlacedLemmas
+pub mod AgreeingLemmas

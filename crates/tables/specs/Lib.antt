@@ -1,0 +1,4 @@
+pub mod Rows
+pub mod Pushing
+pub mod Placed
+pub mod Tables

@@ -1,0 +1,28 @@
+-- Literals by the places of their atoms in a scope.
+use Rattle.std.specs.Prelude.{ℕ, ◌==◌, Bool, List, Option}
+use Rattle.std.specs.Bool.{beq}
+use Rattle.std.specs.List.{position}
+use Rattle.std.specs.Option.{option_map}
+use Rattle.packed_state.specs.Sets.{has}
+use Rattle.model.specs.NumberedLiterals.{NumberedLiteral}
+use Rattle.tables.specs.declared.placed.PlacedLiteral as code
+
+-- the atom at this place of the scope is true, or false
+pub record PlacedLiteral : Type 0 where
+  pub place : ℕ
+  pub value : Bool
+
+abbrev pub placed_of : code.PlacedLiteral → PlacedLiteral
+placed_of l = record { place = l.place; value = l.value }
+
+-- the place of an atom in the scope, from 0, if it is there
+abbrev pub place_in : List ℕ → ℕ → Option ℕ
+place_in scope number = position (λ n. n == number) scope
+
+-- the literal by its atom's place, if it is of an atom of the scope
+abbrev pub placed_in : List ℕ → NumberedLiteral → Option PlacedLiteral
+placed_in scope l = option_map (λ (k : ℕ). record { place = k; value = l.value }) (place_in scope l.atom)
+
+-- the literal is true of the set
+abbrev pub is_so : List Bool → PlacedLiteral → Bool
+is_so set l = beq (has set l.place) l.value

@@ -1,0 +1,104 @@
+//! Tables in memory.
+ghost use Rattle.std.specs.Prelude.{◌≡◌, ◌*◌, ◌<◌, ◌^◌, IsTrue, length};
+ghost use Rattle.packed_state.specs.PooledView.{pooled_width, pooled_states};
+ghost use Rattle.std.proofs.Props.{props};
+ghost use Rattle.tables.specs.Rows as rows_in_memory;
+
+use crate::rows::Rows;
+use faults::NoMemory;
+use packed_state::{Packed, StateStore};
+use std::alloc::Global;
+
+/// A table: the numbers of the atoms of its scope, rising, and its rows, each with so many weights. A row is a set of atoms of
+/// the scope, by their places there, from 0.
+#[derive(Drop)]
+pub struct Table {
+    pub(crate) scope: Vec<u32>,
+    pub(crate) count: u32,
+    pub(crate) rows: Rows,
+    ghost few: { length scope.items < 2 ^ 32 },
+    ghost rising: { IsTrue (rows_in_memory.are_rising scope.items) } by { Prim.hlevel props },
+    ghost wide: { pooled_width rows.sets ≡ length scope.items } by { Prim.hlevel props },
+    ghost weighed: { length rows.weights.items ≡ count * length (pooled_states rows.sets) } by { Prim.hlevel props },
+}
+
+impl Table {
+    ghost use Rattle.std.specs.Prelude.{[], IfOk, OnErr, MatchOption, None, Some, slice_get};
+    ghost use Rattle.packed_state.specs.Packed.{bits_of};
+    ghost use Rattle.table_functions.specs.TableFunctions.{Row, row_of, weight_at};
+    ghost use Rattle.tables.specs.Tables.{table_of, IsInserted};
+
+    /// A table of this scope, rising, without rows, each of which will have so many weights.
+    ///
+    /// # Errors
+    /// Where memory is refused.
+    pub fn new(alloc: Global, scope: Vec<u32>, count: u32) -> Result<Table, NoMemory>
+        requires rising { IsTrue (rows_in_memory.are_rising scope.items) }
+        requires few { length scope.items < 2 ^ 32 }
+        ensures table { IfOk result (λ t. table_of t ≡ record { scope = scope.items; rows = [] }) }
+        ensures count { IfOk result (λ t. t.count ≡ count) }
+    {
+        let rows = Rows::new(alloc, scope.len() as u32)?;
+        Ok(Table { scope, count, rows })
+    }
+
+    /// The numbers of the atoms of its scope.
+    pub fn scope(&self) -> &[u32]
+        ensures { result.now ≡ (table_of self.now).scope }
+    {
+        &self.scope
+    }
+
+    /// How many rows it has.
+    pub fn row_count(&self) -> usize
+        ensures { result ≡ length (table_of self.now).rows }
+    {
+        self.rows.sets.len()
+    }
+
+    /// The place of the row of this set, if there is one.
+    pub fn find(&self, set: &Packed) -> Option<u32>
+        requires { length (bits_of set.now) ≡ length (table_of self.now).scope }
+        ensures { MatchOption result
+            (row_of (table_of self.now) (rows_in_memory.atoms_at (table_of self.now).scope (bits_of set.now)) ≡ None)
+            (λ place. slice_get (table_of self.now).rows place ≡ row_of (table_of self.now) (rows_in_memory.atoms_at (table_of self.now).scope (bits_of set.now))) }
+    {
+        self.rows.sets.find(set)
+    }
+
+    /// Copies the set of the row at this place, from 0.
+    pub fn get(&self, row: u32, set: &mut Packed)
+        requires there { row < length (table_of self.now).rows }
+        requires width { length (bits_of set.old) ≡ length (table_of self.now).scope }
+        ensures set { (r : Row) → slice_get (table_of self.now).rows row ≡ Some r → r.atoms ≡ rows_in_memory.atoms_at (table_of self.now).scope (bits_of set.new) }
+        ensures width { length (bits_of set.new) ≡ length (table_of self.now).scope }
+    {
+        self.rows.sets.get(row, set);
+    }
+
+    /// The weight at this place, from 0, of the row at this place, from 0.
+    pub fn weight(&self, row: u32, place: u32) -> i64
+        requires there { row < length (table_of self.now).rows }
+        requires place { place < self.now.count }
+        ensures { (r : Row) → slice_get (table_of self.now).rows row ≡ Some r → result ≡ weight_at place r }
+    {
+        let start = self.count as usize * row as usize;
+        self.rows.weights[start + place as usize]
+    }
+
+    /// Puts the row of this set and these weights after the others and answers `true`, if it has no row of this set yet; else
+    /// `false`. Where memory is refused the table stays as it is.
+    ///
+    /// # Errors
+    /// Where memory is refused.
+    pub fn insert(&mut self, set: &Packed, weights: &[i64]) -> Result<bool, NoMemory>
+        requires width { length (bits_of set.now) ≡ length (table_of self.old).scope }
+        requires weights { length weights.now ≡ self.old.count }
+        requires room { length (table_of self.old).rows < 16777216 }
+        ensures ok { IfOk result (IsInserted (table_of self.old) (table_of self.new) (record { atoms = rows_in_memory.atoms_at (table_of self.old).scope (bits_of set.now); weights = weights.now })) }
+        ensures count { self.new.count ≡ self.old.count }
+        ensures err { OnErr result (table_of self.new ≡ table_of self.old) }
+    {
+        self.rows.push(set, weights)
+    }
+}
