@@ -1,5 +1,5 @@
 -- Tables of the code, as the tables that they are.
-use Rattle.std.specs.Prelude.{◌≡◌, Bool, [], ◌∷◌, ◌++◌, MatchBool, IsTrue, is_some, None}
+use Rattle.std.specs.Prelude.{◌≡◌, ℕ, Bool, [], ◌∷◌, ◌++◌, MatchBool, IsTrue, is_some, None}
 use Rattle.packed_state.specs.PooledView.{pooled_states}
 use Rattle.table_functions.specs.TableFunctions as model
 use Rattle.table_functions.specs.TableFunctions.{Row, row_of}
@@ -8,6 +8,10 @@ use Rattle.tables.specs.Rows.{rows_from}
 
 abbrev pub table_of : Table → model.Table
 table_of t = record { scope = t.scope.items; rows = rows_from t.count t.scope.items (pooled_states t.rows.sets) t.rows.weights.items }
+
+-- how many weights each row has
+abbrev pub weight_count_of : Table → ℕ
+weight_count_of t = t.count
 
 -- the table has the row after its others, if it had none of these atoms; else it is as it was
 abbrev pub IsInserted : (old new : model.Table) → Row → Bool → Type 0

@@ -26,7 +26,7 @@ impl Table {
     ghost use Rattle.std.specs.Prelude.{[], IfOk, OnErr, MatchOption, None, Some, slice_get};
     ghost use Rattle.packed_state.specs.Packed.{bits_of};
     ghost use Rattle.table_functions.specs.TableFunctions.{Row, row_of, weight_at};
-    ghost use Rattle.tables.specs.Tables.{table_of, IsInserted};
+    ghost use Rattle.tables.specs.Tables.{table_of, weight_count_of, IsInserted};
 
     /// A table of this scope, rising, without rows, each of which will have so many weights.
     ///
@@ -36,7 +36,7 @@ impl Table {
         requires rising { IsTrue (rows_in_memory.are_rising scope.items) }
         requires few { length scope.items < 2 ^ 32 }
         ensures table { IfOk result (λ t. table_of t ≡ record { scope = scope.items; rows = [] }) }
-        ensures count { IfOk result (λ t. t.count ≡ count) }
+        ensures count { IfOk result (λ t. weight_count_of t ≡ count) }
     {
         let rows = Rows::new(alloc, scope.len() as u32)?;
         Ok(Table { scope, count, rows })
@@ -47,6 +47,13 @@ impl Table {
         ensures { result.now ≡ (table_of self.now).scope }
     {
         &self.scope
+    }
+
+    /// How many weights each row has.
+    pub fn weight_count(&self) -> u32
+        ensures { result ≡ weight_count_of self.now }
+    {
+        self.count
     }
 
     /// How many rows it has.
@@ -79,7 +86,7 @@ impl Table {
     /// The weight at this place, from 0, of the row at this place, from 0.
     pub fn weight(&self, row: u32, place: u32) -> i64
         requires there { row < length (table_of self.now).rows }
-        requires place { place < self.now.count }
+        requires place { place < weight_count_of self.now }
         ensures { (r : Row) → slice_get (table_of self.now).rows row ≡ Some r → result ≡ weight_at place r }
     {
         let start = self.count as usize * row as usize;
@@ -93,10 +100,10 @@ impl Table {
     /// Where memory is refused.
     pub fn insert(&mut self, set: &Packed, weights: &[i64]) -> Result<bool, NoMemory>
         requires width { length (bits_of set.now) ≡ length (table_of self.old).scope }
-        requires weights { length weights.now ≡ self.old.count }
+        requires weights { length weights.now ≡ weight_count_of self.old }
         requires room { length (table_of self.old).rows < 16777216 }
         ensures ok { IfOk result (IsInserted (table_of self.old) (table_of self.new) (record { atoms = rows_in_memory.atoms_at (table_of self.old).scope (bits_of set.now); weights = weights.now })) }
-        ensures count { self.new.count ≡ self.old.count }
+        ensures count { weight_count_of self.new ≡ weight_count_of self.old }
         ensures err { OnErr result (table_of self.new ≡ table_of self.old) }
     {
         self.rows.push(set, weights)
