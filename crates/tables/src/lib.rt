@@ -5,6 +5,8 @@ mod agreeing;
 mod placed;
 mod rows;
 mod table;
+#[cfg(test)]
+mod tests;
 
 pub use agreeing::{is_shut_out, some_agrees};
 pub use table::Table;
