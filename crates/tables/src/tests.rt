@@ -45,10 +45,10 @@ fn second_weight(
     let Some(row) = table.find(&set) else {
         return Ok(None);
     };
-    if row as usize >= table.row_count() {
+    let mut copy = set_of(alloc, &[])?;
+    if row as usize >= table.row_count() || table.scope().len() != copy.width() as usize {
         return Ok(None);
     }
-    let mut copy = set_of(alloc, &[])?;
     table.get(row, &mut copy);
     Ok(Some((table.weight(row, 1), copy == set)))
 }
