@@ -1,8 +1,8 @@
 //! Trees of domains and problems in memory, and what is reported for words that stop too early.
 use faults::{Code, Fault, Span, TextRefusal};
 use pddl_tree::{
-    Action, Amount, Application, Domain, Effect, EffectLiteral, Fact, Formula, Group, Increase,
-    Name, Predicate, Problem, domain, problem,
+    Action, Amount, Domain, Effect, EffectLiteral, Fact, Formula, Group, Increase, Name, Predicate,
+    Problem, Term, domain, problem,
 };
 use std::test::Fail;
 use test_texts::{read_domain, read_problem};
@@ -145,13 +145,13 @@ fn is_added(literal: &EffectLiteral, predicate: &[u8], is_variable: bool, term: 
 }
 
 /// Whether the only term is a variable, or an object, of this name.
-fn is_only(terms: &[Application], is_variable: bool, text: &[u8]) -> bool {
+fn is_only(terms: &[Term], is_variable: bool, text: &[u8]) -> bool {
     if terms.len() != 1 {
         return false;
     }
     match terms[0] {
-        Application::Variable(name) => is_variable && name.text == text,
-        Application::Object(name) => !is_variable && name.text == text,
+        Term::Variable(name) => is_variable && name.text == text,
+        Term::Object(name) => !is_variable && name.text == text,
     }
 }
 
@@ -217,7 +217,7 @@ fn are_of_each_form(parts: &[Formula]) -> bool {
                 && matches!(not, Formula::Not(part) if is_atom(part, b"q", 1))
                 && matches!(imply, Formula::Imply(premise, conclusion)
                     if is_atom(premise, b"p", 0) && is_atom(conclusion, b"q", 1))
-                && matches!(equal, Formula::Equal(Application::Variable(x), Application::Object(b))
+                && matches!(equal, Formula::Equal(Term::Variable(x), Term::Object(b))
                     if (x.text, b.text) == (b"?x".as_slice(), b"B".as_slice()))
                 && matches!(exists, Formula::Exists(variables, part)
                     if are_seen(variables) && is_atom(part, b"q", 1))
