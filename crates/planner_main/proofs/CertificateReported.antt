@@ -19,7 +19,7 @@ use Rattle.model.specs.Task.{Task, Instance}
 use Rattle.certificate_definitions.specs.Certificates.{Certificate}
 use Rattle.model.specs.Files.{IsTaskOf}
 use Rattle.task.specs.Task.{task_of}
-use Rattle.devices.specs.InputTexts.{IsText}
+use Rattle.devices.specs.Texts.{IsText}
 use Rattle.devices.specs.declared.device.IoFault.{IoFault}
 use Rattle.file_answers.specs.declared.checking.Checked.{Checked}
 use Rattle.planner_main.specs.declared.failures.Failure.{Failure}

@@ -13,7 +13,7 @@ use Rattle.planner_main.specs.Solution.{IsBegun, WritesReport, cert_text, files_
 use Rattle.planner_main.specs.Reported.{of_report, status_of, text_of, reported_of}
 use Rattle.planner_main.specs.declared.printing.reports.Report.{Report}
 use Rattle.planner_main.specs.Program.{IsReported, IsReportedPartly, nothing, in_a_file, on_the_output, IsAnswer, IsAnswerTo, IsReportOn, Reports, ReportsPartly, ReportsFor, ReportsPartlyFor}
-use Rattle.devices.specs.InputTexts.{AreKept}
+use Rattle.devices.specs.Texts.{AreKept}
 use Rattle.planner_main.proofs.ProgramWords.{IsOfReport, answered_status}
 
 -- What is written over the same files is the same.

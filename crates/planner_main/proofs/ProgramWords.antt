@@ -25,7 +25,7 @@ use Rattle.model.proofs.TaskNames.{task_has_names}
 use Rattle.cert_checker.specs.declared.refusal.Refusal.{Refusal}
 use Rattle.cert_checker.specs.declared.checker.Accepted.{Accepted}
 use Rattle.planner_main.specs.Program.{IsTextIfNamed, OnTwo, OnThree, OnInputs, IsAnswerTo, IsReportOn, Refuses, fault_in, IsFaultFor, IsOneOf, IsReportedOn, IsReportedOfWords, SaysOfWords, HasFailed, HasNotFailed, CountsFailure, CountsEither, device_failure}
-use Rattle.devices.specs.InputTexts.{IsText, AreKept}
+use Rattle.devices.specs.Texts.{IsText, AreKept}
 use Rattle.source_text.specs.declared.texts.File.{File}
 use Rattle.file_answers.specs.declared.files.FileFault as file
 use Rattle.faults.specs.declared.code.Code.{Code}

@@ -26,7 +26,7 @@ use Rattle.planner_main.specs.CheckReported.{IsReportedRefusal}
 use Rattle.planner_main.specs.Asked.{outputs_of}
 use Rattle.file_answers.specs.declared.explanation.Explanation.{Explanation}
 use Rattle.file_answers.specs.Explanations.{IsTrueOf}
-use Rattle.devices.specs.InputTexts.{AreKept, IsText}
+use Rattle.devices.specs.Texts.{AreKept, IsText}
 use Rattle.devices.specs.Written.{NamedText, AreWritten, AreWrittenPartly}
 use Rattle.planner_main.specs.Solution.{WritesReport}
 use Rattle.cert_checker.specs.declared.refusal.Refusal.{Refusal}

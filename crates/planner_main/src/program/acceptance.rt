@@ -7,7 +7,7 @@ ghost use Rattle.file_answers.specs.Inputs.{IsInputFault};
 ghost use Rattle.file_answers.specs.Files.{text_in};
 ghost use Rattle.file_answers.specs.declared.checking.Checked.{Checked};
 ghost use Rattle.planner_main.specs.declared.printing.reports.Report.TheVariants.{Check};
-ghost use Rattle.devices.specs.InputTexts.{AreKept, items_in};
+ghost use Rattle.devices.specs.Texts.{AreKept, items_in};
 ghost use Rattle.planner_main.specs.Program.{CountsFailure, IsCheckOn, IsCheckedIn, IsOneOf, IsUnread, OnInputs, fault_in, if_named};
 ghost use Rattle.devices.specs.Devices.{IsKept};
 

@@ -2,7 +2,7 @@
 ghost use Rattle.std.specs.Prelude.{◌≡◌, ℕ, IfErr, IfOk, IsTrue, List, None, ◌∷◌};
 ghost use Rattle.planner_main.specs.Program.{CountsFailure, IsExplanationOn, IsOneOf, IsUnread, fault_in, if_named};
 ghost use Rattle.file_answers.specs.Files.{text_in};
-ghost use Rattle.devices.specs.InputTexts.{AreKept, items_in};
+ghost use Rattle.devices.specs.Texts.{AreKept, items_in};
 ghost use Rattle.file_answers.specs.Explanations as explanations;
 
 use crate::failures::Failure;

@@ -1,6 +1,6 @@
 //! The texts of the files that are read.
 ghost use Rattle.std.specs.Prelude.{◌≡◌, ℕ, Err, IfOk, IsErr, IsTrue, List};
-ghost use Rattle.devices.specs.InputTexts.{AreKept, IsText, items_in};
+ghost use Rattle.devices.specs.Texts.{AreKept, IsText, items_in};
 ghost use Rattle.file_answers.specs.Files.{text_in};
 ghost use Rattle.planner_main.specs.Program.{IsOneOf, IsTextIfNamed, if_named};
 ghost use Rattle.devices.specs.declared.device.IoFault.TheVariants.{Device};

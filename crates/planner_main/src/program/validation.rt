@@ -1,7 +1,7 @@
 //! `validate`: the verdict on a plan, from files.
 ghost use Rattle.std.specs.Prelude.{◌≡◌, ℕ, IfErr, IfOk, IfSome, IsTrue, List, [], ◌∷◌};
 ghost use Rattle.planner_main.specs.Program.{CountsFailure, IsOneOf, IsUnread, IsVerdictOn, OnThree, fault_in};
-ghost use Rattle.devices.specs.InputTexts.{AreKept};
+ghost use Rattle.devices.specs.Texts.{AreKept};
 ghost use Rattle.model.specs.Files.{IsFileFault};
 
 use crate::failures::Failure;

@@ -2,7 +2,7 @@ use Rattle.std.proofs.Common.{◌≡◌, refl, subst}
 use Rattle.std.specs.Prelude.{IfSome}
 use Rattle.std.proofs.lemmas.Result.{err_from_is_err_and, IfOk-weaker, IfErr-weaker}
 use Rattle.command_line.specs.View.{wanted_of}
-use Rattle.devices.specs.InputTexts.{AreKept}
+use Rattle.devices.specs.Texts.{AreKept}
 use Rattle.faults.proofs.Results.{passed_on}
 use Rattle.planner_main.specs.Program.{HasNotFailed, IsAnswerTo, IsFaultFor, fault_in}
 use Rattle.planner_main.specs.Solution.{WritesReport}

@@ -1,6 +1,6 @@
 use Rattle.std.proofs.Common.{refl, sym, ◌∙◌}
 use Rattle.task.specs.Task.{task_of}
-use Rattle.devices.specs.InputTexts.{items_in}
+use Rattle.devices.specs.Texts.{items_in}
 use Rattle.planner_main.proofs.CertificateReported.{checked_in, fails_as_counted, reported_unfailed}
 use Rattle.planner_main.proofs.program.acceptance.check_texts.Goals as goal
 
