@@ -53,7 +53,7 @@ impl States {
         ensures pushed { IfOk result (IsPushed self.old self.new (line_of line.now)) }
     {
         let set = Packed::new(alloc, self.sets.width(), &line.atoms)?;
-        let (_, is_new) = self.sets.insert_if_new(&set)?;
+        let (_, is_new) = self.sets.insert_if_new(set)?;
         if !is_new {
             return Ok(false);
         }

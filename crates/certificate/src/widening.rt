@@ -21,7 +21,7 @@ pub(crate) fn widened(
     let mut set = Packed::empty(alloc, sets.width())?;
     for place in 0..sets.len() {
         sets.get(place as u32, &mut set);
-        wide.insert_if_new(&set.with_width(alloc, width)?)?;
+        wide.insert_if_new(set.with_width(alloc, width)?)?;
     }
     Ok(wide)
 }

@@ -22,14 +22,14 @@ pub fn is_atom(task: &Task, atom: &Atom) -> bool
 }
 
 /// Whether the atom is well-typed, and some action of the task adds or deletes atoms of its predicate.
-pub fn is_fluent_atom(task: &Task, atom: &Atom) -> bool
+pub fn is_fluent(task: &Task, atom: &Atom) -> bool
     ensures { result ≡ (well_typed.is_atom (task_of task.now) (atom_of atom.now) && defined.is_fluent (task_of task.now) (atom_of atom.now).predicate) }
 {
-    is_atom(task, atom) && is_fluent(task, atom.predicate)
+    is_atom(task, atom) && is_fluent_predicate(task, atom.predicate)
 }
 
 /// Whether some action of the task adds or deletes an atom of the predicate.
-pub fn is_fluent(task: &Task, predicate: PredicateId) -> bool
+pub fn is_fluent_predicate(task: &Task, predicate: PredicateId) -> bool
     ensures { result ≡ defined.is_fluent (task_of task.now) predicate.0 }
 {
     for number in 0..task.schema_count() {

@@ -19,7 +19,7 @@ pub use change::apply;
 pub use costs::{amount, cost};
 pub use effects::{Change, GroundLiteral, changes};
 pub use fluent_predicates::FluentPredicates;
-pub use fluents::{is_atom, is_fluent, is_fluent_atom};
+pub use fluents::{is_atom, is_fluent, is_fluent_predicate};
 pub use instance::{Binding, Instance, copied, is_instance, with_object};
 pub use laws::{formula_examples_are_judged, one_state, sure_literals_hold};
 pub use literals::{Literal, sure};

@@ -1,5 +1,5 @@
 //! A plain store of states: an indexed hash set of their words.
-ghost use Rattle.std.specs.Prelude.{◌≡◌, ℕ, ◌<◌, ◌≤◌, List, [], length, map, slice_get, vec_items, Contains, MatchOption, IfOk, OnErr};
+ghost use Rattle.std.specs.Prelude.{◌≡◌, ℕ, ◌<◌, ◌≤◌, List, [], length, map, slice_get, vec_items, Contains, MatchOption, IfOk, OnErr, false, is_err};
 ghost use Rattle.std.proofs.Props.{props};
 ghost use Rattle.packed_state.specs.Store.{AreStored};
 ghost use Rattle.packed_state.specs.Words.{AreWordsOf};
@@ -24,15 +24,16 @@ impl PlainStore {
     ghost use Rattle.packed_state.specs.PlainStore.{plain_width, plain_states};
 
     /// A store of sets of numbers below `width`, without any.
-    pub fn new(alloc: Global, width: u32) -> PlainStore
-        ensures width { plain_width result ≡ width }
-        ensures states { plain_states result ≡ [] }
+    pub fn new(alloc: Global, width: u32) -> Result<PlainStore, NoMemory>
+        ensures width { IfOk result (λ store. plain_width store ≡ width) }
+        ensures states { IfOk result (λ store. plain_states store ≡ []) }
+        ensures ok { is_err result ≡ false }
     {
-        PlainStore {
+        Ok(PlainStore {
             width,
             rows: IndexSet::new(alloc),
             alloc,
-        }
+        })
     }
 
     fn place_of(&self, words: &[u64]) -> Option<usize>
@@ -86,7 +87,7 @@ impl StateStore for PlainStore {
         }
     }
 
-    fn insert_if_new(&mut self, state: &Packed) -> Result<(u32, bool), NoMemory> {
+    fn insert_copy_if_new(&mut self, state: &Packed) -> Result<(u32, bool), NoMemory> {
         self.put(state.words())
     }
 

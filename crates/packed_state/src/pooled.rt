@@ -78,7 +78,7 @@ impl StateStore for PooledStore {
         }
     }
 
-    fn insert_if_new(&mut self, state: &Packed) -> Result<(u32, bool), NoMemory> {
+    fn insert_copy_if_new(&mut self, state: &Packed) -> Result<(u32, bool), NoMemory> {
         self.put(state.words())
     }
 

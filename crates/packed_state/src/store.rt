@@ -34,14 +34,30 @@ pub trait StateStore: Drop {
             (¬ Contains (states self.now) (bits_of state.now))
             (λ place. slice_get (states self.now) place ≡ Some (bits_of state.now)) };
 
-    /// The set's place, and whether it was new: then it now is at the end of the list. Where memory was refused
-    /// the list stays as it is.
-    fn insert_if_new(&mut self, state: &Packed) -> Result<(u32, bool), NoMemory>
+    /// The set's place, and whether it was new: then a copy of it now is at the end of the list.
+    ///
+    /// # Errors
+    /// Where memory is refused: the list stays as it is.
+    fn insert_copy_if_new(&mut self, state: &Packed) -> Result<(u32, bool), NoMemory>
         requires width { length (bits_of state.now) ≡ width_of self.old }
         requires room { length (states self.old) < 16777216 }
         ensures width { width_of self.new ≡ width_of self.old }
         ensures ok { IfOk result (λ r. IsPlaced (states self.old) (states self.new) (bits_of state.now) r.0 r.1) }
         ensures err { OnErr result (states self.new ≡ states self.old) };
+
+    /// The set's place, and whether it was new: then it now is at the end of the list.
+    ///
+    /// # Errors
+    /// Where memory is refused: the list stays as it is.
+    fn insert_if_new(&mut self, state: Packed) -> Result<(u32, bool), NoMemory>
+        requires width { length (bits_of state) ≡ width_of self.old }
+        requires room { length (states self.old) < 16777216 }
+        ensures width { width_of self.new ≡ width_of self.old }
+        ensures ok { IfOk result (λ r. IsPlaced (states self.old) (states self.new) (bits_of state) r.0 r.1) }
+        ensures err { OnErr result (states self.new ≡ states self.old) }
+    {
+        self.insert_copy_if_new(&state)
+    }
 
     ghost distinct: { (store : Self) → AreDistinct (states store) };
 }

@@ -4,7 +4,7 @@ ghost use Rattle.packed_state.specs.Packed.{bits_of};
 ghost use Rattle.grounding.specs.Ground.{atoms_in};
 
 use faults::NoMemory;
-use formulas::is_fluent_atom;
+use formulas::is_fluent;
 use grounding::{Ground, GroundFault, GroundLimit};
 use packed_state::Packed;
 use std::alloc::Global;
@@ -107,7 +107,7 @@ fn has_none(ground: &Ground<'_>, terms: &[Application]) -> bool {
 
 fn numbers_seen_first(rt: &impl Abort, alloc: Global, task: &Task) -> Result<(), Fail> {
     let seen = [atom(3, &[1])];
-    if !is_fluent_atom(task, &seen[0]) {
+    if !is_fluent(task, &seen[0]) {
         return Err("not fluent".into());
     }
     let ground = Ground::new(alloc, task, &seen, 2)?;

@@ -2,7 +2,7 @@
 use faults::NoMemory;
 use formulas::{
     Atom, Binding, Instance, Plan, State, Valuation, apply, changes, copied, cost, holds, is_atom,
-    is_fluent, is_fluent_atom, is_instance, meets_goal, sure, with_object,
+    is_fluent, is_fluent_predicate, is_instance, meets_goal, sure, with_object,
 };
 use std::alloc::Global;
 use std::process::Abort;
@@ -82,12 +82,12 @@ fn knows_atoms(rt: &impl Abort, task: &Task) {
 /// The predicate of places alone is fluent, and its atoms are.
 fn knows_what_is_fluent(rt: &impl Abort, task: &Task) {
     let are_fluent = [
-        is_fluent(task, PredicateId(0)),
-        is_fluent(task, PredicateId(1)),
-        is_fluent(task, PredicateId(2)),
-        is_fluent_atom(task, &atom(0, &[2])),
-        is_fluent_atom(task, &atom(0, &[3])),
-        is_fluent_atom(task, &atom(1, &[2, 2])),
+        is_fluent_predicate(task, PredicateId(0)),
+        is_fluent_predicate(task, PredicateId(1)),
+        is_fluent_predicate(task, PredicateId(2)),
+        is_fluent(task, &atom(0, &[2])),
+        is_fluent(task, &atom(0, &[3])),
+        is_fluent(task, &atom(1, &[2, 2])),
     ];
     assert_eq!(rt; are_fluent, [true, false, false, true, false, false]);
 }

@@ -70,7 +70,7 @@ fn place_of_state<S: StateStore>(
         (λ p. IsPlaced (S.states store.old) (S.states store.new) (bits_of state.now) p.0.0 p.1)) }
 {
     if store.len() < max_states as usize {
-        let (place, is_new) = store.insert_if_new(state)?;
+        let (place, is_new) = store.insert_copy_if_new(state)?;
         return Ok(Some((StateId(place), is_new)));
     }
     match store.find(state) {
@@ -97,7 +97,7 @@ impl<S: StateStore> Progress<S> {
         ensures width { IfOk result (λ p. S.width_of p.store ≡ T.width_of system.now) }
     {
         let initial = system.initial(alloc)?;
-        let (place, _) = store.insert_if_new(&initial)?;
+        let (place, _) = store.insert_copy_if_new(&initial)?;
         let mut progress = Progress {
             store,
             nodes: Vec::new(alloc),

@@ -279,7 +279,7 @@ pub(crate) fn put<S: StateStore>(
     set: &Packed,
 ) -> Result<Option<(u32, bool)>, NoMemory> {
     if set.width() == store.width() && store.len() < 16_777_216 {
-        return Ok(Some(store.insert_if_new(set)?));
+        return Ok(Some(store.insert_copy_if_new(set)?));
     }
     Ok(None)
 }
@@ -361,7 +361,7 @@ fn keeps<S: StateStore>(
 /// Either store keeps sets of this width.
 fn width_is_kept(rt: &impl Abort, alloc: Global, width: u32) -> Result<(), Fail> {
     let sets = distinct_sets(alloc, width)?;
-    keeps(rt, alloc, PlainStore::new(alloc, width), &sets)?;
+    keeps(rt, alloc, PlainStore::new(alloc, width)?, &sets)?;
     keeps(rt, alloc, PooledStore::new(alloc, width)?, &sets)
 }
 

@@ -164,7 +164,7 @@ fn is_found(
     requires dead_ends { ground_in dead_ends.now ≡ ground.now }
 {
     let system = GroundSystem(ground);
-    let store = PlainStore::new(alloc, ground.width());
+    let store = PlainStore::new(alloc, ground.width())?;
     let most = most.clamp(1, MAX_STATES);
     let outcome = best_first(alloc, &system, fair, dead_ends, store, most)?;
     is_of(alloc, fair, dead_ends, &outcome, cert)

@@ -64,7 +64,7 @@ fn set_up(
     let sets = distinct_sets(alloc, width)?;
     let lent = set_of(alloc, width, &[])?;
     let pooled = PooledStore::new(alloc, width)?;
-    Ok((sets, lent, PlainStore::new(alloc, width), pooled))
+    Ok((sets, lent, PlainStore::new(alloc, width)?, pooled))
 }
 
 /// Of three words a set, of which a vector's room is no multiple: a set may fit in part.

@@ -196,7 +196,7 @@ fn is_as_wanted<S: StateStore>(alloc: Global, row: &Row, store: S) -> Result<boo
 /// The same in the plain store, and in the pooled one.
 pub(crate) fn are_as_wanted(alloc: Global, row: &Row) -> Result<[bool; 2], NoMemory> {
     let width = row.rooms.width;
-    let plain = is_as_wanted(alloc, row, PlainStore::new(alloc, width))?;
+    let plain = is_as_wanted(alloc, row, PlainStore::new(alloc, width)?)?;
     let pooled = is_as_wanted(alloc, row, PooledStore::new(alloc, width)?)?;
     Ok([plain, pooled])
 }
@@ -234,7 +234,7 @@ fn cost_with_no_estimate<S: StateStore>(
 /// The same in the plain store, and in the pooled one.
 fn costs_with_no_estimate(alloc: Global, row: &Row) -> Result<[Option<u64>; 2], NoMemory> {
     let width = row.rooms.width;
-    let plain = cost_with_no_estimate(alloc, row, PlainStore::new(alloc, width))?;
+    let plain = cost_with_no_estimate(alloc, row, PlainStore::new(alloc, width)?)?;
     let pooled = cost_with_no_estimate(alloc, row, PooledStore::new(alloc, width)?)?;
     Ok([plain, pooled])
 }

@@ -40,7 +40,7 @@ impl Rows {
     {
         let before = self.weights.len();
         self.weights.extend_from_slice(weights)?;
-        match self.sets.insert_if_new(set) {
+        match self.sets.insert_copy_if_new(set) {
             Ok((_, true)) => Ok(true),
             Ok((_, false)) => {
                 self.weights.truncate(before);

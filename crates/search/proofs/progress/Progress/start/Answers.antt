@@ -9,7 +9,7 @@ pub returns-clause-search : goal.returns-clause-search
 returns-clause-search g c =
     let states = g.S.StateStore.states in
     let s = bits_of c.in_ok-initial.initial in
-    let stored = states c.insert_if_new.new.self in
+    let stored = states c.insert_copy_if_new.new.self in
     let placed = placed_first (states c.args.store) stored s c.in_ok-place.place c.in_ok-place.field-0-1 c.requires.empty c.in_ok-place.ensures.ok in
     let same : states c.add.new.self.store ≡ stored = rw c.in_ok-add.ensures.store refl in
     let value = value_by (g.E.Estimate.score_of c.args.guide.now.estimate.now) in
@@ -24,7 +24,7 @@ returns-clause-search g c =
 pub add-requires-clause-place : goal.add-requires-clause-place
 add-requires-clause-place g c =
     let states = g.S.StateStore.states in
-    let placed = placed_first (states c.args.store) (states c.insert_if_new.new.self) (bits_of c.in_ok-initial.initial) c.in_ok-place.place c.in_ok-place.field-0-1 c.requires.empty c.in_ok-place.ensures.ok in
+    let placed = placed_first (states c.args.store) (states c.insert_copy_if_new.new.self) (bits_of c.in_ok-initial.initial) c.in_ok-place.place c.in_ok-place.field-0-1 c.requires.empty c.in_ok-place.ensures.ok in
     omega (arith, placed.1)
 
 pub add-requires-clause-sum : goal.add-requires-clause-sum

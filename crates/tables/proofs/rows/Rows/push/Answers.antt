@@ -9,7 +9,7 @@ pub returns-in-Ok-default-false-clause-ok : goal.returns-in-Ok-default-false-cla
 returns-in-Ok-default-false-clause-ok c =
     let old = c.args.self.now in
     let many : c.len-before.result ≡ length old.weights.items = omega (arith, c.len-before.ensures, old.weights.ok.0) in
-    let placed = was-there (pooled_states old.sets) (pooled_states c.insert_if_new.new.self) (bits_of c.args.set.now) c.in-Ok-default-false.field-0-0 c.in-Ok-default-false.field-0-1
+    let placed = was-there (pooled_states old.sets) (pooled_states c.insert_copy_if_new.new.self) (bits_of c.args.set.now) c.in-Ok-default-false.field-0-0 c.in-Ok-default-false.field-0-1
     c.in-Ok-default-false.field-0-1-test c.in-Ok-default-false.ensures.ok in (
       placed.0,
       record {

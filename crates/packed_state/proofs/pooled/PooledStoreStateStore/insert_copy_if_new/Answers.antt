@@ -2,7 +2,7 @@ use Rattle.std.proofs.Common.{arith}
 use Rattle.packed_state.specs.Packed.{bits_of}
 use Rattle.packed_state.specs.PooledStore.{rows_of}
 use Rattle.packed_state.proofs.StoreLemmas.{length-sets, placed_state}
-use Rattle.packed_state.proofs.pooled.PooledStoreStateStore.insert_if_new.Goals as goal
+use Rattle.packed_state.proofs.pooled.PooledStoreStateStore.insert_copy_if_new.Goals as goal
 
 pub put-requires-clause-room : goal.put-requires-clause-room
 put-requires-clause-room c =

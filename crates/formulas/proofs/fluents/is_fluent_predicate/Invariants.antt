@@ -3,7 +3,7 @@ use Rattle.std.specs.List.{list_any}
 use Rattle.task.specs.Task.{task_of}
 use Rattle.model.specs.Task.{Schema}
 use Rattle.model.specs.Fluents as defined
-use Rattle.formulas.proofs.fluents.is_fluent.Given as goal
+use Rattle.formulas.proofs.fluents.is_fluent_predicate.Given as goal
 
 -- the schemas that are left decide
 abbrev pub invariant-loop-number : goal.invariant-loop-number

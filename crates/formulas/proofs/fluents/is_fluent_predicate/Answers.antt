@@ -5,7 +5,7 @@ use Rattle.task.specs.TaskParts.{shape_of}
 use Rattle.model.specs.Fluents.{touches}
 use Rattle.task.proofs.Shapes.{Shape, found as schema_found}
 use Rattle.formulas.proofs.FluentTests.{fluent_here, fluent_later}
-use Rattle.formulas.proofs.fluents.is_fluent.Goals as goal
+use Rattle.formulas.proofs.fluents.is_fluent_predicate.Goals as goal
 
 pub returns-then-touches : goal.returns-then-touches
 returns-then-touches c =

@@ -2,7 +2,7 @@ use Rattle.std.proofs.Common.{map, vec_items, arith}
 use Rattle.std.proofs.lemmas.List.{length-map}
 use Rattle.packed_state.specs.Packed.{bits_of}
 use Rattle.packed_state.proofs.StoreLemmas.{length-sets, placed_state}
-use Rattle.packed_state.proofs.plain.PlainStoreStateStore.insert_if_new.Goals as goal
+use Rattle.packed_state.proofs.plain.PlainStoreStateStore.insert_copy_if_new.Goals as goal
 
 pub put-requires-clause-room : goal.put-requires-clause-room
 put-requires-clause-room c =
