@@ -21,6 +21,7 @@ pub mod Fluents
 pub mod StaticallyFalse
 pub mod NumberedAtoms
 pub mod NumberedLiterals
+pub mod ConditionalChanges
 pub mod Bisimulation
 pub mod Grounding
 pub mod Claims

@@ -2,17 +2,14 @@
 -- at each instance and at the goal once, and at no state: what an instance may lose by each part, by single atoms and by each
 -- table, adds up to no more than it costs, as in a cost partitioning (Seipp, Keller & Helmert 2020, JAIR 67). What it may lose
 -- by a table is the least cost that its abstract transitions need, the saturated cost, which may be negative.
-use Rattle.std.specs.Prelude.{◌≡◌, ℕ, ◌<◌, Bool, true, false, not, ◌&&◌, ◌||◌, IsTrue, slice_get, if◌then◌else◌, ℤ, pos, ◌+ℤ◌, neg_ℤ, ◌≤ℤ◌, List, [], ◌∷◌, ◌++◌, length, map, filter, All, Option, Some, is_some}
+use Rattle.std.specs.Prelude.{◌≡◌, ℕ, ◌<◌, Bool, true, false, not, ◌&&◌, ◌||◌, IsTrue, slice_get, if◌then◌else◌, ℤ, pos, ◌+ℤ◌, neg_ℤ, ◌≤ℤ◌, List, [], ◌∷◌, ◌++◌, length, map, filter, All, Some, is_some}
 use Rattle.std.specs.Bool.{beq}
 use Rattle.std.specs.List.{list_any, list_all, flat_map, filter_map}
-use Rattle.std.specs.Option.{option_map, option_map_or}
-use Rattle.model.specs.Task.{Atom, Formula, Schema, Task, Instance}
-use Rattle.model.specs.Meaning.{Change, cost_of}
-use Rattle.model.specs.Fluents.{is_fluent}
-use Rattle.model.specs.SureLiterals.{Literal, is_true, sure}
-use Rattle.model.specs.NumberedAtoms.{occurs_in}
-use Rattle.model.specs.StaticallyFalse.{kept_instances, counting_changes}
-use Rattle.model.specs.NumberedLiterals.{NumberedLiteral, NumberedChange, numbered_change, numbered_literals, literals_of_instance, literals_of_goal}
+use Rattle.model.specs.Task.{Atom, Task, Instance}
+use Rattle.model.specs.Meaning.{cost_of}
+use Rattle.model.specs.StaticallyFalse.{kept_instances}
+use Rattle.model.specs.NumberedLiterals.{NumberedLiteral, NumberedChange, literals_of_instance, literals_of_goal}
+pub use Rattle.model.specs.ConditionalChanges.{is_unnumbered, wants_unnumbered, instance_wants_unnumbered, ConditionalChange, changes_in, conditional_change, conditional_of_instance}
 use Rattle.potential_functions.specs.Fair.{touches, may_become, greatest, loses_at_most, goal_gives_at_most, nothing}
 use Rattle.table_functions.specs.TableFunctions.{Row, Table, is_among, row_of, TableFunction, weight_at, sum_over, SeveralValues, functions_of, dead_ends_of}
 
@@ -31,16 +28,6 @@ abbrev pub is_shut_out : List NumberedLiteral → List Table → Bool
 is_shut_out literals tables = list_any (λ (t : Table). not (list_any (λ (r : Row). agrees literals t.scope r.atoms) t.rows)) tables
 
 -- ---- rows after a row
-
--- a change of a numbered atom, with the sure literals of its condition that are of numbered atoms, and whether another of
--- these wants an atom that has no number, which is false
-pub record ConditionalChange : Type 0 where
-  pub change : NumberedChange
-  pub condition : List NumberedLiteral
-  pub wants_unnumbered : Bool
-
-abbrev pub changes_in : List ConditionalChange → List NumberedChange
-changes_in changes = map (λ (c : ConditionalChange). c.change) changes
 
 -- where these atoms of the scope are true, nothing contradicts the condition, so the change may be made
 abbrev pub is_open : List ℕ → List ℕ → ConditionalChange → Bool
@@ -113,33 +100,10 @@ pub record IsFairAtGoals (task : Task) (atoms : List Atom) (h : TableFunction) :
 
 -- ---- instances of a task
 
--- the literal wants a fluent atom that has no number
-abbrev pub is_unnumbered : Task → List Atom → Literal → Bool
-is_unnumbered task atoms (is_true a) = is_fluent task a.predicate && not (occurs_in atoms a)
-is_unnumbered task atoms _ = false
-
--- one of the formula's sure literals does
-abbrev pub wants_unnumbered : Task → List Atom → Formula → List ℕ → Bool
-wants_unnumbered task atoms formula binding = list_any (is_unnumbered task atoms) (sure task formula binding)
-
-abbrev pub conditional_change : Task → List Atom → Change → Option ConditionalChange
-conditional_change task atoms c =
-    option_map (λ (k : NumberedChange). record {
-      change = k;
-      condition = numbered_literals task atoms c.condition c.binding;
-      wants_unnumbered = wants_unnumbered task atoms c.condition c.binding;
-    }) (numbered_change atoms c)
-
--- the changes of an instance that count
-abbrev pub conditional_of_instance : Task → List Atom → Instance → List ConditionalChange
-conditional_of_instance task atoms i = filter_map (conditional_change task atoms) (counting_changes task i)
-
 -- An instance is shut out, if its precondition wants an atom that has no number, or its sure literals are: in a state that has
 -- all its rows it is not applicable.
 abbrev pub is_instance_shut_out : Task → List Atom → List Table → Instance → Bool
-is_instance_shut_out task atoms tables i =
-    option_map_or (λ (s : Schema). wants_unnumbered task atoms s.precondition i.objects) (slice_get task.schemas i.schema) false
-    || is_shut_out (literals_of_instance task atoms i) tables
+is_instance_shut_out task atoms tables i = instance_wants_unnumbered task atoms i || is_shut_out (literals_of_instance task atoms i) tables
 
 -- of others it is asked that they are fair
 abbrev pub is_asked : Task → List Atom → List Table → Instance → Bool
