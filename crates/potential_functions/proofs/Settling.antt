@@ -5,11 +5,11 @@ use Rattle.std.specs.Int.{int_max}
 use Rattle.std.proofs.lemmas.Bool.{cases_eq, cases_lt}
 use Rattle.std.proofs.lemmas.List.{get_or-set_same, get_or-set_other}
 use Rattle.std.proofs.lemmas.Int.{ints, by_lt_z}
-use Rattle.model.specs.Task.{Atom, Task}
+use Rattle.model.specs.Task.{Atom, Task, Instance}
 use Rattle.model.specs.NumberedLiterals.{NumberedLiteral}
 use Rattle.potential_functions.specs.PotentialFunctions.{PotentialFunction, weight, sum_below, given, IsInRange}
-use Rattle.potential_functions.specs.Fair.{says, goal_gives, goal_gives_at_most, AreFair}
-use Rattle.potential_functions.specs.Settled.{AreNear, initial_value, IsSettled}
+use Rattle.potential_functions.specs.Fair.{says, goal_gives, goal_gives_at_most, AreFairAt}
+use Rattle.potential_functions.specs.Settled.{AreNear, initial_value, IsSettledAt}
 use Rattle.potential_functions.proofs.Sums.{sum-changed}
 
 -- ---- one weight changed
@@ -83,30 +83,30 @@ set-same (w ∷ weights) (suc n) = ap (λ l. w ∷ l) (set-same weights n)
 
 -- ---- settled
 
--- with these weights no constant gives fair potentials that are better
-pub record IsNoneBetter (task : Task) (atoms : List Atom) (p : PotentialFunction) (weights : List ℤ) : Type 0 where
-  pub none : (constant : ℤ) → IsInRange constant → AreFair task atoms (potentials constant weights) → initial_value task atoms (potentials constant weights) ≤ initial_value task atoms p
+-- with these weights no constant gives potentials that are fair at this allowance and better
+pub record IsNoneBetter (allowance : Instance → ℕ) (task : Task) (atoms : List Atom) (p : PotentialFunction) (weights : List ℤ) : Type 0 where
+  pub none : (constant : ℤ) → IsInRange constant → AreFairAt allowance task atoms (potentials constant weights) → initial_value task atoms (potentials constant weights) ≤ initial_value task atoms p
 
 -- one less and one more are tried
-pub record IsTried (task : Task) (atoms : List Atom) (p : PotentialFunction) (n : ℕ) : Type 0 where
-  pub less : IsInRange (weight p.weights n +ℤ neg_ℤ (pos 1)) → IsNoneBetter task atoms p (set p.weights n (weight p.weights n +ℤ neg_ℤ (pos 1)))
-  pub more : IsInRange (weight p.weights n +ℤ pos 1) → IsNoneBetter task atoms p (set p.weights n (weight p.weights n +ℤ pos 1))
+pub record IsTried (allowance : Instance → ℕ) (task : Task) (atoms : List Atom) (p : PotentialFunction) (n : ℕ) : Type 0 where
+  pub less : IsInRange (weight p.weights n +ℤ neg_ℤ (pos 1)) → IsNoneBetter allowance task atoms p (set p.weights n (weight p.weights n +ℤ neg_ℤ (pos 1)))
+  pub more : IsInRange (weight p.weights n +ℤ pos 1) → IsNoneBetter allowance task atoms p (set p.weights n (weight p.weights n +ℤ pos 1))
 
 by-one : {P : Type 0} (x w : ℤ) → w ≤ℤ (x +ℤ pos 1) → x ≤ℤ (w +ℤ pos 1) → (x ≡ (w +ℤ neg_ℤ (pos 1)) → P) → (x ≡ w → P) → (x ≡ (w +ℤ pos 1) → P) → P
 by-one x w low high less same more =
     by_lt_z x w (λ below. less (omega (arith, ints))) (λ above. by_lt_z w x (λ over. more (omega (arith, ints))) (λ under. same (omega (arith, ints))))
 
 -- potentials of which the constant and each weight is tried are settled
-pub settled : (task : Task) (atoms : List Atom) (p : PotentialFunction) → IsNoneBetter task atoms p p.weights → ((n : ℕ) → n < length p.weights → IsTried task atoms p n) → IsSettled task atoms p
-settled task atoms p constant tried = record {
+pub settled : (allowance : Instance → ℕ) (task : Task) (atoms : List Atom) (p : PotentialFunction) → IsNoneBetter allowance task atoms p p.weights → ((n : ℕ) → n < length p.weights → IsTried allowance task atoms p n) → IsSettledAt allowance task atoms p
+settled allowance task atoms p constant tried = record {
   none_better = λ q in_range fair near.
       let n = near.number in
       let w = weight p.weights n in
       let x = weight q.weights n in
       let are = near-weights p q near in
       let long = near.as_many in
-      let done = λ (weights : List ℤ) (is : q.weights ≡ weights) (none : IsNoneBetter task atoms p weights).
-      subst (λ l. initial_value task atoms (potentials q.constant l) ≤ initial_value task atoms p) (sym is) (none.none q.constant in_range.constant (subst (λ l. AreFair task atoms (potentials q.constant l)) is fair)) in
+      let done = λ (weights : List ℤ) (is : q.weights ≡ weights) (none : IsNoneBetter allowance task atoms p weights).
+      subst (λ l. initial_value task atoms (potentials q.constant l) ≤ initial_value task atoms p) (sym is) (none.none q.constant in_range.constant (subst (λ l. AreFairAt allowance task atoms (potentials q.constant l)) is fair)) in
       let fits = λ (below : n < length p.weights). in_range.weights n (pos 0) (omega arith) in
       elim (cases_lt n (length p.weights)) [
         | inl below ↦

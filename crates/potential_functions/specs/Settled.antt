@@ -1,9 +1,11 @@
--- Settled potential functions: fair ones that no small change makes better. What improving gives, of fair and of dead-fair ones.
+-- Settled potential functions: fair ones, at the allowance of costs or of dead ends, that no small change makes better; and what
+-- improving gives.
 use Rattle.std.specs.Prelude.{◌≡◌, ◌≢◌, ℕ, ◌+◌, ◌≤◌, ◌⊎◌, pos, ◌+ℤ◌, ◌≤ℤ◌, List, length}
-use Rattle.model.specs.Task.{Atom, Task}
+use Rattle.model.specs.Task.{Atom, Task, Instance}
+use Rattle.model.specs.Meaning.{cost_of}
 use Rattle.model.specs.Grounding.{ground_system}
 use Rattle.potential_functions.specs.PotentialFunctions.{PotentialFunction, weight, value, AreInRange}
-use Rattle.potential_functions.specs.Fair.{AreFair, AreDeadFair}
+use Rattle.potential_functions.specs.Fair.{AreFairAt, nothing}
 
 -- they differ by at most one in the weight of one atom, and freely in the constant
 pub record AreNear (p q : PotentialFunction) : Type 0 where
@@ -17,20 +19,21 @@ pub record AreNear (p q : PotentialFunction) : Type 0 where
 abbrev pub initial_value : Task → List Atom → PotentialFunction → ℕ
 initial_value task atoms p = value p (ground_system task atoms).initial
 
--- no fair one near it gives the initial state a greater value
-pub record IsSettled (task : Task) (atoms : List Atom) (p : PotentialFunction) : Type 0 where
-  pub none_better : (q : PotentialFunction) → AreInRange q → AreFair task atoms q → AreNear p q → initial_value task atoms q ≤ initial_value task atoms p
+-- none near it that is fair at this allowance gives the initial state a greater value
+pub record IsSettledAt (allowance : Instance → ℕ) (task : Task) (atoms : List Atom) (p : PotentialFunction) : Type 0 where
+  pub none_better : (q : PotentialFunction) → AreInRange q → AreFairAt allowance task atoms q → AreNear p q → initial_value task atoms q ≤ initial_value task atoms p
 
--- What improving gives: fair ones, whose initial value is no lower, and which are settled or have an initial value that is
--- higher by at least so much.
-pub record IsImproved (task : Task) (atoms : List Atom) (by : ℕ) (p q : PotentialFunction) : Type 0 where
-  pub as_many : length q.weights ≡ length p.weights
-  pub fair : AreFair task atoms q
-  pub no_lower : initial_value task atoms p ≤ initial_value task atoms q
-  pub end : IsSettled task atoms q ⊎ (initial_value task atoms p + by ≤ initial_value task atoms q)
+-- no fair one near it does, and no dead-fair one
+abbrev pub IsSettled : Task → List Atom → PotentialFunction → Type 0
+IsSettled task = IsSettledAt (cost_of task) task
 
--- What improving dead-fair ones gives: dead-fair ones, whose initial value is no lower.
-pub record IsDeadImproved (task : Task) (atoms : List Atom) (p q : PotentialFunction) : Type 0 where
+abbrev pub IsDeadSettled : Task → List Atom → PotentialFunction → Type 0
+IsDeadSettled = IsSettledAt nothing
+
+-- What improving those that are fair at an allowance gives: ones that are, too, whose initial value is no lower, and which are
+-- settled or have an initial value that is higher by at least so much.
+pub record IsImprovedAt (allowance : Instance → ℕ) (task : Task) (atoms : List Atom) (by : ℕ) (p q : PotentialFunction) : Type 0 where
   pub as_many : length q.weights ≡ length p.weights
-  pub dead_fair : AreDeadFair task atoms q
+  pub fair : AreFairAt allowance task atoms q
   pub no_lower : initial_value task atoms p ≤ initial_value task atoms q
+  pub end : IsSettledAt allowance task atoms q ⊎ (initial_value task atoms p + by ≤ initial_value task atoms q)

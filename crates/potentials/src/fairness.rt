@@ -4,7 +4,7 @@ ghost use Rattle.grounding.specs.Ground.{task_in, atoms_in};
 ghost use Rattle.model.specs.Task.{Instance};
 ghost use Rattle.model.specs.Meaning.{cost_of};
 ghost use Rattle.model.specs.StaticallyFalse.{kept_instances};
-ghost use Rattle.potential_functions.specs.Fair.{IsFairAt, IsFairAtGoals, IsFirstUnfairAt};
+ghost use Rattle.potential_functions.specs.Fair.{nothing, IsFairAt, IsFairAtGoals, IsFirstUnfairAt};
 ghost use Rattle.potentials.specs.Potentials.{potentials_of};
 ghost use Rattle.potentials.specs.Fairness.{allowed_by, AreInstancesFairAt, ReportsAt, Reports, DetectsDead};
 
@@ -105,6 +105,16 @@ impl Potentials {
             → (IsTrue result ↔ IsFairAt (cost_of (task_in ground.now) i) (task_in ground.now) (atoms_in ground.now) (potentials_of self.now).weights i) }
     {
         self.is_fair_within(ground, number, Allowance::Cost)
+    }
+
+    /// Whether the instance of this number is dead-fair.
+    pub fn is_dead_fair_at(&self, ground: &Ground<'_>, number: u32) -> bool
+        requires width { length (potentials_of self.now).weights ≡ length (atoms_in ground.now) }
+        requires within { number < length (kept_instances (task_in ground.now)) }
+        ensures { (i : Instance) → slice_get (kept_instances (task_in ground.now)) number ≡ Some i
+            → (IsTrue result ↔ IsFairAt (nothing i) (task_in ground.now) (atoms_in ground.now) (potentials_of self.now).weights i) }
+    {
+        self.is_fair_within(ground, number, Allowance::Nothing)
     }
 
     /// Whether the instance of this number is fair where this is allowed to it.

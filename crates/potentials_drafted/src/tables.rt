@@ -6,6 +6,7 @@ use crate::incidence::{Incidence, IncidenceEntry};
 use crate::samples::{sampled, true_atoms};
 use faults::NoMemory;
 use grounding::Ground;
+use packed_state::Packed;
 use potentials::{goal_gives, instance_count, is_in_range};
 use std::alloc::Global;
 
@@ -55,8 +56,8 @@ impl AtGoal {
 }
 
 impl Tables {
-    /// Those of the ground task.
-    pub fn new(alloc: Global, ground: &Ground<'_>) -> Result<Tables, NoMemory>
+    /// Those of the ground task, whose initial state this is.
+    pub fn new(alloc: Global, ground: &Ground<'_>, initial: &Packed) -> Result<Tables, NoMemory>
         ensures { IfOk result (AreTablesOf ground.now) }
     {
         Ok(Tables {
@@ -64,7 +65,7 @@ impl Tables {
             at_goal: reported_at_goal(alloc, ground)?,
             costs: costs(alloc, ground)?,
             incidence: Incidence::new(alloc, ground)?,
-            states: states(alloc, ground)?,
+            states: states(alloc, ground, initial)?,
         })
     }
 
@@ -148,9 +149,8 @@ fn costs(alloc: Global, ground: &Ground<'_>) -> Result<Vec<i64>, NoMemory> {
 }
 
 /// The true atoms of the initial state, and of those that are sampled on the way from it.
-fn states(alloc: Global, ground: &Ground<'_>) -> Result<Vec<Vec<u32>>, NoMemory> {
-    let initial = ground.initial(alloc)?;
-    let mut states = sampled(alloc, ground, &initial, SAMPLES)?;
-    states.insert(0, true_atoms(alloc, &initial)?)?;
+fn states(alloc: Global, ground: &Ground<'_>, initial: &Packed) -> Result<Vec<Vec<u32>>, NoMemory> {
+    let mut states = sampled(alloc, ground, initial, SAMPLES)?;
+    states.insert(0, true_atoms(alloc, initial)?)?;
     Ok(states)
 }

@@ -6,18 +6,18 @@ use Rattle.std.proofs.lemmas.Bool.{cases_eq}
 use Rattle.std.proofs.lemmas.List.{length-map}
 use Rattle.std.proofs.lemmas.Int.{ints, clamps}
 use Rattle.std.specs.FinSet.{contains}
-use Rattle.model.specs.Task.{Atom, Task}
+use Rattle.model.specs.Task.{Atom, Task, Instance}
 use Rattle.model.specs.Meaning.{initial_state}
 use Rattle.model.specs.NumberedLiterals.{NumberedLiteral, literals_of_goal}
 use Rattle.model.specs.Grounding.{ground_system}
 use Rattle.potential_functions.specs.PotentialFunctions.{PotentialFunction, weight, given, score, or_zero, IsInRange}
-use Rattle.potential_functions.specs.Fair.{says, goal_gives, goal_gives_at_most, AreFair}
-use Rattle.potential_functions.specs.Settled.{initial_value, IsSettled, IsImproved}
+use Rattle.potential_functions.specs.Fair.{says, goal_gives, goal_gives_at_most, AreFairAt}
+use Rattle.potential_functions.specs.Settled.{initial_value, IsSettledAt, IsImprovedAt}
 use Rattle.potential_functions.proofs.Sums.{sum-range}
 use Rattle.potential_functions.proofs.Ranges.{zero-range, weight-range, given-range}
 use Rattle.potential_functions.proofs.Settling.{weight-here, gives-set, given-set, potentials, IsNoneBetter, IsTried, settled}
 use Rattle.potentials.specs.Potentials.{potentials_of}
-use Rattle.potentials.specs.Fairness.{AreInstancesFair}
+use Rattle.potentials.specs.Fairness.{AreInstancesFairAt}
 use Rattle.potentials_improved.specs.declared.climb.Climb.{Climb}
 use Rattle.potentials_improved.specs.declared.climb.Next.{Next}
 use Rattle.potentials_improved.specs.Climb.{worth, IsClimb, IsNext, IsWeightTried, IsAtomTried, IsPass}
@@ -43,7 +43,7 @@ back-again p q r n w v weighs there back =
 pub set-long : (p q : PotentialFunction) (n : ℕ) (w k : ℤ) → q ≡ potentials k (set p.weights n w) → length q.weights ≡ length p.weights
 set-long p q n w k is = ap (λ (x : PotentialFunction). length x.weights) is ∙ length-set {A = ℤ} p.weights n w
 
-module _ (task : Task) (atoms : List Atom) where
+module _ (allowance : Instance → ℕ) (task : Task) (atoms : List Atom) where
   abbrev initial : List Bool
   initial = (ground_system task atoms).initial
 
@@ -91,7 +91,7 @@ module _ (task : Task) (atoms : List Atom) where
 
   -- ---- none better
 
-  pub none-too_high : (p : PotentialFunction) (weights : List ℤ) → pos 2147483647 <ℤ goal_gives_at_most (length atoms) weights goal → IsNoneBetter task atoms p weights
+  pub none-too_high : (p : PotentialFunction) (weights : List ℤ) → pos 2147483647 <ℤ goal_gives_at_most (length atoms) weights goal → IsNoneBetter allowance task atoms p weights
   none-too_high p weights high = record {
     none = λ k fits fair.
         let least = fits.least in
@@ -101,7 +101,7 @@ module _ (task : Task) (atoms : List Atom) where
 
   -- the greatest constant decides for all
   pub none-above : (p : PotentialFunction) (weights : List ℤ) (constant goal_sum : ℤ) → goal_sum ≡ goal_gives_at_most (length atoms) weights goal
-      → ((k : ℤ) → IsInRange k → (k +ℤ goal_sum) ≤ℤ pos 0 → k ≤ℤ constant) → or_zero (score (potentials constant weights) initial) ≤ initial_value task atoms p → IsNoneBetter task atoms p weights
+      → ((k : ℤ) → IsInRange k → (k +ℤ goal_sum) ≤ℤ pos 0 → k ≤ℤ constant) → or_zero (score (potentials constant weights) initial) ≤ initial_value task atoms p → IsNoneBetter allowance task atoms p weights
   none-above p weights constant goal_sum is greatest least = record {
     none = λ k fits fair.
         let within = fair.goals.within in
@@ -112,19 +112,19 @@ module _ (task : Task) (atoms : List Atom) where
 
   -- ---- the first
 
-  module _ (c : Climb) (p : PotentialFunction) (constant sum : ℤ) (fair : AreFair task atoms p) (sums : sum ≡ goal_gives_at_most (length atoms) p.weights goal)
+  module _ (c : Climb) (p : PotentialFunction) (constant sum : ℤ) (fair : AreFairAt allowance task atoms p) (sums : sum ≡ goal_gives_at_most (length atoms) p.weights goal)
       (greatest : (k : ℤ) → IsInRange k → (k +ℤ sum) ≤ℤ pos 0 → k ≤ℤ constant) (same : potentials_of c.potentials ≡ potentials constant p.weights) where
-    pub climb-made : length p.weights ≡ length atoms → (constant +ℤ sum) ≤ℤ pos 0 → c.goal ≡ sum → c.score ≡ score (potentials_of c.potentials) initial → IsClimb task atoms c
+    pub climb-made : length p.weights ≡ length atoms → (constant +ℤ sum) ≤ℤ pos 0 → c.goal ≡ sum → c.score ≡ score (potentials_of c.potentials) initial → IsClimb allowance task atoms c
     climb-made width meets goals scores = record {
       width = ap (λ (q : PotentialFunction). length q.weights) same ∙ width;
-      fair = subst (AreFair task atoms) (sym same) (record { instances = fair.instances; goals = record { within = subst (λ z. (constant +ℤ z) ≤ℤ pos 0) sums meets } });
+      fair = subst (AreFairAt allowance task atoms) (sym same) (record { instances = fair.instances; goals = record { within = subst (λ z. (constant +ℤ z) ≤ℤ pos 0) sums meets } });
       goal = goals ∙ sums ∙ ap (λ (q : PotentialFunction). goal_gives_at_most (length atoms) q.weights goal) (sym same);
       score = scores;
       greatest = λ k fits within. subst (λ z. k ≤ℤ z) (sym (ap (λ (q : PotentialFunction). q.constant) same)) (greatest k fits (subst (λ z. (k +ℤ z) ≤ℤ pos 0) goals within));
     }
 
   -- the greatest constant makes them no worse
-  pub climb-no_lower : (p q : PotentialFunction) (constant sum : ℤ) → AreFair task atoms p → sum ≡ goal_gives_at_most (length atoms) p.weights goal
+  pub climb-no_lower : (p q : PotentialFunction) (constant sum : ℤ) → AreFairAt allowance task atoms p → sum ≡ goal_gives_at_most (length atoms) p.weights goal
       → ((k : ℤ) → IsInRange k → (k +ℤ sum) ≤ℤ pos 0 → k ≤ℤ constant) → q ≡ potentials constant p.weights → IsInRange p.constant → initial_value task atoms p ≤ initial_value task atoms q
   climb-no_lower p q constant sum fair sums greatest same fits =
       let within = fair.goals.within in
@@ -139,12 +139,12 @@ module _ (task : Task) (atoms : List Atom) where
     p = potentials_of old.potentials
 
     -- kept as they were
-    pub tried-kept : (new : Climb) (n : ℕ) (w : ℤ) → IsClimb task atoms old → potentials_of new.potentials ≡ p → new.goal ≡ old.goal → new.score ≡ old.score
-        → (IsInRange w → IsNoneBetter task atoms p (set old.potentials.weights.items n w)) → IsWeightTried task atoms old new n w false
+    pub tried-kept : (new : Climb) (n : ℕ) (w : ℤ) → IsClimb allowance task atoms old → potentials_of new.potentials ≡ p → new.goal ≡ old.goal → new.score ≡ old.score
+        → (IsInRange w → IsNoneBetter allowance task atoms p (set old.potentials.weights.items n w)) → IsWeightTried allowance task atoms old new n w false
     tried-kept new n w is same goals scores none = record {
       climb = record {
         width = ap (λ (q : PotentialFunction). length q.weights) same ∙ is.width;
-        fair = subst (AreFair task atoms) (sym same) is.fair;
+        fair = subst (AreFairAt allowance task atoms) (sym same) is.fair;
         goal = goals ∙ is.goal ∙ ap (λ (q : PotentialFunction). goal_gives_at_most (length atoms) q.weights goal) (sym same);
         score = scores ∙ is.score ∙ ap (λ (q : PotentialFunction). score q initial) (sym same);
         greatest = λ k fits within. subst (λ z. k ≤ℤ z) (sym (ap (λ (q : PotentialFunction). q.constant) same)) (is.greatest k fits (subst (λ z. (k +ℤ z) ≤ℤ pos 0) goals within));
@@ -155,10 +155,10 @@ module _ (task : Task) (atoms : List Atom) where
     }
 
     -- changed for the better
-    pub tried-raised : (new : Climb) (next : Next) (n : ℕ) (w : ℤ) → IsClimb task atoms old → IsNext task atoms old n w next
-        → AreInstancesFair task atoms (potentials p.constant (set old.potentials.weights.items n w))
+    pub tried-raised : (new : Climb) (next : Next) (n : ℕ) (w : ℤ) → IsClimb allowance task atoms old → IsNext task atoms old n w next
+        → AreInstancesFairAt allowance task atoms (potentials p.constant (set old.potentials.weights.items n w))
         → potentials_of new.potentials ≡ potentials next.constant (set old.potentials.weights.items n w) → new.goal ≡ next.goal → new.score ≡ next.score
-        → IsWeightTried task atoms old new n w true
+        → IsWeightTried allowance task atoms old new n w true
     tried-raised new next n w is gives fair same goals scores =
         let ws = set old.potentials.weights.items n w in
         let meets = gives.meets in
@@ -168,7 +168,7 @@ module _ (task : Task) (atoms : List Atom) where
         record {
           climb = record {
             width = ap (λ (q : PotentialFunction). length q.weights) same ∙ long ∙ is.width;
-            fair = subst (AreFair task atoms) (sym same) (record { instances = fair; goals = record { within = subst (λ z. (next.constant +ℤ z) ≤ℤ pos 0) gives.goal meets } });
+            fair = subst (AreFairAt allowance task atoms) (sym same) (record { instances = fair; goals = record { within = subst (λ z. (next.constant +ℤ z) ≤ℤ pos 0) gives.goal meets } });
             goal = goals ∙ gives.goal ∙ ap (λ (q : PotentialFunction). goal_gives_at_most (length atoms) q.weights goal) (sym same);
             score = scores ∙ gives.score ∙ ap (λ (q : PotentialFunction). score q initial) (sym same);
             greatest = λ k fits within. subst (λ z. k ≤ℤ z) (sym (ap (λ (q : PotentialFunction). q.constant) same)) (gives.greatest k fits (subst (λ z. (k +ℤ z) ≤ℤ pos 0) goals within));
@@ -179,11 +179,11 @@ module _ (task : Task) (atoms : List Atom) where
         }
 
   -- one less, and then one more
-  pub atom-first : (old new : Climb) (n : ℕ) (w : ℤ) → IsWeightTried task atoms old new n w true → IsAtomTried task atoms old new n true
+  pub atom-first : (old new : Climb) (n : ℕ) (w : ℤ) → IsWeightTried allowance task atoms old new n w true → IsAtomTried allowance task atoms old new n true
   atom-first old new n w tried = record { climb = tried.climb; better = tried.better; same = λ e. absurd (true≢false e); tried = λ e. absurd (true≢false e) }
 
   pub atom-second : (old mid new : Climb) (n : ℕ) (v w x : ℤ) (raised : Bool) → x ≡ weight old.potentials.weights.items n → v ≡ (x +ℤ neg_ℤ (pos 1)) → w ≡ (x +ℤ pos 1)
-      → IsWeightTried task atoms old mid n v false → IsWeightTried task atoms mid new n w raised → IsAtomTried task atoms old new n raised
+      → IsWeightTried allowance task atoms old mid n v false → IsWeightTried allowance task atoms mid new n w raised → IsAtomTried allowance task atoms old new n raised
   atom-second old mid new n v w x raised weighs less more first second =
       let same = first.same refl in
       let weights : mid.potentials.weights.items ≡ old.potentials.weights.items = ap (λ (q : PotentialFunction). q.weights) same in
@@ -193,21 +193,21 @@ module _ (task : Task) (atoms : List Atom) where
         better = λ e. let b = second.better e in omega arith;
         same = λ e. second.same e ∙ same;
         tried = λ e. record {
-          less = λ fits. subst (λ z. IsNoneBetter task atoms (potentials_of old.potentials) (set old.potentials.weights.items n z)) (less ∙ ap (λ z. z +ℤ neg_ℤ (pos 1)) weighs)
+          less = λ fits. subst (λ z. IsNoneBetter allowance task atoms (potentials_of old.potentials) (set old.potentials.weights.items n z)) (less ∙ ap (λ z. z +ℤ neg_ℤ (pos 1)) weighs)
               (first.none refl (subst IsInRange (sym (less ∙ ap (λ z. z +ℤ neg_ℤ (pos 1)) weighs)) fits));
-          more = λ fits. subst (λ z. IsNoneBetter task atoms (potentials_of old.potentials) (set old.potentials.weights.items n z)) (more ∙ ap (λ z. z +ℤ pos 1) weighs)
-              (subst (λ l. IsNoneBetter task atoms (potentials_of old.potentials) (set l n w)) weights
-              (subst (λ q. IsNoneBetter task atoms q (set mid.potentials.weights.items n w)) same
+          more = λ fits. subst (λ z. IsNoneBetter allowance task atoms (potentials_of old.potentials) (set old.potentials.weights.items n z)) (more ∙ ap (λ z. z +ℤ pos 1) weighs)
+              (subst (λ l. IsNoneBetter allowance task atoms (potentials_of old.potentials) (set l n w)) weights
+              (subst (λ q. IsNoneBetter allowance task atoms q (set mid.potentials.weights.items n w)) same
               (second.none e (subst IsInRange (sym (more ∙ ap (λ z. z +ℤ pos 1) weighs)) fits))));
         };
       }
 
   -- ---- passes
 
-  pub pass-none : (c : Climb) → IsClimb task atoms c → IsPass task atoms 0 c c false
+  pub pass-none : (c : Climb) → IsClimb allowance task atoms c → IsPass allowance task atoms 0 c c false
   pass-none c is = record { climb = is; better = λ e. absurd (true≢false (sym e)); same = λ e. refl; tried = λ e k below. absurd (omega arith) }
 
-  pub pass-step : (n : ℕ) (old mid new : Climb) (raised better : Bool) → IsPass task atoms n old mid raised → IsAtomTried task atoms mid new n better → IsPass task atoms (n + 1) old new (raised || better)
+  pub pass-step : (n : ℕ) (old mid new : Climb) (raised better : Bool) → IsPass allowance task atoms n old mid raised → IsAtomTried allowance task atoms mid new n better → IsPass allowance task atoms (n + 1) old new (raised || better)
   pass-step n old mid new true true so tried =
       let a = so.better refl in let b = tried.better refl in
       record { climb = tried.climb; better = λ e. omega arith; same = λ e. absurd (true≢false e); tried = λ e. absurd (true≢false e) }
@@ -224,33 +224,33 @@ module _ (task : Task) (atoms : List Atom) where
         better = λ e. absurd (true≢false (sym e));
         same = λ e. tried.same refl ∙ same;
         tried = λ e k below. elim (cases_eq k n) [
-          | inl is ↦ subst (IsTried task atoms (potentials_of old.potentials)) (sym is) (subst (λ q. IsTried task atoms q n) same (tried.tried refl))
+          | inl is ↦ subst (IsTried allowance task atoms (potentials_of old.potentials)) (sym is) (subst (λ q. IsTried allowance task atoms q n) same (tried.tried refl))
           | inr other ↦ so.tried refl k (omega arith)
         ];
       }
 
   -- a pass that raises nothing leaves them settled
-  pub pass-settled : (old new : Climb) → IsClimb task atoms old → IsPass task atoms (length atoms) old new false → IsSettled task atoms (potentials_of new.potentials)
+  pub pass-settled : (old new : Climb) → IsClimb allowance task atoms old → IsPass allowance task atoms (length atoms) old new false → IsSettledAt allowance task atoms (potentials_of new.potentials)
   pass-settled old new is pass =
       let p = potentials_of old.potentials in
-      subst (IsSettled task atoms) (sym (pass.same refl))
-      (settled task atoms p
+      subst (IsSettledAt allowance task atoms) (sym (pass.same refl))
+      (settled allowance task atoms p
       (none-above p p.weights p.constant old.goal is.goal is.greatest (omega arith))
       (λ n below. pass.tried refl n (omega (arith, is.width))))
 
   -- one that raises them does so by one at least
-  pub pass-gained : (gained : ℕ) (p : PotentialFunction) (old new : Climb) → initial_value task atoms p + gained ≤ worth task atoms old → IsPass task atoms (length atoms) old new true
+  pub pass-gained : (gained : ℕ) (p : PotentialFunction) (old new : Climb) → initial_value task atoms p + gained ≤ worth task atoms old → IsPass allowance task atoms (length atoms) old new true
       → initial_value task atoms p + (gained + 1) ≤ worth task atoms new
   pass-gained gained p old new so pass = let better = pass.better refl in omega arith
 
-  pub improved-settled : (rounds gained : ℕ) (p : PotentialFunction) (old new : Climb) → length p.weights ≡ length atoms → initial_value task atoms p + gained ≤ worth task atoms old → IsClimb task atoms old
-      → IsPass task atoms (length atoms) old new false → IsImproved task atoms rounds p (potentials_of new.potentials)
+  pub improved-settled : (rounds gained : ℕ) (p : PotentialFunction) (old new : Climb) → length p.weights ≡ length atoms → initial_value task atoms p + gained ≤ worth task atoms old → IsClimb allowance task atoms old
+      → IsPass allowance task atoms (length atoms) old new false → IsImprovedAt allowance task atoms rounds p (potentials_of new.potentials)
   improved-settled rounds gained p old new width so is pass =
       let same : worth task atoms new ≡ worth task atoms old = ap (initial_value task atoms) (pass.same refl) in
       record { fair = pass.climb.fair; as_many = pass.climb.width ∙ sym width; no_lower = omega arith; end = inl (pass-settled old new is pass) }
 
-  pub improved-rounds : (rounds gained : ℕ) (p : PotentialFunction) (c : Climb) → length p.weights ≡ length atoms → rounds ≤ gained → initial_value task atoms p + gained ≤ worth task atoms c → IsClimb task atoms c
-      → IsImproved task atoms rounds p (potentials_of c.potentials)
+  pub improved-rounds : (rounds gained : ℕ) (p : PotentialFunction) (c : Climb) → length p.weights ≡ length atoms → rounds ≤ gained → initial_value task atoms p + gained ≤ worth task atoms c → IsClimb allowance task atoms c
+      → IsImprovedAt allowance task atoms rounds p (potentials_of c.potentials)
   improved-rounds rounds gained p c width done so is =
       record { fair = is.fair; as_many = is.width ∙ sym width; no_lower = omega arith; end = inr (omega arith) }
 
@@ -264,7 +264,7 @@ module _ (task : Task) (atoms : List Atom) where
       of_bits false true w is = is
       of_bits false false w is = let l = is.least in let m = is.most in record { least = omega (arith, ints, clamps); most = omega (arith, ints, clamps) }
 
-  pub goal-range : (c : Climb) → IsClimb task atoms c → length atoms ≤ 1048576 → (neg_ℤ (pos 2251799812636672) ≤ℤ c.goal) × (c.goal ≤ℤ pos 2251799812636672)
+  pub goal-range : (c : Climb) → IsClimb allowance task atoms c → length atoms ≤ 1048576 → (neg_ℤ (pos 2251799812636672) ≤ℤ c.goal) × (c.goal ≤ℤ pos 2251799812636672)
   goal-range c is few =
       let sums = sum-range (length atoms) (goal_gives goal c.potentials.weights.items) (λ n _. gives-range c.potentials.weights.items goal n c.potentials.weights_in_range) in
       let low = sums.0 in
@@ -272,7 +272,7 @@ module _ (task : Task) (atoms : List Atom) where
       let e = is.goal in
       (omega (arith, ints), omega (arith, ints))
 
-  pub score-range : (c : Climb) → IsClimb task atoms c → length atoms ≤ 1048576 → (neg_ℤ (pos 2251801960120319) ≤ℤ c.score) × (c.score ≤ℤ pos 2251801960120319)
+  pub score-range : (c : Climb) → IsClimb allowance task atoms c → length atoms ≤ 1048576 → (neg_ℤ (pos 2251801960120319) ≤ℤ c.score) × (c.score ≤ℤ pos 2251801960120319)
   score-range c is few =
       let sums = sum-range (length initial) (given c.potentials.weights.items initial) (λ n _. given-range c.potentials.weights.items initial n c.potentials.weights_in_range) in
       let low = sums.0 in
@@ -290,14 +290,14 @@ module _ (task : Task) (atoms : List Atom) where
     abbrev changed : List ℤ
     changed = set c.potentials.weights.items n w
 
-    pub next-none : IsClimb task atoms c → sum ≡ goal_gives_at_most (length atoms) changed goal → ((k : ℤ) → IsInRange k → (k +ℤ sum) ≤ℤ pos 0 → k ≤ℤ constant)
-        → s ≡ score (potentials constant changed) initial → x ≡ or_zero s → y ≡ or_zero c.score → x ≤ y → IsNoneBetter task atoms (potentials_of c.potentials) changed
+    pub next-none : IsClimb allowance task atoms c → sum ≡ goal_gives_at_most (length atoms) changed goal → ((k : ℤ) → IsInRange k → (k +ℤ sum) ≤ℤ pos 0 → k ≤ℤ constant)
+        → s ≡ score (potentials constant changed) initial → x ≡ or_zero s → y ≡ or_zero c.score → x ≤ y → IsNoneBetter allowance task atoms (potentials_of c.potentials) changed
     next-none is sums greatest scores here there least =
         let now : x ≡ or_zero (score (potentials constant changed) initial) = here ∙ ap or_zero scores in
         let before : y ≡ worth task atoms c = there ∙ ap or_zero is.score in
         none-above (potentials_of c.potentials) changed constant sum sums greatest (omega arith)
 
-    pub next-some : (next : Next) → IsClimb task atoms c → sum ≡ goal_gives_at_most (length atoms) changed goal → IsInRange constant → (constant +ℤ sum) ≤ℤ pos 0
+    pub next-some : (next : Next) → IsClimb allowance task atoms c → sum ≡ goal_gives_at_most (length atoms) changed goal → IsInRange constant → (constant +ℤ sum) ≤ℤ pos 0
         → ((k : ℤ) → IsInRange k → (k +ℤ sum) ≤ℤ pos 0 → k ≤ℤ constant) → s ≡ score (potentials constant changed) initial → x ≡ or_zero s → y ≡ or_zero c.score → y < x
         → next.constant ≡ constant → next.goal ≡ sum → next.score ≡ s → IsNext task atoms c n w next
     next-some next is sums fits meets greatest scores here there more constants goals totals =

@@ -7,7 +7,6 @@ use Rattle.std.proofs.lemmas.List.Elements.{All-contains, All-contains_itself}
 use Rattle.std.proofs.lemmas.List.{take_more}
 use Rattle.model.proofs.ListLemmas.{Contains-none, Contains-got}
 use Rattle.model.specs.Task.{Atom, Task, Instance}
-use Rattle.model.specs.Meaning.{cost_of}
 use Rattle.model.specs.StaticallyFalse.{kept_instances}
 use Rattle.model.specs.NumberedLiterals.{NumberedLiteral, NumberedChange, literals_of_instance, counting_of_instance}
 use Rattle.potential_functions.specs.PotentialFunctions.{PotentialFunction, weight}
@@ -15,11 +14,11 @@ use Rattle.potential_functions.specs.Fair.{touches, worst, loses, loses_at_most,
 use Rattle.potential_functions.proofs.Sums.{sum-alike}
 use Rattle.potential_functions.proofs.Settling.{weight-other, potentials, IsNoneBetter}
 use Rattle.potential_functions.proofs.Numbers.{counting-named}
-use Rattle.potentials.specs.Fairness.{AreInstancesFair}
+use Rattle.potentials.specs.Fairness.{AreInstancesFairAt}
 use Rattle.potentials_drafted.specs.declared.incidence.Incidence.{Incidence}
 use Rattle.potentials_drafted.specs.Incidence.{row_of, IsIncidence}
 use Rattle.potentials_drafted.proofs.IncidenceLemmas.{got-again, Contains-appended}
-use Rattle.potentials_improved.specs.Climb.{AreFairAt}
+use Rattle.potentials_improved.specs.Climb.{AreFairAmong}
 use Rattle.potentials.proofs.FairLemmas.{Decides}
 
 loses-untouched : (count : ℕ) (literals : List NumberedLiteral) (changes : List NumberedChange) (weights : List ℤ) (n : ℕ) (w : ℤ) → touches changes n ≡ false
@@ -33,37 +32,37 @@ loses-untouched count literals changes weights n w untouched =
       | inr other ↦ ap (λ v. if touches changes k then worst literals changes v k else pos 0) (weight-other weights n k w other)
     ])
 
-module _ (task : Task) (atoms : List Atom) where
-  pub fair-by_incidence : (p q : PotentialFunction) (c : ℤ) (a : ℕ) (w : ℤ) (t : Incidence) → IsIncidence task atoms (length (kept_instances task)) t → AreInstancesFair task atoms p
-      → q ≡ potentials c (set p.weights a w) → AreFairAt task atoms q (row_of t a) → AreInstancesFair task atoms (potentials c (set p.weights a w))
+module _ (allowance : Instance → ℕ) (task : Task) (atoms : List Atom) where
+  pub fair-by_incidence : (p q : PotentialFunction) (c : ℤ) (a : ℕ) (w : ℤ) (t : Incidence) → IsIncidence task atoms (length (kept_instances task)) t → AreInstancesFairAt allowance task atoms p
+      → q ≡ potentials c (set p.weights a w) → AreFairAmong allowance task atoms q (row_of t a) → AreInstancesFairAt allowance task atoms (potentials c (set p.weights a w))
   fair-by_incidence p q c a w t are fair is tested k d below =
       let i = get_or (kept_instances task) k d in
       let named = slice_get-get_or (kept_instances task) k d below in
-      elim (touches (counting_of_instance task atoms i) a) as (λ b. touches (counting_of_instance task atoms i) a ≡ b → IsFairAt (cost_of task i) task atoms (set p.weights a w) i) [
-        | true ↦ λ touched. subst (λ (x : PotentialFunction). IsFairAt (cost_of task i) task atoms x.weights i) is
+      elim (touches (counting_of_instance task atoms i) a) as (λ b. touches (counting_of_instance task atoms i) a ≡ b → IsFairAt (allowance i) task atoms (set p.weights a w) i) [
+        | true ↦ λ touched. subst (λ (x : PotentialFunction). IsFairAt (allowance i) task atoms x.weights i) is
             (tested k i (are.covers a k below (ap (λ l. touches l a) (counting-named atoms task k i named) ∙ touched)) named)
         | false ↦ λ untouched. record {
-          within = subst (λ z. z ≤ℤ pos (cost_of task i)) (sym (loses-untouched (length atoms) (literals_of_instance task atoms i) (counting_of_instance task atoms i) p.weights a w untouched)) (fair k d below).within;
+          within = subst (λ z. z ≤ℤ pos (allowance i)) (sym (loses-untouched (length atoms) (literals_of_instance task atoms i) (counting_of_instance task atoms i) p.weights a w untouched)) (fair k d below).within;
         }
       ] refl
 
-  pub none-unfair_among : (p q : PotentialFunction) (c : ℤ) (weights : List ℤ) (numbers : List ℕ) → q ≡ potentials c weights → (AreFairAt task atoms q numbers → ⊥) → IsNoneBetter task atoms p weights
+  pub none-unfair_among : (p q : PotentialFunction) (c : ℤ) (weights : List ℤ) (numbers : List ℕ) → q ≡ potentials c weights → (AreFairAmong allowance task atoms q numbers → ⊥) → IsNoneBetter allowance task atoms p weights
   none-unfair_among p q c weights numbers is unfair =
-      subst (λ (x : PotentialFunction). IsNoneBetter task atoms p x.weights) is
+      subst (λ (x : PotentialFunction). IsNoneBetter allowance task atoms p x.weights) is
       (record { none = λ m fits fair. absurd (unfair (λ n i among named. at fair.instances i (Contains-got (kept_instances task) n i named))) })
     where
-      at : All (λ (i : Instance). IsFairAt (cost_of task i) task atoms q.weights i) (kept_instances task) → (i : Instance) → Contains (kept_instances task) i → IsFairAt (cost_of task i) task atoms q.weights i
-      at all i among = All-contains (λ (i : Instance). IsFairAt (cost_of task i) task atoms q.weights i) (kept_instances task) i all among
+      at : All (λ (i : Instance). IsFairAt (allowance i) task atoms q.weights i) (kept_instances task) → (i : Instance) → Contains (kept_instances task) i → IsFairAt (allowance i) task atoms q.weights i
+      at all i among = All-contains (λ (i : Instance). IsFairAt (allowance i) task atoms q.weights i) (kept_instances task) i all among
 
 -- ---- the instances of a row
 
-module _ (task : Task) (atoms : List Atom) (p : PotentialFunction) where
-  pub fair_at-none : AreFairAt task atoms p []
+module _ (allowance : Instance → ℕ) (task : Task) (atoms : List Atom) (p : PotentialFunction) where
+  pub fair_at-none : AreFairAmong allowance task atoms p []
   fair_at-none n i among named = absurd (Contains-none n among)
 
   -- one number more
-  pub fair_at-next : (numbers : List ℕ) (place d : ℕ) (answer : Bool) → place < length numbers → Decides task atoms p (cost_of task) answer (get_or numbers place d) → answer ≡ true
-      → AreFairAt task atoms p (take place numbers) → AreFairAt task atoms p (take (place + 1) numbers)
+  pub fair_at-next : (numbers : List ℕ) (place d : ℕ) (answer : Bool) → place < length numbers → Decides task atoms p allowance answer (get_or numbers place d) → answer ≡ true
+      → AreFairAmong allowance task atoms p (take place numbers) → AreFairAmong allowance task atoms p (take (place + 1) numbers)
   fair_at-next numbers place d answer within decides passes before n i among named =
       let x = get_or numbers place d in
       elim (Contains-appended (take place numbers) x n (subst (λ l. Contains l n) (take_more numbers place x within ∙ ap (λ y. take place numbers ++ y ∷ []) (sym (got-again numbers place d within))) among)) [
@@ -71,8 +70,8 @@ module _ (task : Task) (atoms : List Atom) (p : PotentialFunction) where
         | inr is ↦ (decides i (subst (λ k. slice_get (kept_instances task) k ≡ Some i) is named)).0 passes
       ]
 
-  pub unfair_at : (numbers : List ℕ) (place d : ℕ) (answer : Bool) → place < length numbers → get_or numbers place d < length (kept_instances task) → Decides task atoms p (cost_of task) answer (get_or numbers place d) → answer ≡ false
-      → AreFairAt task atoms p numbers → ⊥
+  pub unfair_at : (numbers : List ℕ) (place d : ℕ) (answer : Bool) → place < length numbers → get_or numbers place d < length (kept_instances task) → Decides task atoms p allowance answer (get_or numbers place d) → answer ≡ false
+      → AreFairAmong allowance task atoms p numbers → ⊥
   unfair_at numbers place d answer within below decides fails all =
       let x = get_or numbers place d in
       let i = get_or (kept_instances task) x (record { schema = 0; objects = [] }) in

@@ -1,13 +1,17 @@
 //! What instances are allowed to lose by potentials.
-ghost use Rattle.std.specs.Prelude.{◌≡◌, ℕ, List, IfOk, length};
+ghost use Rattle.std.specs.Prelude.{◌≡◌, ◌<◌, ◌↔◌, ℕ, List, Some, IfOk, IsTrue, length, slice_get};
 ghost use Rattle.grounding.specs.Ground.{task_in, atoms_in};
 ghost use Rattle.model.specs.Task.{Atom, Task, Instance};
+ghost use Rattle.model.specs.StaticallyFalse.{kept_instances};
 ghost use Rattle.potential_functions.specs.PotentialFunctions.{PotentialFunction};
-ghost use Rattle.potential_functions.specs.Fair.{AreFairAt};
+ghost use Rattle.potential_functions.specs.Fair.{IsFairAt, AreFairAt};
 ghost use Rattle.potential_functions.specs.Laws.{AreNumberable};
 ghost use Rattle.potentials.specs.Potentials.{potentials_of};
 ghost use Rattle.potentials.specs.Fairness.{ReportsAt};
+ghost use Rattle.potentials_improved.specs.Drafted.{IsNoWorseAt};
+ghost use Rattle.potentials_improved.specs.Groundwork.{ground_under};
 
+use crate::groundwork::Groundwork;
 use faults::NoMemory;
 use grounding::Ground;
 use potentials::{Fairness, Potentials};
@@ -30,6 +34,24 @@ pub trait Allowance {
     ) -> Result<Fairness, NoMemory>
         requires { length (potentials_of potentials.now).weights ≡ length (atoms_in ground.now) }
         ensures { IfOk result (ReportsAt (allowance (task_in ground.now)) (task_in ground.now) (atoms_in ground.now) (potentials_of potentials.now)) };
+
+    /// Whether the instance of this number is fair so. There is a weight for each numbered atom.
+    fn is_fair_at(potentials: &Potentials, ground: &Ground<'_>, number: u32) -> bool
+        requires width { length (potentials_of potentials.now).weights ≡ length (atoms_in ground.now) }
+        requires within { number < length (kept_instances (task_in ground.now)) }
+        ensures { (i : Instance) → slice_get (kept_instances (task_in ground.now)) number ≡ Some i
+            → (IsTrue result ↔ IsFairAt (allowance (task_in ground.now) i) (task_in ground.now) (atoms_in ground.now) (potentials_of potentials.now).weights i) };
+
+    /// Potentials that are fair so and no worse than these: those of drafts, in at most so many rounds, or else these.
+    fn drafted(
+        alloc: Global,
+        potentials: Potentials,
+        groundwork: &Groundwork<'_, '_>,
+        rounds: u32,
+    ) -> Result<Potentials, NoMemory>
+        requires width { length (potentials_of potentials).weights ≡ length (atoms_in (ground_under groundwork.now)) }
+        requires fair { AreFairAt (allowance (task_in (ground_under groundwork.now))) (task_in (ground_under groundwork.now)) (atoms_in (ground_under groundwork.now)) (potentials_of potentials) }
+        ensures { IfOk result (λ p. IsNoWorseAt (allowance (task_in (ground_under groundwork.now))) (task_in (ground_under groundwork.now)) (atoms_in (ground_under groundwork.now)) (potentials_of potentials) (potentials_of p)) };
 
     ghost gives: { (task : Task) (atoms : List Atom) (p : PotentialFunction) → AreNumberable task atoms → AreFairAt (allowance task) task atoms p → Gives task atoms p };
 }

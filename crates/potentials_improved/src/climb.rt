@@ -1,4 +1,4 @@
-//! Steps from fair potentials to better ones.
+//! Steps from potentials that are fair at an allowance to better ones.
 ghost use Rattle.std.specs.Prelude.{◌≡◌, ◌<◌, ◌≤◌, ◌||◌, ◌↔◌, ℤ, ◌+ℤ◌, ◌≤ℤ◌, neg_ℤ, pos, set, if◌then◌else◌, All, IfSome, IfNone, IsTrue, length, map};
 ghost use Rattle.packed_state.specs.Packed.{bits_of};
 ghost use Rattle.grounding.specs.Ground.{task_in, atoms_in};
@@ -8,13 +8,14 @@ ghost use Rattle.model.specs.Grounding.{ground_system};
 ghost use Rattle.potential_functions.specs.PotentialFunctions.{IsInRange};
 ghost use Rattle.potential_functions.specs.PotentialFunctions as potential;
 ghost use Rattle.potential_functions.specs.Fair as model;
-ghost use Rattle.potential_functions.specs.Fair.{AreFair};
+ghost use Rattle.potential_functions.specs.Fair.{AreFairAt};
 ghost use Rattle.potential_functions.specs.Settled.{initial_value};
 ghost use Rattle.potential_functions.proofs.Settling.{IsNoneBetter};
 ghost use Rattle.potentials.specs.Potentials.{potentials_of};
 ghost use Rattle.potentials_drafted.specs.Incidence.{number_of, IsIncidence};
-ghost use Rattle.potentials_improved.specs.Climb.{AreFairAt, IsClimb, IsNext, IsWeightTried, IsAtomTried, IsPass, worth};
+ghost use Rattle.potentials_improved.specs.Climb.{AreFairAmong, IsClimb, IsNext, IsWeightTried, IsAtomTried, IsPass, worth};
 
+use crate::allowance::Allowance;
 use grounding::Ground;
 use packed_state::Packed;
 use potentials::{
@@ -22,7 +23,7 @@ use potentials::{
 };
 use potentials_drafted::{Incidence, IncidenceEntry};
 
-/// Fair potentials of the greatest constant, with what they give at most at a goal, and with their score in the initial
+/// Potentials that are fair at an allowance, of the greatest constant, with what they give at most at a goal, and with their score in the initial
 /// state.
 #[derive(Drop)]
 pub(crate) struct Climb {
@@ -54,11 +55,15 @@ pub(crate) fn greatest_constant(goal: i64) -> i64
 
 impl Climb {
     /// That of these potentials, with the greatest constant that they may have.
-    pub(crate) fn new(mut potentials: Potentials, ground: &Ground<'_>, initial: &Packed) -> Climb
+    pub(crate) fn new<A: Allowance>(
+        mut potentials: Potentials,
+        ground: &Ground<'_>,
+        initial: &Packed,
+    ) -> Climb
         requires width { length (potentials_of potentials).weights ≡ length (atoms_in ground.now) }
-        requires fair { AreFair (task_in ground.now) (atoms_in ground.now) (potentials_of potentials) }
+        requires fair { AreFairAt (A.allowance (task_in ground.now)) (task_in ground.now) (atoms_in ground.now) (potentials_of potentials) }
         requires initial { bits_of initial.now ≡ (ground_system (task_in ground.now) (atoms_in ground.now)).initial }
-        ensures climb { IsClimb (task_in ground.now) (atoms_in ground.now) result }
+        ensures climb { IsClimb (A.allowance (task_in ground.now)) (task_in ground.now) (atoms_in ground.now) result }
         ensures no_lower { initial_value (task_in ground.now) (atoms_in ground.now) (potentials_of potentials) ≤ worth (task_in ground.now) (atoms_in ground.now) result }
     {
         let goal = goal_gives_at_most(ground.goal_literals(), potentials.weights());
@@ -73,8 +78,8 @@ impl Climb {
     }
 
     /// What they give at most at a goal with the changed weight.
-    fn moved_goal(&self, ground: &Ground<'_>, atom: u32, weight: i64) -> i64
-        requires climb { IsClimb (task_in ground.now) (atoms_in ground.now) self.now }
+    fn moved_goal<A: Allowance>(&self, ground: &Ground<'_>, atom: u32, weight: i64) -> i64
+        requires climb { IsClimb (A.allowance (task_in ground.now)) (task_in ground.now) (atoms_in ground.now) self.now }
         requires within { atom < length (atoms_in ground.now) }
         requires range { IsInRange weight }
         ensures { result ≡ model.goal_gives_at_most (length (atoms_in ground.now)) (set self.now.potentials.weights.items atom weight) (literals_of_goal (task_in ground.now) (atoms_in ground.now)) }
@@ -89,7 +94,7 @@ impl Climb {
     }
 
     /// Their score in the initial state with the changed weight and this constant.
-    fn moved_score(
+    fn moved_score<A: Allowance>(
         &self,
         ground: &Ground<'_>,
         initial: &Packed,
@@ -97,7 +102,7 @@ impl Climb {
         weight: i64,
         constant: i64,
     ) -> i64
-        requires climb { IsClimb (task_in ground.now) (atoms_in ground.now) self.now }
+        requires climb { IsClimb (A.allowance (task_in ground.now)) (task_in ground.now) (atoms_in ground.now) self.now }
         requires initial { bits_of initial.now ≡ (ground_system (task_in ground.now) (atoms_in ground.now)).initial }
         requires within { atom < length (atoms_in ground.now) }
         requires weight { IsInRange weight }
@@ -113,20 +118,26 @@ impl Climb {
     }
 
     /// What the changed weight gives, if that is better.
-    fn next(&self, ground: &Ground<'_>, initial: &Packed, atom: u32, weight: i64) -> Option<Next>
-        requires climb { IsClimb (task_in ground.now) (atoms_in ground.now) self.now }
+    fn next<A: Allowance>(
+        &self,
+        ground: &Ground<'_>,
+        initial: &Packed,
+        atom: u32,
+        weight: i64,
+    ) -> Option<Next>
+        requires climb { IsClimb (A.allowance (task_in ground.now)) (task_in ground.now) (atoms_in ground.now) self.now }
         requires initial { bits_of initial.now ≡ (ground_system (task_in ground.now) (atoms_in ground.now)).initial }
         requires within { atom < length (atoms_in ground.now) }
         requires range { IsInRange weight }
-        ensures none { IfNone result (IsNoneBetter (task_in ground.now) (atoms_in ground.now) (potentials_of self.now.potentials) (set self.now.potentials.weights.items atom weight)) }
+        ensures none { IfNone result (IsNoneBetter (A.allowance (task_in ground.now)) (task_in ground.now) (atoms_in ground.now) (potentials_of self.now.potentials) (set self.now.potentials.weights.items atom weight)) }
         ensures some { IfSome result (IsNext (task_in ground.now) (atoms_in ground.now) self.now atom weight) }
     {
-        let goal = self.moved_goal(ground, atom, weight);
+        let goal = self.moved_goal::<A>(ground, atom, weight);
         if goal > MAX_WEIGHT {
             return None;
         }
         let constant = greatest_constant(goal);
-        let score = self.moved_score(ground, initial, atom, weight, constant);
+        let score = self.moved_score::<A>(ground, initial, atom, weight, constant);
         if or_zero(score) <= or_zero(self.score) {
             return None;
         }
@@ -138,7 +149,7 @@ impl Climb {
     }
 
     /// Takes the weight, if it makes them better.
-    fn try_weight(
+    fn try_weight<A: Allowance>(
         &mut self,
         ground: &Ground<'_>,
         incidence: &Incidence,
@@ -146,23 +157,23 @@ impl Climb {
         atom: u32,
         weight: i64,
     ) -> bool
-        requires climb { IsClimb (task_in ground.now) (atoms_in ground.now) self.old }
+        requires climb { IsClimb (A.allowance (task_in ground.now)) (task_in ground.now) (atoms_in ground.now) self.old }
         requires incidence { IsIncidence (task_in ground.now) (atoms_in ground.now) (length (kept_instances (task_in ground.now))) incidence.now }
         requires initial { bits_of initial.now ≡ (ground_system (task_in ground.now) (atoms_in ground.now)).initial }
         requires within { atom < length (atoms_in ground.now) }
-        ensures { IsWeightTried (task_in ground.now) (atoms_in ground.now) self.old self.new atom weight result }
+        ensures { IsWeightTried (A.allowance (task_in ground.now)) (task_in ground.now) (atoms_in ground.now) self.old self.new atom weight result }
     {
         if !is_in_range(weight) {
             return false;
         }
-        match self.next(ground, initial, atom, weight) {
-            Some(next) => self.take_if_fair(ground, incidence, atom, weight, next),
+        match self.next::<A>(ground, initial, atom, weight) {
+            Some(next) => self.take_if_fair::<A>(ground, incidence, atom, weight, next),
             None => false,
         }
     }
 
     /// Takes the weight and what it gives, if each instance that touches the atom is fair then. The others stay fair.
-    fn take_if_fair(
+    fn take_if_fair<A: Allowance>(
         &mut self,
         ground: &Ground<'_>,
         incidence: &Incidence,
@@ -170,16 +181,16 @@ impl Climb {
         weight: i64,
         next: Next,
     ) -> bool
-        requires climb { IsClimb (task_in ground.now) (atoms_in ground.now) self.old }
+        requires climb { IsClimb (A.allowance (task_in ground.now)) (task_in ground.now) (atoms_in ground.now) self.old }
         requires incidence { IsIncidence (task_in ground.now) (atoms_in ground.now) (length (kept_instances (task_in ground.now))) incidence.now }
         requires within { atom < length (atoms_in ground.now) }
         requires range { IsInRange weight }
         requires next { IsNext (task_in ground.now) (atoms_in ground.now) self.old atom weight next }
-        ensures { IsWeightTried (task_in ground.now) (atoms_in ground.now) self.old self.new atom weight result }
+        ensures { IsWeightTried (A.allowance (task_in ground.now)) (task_in ground.now) (atoms_in ground.now) self.old self.new atom weight result }
     {
         let old = self.potentials.weight(atom);
         self.potentials.set_weight(atom, weight);
-        if !are_fair_at(&self.potentials, ground, incidence.of(atom)) {
+        if !are_fair_at::<A>(&self.potentials, ground, incidence.of(atom)) {
             self.potentials.set_weight(atom, old);
             return false;
         }
@@ -190,41 +201,41 @@ impl Climb {
     }
 
     /// Tries the weight of the atom that is one less, and the one that is one more.
-    fn try_atom(
+    fn try_atom<A: Allowance>(
         &mut self,
         ground: &Ground<'_>,
         incidence: &Incidence,
         initial: &Packed,
         atom: u32,
     ) -> bool
-        requires climb { IsClimb (task_in ground.now) (atoms_in ground.now) self.old }
+        requires climb { IsClimb (A.allowance (task_in ground.now)) (task_in ground.now) (atoms_in ground.now) self.old }
         requires incidence { IsIncidence (task_in ground.now) (atoms_in ground.now) (length (kept_instances (task_in ground.now))) incidence.now }
         requires initial { bits_of initial.now ≡ (ground_system (task_in ground.now) (atoms_in ground.now)).initial }
         requires within { atom < length (atoms_in ground.now) }
-        ensures { IsAtomTried (task_in ground.now) (atoms_in ground.now) self.old self.new atom result }
+        ensures { IsAtomTried (A.allowance (task_in ground.now)) (task_in ground.now) (atoms_in ground.now) self.old self.new atom result }
     {
         let old = self.potentials.weight(atom);
-        if self.try_weight(ground, incidence, initial, atom, old - 1) {
+        if self.try_weight::<A>(ground, incidence, initial, atom, old - 1) {
             return true;
         }
-        self.try_weight(ground, incidence, initial, atom, old + 1)
+        self.try_weight::<A>(ground, incidence, initial, atom, old + 1)
     }
 
     /// Tries each atom once.
-    pub(crate) fn pass(
+    pub(crate) fn pass<A: Allowance>(
         &mut self,
         ground: &Ground<'_>,
         incidence: &Incidence,
         initial: &Packed,
     ) -> bool
-        requires climb { IsClimb (task_in ground.now) (atoms_in ground.now) self.old }
+        requires climb { IsClimb (A.allowance (task_in ground.now)) (task_in ground.now) (atoms_in ground.now) self.old }
         requires incidence { IsIncidence (task_in ground.now) (atoms_in ground.now) (length (kept_instances (task_in ground.now))) incidence.now }
         requires initial { bits_of initial.now ≡ (ground_system (task_in ground.now) (atoms_in ground.now)).initial }
-        ensures { IsPass (task_in ground.now) (atoms_in ground.now) (length (atoms_in ground.now)) self.old self.new result }
+        ensures { IsPass (A.allowance (task_in ground.now)) (task_in ground.now) (atoms_in ground.now) (length (atoms_in ground.now)) self.old self.new result }
     {
         let mut raised = false;
         for atom in 0..ground.width() {
-            let better = self.try_atom(ground, incidence, initial, atom);
+            let better = self.try_atom::<A>(ground, incidence, initial, atom);
             raised = either(raised, better);
         }
         raised
@@ -232,17 +243,17 @@ impl Climb {
 }
 
 /// Whether each of these instances is fair by the potentials.
-pub(crate) fn are_fair_at(
+pub(crate) fn are_fair_at<A: Allowance>(
     potentials: &Potentials,
     ground: &Ground<'_>,
     instances: &[IncidenceEntry],
 ) -> bool
     requires width { length (potentials_of potentials.now).weights ≡ length (atoms_in ground.now) }
     requires within { All (λ n. n < length (kept_instances (task_in ground.now))) (map number_of instances.now) }
-    ensures { IsTrue result ↔ AreFairAt (task_in ground.now) (atoms_in ground.now) (potentials_of potentials.now) (map number_of instances.now) }
+    ensures { IsTrue result ↔ AreFairAmong (A.allowance (task_in ground.now)) (task_in ground.now) (atoms_in ground.now) (potentials_of potentials.now) (map number_of instances.now) }
 {
     for place in 0..instances.len() {
-        if !potentials.is_fair_at(ground, instances[place].number) {
+        if !A::is_fair_at(potentials, ground, instances[place].number) {
             return false;
         }
     }

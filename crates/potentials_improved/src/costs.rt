@@ -1,27 +1,22 @@
 //! What an instance costs, as an allowance: fair potentials are an estimate by which a search chooses.
-ghost use Rattle.std.specs.Prelude.{◌≡◌, ◌≤◌, ℕ, Bool, List, Some, IfOk, IsTrue, length};
+ghost use Rattle.std.specs.Prelude.{◌≡◌, ◌≤◌, ℕ, Bool, List, Some, IsTrue, length};
 ghost use Rattle.packed_state.specs.Packed.{bits_of};
 ghost use Rattle.grounding.specs.Ground.{task_in, atoms_in};
 ghost use Rattle.model.specs.Runs.{run, cost_of_all};
 ghost use Rattle.model.specs.Grounding.{ground_system};
 ghost use Rattle.potential_functions.specs.PotentialFunctions as potential;
-ghost use Rattle.potential_functions.specs.Fair.{AreFair};
 ghost use Rattle.potential_functions.specs.Laws.{AreLowerBounds};
-ghost use Rattle.potential_functions.specs.Settled.{IsImproved};
-ghost use Rattle.potentials.specs.Potentials.{potentials_of};
 ghost use Rattle.potentials_improved.specs.FairPotentials.{potentials_in, ground_in};
-ghost use Rattle.potentials_improved.specs.Groundwork.{ground_under};
 
 use crate::allowance::Allowance;
-use crate::climb::Climb;
-use crate::drafted::drafted;
+use crate::drafted::no_worse;
 use crate::fair_at::FairAt;
 use crate::groundwork::Groundwork;
-use crate::improve::Improve;
 use faults::NoMemory;
 use grounding::Ground;
 use packed_state::Packed;
 use potentials::{Fairness, Potentials};
+use potentials_drafted::drafted_weights;
 use search::Estimate;
 use std::alloc::Global;
 
@@ -46,6 +41,21 @@ impl Allowance for Costs {
         ground: &Ground<'_>,
     ) -> Result<Fairness, NoMemory> {
         potentials.fair(alloc, ground)
+    }
+
+    fn is_fair_at(potentials: &Potentials, ground: &Ground<'_>, number: u32) -> bool {
+        potentials.is_fair_at(ground, number)
+    }
+
+    /// One draft, by a linear program.
+    fn drafted(
+        alloc: Global,
+        potentials: Potentials,
+        groundwork: &Groundwork<'_, '_>,
+        _rounds: u32,
+    ) -> Result<Potentials, NoMemory> {
+        let weights = drafted_weights(alloc, &groundwork.tables, potentials.weights())?;
+        no_worse::<Costs>(alloc, potentials, groundwork, weights)
     }
 }
 
@@ -89,54 +99,4 @@ impl Estimate for FairAt<'_, '_, Costs> {
     fn score_after(&self, score: i64, before: &Packed, _action: u32, after: &Packed) -> i64 {
         self.potentials().score_after(score, before, after)
     }
-}
-
-/// They are drafted by a linear program first, and then single weights are moved, in a pass over all atoms a round. At the end
-/// they are settled, or have in the initial state a value that is higher by at least the number of rounds.
-impl Improve for FairAt<'_, '_, Costs> {
-    ghost use Rattle.potential_functions.specs.Settled as settled;
-    ghost use Rattle.potentials_improved.specs.FairPotentials.{ground_in, AreBetter};
-
-    ghost ground_of = { ground_in };
-
-    ghost IsImproved = { λ rounds. AreBetter (λ task atoms. settled.IsImproved task atoms rounds) };
-
-    fn improve(
-        self,
-        alloc: Global,
-        groundwork: &Groundwork<'_, '_>,
-        rounds: u32,
-    ) -> Result<Self, NoMemory> {
-        let FairAt {
-            potentials,
-            ground,
-            ..
-        } = self;
-        let better = climbed(alloc, potentials, groundwork, rounds)?;
-        Ok(FairAt::known(better, ground))
-    }
-}
-
-/// Better potentials: those of a draft, if they are no worse, with weights moved.
-fn climbed(
-    alloc: Global,
-    potentials: Potentials,
-    groundwork: &Groundwork<'_, '_>,
-    rounds: u32,
-) -> Result<Potentials, NoMemory>
-    requires width { length (potentials_of potentials).weights ≡ length (atoms_in (ground_under groundwork.now)) }
-    requires fair { AreFair (task_in (ground_under groundwork.now)) (atoms_in (ground_under groundwork.now)) (potentials_of potentials) }
-    ensures { IfOk result (λ p. IsImproved (task_in (ground_under groundwork.now)) (atoms_in (ground_under groundwork.now)) rounds (potentials_of potentials) (potentials_of p)) }
-{
-    let ground = groundwork.ground;
-    let tables = &groundwork.tables;
-    let initial = &groundwork.initial;
-    let drafted = drafted(alloc, potentials, ground, tables, initial)?;
-    let mut climb = Climb::new(drafted, ground, initial);
-    for _ in 0..rounds {
-        if !climb.pass(ground, tables.incidence(), initial) {
-            return Ok(climb.potentials);
-        }
-    }
-    Ok(climb.potentials)
 }

@@ -3,63 +3,45 @@ ghost use Rattle.std.specs.Prelude.{◌≡◌, ◌≤◌, IfOk, IfSome, length};
 ghost use Rattle.grounding.specs.Ground.{task_in, atoms_in};
 ghost use Rattle.packed_state.specs.Packed.{bits_of};
 ghost use Rattle.model.specs.Grounding.{ground_system};
-ghost use Rattle.potential_functions.specs.Fair.{AreFair};
+ghost use Rattle.potential_functions.specs.Fair.{AreFairAt};
 ghost use Rattle.potential_functions.specs.Settled.{initial_value};
 ghost use Rattle.potentials.specs.Potentials.{potentials_of};
-ghost use Rattle.potentials_improved.specs.Drafted.{IsNoWorse};
+ghost use Rattle.potentials_improved.specs.Drafted.{IsNoWorseAt};
+ghost use Rattle.potentials_improved.specs.Groundwork.{ground_under};
 
+use crate::allowance::Allowance;
 use crate::climb::greatest_constant;
+use crate::groundwork::Groundwork;
 use faults::NoMemory;
 use grounding::Ground;
 use packed_state::Packed;
 use potentials::{Fairness, MAX_WEIGHT, Potentials, goal_gives_at_most};
-use potentials_drafted::{Tables, drafted_weights};
 use std::alloc::Global;
 
-/// Fair potentials that are no worse than these: those of a draft, or else these.
-pub(crate) fn drafted(
+/// Potentials of these weights and the greatest constant, where they are fair and no worse than the others; else those.
+pub(crate) fn no_worse<A: Allowance>(
     alloc: Global,
     potentials: Potentials,
-    ground: &Ground<'_>,
-    tables: &Tables,
-    initial: &Packed,
-) -> Result<Potentials, NoMemory>
-    requires width { length (potentials_of potentials).weights ≡ length (atoms_in ground.now) }
-    requires fair { AreFair (task_in ground.now) (atoms_in ground.now) (potentials_of potentials) }
-    requires initial { bits_of initial.now ≡ (ground_system (task_in ground.now) (atoms_in ground.now)).initial }
-    ensures { IfOk result (λ p. IsNoWorse (task_in ground.now) (atoms_in ground.now) (potentials_of potentials) (potentials_of p)) }
-{
-    let weights = drafted_weights(alloc, tables, potentials.weights())?;
-    match if_no_worse(alloc, &potentials, ground, initial, weights)? {
-        Some(better) => Ok(better),
-        None => Ok(potentials),
-    }
-}
-
-/// Potentials of these weights and the greatest constant, if they are fair and no worse than the others.
-fn if_no_worse(
-    alloc: Global,
-    potentials: &Potentials,
-    ground: &Ground<'_>,
-    initial: &Packed,
+    groundwork: &Groundwork<'_, '_>,
     weights: Vec<i64>,
-) -> Result<Option<Potentials>, NoMemory>
-    requires width { length (potentials_of potentials.now).weights ≡ length (atoms_in ground.now) }
-    requires initial { bits_of initial.now ≡ (ground_system (task_in ground.now) (atoms_in ground.now)).initial }
-    ensures { IfOk result (λ o. IfSome o (λ p. IsNoWorse (task_in ground.now) (atoms_in ground.now) (potentials_of potentials.now) (potentials_of p))) }
+) -> Result<Potentials, NoMemory>
+    requires width { length (potentials_of potentials).weights ≡ length (atoms_in (ground_under groundwork.now)) }
+    requires fair { AreFairAt (A.allowance (task_in (ground_under groundwork.now))) (task_in (ground_under groundwork.now)) (atoms_in (ground_under groundwork.now)) (potentials_of potentials) }
+    ensures { IfOk result (λ p. IsNoWorseAt (A.allowance (task_in (ground_under groundwork.now))) (task_in (ground_under groundwork.now)) (atoms_in (ground_under groundwork.now)) (potentials_of potentials) (potentials_of p)) }
 {
-    let Some(other) = if_no_lower(potentials, ground, initial, weights) else {
-        return Ok(None);
+    let ground = groundwork.ground;
+    let Some(other) = if_no_lower(&potentials, ground, &groundwork.initial, weights) else {
+        return Ok(potentials);
     };
-    match other.fair(alloc, ground)? {
-        Fairness::Fair => Ok(Some(other)),
-        Fairness::Instance(_) => Ok(None),
-        Fairness::Goal => Ok(None),
+    match A::fairness(&other, alloc, ground)? {
+        Fairness::Fair => Ok(other),
+        Fairness::Instance(_) => Ok(potentials),
+        Fairness::Goal => Ok(potentials),
     }
 }
 
 /// Potentials of these weights and the greatest constant, if they give the initial state no lower value than the others.
-pub(crate) fn if_no_lower(
+fn if_no_lower(
     potentials: &Potentials,
     ground: &Ground<'_>,
     initial: &Packed,

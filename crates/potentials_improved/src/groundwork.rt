@@ -30,8 +30,8 @@ impl<'g, 't> Groundwork<'g, 't> {
     pub fn new(alloc: Global, ground: &'g Ground<'t>) -> Result<Groundwork<'g, 't>, NoMemory>
         ensures { IfOk result (λ g. ground_under g ≡ ground.now) }
     {
-        let tables = Tables::new(alloc, ground)?;
         let initial = ground.initial(alloc)?;
+        let tables = Tables::new(alloc, ground, &initial)?;
         Ok(Groundwork {
             ground,
             tables,

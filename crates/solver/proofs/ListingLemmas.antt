@@ -13,7 +13,7 @@ use Rattle.packed_state.specs.Store.{AreDistinct}
 use Rattle.search.specs.declared.nodes.Node.{Node}
 use Rattle.search.specs.Outcome as search
 use Rattle.search.specs.Outcome.{AreFound, AreExpandedWithin}
-use Rattle.solver.specs.Improved.{AreSettledOrHigh, HasSettledOrHigh}
+use Rattle.solver.specs.Improved.{AreSettledOrHigh, AreDeadSettledOrHigh, HasSettledOrHigh}
 use Rattle.solver.specs.Listing.{numbers_in, state_line, found_certificate, IsShownBy, AreOpenWithin}
 use Rattle.solver.proofs.TypedLemmas.{numbered_typed}
 use Rattle.solver.proofs.GroundLemmas.{length-reachable, distinct_states}
@@ -324,8 +324,8 @@ module _ (task : Task) (claim : Claim) (most : ℕ) (p q : PotentialFunction) (s
   pub opened_within : (cost : ℕ) → AreExpandedWithin (value p) cost states nodes → AreOpenWithin task cost certificate
   opened_within cost within = subst (AreOpenWithin task cost) is_made (open_within task claim most p q states nodes same_found cost within)
 
-  pub settled_or_high : AreSettledOrHigh task known p → HasSettledOrHigh task certificate
-  settled_or_high given = subst (HasSettledOrHigh task) (sym is) given
+  pub settled_or_high : AreSettledOrHigh task known p → AreDeadSettledOrHigh task known q → HasSettledOrHigh task certificate
+  settled_or_high given dead_given = subst (HasSettledOrHigh task) (sym is) (record { potentials = given; dead_ends = dead_given })
 
   pub within_limits : AreInRange p → AreInRange q → length p.weights ≡ length known → length q.weights ≡ length known → is_claim claim ≡ true → length known ≤ 1048576 → most ≤ 16777216
       → keeps_limits certificate ≡ true

@@ -5,7 +5,7 @@ use Rattle.std.specs.List.{list_all}
 use Rattle.std.proofs.lemmas.Bool.{and_from, lt-ltb, le-leb, eq-eqb}
 use Rattle.std.proofs.lemmas.Int.{ints}
 use Rattle.std.proofs.lemmas.List.{length-replicate}
-use Rattle.model.specs.Task.{Task, Atom}
+use Rattle.model.specs.Task.{Task, Atom, Instance}
 use Rattle.model.specs.Runs.{System}
 use Rattle.model.specs.Fluents.{is_fluent}
 use Rattle.model.specs.NumberedAtoms.{numbered_atoms}
@@ -13,7 +13,7 @@ use Rattle.model.specs.Grounding.{state_of_bits, bits_of_state}
 use Rattle.model.specs.Claims.{IsLowerBound, AreDeadEnds}
 use Rattle.model.proofs.GroundTaskLemmas.{packs_states}
 use Rattle.potential_functions.specs.PotentialFunctions.{PotentialFunction, score, or_zero, value, is_dead_by, given, IsInRange, AreInRange}
-use Rattle.potential_functions.specs.Settled.{IsImproved}
+use Rattle.potential_functions.specs.Settled.{IsImprovedAt}
 use Rattle.potential_functions.proofs.Zero.{zero_potentials}
 use Rattle.potential_functions.proofs.Falls.{or_zero-most}
 use Rattle.potential_functions.proofs.Sums.{sum-range}
@@ -23,7 +23,7 @@ use Rattle.search.specs.DeadEnds.{DetectsDeadEnds}
 use Rattle.search.proofs.Consistent.{lower_bound as consistent_below}
 use Rattle.search.proofs.DeadEnds.{are_dead_ends}
 use Rattle.certificate_definitions.specs.Certificates.{is_weight, are_potentials}
-use Rattle.solver.specs.Improved.{AreSettledOrHigh}
+use Rattle.solver.specs.Improved.{AreSettledOrHighAt}
 
 -- ---- the estimate of a search and the value are one
 
@@ -41,8 +41,8 @@ value_by-value by p is = ap (λ (s : List Bool → ℤ). value_by s) is ∙ esti
 -- ---- improving
 
 -- what improving gives in 8 rounds
-pub improved_end : (task : Task) (atoms : List Atom) (p q : PotentialFunction) → IsImproved task atoms 8 p q → AreSettledOrHigh task atoms q
-improved_end task atoms p q improved =
+pub improved_end : (allowance : Instance → ℕ) (task : Task) (atoms : List Atom) (p q : PotentialFunction) → IsImprovedAt allowance task atoms 8 p q → AreSettledOrHighAt allowance task atoms q
+improved_end allowance task atoms p q improved =
     elim improved.end [
       | inl settled ↦ inl settled
       | inr higher ↦ inr (omega (arith, higher))

@@ -1,14 +1,24 @@
 -- How good the potentials are by which a task is solved.
-use Rattle.std.specs.Prelude.{◌≤◌, ◌⊎◌, List}
-use Rattle.model.specs.Task.{Task, Atom}
+use Rattle.std.specs.Prelude.{ℕ, ◌≤◌, ◌⊎◌, List}
+use Rattle.model.specs.Task.{Task, Atom, Instance}
+use Rattle.model.specs.Meaning.{cost_of}
 use Rattle.potential_functions.specs.PotentialFunctions.{PotentialFunction}
-use Rattle.potential_functions.specs.Settled.{initial_value, IsSettled}
+use Rattle.potential_functions.specs.Fair.{nothing}
+use Rattle.potential_functions.specs.Settled.{initial_value, IsSettledAt}
 use Rattle.certificate_definitions.specs.Certificates.{Certificate}
 
--- Of the fair ones near them none gives the initial state a greater value, or they give it at least 8.
+-- Of those near them that are fair at this allowance none gives the initial state a greater value, or they give it at least 8.
+abbrev pub AreSettledOrHighAt : (Instance → ℕ) → Task → List Atom → PotentialFunction → Type 0
+AreSettledOrHighAt allowance task atoms p = IsSettledAt allowance task atoms p ⊎ (8 ≤ initial_value task atoms p)
+
+-- of fair ones, and of dead-fair ones
 abbrev pub AreSettledOrHigh : Task → List Atom → PotentialFunction → Type 0
-AreSettledOrHigh task atoms p = IsSettled task atoms p ⊎ (8 ≤ initial_value task atoms p)
+AreSettledOrHigh task = AreSettledOrHighAt (cost_of task) task
+
+abbrev pub AreDeadSettledOrHigh : Task → List Atom → PotentialFunction → Type 0
+AreDeadSettledOrHigh = AreSettledOrHighAt nothing
 
 -- those of the certificate
-abbrev pub HasSettledOrHigh : Task → Certificate → Type 0
-HasSettledOrHigh task certificate = AreSettledOrHigh task certificate.atoms certificate.potentials
+pub record HasSettledOrHigh (task : Task) (certificate : Certificate) : Type 0 where
+  pub potentials : AreSettledOrHigh task certificate.atoms certificate.potentials
+  pub dead_ends : AreDeadSettledOrHigh task certificate.atoms certificate.dead_ends

@@ -3,7 +3,7 @@ ghost use Rattle.std.specs.Prelude.{[], IfOk, IsTrue};
 ghost use Rattle.task.specs.Task.{task_of};
 ghost use Rattle.grounding.specs.Ground.{task_in, atoms_in, IsGroundOf};
 ghost use Rattle.solver.specs.Guided.{IsEstimateBy, IsTestBy};
-ghost use Rattle.solver.specs.Improved.{AreSettledOrHigh};
+ghost use Rattle.solver.specs.Improved.{AreSettledOrHigh, AreDeadSettledOrHigh};
 ghost use Rattle.solver.specs.Solver.{IsTrueAnswer};
 ghost use Rattle.model.specs.WellTyped.{is_task};
 
@@ -76,7 +76,8 @@ pub enum Exceeded {
 /// The search goes by fair potentials of the ground task, which are made better first, in at most 8 rounds; the certificate
 /// has them too. Where they are not settled, they give the initial state a value of at least 8. Beside a plan, each state
 /// that the certificate lists as open costs, with its value, no more than the plan. By dead-fair potentials, which the
-/// certificate has beside them, states are reported dead ends: they are listed, and the search goes no further from them.
+/// certificate has beside them and which are settled or high as well, states are reported as dead ends: they are listed, and
+/// the search goes no further from them.
 ///
 /// A certificate then lists at most 100,000 states. Where more would have to be listed, `Unknown(Exceeded::States { .. })` has a
 /// certificate of 100,000, and in it the bound is the least sum of cost and value of a state that is still to be expanded: no
@@ -119,6 +120,7 @@ fn solve_by<E: Estimate + Written, D: DeadEnd + Written>(
     requires ground { IsGroundOf (task_in ground.now) [] limits.instances ground.now }
     requires estimate { IsEstimateBy ground.now (E.written estimate.now) (E.system_of estimate.now) (E.width_of estimate.now) (E.score_of estimate.now) }
     requires improved { AreSettledOrHigh (task_in ground.now) (atoms_in ground.now) (E.written estimate.now) }
+    requires dead_ends_improved { AreDeadSettledOrHigh (task_in ground.now) (atoms_in ground.now) (D.written dead_ends.now) }
     requires dead_ends { IsTestBy ground.now (D.written dead_ends.now) (D.system_of dead_ends.now) (D.width_of dead_ends.now) (D.is_dead dead_ends.now) }
     ensures { IfOk result (IsTrueAnswer (task_in ground.now) limits.states limits.instances) }
 {

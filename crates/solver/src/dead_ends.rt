@@ -1,7 +1,9 @@
 //! The test for dead ends that a search goes by.
 ghost use Rattle.std.specs.Prelude.{◌≡◌, IfOk};
-ghost use Rattle.potentials_improved.specs.FairPotentials.{ground_in};
+ghost use Rattle.grounding.specs.Ground.{task_in, atoms_in};
+ghost use Rattle.potentials_improved.specs.FairPotentials.{potentials_in, ground_in};
 ghost use Rattle.potentials_improved.specs.Groundwork.{ground_under};
+ghost use Rattle.solver.specs.Improved.{AreDeadSettledOrHigh};
 
 use faults::NoMemory;
 use grounding::Ground;
@@ -18,7 +20,8 @@ pub(crate) fn improved_dead_ends<'g, 't>(
     groundwork: &Groundwork<'_, '_>,
 ) -> Result<DeadFair<'g, 't>, NoMemory>
     requires { ground_under groundwork.now ≡ ground.now }
-    ensures { IfOk result (λ d. ground_in d ≡ ground.now) }
+    ensures ground { IfOk result (λ d. ground_in d ≡ ground.now) }
+    ensures improved { IfOk result (λ d. AreDeadSettledOrHigh (task_in ground.now) (atoms_in ground.now) (potentials_in d)) }
 {
     let zero = Potentials::zero(alloc, ground)?;
     let dead_fair: DeadFair<'g, 't> = FairAt::known(zero, ground);

@@ -5,8 +5,8 @@ ghost use Rattle.solver.specs.Limit.{is_limit};
 /// The most that a limit may be.
 pub const MAX_LIMIT: u32 = 16_777_216;
 
-/// How many states a search may list, and how many of a task's instances may be kept, which are those that its start does
-/// not make statically false; each from 1 to 16,777,216.
+/// How many states a search may list, and how many of a task's instances may be kept, which are those that are statically
+/// applicable; each from 1 to 16,777,216.
 #[derive(Clone, Copy, Debug, PartialEq, Eq)]
 pub struct Limits {
     states: u32,

@@ -103,7 +103,7 @@ returns-in_ok-cert-in-Found g c =
       all_instances_of_plan task plan optimal.0,
       shown task (bound cost) most p q states nodes atoms numbered reported.2 cert made c.args.limits.states (omega (arith, reported.2.within_limit, c.states.ensures)) c.requires.typed
           c.requires.estimate.one_each c.requires.dead_ends.one_each c.requires.estimate.fair c.requires.dead_ends.dead_fair c.in_ok-cert-in-Found.cert.within_limits,
-      settled_or_high task (bound cost) most p q states nodes atoms numbered reported.2 cert made c.requires.improved,
+      settled_or_high task (bound cost) most p q states nodes atoms numbered reported.2 cert made c.requires.improved c.requires.dead_ends_improved,
       opened_within task (bound cost) most p q states nodes atoms numbered reported.2 cert made cost reported.4,
       c.requires.ground.within,
     )
@@ -137,7 +137,7 @@ returns-in_ok-cert-in-Exhausted g c =
       task_unsolvable task atoms numbered reported.0,
       shown task none most p q states nodes atoms numbered reported.1 cert made c.args.limits.states (omega (arith, reported.1.within_limit, c.states.ensures)) c.requires.typed
           c.requires.estimate.one_each c.requires.dead_ends.one_each c.requires.estimate.fair c.requires.dead_ends.dead_fair c.in_ok-cert-in-Exhausted.cert.within_limits,
-      settled_or_high task none most p q states nodes atoms numbered reported.1 cert made c.requires.improved,
+      settled_or_high task none most p q states nodes atoms numbered reported.1 cert made c.requires.improved c.requires.dead_ends_improved,
       c.requires.ground.within,
     )
 
@@ -187,6 +187,6 @@ returns-in_ok-cert-in-States g c =
       task_costs_at_least task atoms numbered least reported.1.costs_at_least,
       shown task (bound least) most p q states nodes atoms numbered reported.1.found cert made c.args.limits.states (omega (arith, reported.1.found.within_limit, c.states.ensures)) c.requires.typed
           c.requires.estimate.one_each c.requires.dead_ends.one_each c.requires.estimate.fair c.requires.dead_ends.dead_fair c.in_ok-cert-in-States.cert.within_limits,
-      settled_or_high task (bound least) most p q states nodes atoms numbered reported.1.found cert made c.requires.improved,
+      settled_or_high task (bound least) most p q states nodes atoms numbered reported.1.found cert made c.requires.improved c.requires.dead_ends_improved,
       at_limit_of task least most p q states nodes atoms numbered reported.1 cert made c.args.limits.states c.states.ensures,
     )

@@ -21,7 +21,7 @@ solve_by-requires-clause-estimate c =
 pub solve_by-requires-clause-dead_ends : goal.solve_by-requires-clause-dead_ends
 solve_by-requires-clause-dead_ends c =
     let d = c.in_ok-dead_ends.dead_ends in
-    let same = c.in_ok-dead_ends.ensures in
+    let same = c.in_ok-dead_ends.ensures.ground in
     record {
       system = ap (λ (g : Ground). ground_system (task_in g) (atoms_in g)) same;
       width = ap (λ (g : Ground). length (atoms_in g)) same;

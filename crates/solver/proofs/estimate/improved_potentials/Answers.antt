@@ -1,6 +1,7 @@
 use Rattle.std.proofs.Common.{◌∙◌, length, subst, sym}
 use Rattle.grounding.specs.declared.ground.Ground.{Ground}
 use Rattle.grounding.specs.Ground.{task_in, atoms_in}
+use Rattle.model.specs.Meaning.{cost_of}
 use Rattle.potentials_improved.specs.Potentials.{potentials_of}
 use Rattle.potentials_improved.specs.FairPotentials.{potentials_in, ground_in}
 use Rattle.solver.specs.Improved.{AreSettledOrHigh}
@@ -21,4 +22,4 @@ returns-clause-improved c =
     let g = ground_in c.known-fair.result in
     let q = potentials_in c.in_ok-better.better in
     subst (λ (h : Ground). AreSettledOrHigh (task_in h) (atoms_in h) q) c.known-fair.ensures.ground
-    (improved_end (task_in g) (atoms_in g) (potentials_in c.known-fair.result) q c.in_ok-better.ensures.better)
+    (improved_end (cost_of (task_in g)) (task_in g) (atoms_in g) (potentials_in c.known-fair.result) q c.in_ok-better.ensures.better)

@@ -8,26 +8,26 @@ use Rattle.potentials_improved.proofs.ClimbLemmas.{score-moved, score-range, ini
 use Rattle.potentials_improved.proofs.climb.Climb.moved_score.Goals as goal
 
 pub weight-old-requires : goal.weight-old-requires
-weight-old-requires c = omega (arith, c.requires.within, c.requires.climb.width)
+weight-old-requires g c = omega (arith, c.requires.within, c.requires.climb.width)
 
 pub has-is_true-requires : goal.has-is_true-requires
-has-is_true-requires c = omega (arith, c.requires.within, ap length c.requires.initial, initial-long (task_in c.args.ground.now) (atoms_in c.args.ground.now))
+has-is_true-requires g c = omega (arith, c.requires.within, ap length c.requires.initial, initial-long (g.A.Allowance.allowance (task_in c.args.ground.now)) (task_in c.args.ground.now) (atoms_in c.args.ground.now))
 
 pub exchanged-moved-requires-clause-least : goal.exchanged-moved-requires-clause-least
-exchanged-moved-requires-clause-least c =
-    let range = score-range (task_in c.args.ground.now) (atoms_in c.args.ground.now) c.args.self.now c.requires.climb (few-atoms c.args.ground.now) in
+exchanged-moved-requires-clause-least g c =
+    let range = score-range (g.A.Allowance.allowance (task_in c.args.ground.now)) (task_in c.args.ground.now) (atoms_in c.args.ground.now) c.args.self.now c.requires.climb (few-atoms c.args.ground.now) in
     let low = range.0 in
     omega (arith, ints)
 
 pub exchanged-moved-requires-clause-most : goal.exchanged-moved-requires-clause-most
-exchanged-moved-requires-clause-most c =
-    let range = score-range (task_in c.args.ground.now) (atoms_in c.args.ground.now) c.args.self.now c.requires.climb (few-atoms c.args.ground.now) in
+exchanged-moved-requires-clause-most g c =
+    let range = score-range (g.A.Allowance.allowance (task_in c.args.ground.now)) (task_in c.args.ground.now) (atoms_in c.args.ground.now) c.args.self.now c.requires.climb (few-atoms c.args.ground.now) in
     let high = range.1 in
     omega (arith, ints)
 
 pub exchanged-requires-clause-least : goal.exchanged-requires-clause-least
-exchanged-requires-clause-least c =
-    let range = score-range (task_in c.args.ground.now) (atoms_in c.args.ground.now) c.args.self.now c.requires.climb (few-atoms c.args.ground.now) in
+exchanged-requires-clause-least g c =
+    let range = score-range (g.A.Allowance.allowance (task_in c.args.ground.now)) (task_in c.args.ground.now) (atoms_in c.args.ground.now) c.args.self.now c.requires.climb (few-atoms c.args.ground.now) in
     let low = range.0 in
     let e = c.exchanged-moved.ensures in
     let k = c.requires.constant in
@@ -38,8 +38,8 @@ exchanged-requires-clause-least c =
     omega (arith, ints)
 
 pub exchanged-requires-clause-most : goal.exchanged-requires-clause-most
-exchanged-requires-clause-most c =
-    let range = score-range (task_in c.args.ground.now) (atoms_in c.args.ground.now) c.args.self.now c.requires.climb (few-atoms c.args.ground.now) in
+exchanged-requires-clause-most g c =
+    let range = score-range (g.A.Allowance.allowance (task_in c.args.ground.now)) (task_in c.args.ground.now) (atoms_in c.args.ground.now) c.args.self.now c.requires.climb (few-atoms c.args.ground.now) in
     let high = range.1 in
     let e = c.exchanged-moved.ensures in
     let k = c.requires.constant in
@@ -50,8 +50,8 @@ exchanged-requires-clause-most c =
     omega (arith, ints)
 
 pub returns : goal.returns
-returns c =
-    let moved = score-moved (task_in c.args.ground.now) (atoms_in c.args.ground.now) (potentials_of c.args.self.now.potentials) c.args.atom c.args.weight c.args.constant c.args.self.now.score c.constant.result c.args.constant _ _
+returns g c =
+    let moved = score-moved (g.A.Allowance.allowance (task_in c.args.ground.now)) (task_in c.args.ground.now) (atoms_in c.args.ground.now) (potentials_of c.args.self.now.potentials) c.args.atom c.args.weight c.args.constant c.args.self.now.score c.constant.result c.args.constant _ _
     c.given-before.result c.given-after.result c.has-is_true.result (bits_of c.args.initial.now)
     c.requires.within c.requires.climb.width c.requires.climb.score c.constant.ensures refl c.requires.initial c.has-is_true.ensures
     (omega (arith, ints, c.weight-old.ensures.value)) (omega (arith, ints)) c.given-before.ensures.value c.given-after.ensures.value in

@@ -12,13 +12,13 @@ use Rattle.potentials_improved.proofs.ClimbLemmas.{initial-long, climb-made, cli
 use Rattle.potentials_improved.proofs.climb.Climb.new.Goals as goal
 
 pub goal_gives_at_most-goal-requires-clause-range : goal.goal_gives_at_most-goal-requires-clause-range
-goal_gives_at_most-goal-requires-clause-range c = subst (All IsInRange) (sym c.weights.ensures) c.args.potentials.weights_in_range
+goal_gives_at_most-goal-requires-clause-range g c = subst (All IsInRange) (sym c.weights.ensures) c.args.potentials.weights_in_range
 
 pub goal_gives_at_most-goal-requires-clause-few : goal.goal_gives_at_most-goal-requires-clause-few
-goal_gives_at_most-goal-requires-clause-few c = omega (arith, ap length c.weights.ensures, c.requires.width, few-atoms c.args.ground.now)
+goal_gives_at_most-goal-requires-clause-few g c = omega (arith, ap length c.weights.ensures, c.requires.width, few-atoms c.args.ground.now)
 
 pub greatest_constant-constant-requires : goal.greatest_constant-constant-requires
-greatest_constant-constant-requires c =
+greatest_constant-constant-requires g c =
     let sums = goal-is (task_in c.args.ground.now) (atoms_in c.args.ground.now) (potentials_of c.args.potentials) c.weights.result.now c.weights.ensures c.requires.width _ c.goal_gives_at_most-goal.result c.goal_literals.ensures c.goal_gives_at_most-goal.ensures.value in
     let within = c.requires.fair.goals.within in
     let range = c.args.potentials.constant_in_range in
@@ -26,30 +26,30 @@ greatest_constant-constant-requires c =
     omega (arith, ints)
 
 pub score-score-requires : goal.score-score-requires
-score-score-requires c =
+score-score-requires g c =
     let t = task_in c.args.ground.now in
     let a = atoms_in c.args.ground.now in
-    ap length c.requires.initial ∙ initial-long t a ∙ sym c.requires.width ∙ sym (ap (λ (q : PotentialFunction). length q.weights) c.set_constant.ensures)
+    ap length c.requires.initial ∙ initial-long (g.A.Allowance.allowance t) t a ∙ sym c.requires.width ∙ sym (ap (λ (q : PotentialFunction). length q.weights) c.set_constant.ensures)
 
 pub returns-clause-climb : goal.returns-clause-climb
-returns-clause-climb c =
+returns-clause-climb g c =
     let t = task_in c.args.ground.now in
     let a = atoms_in c.args.ground.now in
     let sums = goal-is t a (potentials_of c.args.potentials) c.weights.result.now c.weights.ensures c.requires.width _ c.goal_gives_at_most-goal.result c.goal_literals.ensures c.goal_gives_at_most-goal.ensures.value in
     let is = to_z-of_z w64 c.goal_gives_at_most-goal.result (search rules) in
     let constant = c.greatest_constant-constant.ensures in
-    climb-made t a _ (potentials_of c.args.potentials) c.greatest_constant-constant.result _ c.requires.fair (is ∙ sums) constant.greatest
+    climb-made (g.A.Allowance.allowance t) t a _ (potentials_of c.args.potentials) c.greatest_constant-constant.result _ c.requires.fair (is ∙ sums) constant.greatest
     (c.set_constant.ensures ∙ ap (λ k. potentials k c.args.potentials.weights.items) (to_z-of_z w64 c.greatest_constant-constant.result (search rules)))
     c.requires.width constant.meets refl
     (to_z-of_z w64 c.score-score.result (search rules) ∙ c.score-score.ensures ∙ ap (score (potentials_of c.set_constant.new.self)) c.requires.initial)
 
 pub returns-clause-no_lower : goal.returns-clause-no_lower
-returns-clause-no_lower c =
+returns-clause-no_lower g c =
     let t = task_in c.args.ground.now in
     let a = atoms_in c.args.ground.now in
     let sums = goal-is t a (potentials_of c.args.potentials) c.weights.result.now c.weights.ensures c.requires.width _ c.goal_gives_at_most-goal.result c.goal_literals.ensures c.goal_gives_at_most-goal.ensures.value in
     let is = to_z-of_z w64 c.goal_gives_at_most-goal.result (search rules) in
     let constant = c.greatest_constant-constant.ensures in
-    climb-no_lower t a (potentials_of c.args.potentials) (potentials_of c.set_constant.new.self) c.greatest_constant-constant.result _ c.requires.fair (is ∙ sums) constant.greatest
+    climb-no_lower (g.A.Allowance.allowance t) t a (potentials_of c.args.potentials) (potentials_of c.set_constant.new.self) c.greatest_constant-constant.result _ c.requires.fair (is ∙ sums) constant.greatest
     (c.set_constant.ensures ∙ ap (λ k. potentials k c.args.potentials.weights.items) (to_z-of_z w64 c.greatest_constant-constant.result (search rules)))
     c.args.potentials.constant_in_range

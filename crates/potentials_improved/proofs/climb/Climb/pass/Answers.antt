@@ -5,11 +5,11 @@ use Rattle.potentials_improved.proofs.ClimbLemmas.{pass-none, pass-step}
 use Rattle.potentials_improved.proofs.climb.Climb.pass.Goals as goal
 
 pub loop-atom-init : goal.loop-atom-init
-loop-atom-init c = pass-none (task_in c.args.ground.now) (atoms_in c.args.ground.now) c.args.self.now c.requires.climb
+loop-atom-init g c = pass-none (g.A.Allowance.allowance (task_in c.args.ground.now)) (task_in c.args.ground.now) (atoms_in c.args.ground.now) c.args.self.now c.requires.climb
 
 pub loop-atom-preserved : goal.loop-atom-preserved
-loop-atom-preserved c =
+loop-atom-preserved g c =
     let t = task_in c.args.ground.now in
     let a = atoms_in c.args.ground.now in
-    subst (λ b. IsPass t a (c.loop-atom.atom + 1) c.args.self.now c.try_atom-better.new.self b) (sym c.either-raised.ensures)
-    (pass-step t a c.loop-atom.atom c.args.self.now c.loop-atom.self c.try_atom-better.new.self c.loop-atom.raised c.try_atom-better.result c.loop-atom.invariant c.try_atom-better.ensures)
+    subst (λ b. IsPass (g.A.Allowance.allowance t) t a (c.loop-atom.atom + 1) c.args.self.now c.try_atom-better.new.self b) (sym c.either-raised.ensures)
+    (pass-step (g.A.Allowance.allowance t) t a c.loop-atom.atom c.args.self.now c.loop-atom.self c.try_atom-better.new.self c.loop-atom.raised c.try_atom-better.result c.loop-atom.invariant c.try_atom-better.ensures)

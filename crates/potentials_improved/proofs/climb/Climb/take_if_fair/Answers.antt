@@ -7,43 +7,43 @@ use Rattle.potential_functions.specs.PotentialFunctions.{PotentialFunction}
 use Rattle.potential_functions.proofs.Settling.{potentials}
 use Rattle.potentials.specs.Potentials.{potentials_of}
 use Rattle.potentials_drafted.specs.Incidence.{number_of, row_of}
-use Rattle.potentials_improved.specs.Climb.{AreFairAt}
+use Rattle.potentials_improved.specs.Climb.{AreFairAmong}
 use Rattle.potentials_improved.proofs.ClimbLemmas.{back-again, set-long, tried-kept, tried-raised}
 use Rattle.potentials_improved.proofs.FairAtLemmas.{fair-by_incidence, none-unfair_among, row-below}
 use Rattle.potentials_improved.proofs.climb.Climb.take_if_fair.Goals as goal
 
 pub weight-old-requires : goal.weight-old-requires
-weight-old-requires c = omega (arith, c.requires.within, c.requires.climb.width)
+weight-old-requires g c = omega (arith, c.requires.within, c.requires.climb.width)
 
 pub set_weight-requires-clause-within : goal.set_weight-requires-clause-within
-set_weight-requires-clause-within c = omega (arith, c.requires.within, c.requires.climb.width)
+set_weight-requires-clause-within g c = omega (arith, c.requires.within, c.requires.climb.width)
 
 pub are_fair_at-requires-clause-width : goal.are_fair_at-requires-clause-width
-are_fair_at-requires-clause-width c = set-long (potentials_of c.args.self.now.potentials) (potentials_of c.set_weight.new.self) c.args.atom _ _ c.set_weight.ensures ∙ c.requires.climb.width
+are_fair_at-requires-clause-width g c = set-long (potentials_of c.args.self.now.potentials) (potentials_of c.set_weight.new.self) c.args.atom _ _ c.set_weight.ensures ∙ c.requires.climb.width
 
 pub are_fair_at-requires-clause-within : goal.are_fair_at-requires-clause-within
-are_fair_at-requires-clause-within c = row-below (task_in c.args.ground.now) (atoms_in c.args.ground.now) c.args.incidence.now c.args.atom (map number_of c.of.result.now) c.requires.incidence (ap (map number_of) c.of.ensures)
+are_fair_at-requires-clause-within g c = row-below (task_in c.args.ground.now) (atoms_in c.args.ground.now) c.args.incidence.now c.args.atom (map number_of c.of.result.now) c.requires.incidence (ap (map number_of) c.of.ensures)
 
 pub set_weight-requires-then-not-are_fair_at-clause-within : goal.set_weight-requires-then-not-are_fair_at-clause-within
-set_weight-requires-then-not-are_fair_at-clause-within c =
+set_weight-requires-then-not-are_fair_at-clause-within g c =
     omega (arith, c.requires.within, c.requires.climb.width, set-long (potentials_of c.args.self.now.potentials) (potentials_of c.set_weight.new.self) c.args.atom _ _ c.set_weight.ensures)
 
 pub returns-then-not-are_fair_at : goal.returns-then-not-are_fair_at
-returns-then-not-are_fair_at c =
+returns-then-not-are_fair_at g c =
     let t = task_in c.args.ground.now in
     let a = atoms_in c.args.ground.now in
     let old = c.args.self.now in
     let ew = to_z-of_z w64 c.args.weight c.ranges.weight in
     let there : potentials_of c.set_weight.new.self ≡ potentials old.potentials.constant (set old.potentials.weights.items c.args.atom c.args.weight)
     = c.set_weight.ensures ∙ ap (λ w. potentials old.potentials.constant (set old.potentials.weights.items c.args.atom w)) ew in
-    tried-kept t a old _ c.args.atom c.args.weight c.requires.climb
+    tried-kept (g.A.Allowance.allowance t) t a old _ c.args.atom c.args.weight c.requires.climb
     (back-again (potentials_of old.potentials) _ _ c.args.atom c.args.weight _ (to_z-of_z w64 c.weight-old.result (search rules) ∙ c.weight-old.ensures.value) there c.set_weight-then-not-are_fair_at.ensures)
     refl refl
-    (λ fits. none-unfair_among t a (potentials_of old.potentials) (potentials_of c.set_weight.new.self) old.potentials.constant (set old.potentials.weights.items c.args.atom c.args.weight) (map number_of c.of.result.now) there
+    (λ fits. none-unfair_among (g.A.Allowance.allowance t) t a (potentials_of old.potentials) (potentials_of c.set_weight.new.self) old.potentials.constant (set old.potentials.weights.items c.args.atom c.args.weight) (map number_of c.of.result.now) there
     (iff_false c.are_fair_at.ensures c.if-not-are_fair_at.true))
 
 pub returns : goal.returns
-returns c =
+returns g c =
     let t = task_in c.args.ground.now in
     let a = atoms_in c.args.ground.now in
     let old = c.args.self.now in
@@ -51,10 +51,10 @@ returns c =
     let ew = to_z-of_z w64 c.args.weight c.ranges.weight in
     let there : potentials_of c.set_weight.new.self ≡ potentials old.potentials.constant (set old.potentials.weights.items c.args.atom c.args.weight)
     = c.set_weight.ensures ∙ ap (λ w. potentials old.potentials.constant (set old.potentials.weights.items c.args.atom w)) ew in
-    let fair : AreFairAt t a (potentials_of c.set_weight.new.self) (row_of c.args.incidence.now c.args.atom)
-    = subst (AreFairAt t a (potentials_of c.set_weight.new.self)) (ap (map number_of) c.of.ensures) (c.are_fair_at.ensures.0 c.if-not-are_fair_at.false) in
-    tried-raised t a old _ n c.args.atom c.args.weight c.requires.climb c.requires.next
-    (fair-by_incidence t a (potentials_of old.potentials) (potentials_of c.set_weight.new.self) old.potentials.constant c.args.atom c.args.weight c.args.incidence.now c.requires.incidence c.requires.climb.fair.instances there fair)
+    let fair : AreFairAmong (g.A.Allowance.allowance t) t a (potentials_of c.set_weight.new.self) (row_of c.args.incidence.now c.args.atom)
+    = subst (AreFairAmong (g.A.Allowance.allowance t) t a (potentials_of c.set_weight.new.self)) (ap (map number_of) c.of.ensures) (c.are_fair_at.ensures.0 c.if-not-are_fair_at.false) in
+    tried-raised (g.A.Allowance.allowance t) t a old _ n c.args.atom c.args.weight c.requires.climb c.requires.next
+    (fair-by_incidence (g.A.Allowance.allowance t) t a (potentials_of old.potentials) (potentials_of c.set_weight.new.self) old.potentials.constant c.args.atom c.args.weight c.args.incidence.now c.requires.incidence c.requires.climb.fair.instances there fair)
     (c.set_constant.ensures ∙ ap (λ k. potentials k (potentials_of c.set_weight.new.self).weights) (to_z-of_z w64 n.constant (search rules))
     ∙ ap (λ (q : PotentialFunction). potentials n.constant q.weights) there)
     (to_z-of_z w64 n.goal (search rules)) (to_z-of_z w64 n.score (search rules))

@@ -7,20 +7,20 @@ use Rattle.potentials_improved.proofs.ClimbLemmas.{atom-first, atom-second}
 use Rattle.potentials_improved.proofs.climb.Climb.try_atom.Goals as goal
 
 pub weight-old-requires : goal.weight-old-requires
-weight-old-requires c = omega (arith, c.requires.within, c.requires.climb.width)
+weight-old-requires g c = omega (arith, c.requires.within, c.requires.climb.width)
 
 pub returns-then-try_weight : goal.returns-then-try_weight
-returns-then-try_weight c =
+returns-then-try_weight g c =
     let t = task_in c.args.ground.now in
     let a = atoms_in c.args.ground.now in
-    atom-first t a c.args.self.now c.try_weight.new.self c.args.atom _
-    (subst (λ b. IsWeightTried t a c.args.self.now c.try_weight.new.self c.args.atom (to_z w64 (of_z w64 (to_z w64 (of_z w64 c.weight-old.result) -ℤ pos 1))) b) c.if-try_weight.true c.try_weight.ensures)
+    atom-first (g.A.Allowance.allowance t) t a c.args.self.now c.try_weight.new.self c.args.atom _
+    (subst (λ b. IsWeightTried (g.A.Allowance.allowance t) t a c.args.self.now c.try_weight.new.self c.args.atom (to_z w64 (of_z w64 (to_z w64 (of_z w64 c.weight-old.result) -ℤ pos 1))) b) c.if-try_weight.true c.try_weight.ensures)
 
 pub try_weight-requires-2-clause-climb : goal.try_weight-requires-2-clause-climb
-try_weight-requires-2-clause-climb c = c.try_weight.ensures.climb
+try_weight-requires-2-clause-climb g c = c.try_weight.ensures.climb
 
 pub returns : goal.returns
-returns c =
+returns g c =
     let t = task_in c.args.ground.now in
     let a = atoms_in c.args.ground.now in
     let old = c.args.self.now in
@@ -32,5 +32,5 @@ returns c =
     let high = range.most in
     let less : to_z w64 (of_z w64 (to_z w64 (of_z w64 w) -ℤ pos 1)) ≡ (w +ℤ neg_ℤ (pos 1)) = omega (arith, ints) in
     let more : to_z w64 (of_z w64 (to_z w64 (of_z w64 w) +ℤ pos 1)) ≡ (w +ℤ pos 1) = omega (arith, ints) in
-    atom-second t a old mid new c.args.atom _ _ w c.try_weight-2.result c.weight-old.ensures.value less more
-    (subst (λ b. IsWeightTried t a old mid c.args.atom (to_z w64 (of_z w64 (to_z w64 (of_z w64 w) -ℤ pos 1))) b) c.if-try_weight.false c.try_weight.ensures) c.try_weight-2.ensures
+    atom-second (g.A.Allowance.allowance t) t a old mid new c.args.atom _ _ w c.try_weight-2.result c.weight-old.ensures.value less more
+    (subst (λ b. IsWeightTried (g.A.Allowance.allowance t) t a old mid c.args.atom (to_z w64 (of_z w64 (to_z w64 (of_z w64 w) -ℤ pos 1))) b) c.if-try_weight.false c.try_weight.ensures) c.try_weight-2.ensures
