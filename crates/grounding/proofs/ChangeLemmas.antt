@@ -5,12 +5,13 @@ use Rattle.std.specs.Prelude.{Contains, IsTrue, slice_get, if◌then◌else◌}
 use Rattle.std.specs.Global.{Vec}
 use Rattle.std.specs.List.{cons_option}
 use Rattle.std.specs.Option.{option_map}
+use Rattle.std.proofs.lemmas.Bool.{not-true}
 use Rattle.std.proofs.lemmas.Option.{slice_get_within, slice_get-map}
 use Rattle.formulas.specs.State.{FitsFormula}
-use Rattle.model.specs.Task.{Atom, Task, Instance}
+use Rattle.model.specs.Task.{Atom, Formula, Task, Instance}
 use Rattle.model.specs.WellTyped.{is_task}
 use Rattle.model.specs.Meaning.{State, GroundLiteral, adds, deletes, Change, changes_of_instance, is_instance}
-use Rattle.model.specs.StaticallyFalse.{counts, is_unconditional}
+use Rattle.model.specs.StaticallyFalse.{counts, is_statically_false, is_unconditional}
 use Rattle.model.specs.NumberedAtoms.{number_of}
 use Rattle.model.specs.NumberedLiterals.{NumberedLiteral, numbered_ground_literal}
 use Rattle.model.proofs.ListLemmas.{Contains-got, Contains-place, filter_map-Contains, drop-here}
@@ -38,17 +39,18 @@ literal-within : (atoms : List Atom) (l : GroundLiteral) (n : NumberedLiteral) �
 literal-within atoms (adds a) n is = number-within atoms a true n is
 literal-within atoms (deletes a) n is = number-within atoms a false n is
 
-effect-parts : (t : Task) (atoms : List Atom) (d : Change) (e : NumberedEffect) → counted_effect t atoms d ≡ Some e → (guard_of d ≡ e.guard) × (e.atom < length atoms)
+effect-parts : (t : Task) (atoms : List Atom) (d : Change) (e : NumberedEffect) → counted_effect t atoms d ≡ Some e → (guard_of d ≡ e.guard) × (e.atom < length atoms) × (counts t d ≡ true)
 effect-parts t atoms d e is =
-    elim (counts t d) as (λ b. (if b then numbered_effect atoms d else None) ≡ Some e → (guard_of d ≡ e.guard) × (e.atom < length atoms)) [
+    elim (counts t d) as (λ b. (if b then numbered_effect atoms d else None) ≡ Some e → (guard_of d ≡ e.guard) × (e.atom < length atoms) × (b ≡ true)) [
       | false ↦ λ none. absurd (cc)
       | true ↦ λ some.
-          elim (numbered_ground_literal atoms d.literal) as (λ o. numbered_ground_literal atoms d.literal ≡ o → option_map made o ≡ Some e → (guard_of d ≡ e.guard) × (e.atom < length atoms)) [
+          elim (numbered_ground_literal atoms d.literal) as (λ o. numbered_ground_literal atoms d.literal ≡ o → option_map made o ≡ Some e → (guard_of d ≡ e.guard) × (e.atom < length atoms) × (true ≡ true)) [
             | None ↦ λ _ none. absurd (cc)
             | Some l ↦ λ at this.
                 let same : made l ≡ e = some-same (made l) e this in (
                   ap (λ (x : NumberedEffect). x.guard) same,
                   subst (λ (x : NumberedEffect). x.atom < length atoms) same (literal-within atoms d.literal l at),
+                  refl,
                 )
           ] refl some
     ] is
@@ -56,11 +58,12 @@ effect-parts t atoms d e is =
     made : NumberedLiteral → NumberedEffect
     made l = record { atom = l.atom; value = l.value; guard = guard_of d }
 
-guard-fits : (t : Task) (d : Change) (g : Guard) → guard_of d ≡ Some g → FitsFormula t d.condition d.binding → FitsFormula t g.formula g.binding
-guard-fits t d g is fits =
-    elim (is_unconditional d) as (λ b. guarded b ≡ Some g → FitsFormula t g.formula g.binding) [
+-- what is so of the condition is so of the guard
+guard-has : (has : Formula → List ℕ → Type 0) (d : Change) (g : Guard) → guard_of d ≡ Some g → has d.condition d.binding → has g.formula g.binding
+guard-has has d g is holds =
+    elim (is_unconditional d) as (λ b. guarded b ≡ Some g → has g.formula g.binding) [
       | true ↦ λ none. absurd (cc)
-      | false ↦ λ some. subst (λ (x : Guard). FitsFormula t x.formula x.binding) (some-same whole g some) fits
+      | false ↦ λ some. subst (λ (x : Guard). has x.formula x.binding) (some-same whole g some) holds
     ] is
   where
     whole : Guard
@@ -69,7 +72,7 @@ guard-fits t d g is fits =
     guarded : Bool → Option Guard
     guarded b = if b then None else Some whole
 
-module _ (t : Task) (well : IsTrue (is_task t)) (atoms : List Atom) (i : Instance) (instance : IsTrue (is_instance t i)) (changes : Vec CountingChange) (are : AreChangesOf t atoms i changes)
+module _ (t : Task) (atoms : List Atom) (i : Instance) (changes : Vec CountingChange) (are : AreChangesOf t atoms i changes)
     (k : ℕ) (c : CountingChange) (at : slice_get changes.items k ≡ Some c) where
   -- the change of the instance that it comes from
   origin : (d : Change) × Contains (changes_of_instance t i) d × (counted_effect t atoms d ≡ Some (effect_in c))
@@ -78,13 +81,21 @@ module _ (t : Task) (well : IsTrue (is_task t)) (atoms : List Atom) (i : Instanc
       (Contains-got (effects_of_instance t atoms i) k (effect_in c)
       (ap (λ (l : List NumberedEffect). slice_get l k) (sym are.effects) ∙ slice_get-map effect_in changes.items k ∙ ap (option_map effect_in) at))
 
-  pub change-within : c.atom < length atoms
-  change-within = (effect-parts t atoms origin.0 (effect_in c) origin.2).1
+  parts : (guard_of origin.0 ≡ guard_in c.condition) × (c.atom < length atoms) × (counts t origin.0 ≡ true)
+  parts = effect-parts t atoms origin.0 (effect_in c) origin.2
 
-  pub change-fits : GuardFits t (guard_in c.condition)
-  change-fits g is =
+  pub change-within : c.atom < length atoms
+  change-within = parts.1
+
+  pub guard-counts : (g : Guard) → guard_in c.condition ≡ Some g → is_statically_false t g.formula g.binding ≡ false
+  guard-counts g is =
+      guard-has (λ f b. is_statically_false t f b ≡ false) origin.0 g (parts.0 ∙ is)
+      (not-true (is_statically_false t origin.0.condition origin.0.binding) parts.2)
+
+  pub change-fits : IsTrue (is_task t) → IsTrue (is_instance t i) → GuardFits t (guard_in c.condition)
+  change-fits well instance g is =
       let place = Contains-place (changes_of_instance t i) origin.0 origin.1 in
-      guard-fits t origin.0 g ((effect-parts t atoms origin.0 (effect_in c) origin.2).0 ∙ is)
+      guard-has (FitsFormula t) origin.0 g (parts.0 ∙ is)
       (all-fit t well i instance (changes_of_instance t i) refl place.0 origin.0 place.1)
 
 -- ---- one change after another

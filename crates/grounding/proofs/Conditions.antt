@@ -1,5 +1,5 @@
 -- What a condition decides is whether its formula holds, and its literals are of numbered atoms.
-use Rattle.std.proofs.Common.{◌≡◌, ◌∙◌, ℕ, ◌<◌, Bool, true, false, ◌&&◌, List, [], ◌∷◌, length, None, Some, refl, sym, subst, true≢false}
+use Rattle.std.proofs.Common.{◌≡◌, ◌∙◌, ℕ, ◌<◌, Bool, true, false, ◌&&◌, List, [], ◌∷◌, length, None, Some, refl, sym, ap, subst, true≢false}
 use Rattle.std.specs.List.{All, list_all, filter_map, cons_option}
 use Rattle.std.specs.Option.{option_map}
 use Rattle.std.proofs.lemmas.Option.{slice_get_within}
@@ -16,7 +16,7 @@ use Rattle.model.proofs.SureLiteralsHold.{sure_literals_hold}
 use Rattle.grounding.specs.declared.condition.Condition.{Condition}
 use Rattle.grounding.specs.Outright.{is_outright}
 use Rattle.grounding.specs.Unnumbered.{may_hold}
-use Rattle.grounding.specs.Conditions.{literals_in, beyond_of, decided_by, IsConditionOf}
+use Rattle.grounding.specs.Conditions.{literals_in, beyond_of, decided_by, may_of, IsConditionOf}
 use Rattle.grounding.proofs.OutrightLemmas.{holds_outright}
 use Rattle.grounding.proofs.PackedTruth.{literals-packed}
 
@@ -36,6 +36,12 @@ truly false all false true true sure says is answer reported = cc
 truly false all false true false sure says is answer reported = cc
 truly false all agreed false outright sure says is answer reported = cc
 
+-- what is asked beyond says whether the literals without numbers may hold
+may_beyond : (may outright : Bool) → may_of (beyond_of may outright) ≡ may
+may_beyond false outright = refl
+may_beyond true true = refl
+may_beyond true false = refl
+
 module _ (t : Task) (atoms : List Atom) (distinct : are_distinct atoms ≡ true) (fluent : (q : Atom) → occurs_in atoms q ≡ true → is_fluent t q.predicate ≡ true) (f : Formula) (binding : List ℕ) where
   pub decided-truly : (bits : List Bool) (answer : Bool)
       → decided_by (beyond_of (list_all (may_hold t atoms) (sure t f binding)) (is_outright f)) (list_all (agrees bits) (numbered_literals t atoms f binding)) ≡ Some answer
@@ -54,6 +60,7 @@ module _ (t : Task) (atoms : List Atom) (distinct : are_distinct atoms ≡ true)
       → IsConditionOf t atoms f binding c
   condition-of c literals beyond = record {
     literals = literals;
+    may = ap may_of beyond ∙ may_beyond (list_all (may_hold t atoms) (sure t f binding)) (is_outright f);
     decided = λ bits answer long reported.
         decided-truly bits answer (sym (λ i. decided_by (beyond i) (list_all (agrees bits) (literals i))) ∙ reported);
   }

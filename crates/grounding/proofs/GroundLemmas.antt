@@ -47,6 +47,20 @@ schema-of t i instance =
       | Some s ↦ λ _. (s, refl)
     ] instance
 
+pub counting-effect : (c : CountingChange) → counting_of c ≡ change_of_effect (effect_in c)
+counting-effect c = ap (λ (b : Bool). changed b) (same c.condition)
+  where
+    changed : Bool → NumberedChange
+    changed b = record { atom = c.atom; value = c.value; is_unconditional = b }
+
+    same : (o : Option (Box ChangeCondition)) → is_none o ≡ is_none (guard_in o)
+    same None = refl
+    same (Some x) = refl
+
+all-counting : (changes : List CountingChange) → map counting_of changes ≡ map change_of_effect (map effect_in changes)
+all-counting [] = refl
+all-counting (c ∷ changes) = (λ j. counting-effect c j ∷ all-counting changes j)
+
 module _ (t : Task) (atoms : List Atom) (number : ℕ) (i : Instance) (at : slice_get (kept_instances t) number ≡ Some i) where
   abbrev literals_by : Schema → List NumberedLiteral
   literals_by s = numbered_literals t atoms s.precondition i.objects
@@ -55,20 +69,6 @@ module _ (t : Task) (atoms : List Atom) (number : ℕ) (i : Instance) (at : slic
   literals-of c is =
       let s = schema-of t i (kept-is_instance t number i at) in
       (is s.0 s.1).literals ∙ sym (ap (λ o. option_map_or (literals_of_instance t atoms) o []) at ∙ ap (λ o. option_map_or literals_by o []) s.1)
-
-  counting-effect : (c : CountingChange) → counting_of c ≡ change_of_effect (effect_in c)
-  counting-effect c = ap (λ (b : Bool). changed b) (same c.condition)
-    where
-      changed : Bool → NumberedChange
-      changed b = record { atom = c.atom; value = c.value; is_unconditional = b }
-
-      same : (o : Option (Box ChangeCondition)) → is_none o ≡ is_none (guard_in o)
-      same None = refl
-      same (Some x) = refl
-
-  all-counting : (changes : List CountingChange) → map counting_of changes ≡ map change_of_effect (map effect_in changes)
-  all-counting [] = refl
-  all-counting (c ∷ changes) = (λ j. counting-effect c j ∷ all-counting changes j)
 
   pub counting-of : (changes : Vec CountingChange) → AreChangesOf t atoms i changes → map counting_of changes.items ≡ counting_of_number t atoms number
   counting-of changes are =

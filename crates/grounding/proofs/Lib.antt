@@ -8,7 +8,9 @@ pub mod EffectLemmas
 pub mod ChangeLemmas
 pub mod InPlaceLemmas
 pub mod InitialBits
+pub mod UnnumberedLemmas
 pub mod GroundLemmas
+pub mod ConditionalLemmas
 pub mod FiledNumbers
 pub mod WatchLemmas
 pub mod TreeLemmas

@@ -35,7 +35,7 @@ module _ (t : Task) (atoms : List Atom) (distinct : are_distinct atoms ≡ true)
       let at = got-number_of atoms a n is in
       contains-numbered (is_fluent t) t.init atoms distinct bits n a (fluent a (occurs_in-got atoms n a at)) at
 
-  unnumbered-apart : (a : Atom) → number_of atoms a ≡ None → occurs_in atoms a ≡ false
+  pub unnumbered-apart : (a : Atom) → number_of atoms a ≡ None → occurs_in atoms a ≡ false
   unnumbered-apart a none =
       false_from_ne_true (occurs_in atoms a) (λ there.
       let place = Contains-place atoms a (occurs_in-Contains atoms a there) in

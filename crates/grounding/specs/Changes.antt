@@ -1,18 +1,28 @@
 -- Counting changes of the code, in the model's terms.
-use Rattle.std.specs.Prelude.{◌≡◌, ℕ, List, map, slice_get, Option, Some, is_none}
+use Rattle.std.specs.Prelude.{◌≡◌, ℕ, false, not, List, [], map, slice_get, Option, Some, is_none}
 use Rattle.std.specs.Global.{Box, Vec}
-use Rattle.std.specs.Option.{option_map}
+use Rattle.std.specs.Option.{option_map, option_map_or}
 use Rattle.task.specs.TaskParts.{object_of, formula_of}
 use Rattle.formulas.specs.State.{FitsFormula}
-use Rattle.grounding.specs.Conditions.{IsConditionOf}
+use Rattle.grounding.specs.Conditions.{literals_in, may_hold_in, IsConditionOf}
 use Rattle.grounding.specs.declared.changes.CountingChange.{CountingChange}
 use Rattle.grounding.specs.declared.changes.ChangeCondition.{ChangeCondition}
 use Rattle.grounding.specs.NumberedEffects.{Guard, NumberedEffect, effects_of_instance}
 use Rattle.model.specs.Task.{Task, Atom, Instance}
 use Rattle.model.specs.NumberedLiterals as model
+use Rattle.model.specs.ConditionalChanges.{ConditionalChange}
 
 abbrev pub counting_of : CountingChange → model.NumberedChange
 counting_of c = record { atom = c.atom; value = c.value; is_unconditional = is_none c.condition }
+
+-- What it asks beside its literals can be met in some packed state, or else one of them wants an atom without a number: a change
+-- counts only where its condition is not statically false.
+abbrev pub conditional_of : CountingChange → ConditionalChange
+conditional_of c = record {
+  change = counting_of c;
+  condition = option_map_or (λ (under : Box ChangeCondition). literals_in under.value.condition) c.condition [];
+  wants_unnumbered = option_map_or (λ (under : Box ChangeCondition). not (may_hold_in under.value.condition)) c.condition false;
+}
 
 abbrev pub guard_of_condition : Box ChangeCondition → Guard
 guard_of_condition c = record { formula = formula_of c.value.formula.now; binding = map object_of c.value.binding.items }

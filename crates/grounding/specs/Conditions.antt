@@ -3,11 +3,13 @@ use Rattle.std.specs.Prelude.{◌≡◌, ℕ, Bool, true, false, List, map, leng
 use Rattle.std.specs.List.{list_all}
 use Rattle.std.specs.Option.{option_map_or}
 use Rattle.grounding_kept.specs.Numbers.{numbered_of}
+use Rattle.grounding.specs.Unnumbered.{may_hold}
 use Rattle.grounding.specs.declared.condition.Condition.{Condition}
 use Rattle.grounding.specs.declared.condition.Beyond.{Beyond}
 use Rattle.grounding.specs.declared.condition.Beyond.TheVariants as beyond
 use Rattle.model.specs.Task.{Task, Atom, Formula}
 use Rattle.model.specs.Meaning.{holds}
+use Rattle.model.specs.SureLiterals.{sure}
 use Rattle.model.specs.NumberedLiterals as model
 use Rattle.model.specs.NumberedLiterals.{agrees, numbered_literals}
 use Rattle.model.specs.Grounding.{state_of_bits}
@@ -45,8 +47,9 @@ may_hold_in c = may_of c.beyond
 abbrev pub may_hold_at : List Condition → ℕ → Bool
 may_hold_at conditions n = option_map_or may_hold_in (slice_get conditions n) false
 
--- It has the formula's literals that are of numbered atoms, where these objects stand for the variables, and what it
--- decides is whether the formula holds.
+-- It has the formula's literals that are of numbered atoms, where these objects stand for the variables, it says whether its
+-- other literals may hold, and what it decides is whether the formula holds.
 pub record IsConditionOf (t : Task) (atoms : List Atom) (formula : Formula) (binding : List ℕ) (c : Condition) : Type 0 where
   pub literals : literals_in c ≡ numbered_literals t atoms formula binding
+  pub may : may_hold_in c ≡ list_all (may_hold t atoms) (sure t formula binding)
   pub decided : (bits : List Bool) (answer : Bool) → length bits ≡ length atoms → decided_in c bits ≡ Some answer → holds t formula binding (state_of_bits t atoms bits) ≡ answer

@@ -9,12 +9,13 @@ ghost use Rattle.model.specs.NumberedAtoms.{atom_of_literal};
 ghost use Rattle.grounding_kept.specs.Numbering.{task_in, atoms_in};
 ghost use Rattle.grounding_kept.specs.Atoms.{AllFit};
 ghost use Rattle.grounding.specs.NumberedEffects.{guard_of, counted_effects, is_adding};
-ghost use Rattle.grounding.specs.Changes.{counting_of, effect_in, guard_in, IsCompiled, AreCompiled, AreChangesOf};
+ghost use Rattle.grounding_kept.specs.Numbers.{numbered_of};
+ghost use Rattle.grounding.specs.Changes.{counting_of, conditional_of, effect_in, guard_in, IsCompiled, AreCompiled, AreChangesOf};
 
 use crate::condition::Condition;
 use faults::NoMemory;
 use formulas::{Binding, Change, GroundLiteral, Instance, changes, copied};
-use grounding_kept::Numbering;
+use grounding_kept::{NumberedLiteral, Numbering};
 use std::alloc::Global;
 use task::{Atom, Formula};
 
@@ -45,6 +46,26 @@ impl CountingChange<'_> {
         ensures { result ≡ (counting_of self.now).is_unconditional }
     {
         self.condition.is_none()
+    }
+
+    /// The sure literals of its condition that are of numbered atoms, in order, and none where it is unconditional.
+    pub fn condition(&self) -> &[NumberedLiteral]
+        ensures { map numbered_of result.now ≡ (conditional_of self.now).condition }
+    {
+        match &self.condition {
+            Some(under) => under.condition.literals(),
+            None => &[],
+        }
+    }
+
+    /// Whether another sure literal of its condition wants a fluent atom that has no number, so that it is never made.
+    pub fn wants_unnumbered(&self) -> bool
+        ensures { result ≡ (conditional_of self.now).wants_unnumbered }
+    {
+        match &self.condition {
+            Some(under) => !under.condition.may_hold(),
+            None => false,
+        }
     }
 }
 

@@ -51,9 +51,10 @@ impl<'t> Ground<'t> {
     ghost use Rattle.model.specs.StaticallyFalse.{kept_instances};
     ghost use Rattle.model.specs.NumberedAtoms as numbered;
     ghost use Rattle.model.specs.NumberedLiterals.{literals_of_number, literals_of_goal, counting_of_number};
+    ghost use Rattle.model.specs.ConditionalChanges.{conditional_of_number, number_wants_unnumbered};
     ghost use Rattle.model.specs.Grounding.{ground_system};
     ghost use Rattle.grounding_kept.specs.Numbers.{numbered_of};
-    ghost use Rattle.grounding.specs.Changes.{counting_of};
+    ghost use Rattle.grounding.specs.Changes.{counting_of, conditional_of};
     ghost use Rattle.grounding.specs.Ground.{numbering_in, task_in, atoms_in, IsGroundOf, ReportsLimit};
 
     /// That of the task, in which `more` have the first numbers, if none of them is there twice.
@@ -164,6 +165,15 @@ impl<'t> Ground<'t> {
         self.conditions[number as usize].literals()
     }
 
+    /// Whether another sure literal of the precondition of the instance of this number wants a fluent atom that has no
+    /// number, so that it is applicable in no state.
+    pub fn wants_unnumbered(&self, number: u32) -> bool
+        requires { number < length (kept_instances (task_in self.now)) }
+        ensures { result ≡ number_wants_unnumbered (task_in self.now) (atoms_in self.now) number }
+    {
+        !self.conditions[number as usize].may_hold()
+    }
+
     /// The sure literals of the goal that are of numbered atoms, in order.
     pub fn goal_literals(&self) -> &[NumberedLiteral]
         ensures { map numbered_of result.now ≡ literals_of_goal (task_in self.now) (atoms_in self.now) }
@@ -174,7 +184,8 @@ impl<'t> Ground<'t> {
     /// The changes of the instance of this number that count, in order.
     pub fn counting(&self, number: u32) -> &[CountingChange<'t>]
         requires { number < length (kept_instances (task_in self.now)) }
-        ensures { map counting_of result.now ≡ counting_of_number (task_in self.now) (atoms_in self.now) number }
+        ensures counting { map counting_of result.now ≡ counting_of_number (task_in self.now) (atoms_in self.now) number }
+        ensures conditional { map conditional_of result.now ≡ conditional_of_number (task_in self.now) (atoms_in self.now) number }
     {
         self.changes[number as usize].as_slice()
     }

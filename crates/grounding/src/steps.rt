@@ -56,10 +56,20 @@ impl Ground<'_> {
         holds_in(&self.goal, &self.numbering, goal, &Binding::new(), state)
     }
 
+    /// The numbers of the instances that are applicable in the state, rising.
+    pub fn applicable(&self, alloc: Global, state: &Packed) -> Result<Vec<u32>, NoMemory>
+        requires { length (bits_of state.now) ≡ length (atoms_in self.now) }
+        ensures { IfOk result (λ found. found.items ≡ applicable_numbers (task_in self.now) (atoms_in self.now) (bits_of state.now)) }
+    {
+        let mut found = Vec::new(alloc);
+        self.list_applicable(state, &mut found)?;
+        Ok(found)
+    }
+
     /// Puts the numbers of the instances that are applicable in the state, rising, in the place of what `into` has. Where
     /// memory was refused it has what it had. It gets room for the numbers of all instances, so that a list that is lent
     /// again takes no more memory.
-    pub fn applicable(&self, state: &Packed, into: &mut Vec<u32>) -> Result<(), NoMemory>
+    pub fn list_applicable(&self, state: &Packed, into: &mut Vec<u32>) -> Result<(), NoMemory>
         requires { length (bits_of state.now) ≡ length (atoms_in self.now) }
         ensures ok { OnOk result (into.new.items ≡ applicable_numbers (task_in self.now) (atoms_in self.now) (bits_of state.now)) }
         ensures err { OnErr result (into.new.items ≡ into.old.items) }
@@ -69,16 +79,16 @@ impl Ground<'_> {
         into.clear();
         let mut atom = state.next(0);
         'lists: while atom < self.width() {
-            self.list_applicable(self.tree.of(atom), state, into);
+            self.add_from_tree(self.tree.of(atom), state, into);
             atom = state.next(atom + 1);
         }
-        self.list_applicable(&self.tree.unwatched, state, into);
+        self.add_from_tree(&self.tree.unwatched, state, into);
         into.sort_unstable();
         Ok(())
     }
 
     /// Adds the instances that are found by the tree of these nodes and are applicable in the state.
-    fn list_applicable(&self, nodes: &[Node], state: &Packed, into: &mut Vec<u32>)
+    fn add_from_tree(&self, nodes: &[Node], state: &Packed, into: &mut Vec<u32>)
         requires width { length (bits_of state.now) ≡ length (atoms_in self.now) }
         requires within { All (IsWithin (length (atoms_in self.now))) nodes.now }
         requires agreed { All (IsMet self.now.conditions.items (bits_of state.now)) (found (bits_of state.now) 0 nodes.now) }
@@ -157,9 +167,20 @@ impl Ground<'_> {
         }
     }
 
+    /// The state that the instance of this number leads to.
+    pub fn successor(&self, alloc: Global, number: u32, state: &Packed) -> Result<Packed, NoMemory>
+        requires width { length (bits_of state.now) ≡ length (atoms_in self.now) }
+        requires applicable { IsTrue (is_some (ground_step (task_in self.now) (atoms_in self.now) (bits_of state.now) number)) }
+        ensures { IfOk result (λ next. ground_step (task_in self.now) (atoms_in self.now) (bits_of state.now) number ≡ Some (bits_of next)) }
+    {
+        let mut next = Packed::empty(alloc, self.width())?;
+        self.step_into(number, state, &mut next);
+        Ok(next)
+    }
+
     /// Makes `into` the state that the instance of this number leads to: without the atoms that its changes delete, and
     /// then with those that they add, where their conditions hold in the state before. No memory is taken.
-    pub fn successor(&self, number: u32, state: &Packed, into: &mut Packed)
+    pub fn step_into(&self, number: u32, state: &Packed, into: &mut Packed)
         requires width { length (bits_of state.now) ≡ length (atoms_in self.now) }
         requires into_width { length (bits_of into.old) ≡ length (atoms_in self.now) }
         requires applicable { IsTrue (is_some (ground_step (task_in self.now) (atoms_in self.now) (bits_of state.now) number)) }

@@ -125,12 +125,12 @@ impl RandomWalk {
         if self.state.width() != ground.width() || self.next.width() != ground.width() {
             return Ok(false);
         }
-        ground.applicable(&self.state, &mut self.applicable)?;
+        ground.list_applicable(&self.state, &mut self.applicable)?;
         let place = self.chance.below(self.applicable.len());
         let Some(number) = self.applicable.get(place) else {
             return Ok(false);
         };
-        ground.successor(*number, &self.state, &mut self.next);
+        ground.step_into(*number, &self.state, &mut self.next);
         std::mem::swap(&mut self.state, &mut self.next);
         Ok(true)
     }

@@ -223,7 +223,7 @@ fn state(alloc: Global, ground: &Ground<'_>, numbers: &[u32]) -> Result<Packed, 
 fn applicable(alloc: Global, ground: &Ground<'_>, numbers: &[u32]) -> Result<Vec<u32>, NoMemory> {
     let state = state(alloc, ground, numbers)?;
     let mut found = vec![in alloc; 7]?;
-    ground.applicable(&state, &mut found)?;
+    ground.list_applicable(&state, &mut found)?;
     Ok(found)
 }
 
@@ -235,13 +235,11 @@ fn next(
     instance: u32,
 ) -> Result<Option<Vec<u32>>, NoMemory> {
     let state = state(alloc, ground, numbers)?;
-    let mut next = Packed::empty(alloc, ground.width())?;
-    let mut found = Vec::new(alloc);
-    ground.applicable(&state, &mut found)?;
+    let found = ground.applicable(alloc, &state)?;
     if !found.contains(&instance) {
         return Ok(None);
     }
-    ground.successor(instance, &state, &mut next);
+    let next = ground.successor(alloc, instance, &state)?;
     Ok(Some(next.numbers(alloc)?))
 }
 

@@ -34,11 +34,11 @@ impl TransitionSystem for GroundSystem<'_, '_> {
     }
 
     fn applicable(&self, state: &Packed, into: &mut Vec<u32>) -> Result<(), NoMemory> {
-        self.0.applicable(state, into)
+        self.0.list_applicable(state, into)
     }
 
     fn successor(&self, action: u32, state: &Packed, into: &mut Packed) {
-        self.0.successor(action, state, into);
+        self.0.step_into(action, state, into);
     }
 
     fn cost(&self, action: u32) -> u32 {

@@ -179,7 +179,7 @@ fn check_open(
         → IsFirstRefusal (task_at listing.now) (certificate_at listing.now) plan most e) }
 {
     check_goal(listing, place, cost, state)?;
-    listing.grounded.applicable(state, numbers)?;
+    listing.grounded.list_applicable(state, numbers)?;
     check_successors(listing, place, cost, state, numbers, next)
 }
 
@@ -229,7 +229,7 @@ fn check_successors(
         → IsFirstRefusal (task_at listing.now) (certificate_at listing.now) plan most e) }
 {
     for &number in numbers {
-        listing.grounded.successor(number, state, next);
+        listing.grounded.step_into(number, state, next);
         let Some(listed) = listing.cost_of(next) else {
             return Err(state_line(RefusalCode::SuccessorMissing, listing.cert, place));
         };

@@ -1,20 +1,13 @@
-use Rattle.std.proofs.Common.{◌∙◌, ap, subst, ℕ, List, [], length, get_or, nat_eq, is_some}
+use Rattle.std.proofs.Common.{◌∙◌, subst, ℕ, List, length, get_or, is_some}
 use Rattle.std.proofs.lemmas.Bool.{eqb-true}
 use Rattle.std.specs.Prelude.{Contains}
-use Rattle.std.specs.List.{list_any, range_with_len}
-use Rattle.std.proofs.lemmas.List.FromFn.{length-map-range_with_len}
+use Rattle.std.specs.List.{range_with_len}
 use Rattle.packed_state.specs.Packed.{bits_of}
 use Rattle.grounding.specs.Ground.{task_in, atoms_in}
 use Rattle.model.specs.StaticallyFalse.{kept_instances}
 use Rattle.model.specs.Grounding.{ground_step}
 use Rattle.model.proofs.ListLemmas.{filter-Contains}
 use Rattle.reading_tests.proofs.ground_tasks.next.Goals as goal
-
-pub successor-requires-clause-into_width : goal.successor-requires-clause-into_width
-successor-requires-clause-into_width c =
-    ap length c.in_ok-next.ensures
-    ∙ length-map-range_with_len (λ number. list_any (λ n. nat_eq n number) []) 0 c.width.result
-    ∙ c.width.ensures
 
 pub successor-requires-clause-applicable : goal.successor-requires-clause-applicable
 successor-requires-clause-applicable c =
@@ -24,4 +17,4 @@ successor-requires-clause-applicable c =
     let (place, within, same) = c.if-not-contains.ensures.cases in
     let listed : Contains c.deref.result.now c.args.instance = (place, within, eqb-true (get_or c.deref.result.now place c.args.instance) c.args.instance (same c.args.instance)) in
     (filter-Contains (λ (n : ℕ). is_some (ground_step task atoms bits n)) (range_with_len 0 (length (kept_instances task))) c.args.instance
-    (subst (λ (numbers : List ℕ). Contains numbers c.args.instance) (c.deref.ensures.value ∙ c.in_ok-applicable.ensures.ok) listed)).1
+    (subst (λ (numbers : List ℕ). Contains numbers c.args.instance) (c.deref.ensures.value ∙ c.in_ok-found.ensures) listed)).1

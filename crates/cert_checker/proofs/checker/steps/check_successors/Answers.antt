@@ -20,39 +20,39 @@ use Rattle.cert_checker.proofs.PackedListingLemmas.{listed_apart, successors_the
 use Rattle.cert_checker.proofs.OrderLemmas.{first_in_line, open_here}
 use Rattle.cert_checker.proofs.FirstLemmas.{reported_first, first_to_leave}
 use Rattle.cert_checker.proofs.RefusalsLemmas.{reported, leads_there, wrong_missing, wrong_dearer, listed_somewhere, not_within}
-use Rattle.cert_checker.proofs.checker.steps.check_successors.Goals.{After-successor}
+use Rattle.cert_checker.proofs.checker.steps.check_successors.Goals.{After-step_into}
 use Rattle.cert_checker.proofs.checker.steps.check_successors.Goals as goal
 
 -- the instance of the number, and the state to which it leads
-abbrev view : After-successor → ℕ → Instance × State
+abbrev view : After-step_into → ℕ → Instance × State
 view c = leads_by (task_at c.args.listing.now) (atoms_at c.args.listing.now) (bits_of c.args.state.now)
 
-abbrev there : After-successor → Instance × State
+abbrev there : After-step_into → Instance × State
 there c = view c (get_or c.args.numbers.now c.loop-number.number-index 0)
 
-is_there : (c : After-successor) → (there c).1 ≡ state_at c.args.listing.now c.successor.new.into
-is_there c = next_by (task_at c.args.listing.now) (atoms_at c.args.listing.now) (bits_of c.args.state.now) (get_or c.args.numbers.now c.loop-number.number-index 0) _ c.successor.ensures
+is_there : (c : After-step_into) → (there c).1 ≡ state_at c.args.listing.now c.step_into.new.into
+is_there c = next_by (task_at c.args.listing.now) (atoms_at c.args.listing.now) (bits_of c.args.state.now) (get_or c.args.numbers.now c.loop-number.number-index 0) _ c.step_into.ensures
 
-cost_there : (c : After-successor) → (ground_system (task_at c.args.listing.now) (atoms_at c.args.listing.now)).cost (get_or c.args.numbers.now c.loop-number.number-index 0)
+cost_there : (c : After-step_into) → (ground_system (task_at c.args.listing.now) (atoms_at c.args.listing.now)).cost (get_or c.args.numbers.now c.loop-number.number-index 0)
     ≡ (system_of (task_at c.args.listing.now)).cost (there c).0
-cost_there c = cost_by (task_at c.args.listing.now) (atoms_at c.args.listing.now) (bits_of c.args.state.now) (get_or c.args.numbers.now c.loop-number.number-index 0) _ c.successor.ensures
+cost_there c = cost_by (task_at c.args.listing.now) (atoms_at c.args.listing.now) (bits_of c.args.state.now) (get_or c.args.numbers.now c.loop-number.number-index 0) _ c.step_into.ensures
 
-packed : (c : After-successor) → IsPacked c.args.listing.now c.successor.new.into
-packed c = length-step (task_at c.args.listing.now) (atoms_at c.args.listing.now) (bits_of c.args.state.now) _ (get_or c.args.numbers.now c.loop-number.number-index 0) c.successor.ensures
+packed : (c : After-step_into) → IsPacked c.args.listing.now c.step_into.new.into
+packed c = length-step (task_at c.args.listing.now) (atoms_at c.args.listing.now) (bits_of c.args.state.now) _ (get_or c.args.numbers.now c.loop-number.number-index 0) c.step_into.ensures
 
-all_there : (c : After-successor) → map (view c) c.args.numbers.now ≡ successors_of (task_at c.args.listing.now) (state_at c.args.listing.now c.args.state.now)
+all_there : (c : After-step_into) → map (view c) c.args.numbers.now ≡ successors_of (task_at c.args.listing.now) (state_at c.args.listing.now c.args.state.now)
 all_there c =
     let listing = c.args.listing.now in
     successors_there (task_at listing) (atoms_at listing) (certificate_at listing) (store_in listing.cert.now) listing.listed (bits_of c.args.state.now) c.args.numbers.now c.requires.numbers
 
-leads : (c : After-successor) → step (task_at c.args.listing.now) (state_at c.args.listing.now c.args.state.now) (there c).0 ≡ Some (there c).1
+leads : (c : After-step_into) → step (task_at c.args.listing.now) (state_at c.args.listing.now c.args.state.now) (there c).0 ≡ Some (there c).1
 leads c =
     let numbers = c.args.numbers.now in
     let k = c.loop-number.number-index in
     leads_there (task_at c.args.listing.now) _ (view c) numbers k (get_or numbers k 0) c.loop-number-test.true (get_or_default numbers k 0 _ c.loop-number-test.true) (all_there c)
 
 -- of the successors it is the first that may be at fault
-leaves : (c : After-successor) → IsFirstToLeave (task_at c.args.listing.now) (certificate_at c.args.listing.now) (state_line (certificate_at c.args.listing.now) c.args.place)
+leaves : (c : After-step_into) → IsFirstToLeave (task_at c.args.listing.now) (certificate_at c.args.listing.now) (state_line (certificate_at c.args.listing.now) c.args.place)
     (record { state = state_at c.args.listing.now c.args.state.now; cost = c.args.cost; mark = opened }) (there c).0 (there c).1
 leaves c =
     let numbers = c.args.numbers.now in
@@ -66,11 +66,11 @@ loop-number-init c = record {
   listed = AllListed-none (task_at c.args.listing.now) (certificate_at c.args.listing.now) c.args.cost;
 }
 
-pub successor-requires-clause-into_width : goal.successor-requires-clause-into_width
-successor-requires-clause-into_width c = c.loop-number.invariant.next
+pub step_into-requires-clause-into_width : goal.step_into-requires-clause-into_width
+step_into-requires-clause-into_width c = c.loop-number.invariant.next
 
-pub successor-requires-clause-applicable : goal.successor-requires-clause-applicable
-successor-requires-clause-applicable c =
+pub step_into-requires-clause-applicable : goal.step_into-requires-clause-applicable
+step_into-requires-clause-applicable c =
     let listing = c.args.listing.now in
     applies_at (task_at listing) (atoms_at listing) (bits_of c.args.state.now) c.args.numbers.now c.loop-number.number-index c.requires.numbers c.loop-number-test.true
 
@@ -80,7 +80,7 @@ loop-number-preserved c =
     let cert = certificate_at listing in
     let numbers = c.args.numbers.now in
     let number = get_or numbers c.loop-number.number-index 0 in
-    let here = (goal.at.loop-number-preserved c).After-successor in
+    let here = (goal.at.loop-number-preserved c).After-step_into in
     let step = cost_there here in
     let listed = subst (λ s. IsListedAt (lines_of (task_at listing) cert) s c.in-Some.listed) (sym (is_there here)) c.in-Some.ensures in
     record {
@@ -104,14 +104,14 @@ returns-clause-right c =
 
 pub returns-in_default-clause-next : goal.returns-in_default-clause-next
 returns-in_default-clause-next c =
-    packed (goal.at.returns-in_default-clause-next c).After-successor
+    packed (goal.at.returns-in_default-clause-next c).After-step_into
 
 pub returns-in_default-clause-wrong : goal.returns-in_default-clause-wrong
 returns-in_default-clause-wrong c =
     let listing = c.args.listing.now in
     let task = task_at listing in
     let cert = certificate_at listing in
-    let here = (goal.at.returns-in_default-clause-wrong c).After-successor in
+    let here = (goal.at.returns-in_default-clause-wrong c).After-step_into in
     reported task cert c.state_line.result SuccessorMissing (state_line cert c.args.place) c.state_line.ensures
     (wrong_missing task cert c.args.place (state_at listing c.args.state.now) c.args.cost (there here).0 (there here).1 c.requires.listed (leads here)
     (subst (λ s. ¬ IsListed (lines_of task cert) s) (sym (is_there here)) c.in_default.ensures))
@@ -121,7 +121,7 @@ returns-then-listed-cost-clause-wrong c =
     let listing = c.args.listing.now in
     let task = task_at listing in
     let cert = certificate_at listing in
-    let here = (goal.at.returns-then-listed-cost-clause-wrong c).After-successor in
+    let here = (goal.at.returns-then-listed-cost-clause-wrong c).After-step_into in
     let step = cost_there here in
     let listed = subst (λ s. IsListedAt (lines_of task cert) s c.in-Some.listed) (sym (is_there here)) c.in-Some.ensures in
     reported task cert c.state_line-then-listed-cost.result SuccessorDearer (state_line cert c.args.place) c.state_line-then-listed-cost.ensures
@@ -130,7 +130,7 @@ returns-then-listed-cost-clause-wrong c =
 
 pub returns-then-listed-cost-clause-next : goal.returns-then-listed-cost-clause-next
 returns-then-listed-cost-clause-next c =
-    packed (goal.at.returns-then-listed-cost-clause-next c).After-successor
+    packed (goal.at.returns-then-listed-cost-clause-next c).After-step_into
 
 pub returns-in_default-clause-first : goal.returns-in_default-clause-first
 returns-in_default-clause-first c =
@@ -139,7 +139,7 @@ returns-in_default-clause-first c =
     let task = task_at listing in
     let cert = certificate_at listing in
     let line : Line State = record { state = state_at listing c.args.state.now; cost = c.args.cost; mark = opened } in
-    let here = (goal.at.returns-in_default-clause-first c).After-successor in
+    let here = (goal.at.returns-in_default-clause-first c).After-step_into in
     reported_first task cert plan most c.state_line.result SuccessorMissing (state_line cert c.args.place) c.state_line.ensures
     (first_in_line task cert plan most c.args.place successor_missing right refl (open_here task cert c.args.place line c.requires.listed refl c.requires.goal))
     (line, (there here).0, (there here).1, leaves here, subst (λ s. ¬ IsListed (lines_of task cert) s) (sym (is_there here)) c.in_default.ensures)
@@ -151,7 +151,7 @@ returns-then-listed-cost-clause-first c =
     let task = task_at listing in
     let cert = certificate_at listing in
     let line : Line State = record { state = state_at listing c.args.state.now; cost = c.args.cost; mark = opened } in
-    let here = (goal.at.returns-then-listed-cost-clause-first c).After-successor in
+    let here = (goal.at.returns-then-listed-cost-clause-first c).After-step_into in
     let step = cost_there here in
     let listed = subst (λ s. IsListedAt (lines_of task cert) s c.in-Some.listed) (sym (is_there here)) c.in-Some.ensures in
     reported_first task cert plan most c.state_line-then-listed-cost.result SuccessorDearer (state_line cert c.args.place) c.state_line-then-listed-cost.ensures

@@ -35,7 +35,8 @@ make_one-requires-clause-fits c =
     let s = (goal.at.make_one-requires-clause-fits c).After-change-item in
     let g = c.args.self.now in
     let i = one s in
-    change-fits (task_in g) g.numbering.statics.task.now.well_typed (atoms_in g) i.0 (kept-is_instance (task_in g) c.args.number i.0 i.1) c.index.result.now (are s) c.loop-change.change-index c.change-item.result (at s)
+    change-fits (task_in g) (atoms_in g) i.0 c.index.result.now (are s) c.loop-change.change-index c.change-item.result (at s)
+    g.numbering.statics.task.now.well_typed (kept-is_instance (task_in g) c.args.number i.0 i.1)
 
 pub make_one-requires-clause-compiled : goal.make_one-requires-clause-compiled
 make_one-requires-clause-compiled c =
@@ -48,7 +49,7 @@ make_one-requires-clause-within c =
     let g = c.args.self.now in
     let i = one s in
     let numbered : c.change-item.result.atom < length (atoms_in g) =
-    change-within (task_in g) g.numbering.statics.task.now.well_typed (atoms_in g) i.0 (kept-is_instance (task_in g) c.args.number i.0 i.1) c.index.result.now (are s) c.loop-change.change-index c.change-item.result (at s) in
+    change-within (task_in g) (atoms_in g) i.0 c.index.result.now (are s) c.loop-change.change-index c.change-item.result (at s) in
     omega (arith, numbered, c.loop-change.invariant.as_long)
 
 pub loop-change-preserved : goal.loop-change-preserved

@@ -18,9 +18,9 @@ loses_at_most-losses-requires-clause-few c = omega (arith, ap length c.weights.e
 
 pub loses_at_most-losses-requires-clause-below : goal.loses_at_most-losses-requires-clause-below
 loses_at_most-losses-requires-clause-below c =
-    below-counting (task_in c.args.ground.now) (atoms_in c.args.ground.now) (potentials_of c.args.self.now) c.weights.result.now c.weights.ensures c.requires.width c.args.number _ c.counting.ensures
+    below-counting (task_in c.args.ground.now) (atoms_in c.args.ground.now) (potentials_of c.args.self.now) c.weights.result.now c.weights.ensures c.requires.width c.args.number _ c.counting.ensures.counting
 
 pub returns : goal.returns
 returns c =
     decides-fair (task_in c.args.ground.now) (atoms_in c.args.ground.now) (potentials_of c.args.self.now) (allowed_by c.args.allowance (task_in c.args.ground.now)) c.weights.result.now c.weights.ensures c.requires.width c.args.number _ _ c.loses_at_most-losses.result _ _ _
-    c.literals.ensures c.counting.ensures c.loses_at_most-losses.ensures c.of.ensures (to_z-of_z w64 c.loses_at_most-losses.result (search rules)) c.is_at_most.ensures
+    c.literals.ensures c.counting.ensures.counting c.loses_at_most-losses.ensures c.of.ensures (to_z-of_z w64 c.loses_at_most-losses.result (search rules)) c.is_at_most.ensures

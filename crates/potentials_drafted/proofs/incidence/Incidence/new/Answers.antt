@@ -10,11 +10,11 @@ loop-number-init c =
     incidence-none (task_in c.args.ground.now) (atoms_in c.args.ground.now) c.in_ok-incidence.incidence (c.in_ok-incidence.ensures.width ∙ c.width.ensures) (λ a. ap (map number_of) (c.in_ok-incidence.ensures.empty a))
 
 pub add-requires : goal.add-requires
-add-requires c = atoms-below (task_in c.args.ground.now) (atoms_in c.args.ground.now) c.loop-number.number c.loop-number.number c.loop-number.incidence _ c.loop-number.invariant c.counting.ensures
+add-requires c = atoms-below (task_in c.args.ground.now) (atoms_in c.args.ground.now) c.loop-number.number c.loop-number.number c.loop-number.incidence _ c.loop-number.invariant c.counting.ensures.counting
 
 pub loop-number-preserved : goal.loop-number-preserved
 loop-number-preserved c =
-    incidence-more (task_in c.args.ground.now) (atoms_in c.args.ground.now) c.loop-number.number c.loop-number.incidence c.add.new.self _ c.loop-number.invariant c.counting.ensures c.in_ok-add.ensures
+    incidence-more (task_in c.args.ground.now) (atoms_in c.args.ground.now) c.loop-number.number c.loop-number.incidence c.add.new.self _ c.loop-number.invariant c.counting.ensures.counting c.in_ok-add.ensures
 
 pub returns : goal.returns
 returns c =

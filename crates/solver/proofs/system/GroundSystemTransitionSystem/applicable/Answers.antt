@@ -12,4 +12,4 @@ returns-clause-ok c =
     let task = task_in c.args.self.now.0.now in
     let atoms = atoms_in c.args.self.now.0.now in
     let bits = bits_of c.args.state.now in
-    on_ok_weaker c.applicable.result (λ is. subst (λ (numbers : List ℕ). AreApplicable (ground_system task atoms) bits numbers) (sym is) (are_applicable task atoms bits)) c.applicable.ensures.ok
+    on_ok_weaker c.list_applicable.result (λ is. subst (λ (numbers : List ℕ). AreApplicable (ground_system task atoms) bits numbers) (sym is) (are_applicable task atoms bits)) c.list_applicable.ensures.ok

@@ -12,7 +12,7 @@ use Rattle.grounding.specs.Ground.{task_in, atoms_in}
 use Rattle.grounding.proofs.ChangedBitsLemmas.{length-with_bits}
 use Rattle.grounding.proofs.EffectLemmas.{numbers-made}
 use Rattle.grounding.proofs.StepLemmas.{step-named, leads-bits}
-use Rattle.grounding.proofs.ground.Ground.successor.Goals as goal
+use Rattle.grounding.proofs.ground.Ground.step_into.Goals as goal
 
 pub make-requires-clause-within : goal.make-requires-clause-within
 make-requires-clause-within c =
