@@ -60,7 +60,7 @@ abbrev pub zero_potentials : ℕ → PotentialFunction
 zero_potentials count = record { constant = pos 0; weights = zeros count }
 
 -- whatever an instance is allowed
-zero-fair_at : (allowance : Instance → ℕ) (task : Task) (atoms : List Atom) → AreFairAt allowance task atoms (zero_potentials (length atoms))
+pub zero-fair_at : (allowance : Instance → ℕ) (task : Task) (atoms : List Atom) → AreFairAt allowance task atoms (zero_potentials (length atoms))
 zero-fair_at allowance task atoms = record {
   instances = λ k d below.
       let i = get_or (kept_instances task) k d in

@@ -7,8 +7,7 @@ ghost use Rattle.solver.specs.Improved.{AreSettledOrHigh, AreDeadSettledOrHigh};
 ghost use Rattle.solver.specs.Solver.{IsTrueAnswer};
 ghost use Rattle.model.specs.WellTyped.{is_task};
 
-use crate::dead_ends::improved_dead_ends;
-use crate::estimate::improved_potentials;
+use crate::improved::improved;
 use crate::limits::Limits;
 use crate::listing::cert_of;
 use crate::steps::plan_of;
@@ -19,7 +18,7 @@ use faults::{NoMemory, Refused};
 use formulas::Plan;
 use grounding::{Ground, GroundLimit};
 use packed_state::PooledStore;
-use potentials_improved::Groundwork;
+use potentials_improved::{DeadFair, Fair, Groundwork};
 use search::{DeadEnd, Estimate, Outcome, best_first};
 use std::alloc::Global;
 use task::Task;
@@ -102,8 +101,8 @@ fn solve_ground(alloc: Global, ground: &Ground<'_>, limits: Limits) -> Result<An
     ensures { IfOk result (IsTrueAnswer (task_in ground.now) limits.states limits.instances) }
 {
     let groundwork = Groundwork::new(alloc, ground)?;
-    let estimate = improved_potentials(alloc, ground, &groundwork)?;
-    let dead_ends = improved_dead_ends(alloc, ground, &groundwork)?;
+    let estimate: Fair<'_, '_> = improved(alloc, ground, &groundwork)?;
+    let dead_ends: DeadFair<'_, '_> = improved(alloc, ground, &groundwork)?;
     drop(groundwork);
     solve_by(alloc, ground, &estimate, &dead_ends, limits)
 }

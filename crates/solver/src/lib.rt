@@ -2,8 +2,7 @@
 #![tactic(auto)]
 
 mod answer;
-mod dead_ends;
-mod estimate;
+mod improved;
 mod limits;
 mod listing;
 mod steps;

@@ -1,30 +1,30 @@
-//! The estimate that a search goes by.
+//! The potentials that a search goes by: an estimate, and a test for dead ends.
 ghost use Rattle.std.specs.Prelude.{◌≡◌, IfOk};
 ghost use Rattle.grounding.specs.Ground.{task_in, atoms_in};
 ghost use Rattle.potentials_improved.specs.FairPotentials.{potentials_in, ground_in};
 ghost use Rattle.potentials_improved.specs.Groundwork.{ground_under};
-ghost use Rattle.solver.specs.Improved.{AreSettledOrHigh};
+ghost use Rattle.solver.specs.Improved.{AreSettledOrHighAt};
 
 use faults::NoMemory;
 use grounding::Ground;
-use potentials_improved::{Fair, FairAt, Groundwork, Improve, Potentials};
+use potentials_improved::{Allowance, FairAt, Groundwork, Improve, Potentials};
 use std::alloc::Global;
 
 /// In how many rounds potentials are made better, at most. Each raises the initial state's value, or is the last.
 const IMPROVING_ROUNDS: u32 = 8;
 
-/// Fair potentials of the ground task, made better from those that are all 0.
-pub(crate) fn improved_potentials<'g, 't>(
+/// Potentials that are fair for the ground task at an allowance, made better from those that are all 0.
+pub(crate) fn improved<'g, 't, A: Allowance>(
     alloc: Global,
     ground: &'g Ground<'t>,
     groundwork: &Groundwork<'_, '_>,
-) -> Result<Fair<'g, 't>, NoMemory>
+) -> Result<FairAt<'g, 't, A>, NoMemory>
     requires { ground_under groundwork.now ≡ ground.now }
     ensures ground { IfOk result (λ f. ground_in f ≡ ground.now) }
-    ensures improved { IfOk result (λ f. AreSettledOrHigh (task_in ground.now) (atoms_in ground.now) (potentials_in f)) }
+    ensures improved { IfOk result (λ f. AreSettledOrHighAt (A.allowance (task_in ground.now)) (task_in ground.now) (atoms_in ground.now) (potentials_in f)) }
 {
     let zero = Potentials::zero(alloc, ground)?;
-    let fair: Fair<'g, 't> = FairAt::known(zero, ground);
+    let fair: FairAt<'g, 't, A> = FairAt::known(zero, ground);
     let better = fair.improve(alloc, groundwork, IMPROVING_ROUNDS)?;
     Ok(better)
 }

@@ -1,0 +1,33 @@
+use Rattle.std.proofs.Common.{◌∙◌, length, subst, sym}
+use Rattle.grounding.specs.declared.ground.Ground.{Ground}
+use Rattle.grounding.specs.Ground.{task_in, atoms_in}
+use Rattle.potential_functions.specs.Fair.{AreFairAt}
+use Rattle.potential_functions.proofs.Zero.{zero-fair_at}
+use Rattle.potentials_improved.specs.Potentials.{potentials_of}
+use Rattle.potentials_improved.specs.FairPotentials.{potentials_in, ground_in}
+use Rattle.solver.specs.Improved.{AreSettledOrHighAt}
+use Rattle.solver.proofs.PotentialLemmas.{zero-width, improved_end}
+use Rattle.solver.proofs.improved.improved.Goals as goal
+
+pub known-fair-requires-clause-width : goal.known-fair-requires-clause-width
+known-fair-requires-clause-width g c = zero-width (potentials_of c.in_ok-zero.zero) (length (atoms_in c.args.ground.now)) c.in_ok-zero.ensures.zero
+
+pub known-fair-requires-clause-fair : goal.known-fair-requires-clause-fair
+known-fair-requires-clause-fair g c =
+    let t = task_in c.args.ground.now in
+    let a = atoms_in c.args.ground.now in
+    let allowance = g.A.Allowance.allowance t in
+    subst (AreFairAt allowance t a) (sym c.in_ok-zero.ensures.zero) (zero-fair_at allowance t a)
+
+pub improve-requires : goal.improve-requires
+improve-requires g c = c.requires ∙ sym c.known-fair.ensures.ground
+
+pub returns-clause-ground : goal.returns-clause-ground
+returns-clause-ground g c = c.in_ok-better.ensures.ground ∙ c.known-fair.ensures.ground
+
+pub returns-clause-improved : goal.returns-clause-improved
+returns-clause-improved g c =
+    let here = ground_in c.known-fair.result in
+    let q = potentials_in c.in_ok-better.better in
+    subst (λ (h : Ground). AreSettledOrHighAt (g.A.Allowance.allowance (task_in h)) (task_in h) (atoms_in h) q) c.known-fair.ensures.ground
+    (improved_end (g.A.Allowance.allowance (task_in here)) (task_in here) (atoms_in here) (potentials_in c.known-fair.result) q c.in_ok-better.ensures.better)
