@@ -8,10 +8,7 @@ ghost use Rattle.potential_functions.specs.Fair.{IsFairAt, AreFairAt};
 ghost use Rattle.potential_functions.specs.Laws.{AreNumberable};
 ghost use Rattle.potentials.specs.Potentials.{potentials_of};
 ghost use Rattle.potentials.specs.Fairness.{ReportsAt};
-ghost use Rattle.potentials_improved.specs.Drafted.{IsNoWorseAt};
-ghost use Rattle.potentials_improved.specs.Groundwork.{ground_under};
 
-use crate::groundwork::Groundwork;
 use faults::NoMemory;
 use grounding::Ground;
 use potentials::{Fairness, Potentials};
@@ -41,17 +38,6 @@ pub trait Allowance {
         requires within { number < length (kept_instances (task_in ground.now)) }
         ensures { (i : Instance) → slice_get (kept_instances (task_in ground.now)) number ≡ Some i
             → (IsTrue result ↔ IsFairAt (allowance (task_in ground.now) i) (task_in ground.now) (atoms_in ground.now) (potentials_of potentials.now).weights i) };
-
-    /// Potentials that are fair so and no worse than these: those of drafts, in at most so many rounds, or else these.
-    fn drafted(
-        alloc: Global,
-        potentials: Potentials,
-        groundwork: &Groundwork<'_, '_>,
-        rounds: u32,
-    ) -> Result<Potentials, NoMemory>
-        requires width { length (potentials_of potentials).weights ≡ length (atoms_in (ground_under groundwork.now)) }
-        requires fair { AreFairAt (allowance (task_in (ground_under groundwork.now))) (task_in (ground_under groundwork.now)) (atoms_in (ground_under groundwork.now)) (potentials_of potentials) }
-        ensures { IfOk result (λ p. IsNoWorseAt (allowance (task_in (ground_under groundwork.now))) (task_in (ground_under groundwork.now)) (atoms_in (ground_under groundwork.now)) (potentials_of potentials) (potentials_of p)) };
 
     ghost gives: { (task : Task) (atoms : List Atom) (p : PotentialFunction) → AreNumberable task atoms → AreFairAt (allowance task) task atoms p → Gives task atoms p };
 }

@@ -9,7 +9,7 @@ ghost use Rattle.potential_functions.specs.Laws.{AreLowerBounds};
 ghost use Rattle.potentials_improved.specs.FairPotentials.{potentials_in, ground_in};
 
 use crate::allowance::Allowance;
-use crate::drafted::no_worse;
+use crate::drafted::{Drafts, no_worse};
 use crate::fair_at::FairAt;
 use crate::groundwork::Groundwork;
 use faults::NoMemory;
@@ -46,7 +46,9 @@ impl Allowance for Costs {
     fn is_fair_at(potentials: &Potentials, ground: &Ground<'_>, number: u32) -> bool {
         potentials.is_fair_at(ground, number)
     }
+}
 
+impl Drafts for Costs {
     /// One draft, by a linear program.
     fn drafted(
         alloc: Global,

@@ -1,6 +1,6 @@
 //! Nothing, as an allowance: dead-fair potentials are a test for dead ends, by which a search leaves states out.
 use crate::allowance::Allowance;
-use crate::drafted::no_worse;
+use crate::drafted::{Drafts, no_worse};
 use crate::fair_at::FairAt;
 use crate::groundwork::Groundwork;
 use faults::NoMemory;
@@ -37,7 +37,9 @@ impl Allowance for DeadEnds {
     fn is_fair_at(potentials: &Potentials, ground: &Ground<'_>, number: u32) -> bool {
         potentials.is_dead_fair_at(ground, number)
     }
+}
 
+impl Drafts for DeadEnds {
     /// At most one draft a round, which makes the initial state a dead end, or more of some that were sampled on the way from it
     /// than those before. What the tables say is not relied on.
     fn drafted(

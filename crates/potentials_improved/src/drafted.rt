@@ -18,6 +18,21 @@ use packed_state::Packed;
 use potentials::{Fairness, MAX_WEIGHT, Potentials, goal_gives_at_most};
 use std::alloc::Global;
 
+/// An allowance for which better weights are drafted.
+pub trait Drafts: Allowance {
+    /// Potentials that are fair at the allowance and no worse than these: those of drafts, in at most so many rounds, or else
+    /// these.
+    fn drafted(
+        alloc: Global,
+        potentials: Potentials,
+        groundwork: &Groundwork<'_, '_>,
+        rounds: u32,
+    ) -> Result<Potentials, NoMemory>
+        requires width { length (potentials_of potentials).weights ≡ length (atoms_in (ground_under groundwork.now)) }
+        requires fair { AreFairAt (Self.allowance (task_in (ground_under groundwork.now))) (task_in (ground_under groundwork.now)) (atoms_in (ground_under groundwork.now)) (potentials_of potentials) }
+        ensures { IfOk result (λ p. IsNoWorseAt (Self.allowance (task_in (ground_under groundwork.now))) (task_in (ground_under groundwork.now)) (atoms_in (ground_under groundwork.now)) (potentials_of potentials) (potentials_of p)) };
+}
+
 /// Potentials of these weights and the greatest constant, where they are fair and no worse than the others; else those.
 pub(crate) fn no_worse<A: Allowance>(
     alloc: Global,

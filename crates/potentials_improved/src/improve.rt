@@ -7,8 +7,8 @@ ghost use Rattle.potential_functions.specs.Settled.{IsImprovedAt};
 ghost use Rattle.potentials.specs.Potentials.{potentials_of};
 ghost use Rattle.potentials_improved.specs.Groundwork.{ground_under};
 
-use crate::allowance::Allowance;
 use crate::climb::Climb;
+use crate::drafted::Drafts;
 use crate::fair_at::FairAt;
 use crate::groundwork::Groundwork;
 use faults::NoMemory;
@@ -36,7 +36,7 @@ pub trait Improve: Sized {
 
 /// They are drafted first, and then single weights are moved, in a pass over all atoms a round. At the end they are settled, or
 /// have in the initial state a value that is higher by at least the number of rounds.
-impl<A: Allowance> Improve for FairAt<'_, '_, A> {
+impl<A: Drafts> Improve for FairAt<'_, '_, A> {
     ghost use Rattle.potentials_improved.specs.FairPotentials.{ground_in, AreBetter};
 
     ghost ground_of = { ground_in };
@@ -60,7 +60,7 @@ impl<A: Allowance> Improve for FairAt<'_, '_, A> {
 }
 
 /// Better potentials: those of drafts, if they are no worse, with weights moved.
-fn improved<A: Allowance>(
+fn improved<A: Drafts>(
     alloc: Global,
     potentials: Potentials,
     groundwork: &Groundwork<'_, '_>,

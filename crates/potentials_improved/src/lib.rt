@@ -17,6 +17,7 @@ mod improve;
 pub use allowance::Allowance;
 pub use costs::Costs;
 pub use dead_ends::DeadEnds;
+pub use drafted::Drafts;
 pub use fair_at::{DeadFair, Fair, FairAt};
 pub use groundwork::Groundwork;
 pub use improve::Improve;

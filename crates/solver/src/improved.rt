@@ -7,14 +7,14 @@ ghost use Rattle.solver.specs.Improved.{AreSettledOrHighAt};
 
 use faults::NoMemory;
 use grounding::Ground;
-use potentials_improved::{Allowance, FairAt, Groundwork, Improve, Potentials};
+use potentials_improved::{Drafts, FairAt, Groundwork, Improve, Potentials};
 use std::alloc::Global;
 
 /// In how many rounds potentials are made better, at most. Each raises the initial state's value, or is the last.
 const IMPROVING_ROUNDS: u32 = 8;
 
 /// Potentials that are fair for the ground task at an allowance, made better from those that are all 0.
-pub(crate) fn improved<'g, 't, A: Allowance>(
+pub(crate) fn improved<'g, 't, A: Drafts>(
     alloc: Global,
     ground: &'g Ground<'t>,
     groundwork: &Groundwork<'_, '_>,

@@ -24,7 +24,7 @@ pub pass-requires-clause-incidence : goal.pass-requires-clause-incidence
 pass-requires-clause-incidence g c =
     let t = task_in c.args.groundwork.now.ground.now in
     let a = atoms_in c.args.groundwork.now.ground.now in
-    subst (IsIncidence t a (length (kept_instances t))) (sym c.incidence.ensures) (untested t a (length (kept_instances t)) c.args.groundwork.now.tables.incidence c.args.groundwork.now.incidence)
+    subst (IsIncidence t a (length (kept_instances t))) (sym c.incidence-incidence.ensures) (untested t a (length (kept_instances t)) c.args.groundwork.now.tables.incidence c.args.groundwork.now.incidence)
 
 pub pass-requires-clause-initial : goal.pass-requires-clause-initial
 pass-requires-clause-initial g c = c.args.groundwork.now.initial_is

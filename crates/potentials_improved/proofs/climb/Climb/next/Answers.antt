@@ -10,7 +10,8 @@ use Rattle.potential_functions.proofs.Settling.{potentials}
 use Rattle.potentials.specs.Potentials.{potentials_of}
 use Rattle.potentials.proofs.GroundLemmas.{few-atoms}
 use Rattle.potentials_improved.proofs.ClimbLemmas.{none-too_high, next-none, next-some, score-range}
-use Rattle.potentials_improved.proofs.climb.Climb.next.Goals.{Over, After-moved_goal-goal, After-moved_score-score}
+use Rattle.potentials_improved.proofs.climb.Climb.next.Goals.{After-moved_goal-goal, After-moved_score-score}
+use Rattle.potentials_improved.proofs.climb.Climb.next.Given.{Over}
 use Rattle.potentials_improved.proofs.climb.Climb.next.Goals as goal
 
 -- the sums after the move, by the weight itself

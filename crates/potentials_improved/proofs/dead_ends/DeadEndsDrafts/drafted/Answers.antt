@@ -1,5 +1,5 @@
 use Rattle.std.proofs.Common.{arith}
-use Rattle.potentials_improved.proofs.dead_ends.DeadEndsAllowance.drafted.Goals as goal
+use Rattle.potentials_improved.proofs.dead_ends.DeadEndsDrafts.drafted.Goals as goal
 
 pub loop-init : goal.loop-init
 loop-init c = record { width = c.requires.width; fair = c.requires.fair; no_lower = omega arith }
