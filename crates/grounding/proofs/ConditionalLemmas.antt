@@ -1,27 +1,25 @@
 -- The counting changes of an instance with the literals of their conditions.
-use Rattle.std.proofs.Common.{◌≡◌, ◌∙◌, ℕ, suc, zero, Bool, true, false, not, List, [], ◌∷◌, map, get_or, None, Some, refl, sym, ap, subst}
+use Rattle.std.proofs.Common.{◌≡◌, ◌∙◌, ℕ, suc, zero, Bool, true, false, not, List, [], ◌∷◌, map, None, Some, refl, sym, ap}
 use Rattle.std.specs.Prelude.{Option, slice_get, if◌then◌else◌}
 use Rattle.std.specs.Global.{Box, Vec}
 use Rattle.std.specs.List.{list_any, filter_map}
 use Rattle.std.specs.Option.{option_map, option_map_or}
 use Rattle.model.specs.Task.{Atom, Formula, Schema, Task, Instance, atom, equal, and, or, imply, exists, forall, no_formula, more_formulas}
 use Rattle.model.specs.Task as task
-use Rattle.model.specs.WellTyped.{is_task}
 use Rattle.model.specs.Fluents.{is_fluent}
 use Rattle.model.specs.Meaning.{Change}
 use Rattle.model.specs.SureLiterals.{sure}
 use Rattle.model.specs.StaticallyFalse.{kept_instances, counting_changes, is_empty_and, is_unconditional, is_statically_false}
 use Rattle.model.specs.NumberedAtoms.{occurs_in, are_distinct}
-use Rattle.model.specs.NumberedLiterals.{NumberedLiteral, NumberedChange, numbered_literal, numbered_literals, numbered_ground_literal, numbered_change}
+use Rattle.model.specs.NumberedLiterals.{NumberedLiteral, NumberedChange, numbered_literal, numbered_literals, numbered_ground_literal}
 use Rattle.model.specs.ConditionalChanges.{ConditionalChange, is_unnumbered, wants_unnumbered, instance_wants_unnumbered, number_wants_unnumbered, conditional_change, conditional_of_instance, conditional_of_number}
 use Rattle.grounding.specs.declared.condition.Condition.{Condition}
 use Rattle.grounding.specs.declared.changes.CountingChange.{CountingChange}
 use Rattle.grounding.specs.declared.changes.ChangeCondition.{ChangeCondition}
-use Rattle.grounding.specs.Unnumbered.{may_hold}
 use Rattle.grounding.specs.Conditions.{literals_in, may_hold_in}
 use Rattle.grounding.specs.Preconditions.{IsPrecondition}
 use Rattle.grounding.specs.NumberedEffects.{Guard, NumberedEffect, guard_of, numbered_effect, effects_of_instance, change_of_effect}
-use Rattle.grounding.specs.Changes.{counting_of, conditional_of, guard_of_condition, guard_in, effect_in, IsCompiled, AreChangesOf}
+use Rattle.grounding.specs.Changes.{conditional_of, guard_of_condition, guard_in, effect_in, IsCompiled, AreChangesOf}
 use Rattle.grounding.proofs.ChangeLemmas.{guard-counts}
 use Rattle.grounding.proofs.EffectLemmas.{map-filter_map, filter_map-same, guard_of-none, effects-counting}
 use Rattle.grounding.proofs.GroundLemmas.{schema-of, counting-effect}

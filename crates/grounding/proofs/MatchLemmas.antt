@@ -1,6 +1,6 @@
 -- Match trees: that they have each number that is filed, and that what is found by them is all that is applicable.
-use Rattle.std.proofs.Common.{◌≡◌, ◌∙◌, ◌≤◌, ◌<◌, ◌⊎◌, inl, inr, ℕ, zero, suc, ◌+◌, ◌-◌, Bool, true, false, List, [], ◌∷◌, ◌++◌, None, Some, Option, length, length-append, get_or, drop, is_some, refl, sym, ap, subst, arith, true≢false}
-use Rattle.std.specs.Prelude.{filter, if◌then◌else◌, slice_get, cond, IsTrue}
+use Rattle.std.proofs.Common.{◌≡◌, ◌∙◌, ◌≤◌, ◌<◌, ◌⊎◌, inl, inr, ℕ, zero, suc, ◌+◌, ◌-◌, Bool, true, false, List, [], ◌∷◌, ◌++◌, Some, length, length-append, get_or, drop, is_some, refl, sym, ap, subst, arith, true≢false}
+use Rattle.std.specs.Prelude.{filter, if◌then◌else◌, slice_get, cond}
 use Rattle.std.specs.Global.{Vec}
 use Rattle.std.specs.List.{All, list_all, range_with_len}
 use Rattle.std.specs.List.Sorted.{IsPermutation, IsSorted}

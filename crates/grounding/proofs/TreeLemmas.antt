@@ -1,8 +1,8 @@
 -- Trees of instances: what is found by one, and how one is put together.
-use Rattle.std.proofs.Common.{◌≡◌, ◌∙◌, ◌<◌, ◌^◌, ◌⊎◌, inl, inr, ℕ, zero, suc, ◌+◌, Bool, true, false, ◌&&◌, List, [], ◌∷◌, ◌++◌, append_assoc, Some, length, map, drop, take, get_or, cond, refl, sym, ap, subst, arith, true≢false}
+use Rattle.std.proofs.Common.{◌≡◌, ◌∙◌, ◌<◌, ◌^◌, inl, inr, ℕ, zero, suc, ◌+◌, Bool, true, false, ◌&&◌, List, [], ◌∷◌, ◌++◌, append_assoc, Some, length, map, drop, take, get_or, cond, refl, sym, ap, subst, true≢false}
 use Rattle.std.specs.Prelude.{filter, if◌then◌else◌, slice_get}
 use Rattle.std.specs.List.{All, list_all}
-use Rattle.std.proofs.lemmas.Bool.{and_parts, and_from}
+use Rattle.std.proofs.lemmas.Bool.{and_from}
 use Rattle.std.specs.Option.{option_map, option_map_or}
 use Rattle.std.proofs.lemmas.Option.{slice_get-get_or, slice_get-map}
 use Rattle.std.proofs.Math.Seq.{take-add}
@@ -15,7 +15,7 @@ use Rattle.grounding.specs.declared.condition.Condition.{Condition}
 use Rattle.grounding.specs.declared.match_tree.Node.{Node}
 use Rattle.grounding.specs.declared.match_tree.Node.TheVariants.{Test, Instance}
 use Rattle.grounding.specs.Conditions.{literals_in}
-use Rattle.grounding.specs.MatchNodes.{met, left_out, found, numbers_in, above, literals_at, agrees_at, AgreesWith, AreWithin, Implies, Wants, IsWithin, IsTree, IsGroup, IsTested}
+use Rattle.grounding.specs.MatchNodes.{met, found, numbers_in, above, literals_at, agrees_at, AgreesWith, AreWithin, Implies, Wants, IsWithin, IsTree, IsGroup, IsTested}
 use Rattle.grounding.proofs.FiledNumbers.{filter-append, filter-none}
 use Rattle.grounding.proofs.GroundLemmas.{got}
 use Rattle.grounding.proofs.LiteralLists.{below-at}

@@ -1,5 +1,5 @@
 -- Trees of instances by the literals that they want, as lists of nodes, each before those below it.
-use Rattle.std.specs.Prelude.{◌≡◌, ◌⊎◌, ℕ, zero, suc, ◌<◌, ◌≤◌, Bool, true, false, List, [], ◌∷◌, ◌++◌, if◌then◌else◌, ◌^◌, length, take, filter, slice_get, Some}
+use Rattle.std.specs.Prelude.{◌≡◌, ◌⊎◌, ℕ, zero, suc, ◌<◌, ◌≤◌, Bool, true, List, [], ◌∷◌, ◌++◌, if◌then◌else◌, ◌^◌, length, take, filter, slice_get, Some}
 use Rattle.std.specs.List.{All, list_all}
 use Rattle.std.specs.Option.{option_map_or}
 use Rattle.grounding_kept.specs.declared.numbers.NumberedLiteral.{NumberedLiteral}

@@ -1,4 +1,4 @@
-use Rattle.std.proofs.Common.{◌∙◌, ap, List, [], length, nat_eq}
+use Rattle.std.proofs.Common.{◌∙◌, ap, [], length, nat_eq}
 use Rattle.std.specs.List.{list_any}
 use Rattle.std.proofs.lemmas.List.FromFn.{length-map-range_with_len}
 use Rattle.grounding.proofs.ground.Ground.successor.Goals as goal

@@ -1,4 +1,4 @@
-use Rattle.std.proofs.Common.{◌≡◌, ◌∙◌, ◌≤◌, ◌-◌, ◌++◌, ◌∷◌, [], ap, map, drop, take, length, subst, sym, arith}
+use Rattle.std.proofs.Common.{◌≡◌, ◌∙◌, ◌-◌, ◌++◌, ◌∷◌, [], ap, map, drop, take, length, subst, sym, arith}
 use Rattle.std.proofs.lemmas.List.{length-drop, take_all}
 use Rattle.grounding_kept.specs.Numbers.{numbered_of}
 use Rattle.grounding.specs.MatchNodes.{AgreesWith, IsTree, IsGroup}
