@@ -12,7 +12,7 @@ use Rattle.model.proofs.ListLemmas.{Contains-here, Contains-there, Contains-case
 use Rattle.search.specs.declared.nodes.Node.{Node}
 use Rattle.search.specs.Estimates.{IsConsistent}
 use Rattle.search.specs.DeadEnds.{DetectsDeadEnds}
-use Rattle.search.specs.Outcome.{line_of, lines_of, IsReachableAt, ReachingCostsAtLeast, AreFound, AreExpandedWithin}
+use Rattle.search.specs.Outcome.{is_expanded, is_marked_dead, line_of, lines_of, IsReachableAt, ReachingCostsAtLeast, AreFound, AreExpandedWithin}
 use Rattle.search.specs.Nodes.{Waiting, Found, found_of, IsWaiting, total_of, AreNodes, IsFoundWithin, AreOpen, parent_of, begins, follows, IsPath, IsReachedIn, IsWay, expanded_count, dearest}
 use Rattle.search.proofs.Consistent.{lower_bound}
 use Rattle.search.proofs.DeadEnds.{are_dead_ends}
@@ -70,20 +70,22 @@ pub record AreListed {S : Type 0} (t : System S ℕ) (is_dead : S → Bool) (nod
   pub distinct : (j k : ℕ) (m n : Found S) → slice_get nodes j ≡ Some m → slice_get nodes k ≡ Some n → m.state ≡ n.state → j ≡ k
   pub cheap : (k : ℕ) (n : Found S) → slice_get nodes k ≡ Some n → n.node.cost ≤ length nodes * dearest
   pub reachable : (k : ℕ) (n : Found S) → slice_get nodes k ≡ Some n → IsReachableAt t n.state n.node.cost
-  pub no_goal : (k : ℕ) (n : Found S) → slice_get nodes k ≡ Some n → n.node.is_expanded ≡ true → t.meets_goal n.state ≡ false
-  pub cheapest : (k : ℕ) (n : Found S) → slice_get nodes k ≡ Some n → n.node.is_expanded ≡ true → ReachingCostsAtLeast t n.state n.node.cost
-  pub alive : (k : ℕ) (n : Found S) → slice_get nodes k ≡ Some n → n.node.is_expanded ≡ true → is_dead n.state ≡ false
+  pub no_goal : (k : ℕ) (n : Found S) → slice_get nodes k ≡ Some n → is_expanded n.node ≡ true → t.meets_goal n.state ≡ false
+  pub cheapest : (k : ℕ) (n : Found S) → slice_get nodes k ≡ Some n → is_expanded n.node ≡ true → ReachingCostsAtLeast t n.state n.node.cost
+  pub alive : (k : ℕ) (n : Found S) → slice_get nodes k ≡ Some n → is_expanded n.node ≡ true → is_dead n.state ≡ false
+  pub marked : (k : ℕ) (n : Found S) → slice_get nodes k ≡ Some n → is_marked_dead n.node ≡ is_dead n.state
 
 -- what holds of them at any time suffices
 pub are_listed : {S : Type 0} (t : System S ℕ) (value : S → ℕ) (is_dead : S → Bool) (nodes : List (Found S)) (open_list : List Waiting) → AreNodes t value is_dead nodes open_list → AreListed t is_dead nodes
 are_listed {S} t value is_dead nodes open_list are = record {
   root = are.root;
   distinct = are.distinct;
-  cheap = λ k n at. omega (arith, are.cheap k n at, mul-le-mul_right dearest (count_by-le-length (λ (x : Found S). x.node.is_expanded) nodes));
+  cheap = λ k n at. omega (arith, are.cheap k n at, mul-le-mul_right dearest (count_by-le-length (λ (x : Found S). is_expanded x.node) nodes));
   reachable = are.reachable;
   no_goal = are.no_goal;
   cheapest = are.cheapest;
   alive = are.alive;
+  marked = are.marked;
 }
 
 module _ {S : Type 0} (t : System S ℕ) (value : S → ℕ) (is_dead : S → Bool) (states : List S) (all : List Node)
@@ -106,7 +108,7 @@ module _ {S : Type 0} (t : System S ℕ) (value : S → ℕ) (is_dead : S → Bo
       successors_listed = λ line a next at mark step.
           let (k, s, r, is_s, is_r, is) = line-at value is_dead states all line at in
           let there = node_at k s r is_s is_r in
-          let expanded : r.is_expanded ≡ true = open_if r.is_expanded (is_dead s) (value s) (ap (λ (l : Line S). l.mark) is ∙ mark) in
+          let expanded : is_expanded r ≡ true = open_if (is_expanded r) (is_dead s) (value s) (ap (λ (l : Line S). l.mark) is ∙ mark) in
           let same : s ≡ line.state = ap (λ (l : Line S). l.state) is in
           let same_cost : r.cost ≡ line.cost = ap (λ (l : Line S). l.cost) is in
           subst (λ c. IsListedWithin (lines_of value is_dead states all) next (c + t.cost a)) same_cost
@@ -115,13 +117,13 @@ module _ {S : Type 0} (t : System S ℕ) (value : S → ℕ) (is_dead : S → Bo
       open_goals_allowed = λ line at mark goal.
           let (k, s, r, is_s, is_r, is) = line-at value is_dead states all line at in
           let there = node_at k s r is_s is_r in
-          let expanded : r.is_expanded ≡ true = open_if r.is_expanded (is_dead s) (value s) (ap (λ (l : Line S). l.mark) is ∙ mark) in
+          let expanded : is_expanded r ≡ true = open_if (is_expanded r) (is_dead s) (value s) (ap (λ (l : Line S). l.mark) is ∙ mark) in
           let same : s ≡ line.state = ap (λ (l : Line S). l.state) is in
           absurd (false≢true (sym (listed.no_goal k (record { state = s; node = r }) there expanded) ∙ ap t.meets_goal same ∙ goal));
       cuts_allowed = λ line rest at mark.
           let (k, s, r, is_s, is_r, is) = line-at value is_dead states all line at in
           let there = node_at k s r is_s is_r in
-          let (waits, alive, is_value) = cut_if r.is_expanded (is_dead s) (value s) rest (ap (λ (l : Line S). l.mark) is ∙ mark) in
+          let (waits, alive, is_value) = cut_if (is_expanded r) (is_dead s) (value s) rest (ap (λ (l : Line S). l.mark) is ∙ mark) in
           let same : s ≡ line.state = ap (λ (l : Line S). l.state) is in
           let same_cost : r.cost ≡ line.cost = ap (λ (l : Line S). l.cost) is in
           let same_value : value s ≡ value line.state = ap value same in (
@@ -130,7 +132,7 @@ module _ {S : Type 0} (t : System S ℕ) (value : S → ℕ) (is_dead : S → Bo
           );
       dead_are_dead = λ line at mark.
           let (k, s, r, is_s, is_r, is) = line-at value is_dead states all line at in
-          let reported : is_dead s ≡ true = dead_if r.is_expanded (is_dead s) (value s) (ap (λ (l : Line S). l.mark) is ∙ mark) in
+          let reported : is_dead s ≡ true = dead_if (is_expanded r) (is_dead s) (value s) (ap (λ (l : Line S). l.mark) is ∙ mark) in
           ap is_dead (sym (ap (λ (l : Line S). l.state) is)) ∙ reported;
     }
 
@@ -151,6 +153,7 @@ module _ {S : Type 0} (t : System S ℕ) (value : S → ℕ) (is_dead : S → Bo
           let there = node_at k s.0 r s.1 at_r in
           rw (length-found_of states all one_each) at (listed.cheap k (record { state = s.0; node = r }) there);
       expanded_cheapest = λ k s r at_s at_r expanded. listed.cheapest k (record { state = s; node = r }) (node_at k s r at_s at_r) expanded;
+      marked = λ k s r at_s at_r. listed.marked k (record { state = s; node = r }) (node_at k s r at_s at_r);
       expanded_alive = λ k s r at_s at_r expanded. listed.alive k (record { state = s; node = r }) (node_at k s r at_s at_r) expanded;
       closed = is_closed;
     }
@@ -166,7 +169,7 @@ module _ {S : Type 0} (t : System S ℕ) (value : S → ℕ) (is_dead : S → Bo
 
     few_expanded : expanded_count (found_of states all) ≤ length states
     few_expanded =
-        omega (arith, count_by-le-length (λ (n : Found S). n.node.is_expanded) (found_of states all), length-found_of states all one_each)
+        omega (arith, count_by-le-length (λ (n : Found S). is_expanded n.node) (found_of states all), length-found_of states all one_each)
 
     -- the way to a found state, among the nodes alone
     path_of : (k : ℕ) (way : List ℕ) → IsWay (found_of states all) k way → IsPath all k way

@@ -8,7 +8,7 @@ use Rattle.std.proofs.lemmas.List.Elements.{Contains-push_cases}
 use Rattle.model.proofs.ListLemmas.{Contains-got, Contains-place}
 use Rattle.model.specs.Runs.{System, CostsAtLeast, IsReachable}
 use Rattle.search.specs.declared.nodes.Node.{Node}
-use Rattle.search.specs.Outcome.{PrecedesPlans, is_initial, is_next, AreMoreReachable}
+use Rattle.search.specs.Outcome.{is_expanded, PrecedesPlans, is_initial, is_next, AreMoreReachable}
 use Rattle.packed_state.specs.Store.{AreDistinct}
 use Rattle.search.specs.Nodes.{Waiting, parent_of, Found, found_of, AreNodes, IsTurn}
 use Rattle.search.proofs.Lists.{get-push_new, get-push_other, get_exists}
@@ -56,7 +56,7 @@ module _ {S : Type 0} (t : System S ℕ) (value : S → ℕ) (is_dead : S → Bo
       nodes.distinct j k m n there_m there_n (same_m ∙ sym same_n)
 
   -- an action leads to the state from an expanded one
-  precedes-next : (k : ℕ) (n : Found S) → slice_get (found_of states all) k ≡ Some n → n.node.is_expanded ≡ true → (a : ℕ) (x : S) → t.step n.state a ≡ Some x → PrecedesPlans t value is_dead x
+  precedes-next : (k : ℕ) (n : Found S) → slice_get (found_of states all) k ≡ Some n → is_expanded n.node ≡ true → (a : ℕ) (x : S) → t.step n.state a ≡ Some x → PrecedesPlans t value is_dead x
   precedes-next k n there expanded a x leads =
       let (actions, runs, costs) = nodes.reachable k n there in
       is_next actions n.state a runs (nodes.no_goal k n there expanded) (nodes.alive k n there expanded) (subst (λ c. CostsAtLeast t (c + value n.state)) (sym costs) (nodes.no_dearer k n there expanded)) leads
@@ -70,7 +70,7 @@ module _ {S : Type 0} (t : System S ℕ) (value : S → ℕ) (is_dead : S → Bo
             is_initial (sym (ap (λ (y : Found S). y.state) same) ∙ nodes.root.2)
         | inr elsewhere ↦
             let leads = nodes.linked k n there elsewhere in
-            precedes-next (parent_of n.node) leads.parent leads.occurs leads.is_expanded n.node.action n.state leads.step
+            precedes-next (parent_of n.node) leads.parent leads.occurs leads.expanded n.node.action n.state leads.step
       ]
 
   with_reach : (x : S) → PrecedesPlans t value is_dead x → IsReachable t x × PrecedesPlans t value is_dead x
@@ -89,7 +89,7 @@ module _ {S : Type 0} (t : System S ℕ) (value : S → ℕ) (is_dead : S → Bo
               let (k, occurs) = Contains-place states x among in
               let (n, there, same) = node_there k x occurs in
               subst (λ y. PrecedesPlans t value is_dead y) same (precedes-found k n there)
-          | inr is ↦ precedes-next i turn.found turn.occurs turn.is_expanded a x (step ∙ ap Some is)
+          | inr is ↦ precedes-next i turn.found turn.occurs turn.expanded a x (step ∙ ap Some is)
         ])),
     omega (arith, length-append states (s ∷ []), full),
   )

@@ -5,6 +5,8 @@ use Rattle.std.proofs.lemmas.Option.{same_Some, get_or_from_slice_get, slice_get
 use Rattle.std.proofs.lemmas.List.Sums.{sum_by-append, sum_by-set}
 use Rattle.std.proofs.lemmas.List.{length-set, length-append}
 use Rattle.search.specs.declared.nodes.Node.{Node}
+use Rattle.search.specs.Outcome.{is_expanded}
+use Rattle.search.specs.declared.nodes.NodeStatus.TheVariants.{Expanded}
 use Rattle.search.specs.Nodes.{Found, found_of, expanded_count, Updates, marked}
 use Rattle.search.proofs.Lists.{get-push_new, get-push_other, get-set_here, get-set_other}
 
@@ -57,25 +59,25 @@ module _ {S : Type 0} where
   found_of-set (x ∷ states) (y ∷ all) (suc k) n r at =
       ap (λ ns. record { state = x; node = y } ∷ ns) (found_of-set states all k n r at)
 
-  count-push : (nodes : List (Found S)) (m : Found S) → m.node.is_expanded ≡ false → expanded_count (nodes ++ m ∷ []) ≡ expanded_count nodes
+  count-push : (nodes : List (Found S)) (m : Found S) → is_expanded m.node ≡ false → expanded_count (nodes ++ m ∷ []) ≡ expanded_count nodes
   count-push nodes m waits =
-      let one : one_if m.node.is_expanded ≡ 0 = ap (λ b. one_if b) waits in
-      omega (arith, sum_by-append (λ (n : Found S). one_if n.node.is_expanded) nodes (m ∷ []), one)
+      let one : one_if (is_expanded m.node) ≡ 0 = ap (λ b. one_if b) waits in
+      omega (arith, sum_by-append (λ (n : Found S). one_if (is_expanded n.node)) nodes (m ∷ []), one)
 
   -- what a set changes of the count
-  count-set : (nodes : List (Found S)) (j : ℕ) (n m : Found S) → slice_get nodes j ≡ Some n → expanded_count (set nodes j m) + one_if n.node.is_expanded ≡ expanded_count nodes + one_if m.node.is_expanded
+  count-set : (nodes : List (Found S)) (j : ℕ) (n m : Found S) → slice_get nodes j ≡ Some n → expanded_count (set nodes j m) + one_if (is_expanded n.node) ≡ expanded_count nodes + one_if (is_expanded m.node)
   count-set nodes j n m at =
       let here : get_or nodes j n ≡ n = get_or_from_slice_get nodes j n n at in
-      let one : one_if (get_or nodes j n).node.is_expanded ≡ one_if n.node.is_expanded = ap (λ (x : Found S). one_if x.node.is_expanded) here in
-      omega (arith, one, sum_by-set (λ (x : Found S). one_if x.node.is_expanded) nodes j m n (slice_get_within nodes j n at))
+      let one : one_if (is_expanded (get_or nodes j n).node) ≡ one_if (is_expanded n.node) = ap (λ (x : Found S). one_if (is_expanded x.node)) here in
+      omega (arith, one, sum_by-set (λ (x : Found S). one_if (is_expanded x.node)) nodes j m n (slice_get_within nodes j n at))
 
-  pub count-mark : (nodes : List (Found S)) (j : ℕ) (n : Found S) → slice_get nodes j ≡ Some n → n.node.is_expanded ≡ false → expanded_count (set nodes j (marked true n)) ≡ expanded_count nodes + 1
+  pub count-mark : (nodes : List (Found S)) (j : ℕ) (n : Found S) → slice_get nodes j ≡ Some n → is_expanded n.node ≡ false → expanded_count (set nodes j (marked Expanded n)) ≡ expanded_count nodes + 1
   count-mark nodes j n at waits =
-      let one : one_if n.node.is_expanded ≡ 0 = ap (λ b. one_if b) waits in
-      omega (arith, one, count-set nodes j n (marked true n) at)
+      let one : one_if (is_expanded n.node) ≡ 0 = ap (λ b. one_if b) waits in
+      omega (arith, one, count-set nodes j n (marked Expanded n) at)
 
   -- a node is new
-  pub updates-push : (nodes : List (Found S)) (m : Found S) → m.node.is_expanded ≡ false → ((k : ℕ) (n : Found S) → slice_get nodes k ≡ Some n → n.state ≡ m.state → ⊥)
+  pub updates-push : (nodes : List (Found S)) (m : Found S) → is_expanded m.node ≡ false → ((k : ℕ) (n : Found S) → slice_get nodes k ≡ Some n → n.state ≡ m.state → ⊥)
       → Updates nodes (nodes ++ m ∷ []) (length nodes) m
   updates-push nodes m waits is_new =
       let none : (n : Found S) → slice_get nodes (length nodes) ≡ Some n → ⊥ = λ n at. omega (arith, slice_get_within nodes (length nodes) n at) in
@@ -92,18 +94,18 @@ module _ {S : Type 0} where
       }
 
   -- a node is reached at a lower cost
-  pub updates-set : (nodes : List (Found S)) (j : ℕ) (n m : Found S) → slice_get nodes j ≡ Some n → n.node.is_expanded ≡ false → m.node.is_expanded ≡ false → n.state ≡ m.state → m.node.cost ≤ n.node.cost
+  pub updates-set : (nodes : List (Found S)) (j : ℕ) (n m : Found S) → slice_get nodes j ≡ Some n → is_expanded n.node ≡ false → is_expanded m.node ≡ false → n.state ≡ m.state → m.node.cost ≤ n.node.cost
       → ((k : ℕ) (x : Found S) → slice_get nodes k ≡ Some x → x.state ≡ n.state → k ≡ j) → Updates nodes (set nodes j m) j m
   updates-set nodes j n m at waited waits same cheaper only =
       let is : (x : Found S) → slice_get nodes j ≡ Some x → n ≡ x = λ x at_x. same_Some n x (sym at ∙ at_x) in
-      let zero_n : one_if n.node.is_expanded ≡ 0 = ap (λ b. one_if b) waited in
-      let zero_m : one_if m.node.is_expanded ≡ 0 = ap (λ b. one_if b) waits in
+      let zero_n : one_if (is_expanded n.node) ≡ 0 = ap (λ b. one_if b) waited in
+      let zero_m : one_if (is_expanded m.node) ≡ 0 = ap (λ b. one_if b) waits in
       record {
         here = get-set_here nodes j m n at;
         others = λ k other. get-set_other nodes j m k other;
         count = omega (arith, zero_n, zero_m, count-set nodes j n m at);
         waits = waits;
-        waited = λ x at_x. subst (λ (y : Found S). y.node.is_expanded ≡ false) (is x at_x) waited;
+        waited = λ x at_x. subst (λ (y : Found S). is_expanded y.node ≡ false) (is x at_x) waited;
         same_state = λ x at_x. subst (λ (y : Found S). y.state ≡ m.state) (is x at_x) same;
         cheaper = λ x at_x. subst (λ (y : Found S). m.node.cost ≤ y.node.cost) (is x at_x) cheaper;
         only = λ k x at_x same_x. only k x at_x (same_x ∙ sym same);

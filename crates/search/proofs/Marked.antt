@@ -5,25 +5,26 @@ use Rattle.std.proofs.lemmas.Bool.{cases_eq, false≢true}
 use Rattle.std.proofs.lemmas.List.Elements.{All-weaker}
 use Rattle.std.proofs.lemmas.Option.{same_Some}
 use Rattle.model.specs.Runs.{System, CostsAtLeast}
+use Rattle.search.specs.declared.nodes.NodeStatus.TheVariants.{Expanded}
 use Rattle.search.specs.Nodes.{Waiting, place_of, entry, IsWaiting, total_of, IsEntryOf, parent_of, begins, follows, IsWay, HasWay, Found, expanded_count, Leads, dearest, AreNodes, IsFoundWithin, IsOpen, AreOpen, AreOpenBut, IsTurn, marked}
-use Rattle.search.specs.Outcome.{IsReachableAt, ReachingCostsAtLeast}
+use Rattle.search.specs.Outcome.{is_expanded, is_marked_dead, IsReachableAt, ReachingCostsAtLeast}
 
-module _ {S : Type 0} (nodes after : List (Found S)) (i : ℕ) (one : Found S) (stood : slice_get nodes i ≡ Some one) (waited : one.node.is_expanded ≡ false)
-    (here : slice_get after i ≡ Some (marked true one)) (others : (k : ℕ) → k ≢ i → slice_get after k ≡ slice_get nodes k) (count : expanded_count after ≡ expanded_count nodes + 1) where
-  each_marked : (P : ℕ → Found S → Type 0) → P i (marked true one) → ((k : ℕ) (n : Found S) → k ≢ i → slice_get nodes k ≡ Some n → P k n) → (k : ℕ) (n : Found S) → slice_get after k ≡ Some n → P k n
+module _ {S : Type 0} (nodes after : List (Found S)) (i : ℕ) (one : Found S) (stood : slice_get nodes i ≡ Some one) (waited : is_expanded one.node ≡ false)
+    (here : slice_get after i ≡ Some (marked Expanded one)) (others : (k : ℕ) → k ≢ i → slice_get after k ≡ slice_get nodes k) (count : expanded_count after ≡ expanded_count nodes + 1) where
+  each_marked : (P : ℕ → Found S → Type 0) → P i (marked Expanded one) → ((k : ℕ) (n : Found S) → k ≢ i → slice_get nodes k ≡ Some n → P k n) → (k : ℕ) (n : Found S) → slice_get after k ≡ Some n → P k n
   each_marked P at_i elsewhere k n at =
       elim (cases_eq k i) [
-        | inl e ↦ subst (λ p. P p n) (sym e) (subst (λ x. P i x) (same_Some (marked true one) n (sym here ∙ ap (slice_get after) (sym e) ∙ at)) at_i)
+        | inl e ↦ subst (λ p. P p n) (sym e) (subst (λ x. P i x) (same_Some (marked Expanded one) n (sym here ∙ ap (slice_get after) (sym e) ∙ at)) at_i)
         | inr other ↦ elsewhere k n other (sym (others k other) ∙ at)
       ]
 
   -- an expanded node stays as it is
-  stays_marked : (k : ℕ) (n : Found S) → slice_get nodes k ≡ Some n → n.node.is_expanded ≡ true → slice_get after k ≡ Some n
+  stays_marked : (k : ℕ) (n : Found S) → slice_get nodes k ≡ Some n → is_expanded n.node ≡ true → slice_get after k ≡ Some n
   stays_marked k n at expanded =
       elim (cases_eq k i) [
         | inl e ↦
             let same : one ≡ n = same_Some one n (sym stood ∙ ap (slice_get nodes) (sym e) ∙ at) in
-            absurd (false≢true (sym waited ∙ ap (λ (x : Found S). x.node.is_expanded) same ∙ expanded))
+            absurd (false≢true (sym waited ∙ ap (λ (x : Found S). is_expanded x.node) same ∙ expanded))
         | inr other ↦ others k other ∙ at
       ]
 
@@ -32,7 +33,7 @@ module _ {S : Type 0} (nodes after : List (Found S)) (i : ℕ) (one : Found S) (
       elim (cases_eq k i) [
         | inl e ↦
             let same : one ≡ n = same_Some one n (sym stood ∙ ap (slice_get nodes) (sym e) ∙ at) in
-            (i, marked true one, here, ap (λ (x : Found S). x.state) same ∙ is, omega (arith, within, ap (λ (x : Found S). x.node.cost) same))
+            (i, marked Expanded one, here, ap (λ (x : Found S). x.state) same ∙ is, omega (arith, within, ap (λ (x : Found S). x.node.cost) same))
         | inr other ↦ (k, n, others k other ∙ at, is, within)
       ]
 
@@ -44,7 +45,7 @@ module _ {S : Type 0} (nodes after : List (Found S)) (i : ℕ) (one : Found S) (
       elim (cases_eq k i) [
         | inl e ↦
             let same : one ≡ n = same_Some one n (sym stood ∙ ap (slice_get nodes) (sym e) ∙ at) in
-            follows (marked true n) before elsewhere (ap (slice_get after) e ∙ here ∙ ap (λ (x : Found S). Some (marked true x)) same) rest is
+            follows (marked Expanded n) before elsewhere (ap (slice_get after) e ∙ here ∙ ap (λ (x : Found S). Some (marked Expanded x)) same) rest is
         | inr other ↦ follows n before elsewhere (others k other ∙ at) rest is
       ]
 
@@ -55,7 +56,7 @@ module _ {S : Type 0} (nodes after : List (Found S)) (i : ℕ) (one : Found S) (
         | inl e ↦
             let same : one ≡ of.found = same_Some one of.found (sym stood ∙ ap (slice_get nodes) (sym e) ∙ of.occurs) in
             record {
-              found = marked true one;
+              found = marked Expanded one;
               occurs = ap (slice_get after) e ∙ here;
               alive = ap (λ (x : Found S). is_dead x.state) same ∙ of.alive;
               estimate = of.estimate ∙ sym (ap (λ (x : Found S). value x.state) same);
@@ -71,17 +72,17 @@ module _ {S : Type 0} (nodes after : List (Found S)) (i : ℕ) (one : Found S) (
     leads_marked : (n : Found S) → Leads t nodes n → Leads t after n
     leads_marked n leads = record {
       parent = leads.parent;
-      occurs = stays_marked (parent_of n.node) leads.parent leads.occurs leads.is_expanded;
-      is_expanded = leads.is_expanded;
+      occurs = stays_marked (parent_of n.node) leads.parent leads.occurs leads.expanded;
+      expanded = leads.expanded;
       cost = leads.cost;
       step = leads.step;
     }
 
-    marked_leads : (n : Found S) → Leads t after n → Leads t after (marked true n)
+    marked_leads : (n : Found S) → Leads t after n → Leads t after (marked Expanded n)
     marked_leads n leads = record {
       parent = leads.parent;
       occurs = leads.occurs;
-      is_expanded = leads.is_expanded;
+      expanded = leads.expanded;
       cost = leads.cost;
       step = leads.step;
     }
@@ -100,7 +101,7 @@ module _ {S : Type 0} (nodes after : List (Found S)) (i : ℕ) (one : Found S) (
           elim (cases_eq 0 i) [
             | inl e ↦
                 let same : one ≡ old.root.0 = same_Some one old.root.0 (sym stood ∙ ap (slice_get nodes) (sym e) ∙ old.root.1) in
-                (marked true one, ap (slice_get after) e ∙ here, ap (λ (x : Found S). x.state) same ∙ old.root.2, ap (λ (x : Found S). x.node.cost) same ∙ old.root.3)
+                (marked Expanded one, ap (slice_get after) e ∙ here, ap (λ (x : Found S). x.state) same ∙ old.root.2, ap (λ (x : Found S). x.node.cost) same ∙ old.root.3)
             | inr other ↦ (old.root.0, others 0 other ∙ old.root.1, old.root.2, old.root.3)
           ];
       linked = each_marked (λ k n. k ≢ 0 → Leads t after n)
@@ -115,15 +116,16 @@ module _ {S : Type 0} (nodes after : List (Found S)) (i : ℕ) (one : Found S) (
       cheap = rw count (each_marked (λ k n. n.node.cost ≤ (expanded_count nodes + 1) * dearest) (omega (arith, old.cheap i one stood)) (λ k n _ at. omega (arith, old.cheap k n at)));
       shallow = each_marked (λ k n. HasWay after k (expanded_count after)) (way_still i one stood) (λ k n _ at. way_still k n at);
       reachable = each_marked (λ k n. IsReachableAt t n.state n.node.cost) (old.reachable i one stood) (λ k n _ at. old.reachable k n at);
-      no_goal = each_marked (λ k n. n.node.is_expanded ≡ true → t.meets_goal n.state ≡ false) (λ _. no_goal) (λ k n _ at. old.no_goal k n at);
-      no_dearer = each_marked (λ k n. n.node.is_expanded ≡ true → CostsAtLeast t (total_of value n)) (λ _. no_dearer) (λ k n _ at. old.no_dearer k n at);
-      cheapest = each_marked (λ k n. n.node.is_expanded ≡ true → ReachingCostsAtLeast t n.state n.node.cost) (λ _. cheapest) (λ k n _ at. old.cheapest k n at);
-      alive = each_marked (λ k n. n.node.is_expanded ≡ true → is_dead n.state ≡ false) (λ _. alive) (λ k n _ at. old.alive k n at);
+      no_goal = each_marked (λ k n. is_expanded n.node ≡ true → t.meets_goal n.state ≡ false) (λ _. no_goal) (λ k n _ at. old.no_goal k n at);
+      no_dearer = each_marked (λ k n. is_expanded n.node ≡ true → CostsAtLeast t (total_of value n)) (λ _. no_dearer) (λ k n _ at. old.no_dearer k n at);
+      cheapest = each_marked (λ k n. is_expanded n.node ≡ true → ReachingCostsAtLeast t n.state n.node.cost) (λ _. cheapest) (λ k n _ at. old.cheapest k n at);
+      alive = each_marked (λ k n. is_expanded n.node ≡ true → is_dead n.state ≡ false) (λ _. alive) (λ k n _ at. old.alive k n at);
+      marked = each_marked (λ k n. is_marked_dead n.node ≡ is_dead n.state) (sym alive) (λ k n _ at. old.marked k n at);
       ordered = λ p k x n at_p at_k expanded waits.
           each_marked (λ k n. IsWaiting is_dead n → total_of value x ≤ total_of value n)
           (λ is_waiting. absurd (false≢true (sym is_waiting.0)))
           (λ k n _ at is_waiting.
-          each_marked (λ p x. x.node.is_expanded ≡ true → total_of value x ≤ total_of value n)
+          each_marked (λ p x. is_expanded x.node ≡ true → total_of value x ≤ total_of value n)
           (λ _. least k n at is_waiting)
           (λ p x _ at_x was_expanded. old.ordered p k x n at_x at was_expanded is_waiting)
           p x at_p expanded)
@@ -139,10 +141,10 @@ module _ {S : Type 0} (nodes after : List (Found S)) (i : ℕ) (one : Found S) (
     turn_marked =
         let (way, leads, short) = old.shallow i one stood in
         record {
-          found = marked true one;
+          found = marked Expanded one;
           occurs = here;
-          is_expanded = refl;
-          greatest = each_marked (λ k n. n.node.is_expanded ≡ true → total_of value n ≤ total_of value one)
+          expanded = refl;
+          greatest = each_marked (λ k n. is_expanded n.node ≡ true → total_of value n ≤ total_of value one)
               (λ _. omega arith)
               (λ k n _ at expanded. old.ordered k i n one at stood expanded (waited, alive));
           cheap = rw count (omega (arith, old.cheap i one stood));
@@ -152,7 +154,7 @@ module _ {S : Type 0} (nodes after : List (Found S)) (i : ℕ) (one : Found S) (
         }
 
     pub open_but_marked : AreOpen t nodes → AreOpenBut t after i
-    open_but_marked all = each_marked (λ k n. n.node.is_expanded ≡ true → k ≢ i → IsOpen t after n)
+    open_but_marked all = each_marked (λ k n. is_expanded n.node ≡ true → k ≢ i → IsOpen t after n)
         (λ _ other. absurd (other refl))
         (λ k n _ at expanded _ a next step. found_marked next (n.node.cost + t.cost a) (all k n at expanded a next step))
 

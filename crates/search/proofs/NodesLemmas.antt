@@ -10,7 +10,7 @@ use Rattle.std.proofs.lemmas.Option.{same_Some}
 use Rattle.std.proofs.lemmas.List.{length-append}
 use Rattle.std.proofs.lemmas.List.Sums.{sum_by-append}
 use Rattle.model.specs.Runs.{System, run, CostsAtLeast}
-use Rattle.search.specs.Outcome.{IsReachableAt, ReachingCostsAtLeast}
+use Rattle.search.specs.Outcome.{is_expanded, is_marked_dead, IsReachableAt, ReachingCostsAtLeast}
 use Rattle.search.specs.Nodes.{Waiting, place_of, entry, IsWaiting, total_of, IsEntryOf, parent_of, begins, follows, IsWay, HasWay, Found, expanded_count, Leads, dearest, AreNodes, IsFoundWithin, IsOpen, AreOpenBut, IsTurn, Updates}
 use Rattle.search.specs.Progress.{Continues, IsListed}
 
@@ -53,7 +53,7 @@ module _ {S : Type 0} (nodes after : List (Found S)) (j : ℕ) (m : Found S) (up
       ]
 
   -- an expanded node stays as it is
-  pub stays : (k : ℕ) (n : Found S) → slice_get nodes k ≡ Some n → n.node.is_expanded ≡ true → slice_get after k ≡ Some n
+  pub stays : (k : ℕ) (n : Found S) → slice_get nodes k ≡ Some n → is_expanded n.node ≡ true → slice_get after k ≡ Some n
   stays k n at expanded =
       elim (cases_eq k j) [
         | inl e ↦ absurd (false≢true (sym (updates.waited n (ap (slice_get nodes) (sym e) ∙ at)) ∙ expanded))
@@ -89,10 +89,10 @@ module _ {S : Type 0} (nodes after : List (Found S)) (j : ℕ) (m : Found S) (up
       ]
 
   -- an expanded node was there before
-  expanded_before : (k : ℕ) (n : Found S) → slice_get after k ≡ Some n → n.node.is_expanded ≡ true → slice_get nodes k ≡ Some n
+  expanded_before : (k : ℕ) (n : Found S) → slice_get after k ≡ Some n → is_expanded n.node ≡ true → slice_get nodes k ≡ Some n
   expanded_before k n at expanded =
       elim (at_cases k n at) [
-        | inl is ↦ absurd (false≢true (sym updates.waits ∙ ap (λ (x : Found S). x.node.is_expanded) is.1 ∙ expanded))
+        | inl is ↦ absurd (false≢true (sym updates.waits ∙ ap (λ (x : Found S). is_expanded x.node) is.1 ∙ expanded))
         | inr was ↦ was.1
       ]
 
@@ -126,14 +126,14 @@ module _ {S : Type 0} (nodes after : List (Found S)) (j : ℕ) (m : Found S) (up
     leads_still : (n : Found S) → Leads t nodes n → Leads t after n
     leads_still n leads = record {
       parent = leads.parent;
-      occurs = stays (parent_of n.node) leads.parent leads.occurs leads.is_expanded;
-      is_expanded = leads.is_expanded;
+      occurs = stays (parent_of n.node) leads.parent leads.occurs leads.expanded;
+      expanded = leads.expanded;
       cost = leads.cost;
       step = leads.step;
     }
 
     -- an expanded node is not the updated one
-    not_here : (k : ℕ) (n : Found S) → slice_get nodes k ≡ Some n → n.node.is_expanded ≡ true → k ≢ j
+    not_here : (k : ℕ) (n : Found S) → slice_get nodes k ≡ Some n → is_expanded n.node ≡ true → k ≢ j
     not_here k n at expanded e = false≢true (sym (updates.waited n (ap (slice_get nodes) (sym e) ∙ at)) ∙ expanded)
 
     -- a way to another node than the updated one leads there still, since it passes through expanded ones
@@ -142,7 +142,7 @@ module _ {S : Type 0} (nodes after : List (Found S)) (j : ℕ) (m : Found S) (up
     way_still open_list old k way (follows n before elsewhere at earlier is) other =
         let leads = old.linked k n at elsewhere in
         follows n before elsewhere (updates.others k other ∙ at)
-        (way_still open_list old (parent_of n.node) before earlier (not_here (parent_of n.node) leads.parent leads.occurs leads.is_expanded)) is
+        (way_still open_list old (parent_of n.node) before earlier (not_here (parent_of n.node) leads.parent leads.occurs leads.expanded)) is
 
     pub open_still : (n : Found S) → IsOpen t nodes n → IsOpen t after n
     open_still n is_open a next step = found_still next (n.node.cost + t.cost a) (is_open a next step)
@@ -154,12 +154,12 @@ module _ {S : Type 0} (nodes after : List (Found S)) (j : ℕ) (m : Found S) (up
     pub turn_still : (open_list : List Waiting) → AreNodes t value is_dead nodes open_list → (i : ℕ) (turn : IsTurn value nodes i) → IsTurn value after i
     turn_still open_list old i turn = record {
       found = turn.found;
-      occurs = stays i turn.found turn.occurs turn.is_expanded;
-      is_expanded = turn.is_expanded;
+      occurs = stays i turn.found turn.occurs turn.expanded;
+      expanded = turn.expanded;
       greatest = λ k n at expanded. turn.greatest k n (expanded_before k n at expanded) expanded;
       cheap = rw updates.count turn.cheap;
       way = turn.way;
-      leads = way_still open_list old i turn.way turn.leads (not_here i turn.found turn.occurs turn.is_expanded);
+      leads = way_still open_list old i turn.way turn.leads (not_here i turn.found turn.occurs turn.expanded);
       shallow = rw updates.count turn.shallow;
     }
 
@@ -169,7 +169,7 @@ module _ {S : Type 0} (nodes after : List (Found S)) (j : ℕ) (m : Found S) (up
         elim (cases_eq j 0) [
           | inl first ↦ ([], begins first refl, omega arith)
           | inr elsewhere ↦
-              let before : IsWay after i turn.way = way_still open_list old i turn.way turn.leads (not_here i turn.found turn.occurs turn.is_expanded) in (
+              let before : IsWay after i turn.way = way_still open_list old i turn.way turn.leads (not_here i turn.found turn.occurs turn.expanded) in (
                 turn.way ++ m.node.action ∷ [],
                 follows m turn.way elsewhere updates.here (subst (λ k. IsWay after k turn.way) (sym parent) before) refl,
                 omega (arith, length-append turn.way (m.node.action ∷ []), turn.shallow, updates.count),
@@ -180,12 +180,12 @@ module _ {S : Type 0} (nodes after : List (Found S)) (j : ℕ) (m : Found S) (up
     pub nodes_updated : (i : ℕ) (turn : IsTurn value nodes i) (open_list open_list' : List Waiting) → AreNodes t value is_dead nodes open_list
         → parent_of m.node ≡ i → m.node.cost ≡ turn.found.node.cost + t.cost m.node.action → t.cost m.node.action ≤ dearest
         → t.step turn.found.state m.node.action ≡ Some m.state → value turn.found.state ≤ t.cost m.node.action + value m.state
-        → HasJoined value is_dead open_list open_list' → AreNodes t value is_dead after open_list'
-    nodes_updated i turn open_list open_list' old parent cost affordable step falls joined =
+        → is_marked_dead m.node ≡ is_dead m.state → HasJoined value is_dead open_list open_list' → AreNodes t value is_dead after open_list'
+    nodes_updated i turn open_list open_list' old parent cost affordable step falls reported joined =
         let leads : Leads t after m = record {
           parent = turn.found;
-          occurs = ap (slice_get after) parent ∙ stays i turn.found turn.occurs turn.is_expanded;
-          is_expanded = turn.is_expanded;
+          occurs = ap (slice_get after) parent ∙ stays i turn.found turn.occurs turn.expanded;
+          expanded = turn.expanded;
           cost = cost;
           step = step;
         } in
@@ -213,18 +213,19 @@ module _ {S : Type 0} (nodes after : List (Found S)) (j : ℕ) (m : Found S) (up
           reachable = each_after (λ k n. IsReachableAt t n.state n.node.cost)
               (subst (λ c. IsReachableAt t m.state c) (sym cost) (reachable-push t turn.found.state m.state turn.found.node.cost m.node.action (old.reachable i turn.found turn.occurs) step))
               (λ k n other at. old.reachable k n at);
-          no_goal = each_after (λ k n. n.node.is_expanded ≡ true → t.meets_goal n.state ≡ false)
+          no_goal = each_after (λ k n. is_expanded n.node ≡ true → t.meets_goal n.state ≡ false)
               (λ expanded. absurd (false≢true (sym updates.waits ∙ expanded)))
               (λ k n other at. old.no_goal k n at);
-          no_dearer = each_after (λ k n. n.node.is_expanded ≡ true → CostsAtLeast t (total_of value n))
+          no_dearer = each_after (λ k n. is_expanded n.node ≡ true → CostsAtLeast t (total_of value n))
               (λ expanded. absurd (false≢true (sym updates.waits ∙ expanded)))
               (λ k n other at. old.no_dearer k n at);
-          cheapest = each_after (λ k n. n.node.is_expanded ≡ true → ReachingCostsAtLeast t n.state n.node.cost)
+          cheapest = each_after (λ k n. is_expanded n.node ≡ true → ReachingCostsAtLeast t n.state n.node.cost)
               (λ expanded. absurd (false≢true (sym updates.waits ∙ expanded)))
               (λ k n other at. old.cheapest k n at);
-          alive = each_after (λ k n. n.node.is_expanded ≡ true → is_dead n.state ≡ false)
+          alive = each_after (λ k n. is_expanded n.node ≡ true → is_dead n.state ≡ false)
               (λ expanded. absurd (false≢true (sym updates.waits ∙ expanded)))
               (λ k n other at. old.alive k n at);
+          marked = each_after (λ k n. is_marked_dead n.node ≡ is_dead n.state) reported (λ k n other at. old.marked k n at);
           ordered = λ p k x n at_p at_k expanded waits.
               let was = expanded_before p x at_p expanded in
               each_after (λ k n. IsWaiting is_dead n → total_of value x ≤ total_of value n)
@@ -241,20 +242,20 @@ module _ {S : Type 0} (nodes after : List (Found S)) (j : ℕ) (m : Found S) (up
     pub stepped : (i : ℕ) (turn : IsTurn value nodes i) (open_list open_list' : List Waiting) → AreNodes t value is_dead nodes open_list → AreOpenBut t nodes i
         → parent_of m.node ≡ i → m.node.cost ≡ turn.found.node.cost + t.cost m.node.action → t.cost m.node.action ≤ dearest
         → t.step turn.found.state m.node.action ≡ Some m.state → value turn.found.state ≤ t.cost m.node.action + value m.state
-        → IsJoined (is_dead m.state) (entry m.node.cost (value m.state) j) open_list open_list'
+        → is_marked_dead m.node ≡ is_dead m.state → IsJoined (is_dead m.state) (entry m.node.cost (value m.state) j) open_list open_list'
         → Stepped t value is_dead nodes after open_list' i m.node.action m.state
-    stepped i turn open_list open_list' old others parent cost affordable step falls joins =
+    stepped i turn open_list open_list' old others parent cost affordable step falls reported joins =
         record {
-          sound = nodes_updated i turn open_list open_list' old parent cost affordable step falls (has_joined value is_dead open_list open_list' old.entries joins);
+          sound = nodes_updated i turn open_list open_list' old parent cost affordable step falls reported (has_joined value is_dead open_list open_list' old.entries joins);
           turn = turn_still open_list old i turn;
           others = open_but_still i others;
           continues = record {
             found = found_still;
-            stays = λ n at. stays i n at (sym (ap (λ (x : Found S). x.node.is_expanded) (same_Some turn.found n (sym turn.occurs ∙ at))) ∙ turn.is_expanded);
+            stays = λ n at. stays i n at (sym (ap (λ (x : Found S). is_expanded x.node) (same_Some turn.found n (sym turn.occurs ∙ at))) ∙ turn.expanded);
             count = updates.count;
           };
           listed = λ n at.
-              let now : slice_get after i ≡ Some turn.found = stays i turn.found turn.occurs turn.is_expanded in
+              let now : slice_get after i ≡ Some turn.found = stays i turn.found turn.occurs turn.expanded in
               let same : turn.found ≡ n = same_Some turn.found n (sym now ∙ at) in
               (j, m, updates.here, refl, omega (arith, cost, ap (λ (x : Found S). x.node.cost) same));
         }

@@ -11,6 +11,7 @@ use Rattle.std.proofs.lemmas.List.Sorted.{Contains-permutation, All-permutation}
 use Rattle.model.proofs.ListLemmas.{Contains-cases, Contains-got}
 use Rattle.search.specs.declared.nodes.Node.{Node}
 use Rattle.search.specs.declared.turns.Turn.{Turn}
+use Rattle.search.specs.Outcome.{is_expanded}
 use Rattle.search.specs.Nodes.{Waiting, sum_of, estimate_of, place_of, IsEntry, IsCurrent, parent_of, IsPath, begins, follows, IsReachedIn}
 use Rattle.search.specs.OpenList.{by_sum}
 use Rattle.search.specs.Progress.{TakesNext}
@@ -92,23 +93,15 @@ module _ (initial old new : List Waiting) (all : List Node) (x : Waiting) (keeps
         ];
   }
 
-pub not_true : (b : Bool) → not b ≡ true → b ≡ false
-not_true true is = absurd (false≢true is)
-not_true false is = refl
-
-pub not_false : (b : Bool) → not b ≡ false → b ≡ true
-not_false true is = refl
-not_false false is = absurd (false≢true (sym is))
-
 -- what was read of the entry's state
-pub current-read : (all : List Node) (w : Waiting) (r : Node) → place_of w < length all → r ≡ get_or all (place_of w) r → r.is_expanded ≡ false → r.cost + estimate_of w ≡ sum_of w → IsCurrent all w
+pub current-read : (all : List Node) (w : Waiting) (r : Node) → place_of w < length all → r ≡ get_or all (place_of w) r → is_expanded r ≡ false → r.cost + estimate_of w ≡ sum_of w → IsCurrent all w
 current-read all w r within read waits same = (r, slice_get_read all (length all) (place_of w) r refl within read, same, waits)
 
-pub stale-read : (all : List Node) (w : Waiting) (r : Node) → place_of w < length all → r ≡ get_or all (place_of w) r → (r.is_expanded ≡ true) ⊎ (r.cost + estimate_of w ≢ sum_of w) → ¬ IsCurrent all w
+pub stale-read : (all : List Node) (w : Waiting) (r : Node) → place_of w < length all → r ≡ get_or all (place_of w) r → (is_expanded r ≡ true) ⊎ (r.cost + estimate_of w ≢ sum_of w) → ¬ IsCurrent all w
 stale-read all w r within read cases (node, occurs, sums, waits) =
     let same : r ≡ node = same_Some r node (sym (slice_get_read all (length all) (place_of w) r refl within read) ∙ occurs) in
     elim cases [
-      | inl expanded ↦ absurd (false≢true (sym waits ∙ sym (ap (λ (x : Node). x.is_expanded) same) ∙ expanded))
+      | inl expanded ↦ absurd (false≢true (sym waits ∙ sym (ap (λ (x : Node). is_expanded x) same) ∙ expanded))
       | inr dearer ↦ absurd (dearer (ap (λ (x : Node). x.cost + estimate_of w) same ∙ sums))
     ]
 

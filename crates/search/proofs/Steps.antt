@@ -10,14 +10,16 @@ use Rattle.std.proofs.lemmas.List.Sums.{count_by-le-length}
 use Rattle.model.proofs.ListLemmas.{Contains-here, Contains-there, Contains-cases, Contains-none, Contains-got}
 use Rattle.model.specs.Runs.{System, CostsAtLeast}
 use Rattle.search.specs.declared.nodes.Node.{Node}
+use Rattle.search.specs.declared.nodes.NodeStatus.TheVariants.{Expanded}
+use Rattle.search.specs.declared.nodes.NodeStatus.{NodeStatus}
 use Rattle.search.specs.declared.nodes.ShortId.{ShortId}
 use Rattle.search.specs.Transitions.{AreApplicable}
 use Rattle.search.specs.declared.turns.Turn.{Turn}
 use Rattle.search.specs.Estimates.{IsConsistent}
 use Rattle.search.specs.DeadEnds.{DetectsDeadEnds, IsValueUnlessDead}
-use Rattle.search.specs.Outcome.{IsReachableAt, ReachingCostsAtLeast}
+use Rattle.search.specs.Outcome.{is_expanded_status, is_dead_status, is_expanded, is_marked_dead, IsReachableAt, ReachingCostsAtLeast}
 use Rattle.packed_state.specs.Store.{IsPlaced}
-use Rattle.search.specs.Nodes.{Waiting, place_of, estimate_of, entry, IsEntry, IsWaiting, total_of, IsEntryOf, parent_of, begins, HasWay, Found, found_of, expanded_count, dearest, Leads, AreNodes, IsFoundWithin, IsOpen, AreOpen, AreOpenBut, IsTurn, IsCurrent, marked_as, marked}
+use Rattle.search.specs.Nodes.{Waiting, place_of, estimate_of, entry, IsEntry, IsWaiting, total_of, IsEntryOf, status_of_reached, parent_of, begins, HasWay, Found, found_of, expanded_count, dearest, Leads, AreNodes, IsFoundWithin, IsOpen, AreOpen, AreOpenBut, IsTurn, IsCurrent, marked_as, marked}
 use Rattle.search.specs.declared.open_list.OpenList.{OpenList}
 use Rattle.search.specs.OpenList.{waiting_in, IsOpenList, JoinsBy}
 use Rattle.search.specs.Progress.{Continues, IsListed, TakesNext}
@@ -31,45 +33,45 @@ use Rattle.search.proofs.NodesLemmas.{IsJoined, Stepped, stepped, reachable-push
 module _ {S : Type 0} (t : System S ℕ) (value : S → ℕ) (is_dead : S → Bool) (states : List S) (all : List Node) (open_list : List Waiting) (i : ℕ)
     (one_each : length all ≡ length states)
     (nodes : AreNodes t value is_dead (found_of states all) open_list) (turn : IsTurn value (found_of states all) i) (others : AreOpenBut t (found_of states all) i)
-    (s : S) (now : Node) (waits : now.is_expanded ≡ false) (parent : parent_of now ≡ i)
+    (s : S) (now : Node) (waits : is_expanded now ≡ false) (parent : parent_of now ≡ i)
     (costs : now.cost ≡ turn.found.node.cost + t.cost now.action) (affordable : t.cost now.action ≤ dearest)
     (step : t.step turn.found.state now.action ≡ Some s) (falls : value turn.found.state ≤ t.cost now.action + value s) where
   -- the state is new
-  stepped_pushed : (¬ Contains states s) → (open_list' : List Waiting) → IsJoined (is_dead s) (entry now.cost (value s) (length states)) open_list open_list'
+  stepped_pushed : is_marked_dead now ≡ is_dead s → (¬ Contains states s) → (open_list' : List Waiting) → IsJoined (is_dead s) (entry now.cost (value s) (length states)) open_list open_list'
       → Stepped t value is_dead (found_of states all) (found_of (states ++ s ∷ []) (all ++ now ∷ [])) open_list' i now.action s
-  stepped_pushed is_new open_list' joins =
+  stepped_pushed reported is_new open_list' joins =
       let m : Found S = record { state = s; node = now } in
       let place : length (found_of states all) ≡ length states = length-found_of states all one_each in
       let updates = updates-push (found_of states all) m waits (λ k n at same. is_new (subst (λ x. Contains states x) same (Contains-got states k n.state (found_of-get states all k n at).0))) in
       let joins' : IsJoined (is_dead s) (entry now.cost (value s) (length (found_of states all))) open_list open_list' = subst (λ p. IsJoined (is_dead s) (entry now.cost (value s) p) open_list open_list') (sym place) joins in
       subst (λ after. Stepped t value is_dead (found_of states all) after open_list' i now.action s) (sym (found_of-push states all s now one_each))
       (stepped (found_of states all) (found_of states all ++ m ∷ []) (length (found_of states all)) m updates t value is_dead i turn open_list open_list' nodes others
-      parent costs affordable step falls joins')
+      parent costs affordable step falls reported joins')
 
-  pub stepped_new : (¬ Contains states s) → (states' : List S) (all' : List Node) (place : ℕ) (open_list' : List Waiting)
+  pub stepped_new : is_marked_dead now ≡ is_dead s → (¬ Contains states s) → (states' : List S) (all' : List Node) (place : ℕ) (open_list' : List Waiting)
       → states' ≡ states ++ s ∷ [] → all' ≡ all ++ now ∷ [] → place ≡ length states
       → IsJoined (is_dead s) (entry now.cost (value s) place) open_list open_list'
       → (length all' ≡ length states') × Stepped t value is_dead (found_of states all) (found_of states' all') open_list' i now.action s
-  stepped_new is_new states' all' place open_list' is_states is_all at_end joins =
+  stepped_new reported is_new states' all' place open_list' is_states is_all at_end joins =
       let joins' : IsJoined (is_dead s) (entry now.cost (value s) (length states)) open_list open_list' = subst (λ p. IsJoined (is_dead s) (entry now.cost (value s) p) open_list open_list') at_end joins in
       let same : found_of states' all' ≡ found_of (states ++ s ∷ []) (all ++ now ∷ []) = cc in
       let count_states : length states' ≡ length states + 1 = ap length is_states ∙ length-append states (s ∷ []) in
       let count_all : length all' ≡ length all + 1 = ap length is_all ∙ length-append all (now ∷ []) in (
         omega (arith, count_states, count_all, one_each),
-        subst (λ after. Stepped t value is_dead (found_of states all) after open_list' i now.action s) (sym same) (stepped_pushed is_new open_list' joins'),
+        subst (λ after. Stepped t value is_dead (found_of states all) after open_list' i now.action s) (sym same) (stepped_pushed reported is_new open_list' joins'),
       )
 
   -- the state waits, and is now reached at a lower cost
-  stepped_set : (j : ℕ) (reached : Node) → slice_get states j ≡ Some s → slice_get all j ≡ Some reached → now.cost < reached.cost → (open_list' : List Waiting) → IsJoined (is_dead s) (entry now.cost (value s) j) open_list open_list'
+  stepped_set : is_marked_dead now ≡ is_dead s → (j : ℕ) (reached : Node) → slice_get states j ≡ Some s → slice_get all j ≡ Some reached → now.cost < reached.cost → (open_list' : List Waiting) → IsJoined (is_dead s) (entry now.cost (value s) j) open_list open_list'
       → Stepped t value is_dead (found_of states all) (found_of states (set all j now)) open_list' i now.action s
-  stepped_set j reached is_s is_reached cheaper open_list' joins =
+  stepped_set reported j reached is_s is_reached cheaper open_list' joins =
       let n : Found S = record { state = s; node = reached } in
       let stood : slice_get (found_of states all) j ≡ Some n = get-found_of states all j s reached is_s is_reached in
       -- there is no cheaper way to an expanded state
       let way : IsReachableAt t s (turn.found.node.cost + t.cost now.action) =
       reachable-push t turn.found.state s turn.found.node.cost now.action (nodes.reachable i turn.found turn.occurs) step in
-      let waited : reached.is_expanded ≡ false =
-      elim (reached.is_expanded) as (λ b. reached.is_expanded ≡ b → b ≡ false) [
+      let waited : is_expanded reached ≡ false =
+      elim (is_expanded reached) as (λ b. is_expanded reached ≡ b → b ≡ false) [
         | true ↦ λ expanded. absurd (omega (arith, costs, cheaper, nodes.cheapest j n stood expanded way.0 way.1, way.2))
         | false ↦ λ _. refl
       ] refl in
@@ -77,23 +79,27 @@ module _ {S : Type 0} (t : System S ℕ) (value : S → ℕ) (is_dead : S → Bo
       let updates = updates-set (found_of states all) j n m stood waited waits refl (omega (arith, cheaper)) (λ k x at same. nodes.distinct k j x n at stood same) in
       subst (λ after. Stepped t value is_dead (found_of states all) after open_list' i now.action s) (sym (found_of-set states all j n now stood))
       (stepped (found_of states all) (set (found_of states all) j m) j m updates t value is_dead i turn open_list open_list' nodes others
-      parent costs affordable step falls joins)
+      parent costs affordable step falls reported joins)
 
-  pub stepped_cheaper : (j : ℕ) (reached : Node) → slice_get states j ≡ Some s → slice_get all j ≡ Some reached → now.cost < reached.cost
+  pub stepped_cheaper : is_marked_dead now ≡ is_dead s → (j : ℕ) (reached : Node) → slice_get states j ≡ Some s → slice_get all j ≡ Some reached → now.cost < reached.cost
       → (states' : List S) (all' : List Node) (open_list' : List Waiting)
       → states' ≡ states → all' ≡ set all j now → IsJoined (is_dead s) (entry now.cost (value s) j) open_list open_list'
       → (length all' ≡ length states') × Stepped t value is_dead (found_of states all) (found_of states' all') open_list' i now.action s
-  stepped_cheaper j reached is_s is_reached cheaper states' all' open_list' is_states is_all joins =
+  stepped_cheaper reported j reached is_s is_reached cheaper states' all' open_list' is_states is_all joins =
       let same : found_of states' all' ≡ found_of states (set all j now) = cc in
       let count_states : length states' ≡ length states = ap length is_states in
       let count_all : length all' ≡ length all = ap length is_all ∙ length-set all j now in (
         omega (arith, count_states, count_all, one_each),
-        subst (λ after. Stepped t value is_dead (found_of states all) after open_list' i now.action s) (sym same) (stepped_set j reached is_s is_reached cheaper open_list' joins),
+        subst (λ after. Stepped t value is_dead (found_of states all) after open_list' i now.action s) (sym same) (stepped_set reported j reached is_s is_reached cheaper open_list' joins),
       )
 
+module _ {S : Type 0} (t : System S ℕ) (value : S → ℕ) (is_dead : S → Bool) (states : List S) (all : List Node) (open_list : List Waiting) (i : ℕ)
+    (one_each : length all ≡ length states)
+    (nodes : AreNodes t value is_dead (found_of states all) open_list) (turn : IsTurn value (found_of states all) i) (others : AreOpenBut t (found_of states all) i)
+    (s : S) (a cost : ℕ) (costs : cost ≡ turn.found.node.cost + t.cost a) where
   -- the state is found already, at no higher cost
-  stepped_known : (j : ℕ) (reached : Node) → slice_get states j ≡ Some s → slice_get all j ≡ Some reached → reached.cost ≤ now.cost
-      → Stepped t value is_dead (found_of states all) (found_of states all) open_list i now.action s
+  stepped_known : (j : ℕ) (reached : Node) → slice_get states j ≡ Some s → slice_get all j ≡ Some reached → reached.cost ≤ cost
+      → Stepped t value is_dead (found_of states all) (found_of states all) open_list i a s
   stepped_known j reached is_s is_reached no_dearer =
       let n : Found S = record { state = s; node = reached } in
       let stood : slice_get (found_of states all) j ≡ Some n = get-found_of states all j s reached is_s is_reached in
@@ -107,11 +113,11 @@ module _ {S : Type 0} (t : System S ℕ) (value : S → ℕ) (is_dead : S → Bo
             (j, n, stood, refl, omega (arith, costs, no_dearer, ap (λ (y : Found S). y.node.cost) same));
       }
 
-  pub stepped_same : (j : ℕ) (reached : Node) → slice_get states j ≡ Some s → slice_get all j ≡ Some reached → reached.cost ≤ now.cost → (states' : List S) → states' ≡ states
-      → (length all ≡ length states') × Stepped t value is_dead (found_of states all) (found_of states' all) open_list i now.action s
+  pub stepped_same : (j : ℕ) (reached : Node) → slice_get states j ≡ Some s → slice_get all j ≡ Some reached → reached.cost ≤ cost → (states' : List S) → states' ≡ states
+      → (length all ≡ length states') × Stepped t value is_dead (found_of states all) (found_of states' all) open_list i a s
   stepped_same j reached is_s is_reached no_dearer states' is_states = (
     one_each ∙ sym (ap length is_states),
-    subst (λ ss. Stepped t value is_dead (found_of states all) (found_of ss all) open_list i now.action s) (sym is_states) (stepped_known j reached is_s is_reached no_dearer),
+    subst (λ ss. Stepped t value is_dead (found_of states all) (found_of ss all) open_list i a s) (sym is_states) (stepped_known j reached is_s is_reached no_dearer),
   )
 
 -- the open list after a state is found, by what is reported for the state
@@ -127,6 +133,12 @@ joined_by value is_dead s (Some estimate) old new cost place (alive, is, fits) j
   joins.heap,
 )
 
+-- how a state is marked that is reached anew, by what is reported for it
+pub marked_by : {S : Type 0} (value : S → ℕ) (is_dead : S → Bool) (s : S) (reported : Option ℕ) → IsValueUnlessDead value is_dead s reported
+    → (is_expanded_status (status_of_reached reported) ≡ false) × (is_dead_status (status_of_reached reported) ≡ is_dead s)
+marked_by value is_dead s None dead = (refl, sym dead)
+marked_by value is_dead s (Some estimate) (alive, is, fits) = (refl, sym alive)
+
 -- the sum of a cost and what is reported for a state fits
 pub value_fits : {S : Type 0} (value : S → ℕ) (is_dead : S → Bool) (s : S) (reported : Option ℕ) (cost : ℕ) → IsValueUnlessDead value is_dead s reported → cost < 2 ^ 63 → IfSome reported (λ v. cost + v < 2 ^ 64)
 value_fits value is_dead s None cost reported small = tt
@@ -136,7 +148,7 @@ value_fits value is_dead s (Some estimate) cost (alive, is, fits) small = omega 
 pub turn_limits : {S : Type 0} (value : S → ℕ) (nodes : List (Found S)) (i max_states : ℕ) (turn : IsTurn value nodes i) → length nodes ≤ max_states → max_states ≤ 16777216
     → turn.found.node.cost + 4294967295 ≤ 72057594021150720
 turn_limits {S} value nodes i max_states turn within limit =
-    let count = count_by-le-length (λ (n : Found S). n.node.is_expanded) nodes in
+    let count = count_by-le-length (λ (n : Found S). is_expanded n.node) nodes in
     omega (arith, turn.cheap, count, within, limit)
 
 -- what the action leads to from the state that is at the place
@@ -161,9 +173,9 @@ placed_first {S} old new s place false empty (at, is) =
 
 -- the initial state alone
 module _ {S : Type 0} (t : System S ℕ) (value : S → ℕ) (is_dead : S → Bool) (states : List S) (all : List Node) (open_list open_list' : List Waiting) (s : S) (place : ℕ)
-    (parent : ShortId) (action : ℕ) where
+    (status : NodeStatus) (parent : ShortId) (action : ℕ) (waits : is_expanded_status status ≡ false) (reported : is_dead_status status ≡ is_dead s) where
   one_node : Found S
-  one_node = record { state = s; node = record { cost = 0; is_expanded = false; parent = parent; action = action } }
+  one_node = record { state = s; node = record { cost = 0; status = status; parent = parent; action = action } }
 
   only : (k : ℕ) (n : Found S) → slice_get (one_node ∷ []) k ≡ Some n → (k ≡ 0) × (one_node ≡ n)
   only zero n at = (refl, same_Some one_node n at)
@@ -196,7 +208,7 @@ module _ {S : Type 0} (t : System S ℕ) (value : S → ℕ) (is_dead : S → Bo
             }
       ] refl
 
-  pub nodes_start : states ≡ s ∷ [] → all ≡ record { cost = 0; is_expanded = false; parent = parent; action = action } ∷ [] → s ≡ t.initial → place ≡ 0 → open_list ≡ [] → IsJoined (is_dead s) (entry 0 (value s) place) open_list open_list'
+  pub nodes_start : states ≡ s ∷ [] → all ≡ record { cost = 0; status = status; parent = parent; action = action } ∷ [] → s ≡ t.initial → place ≡ 0 → open_list ≡ [] → IsJoined (is_dead s) (entry 0 (value s) place) open_list open_list'
       → (length all ≡ length states) × AreNodes t value is_dead (found_of states all) open_list'
   unfolding one_node
   nodes_start is_states is_all initial first empty joins =
@@ -210,11 +222,12 @@ module _ {S : Type 0} (t : System S ℕ) (value : S → ℕ) (is_dead : S → Bo
           cheap = each (λ k n. n.node.cost ≤ expanded_count (one_node ∷ []) * dearest) (omega arith);
           shallow = each (λ k n. HasWay (one_node ∷ []) k (expanded_count (one_node ∷ []))) ([], begins refl refl, omega arith);
           reachable = each (λ k n. IsReachableAt t n.state n.node.cost) ([], ap Some (sym initial), refl);
-          no_goal = each (λ k n. n.node.is_expanded ≡ true → t.meets_goal n.state ≡ false) (λ expanded. absurd (false≢true expanded));
-          no_dearer = each (λ k n. n.node.is_expanded ≡ true → CostsAtLeast t (total_of value n)) (λ expanded. absurd (false≢true expanded));
-          cheapest = each (λ k n. n.node.is_expanded ≡ true → ReachingCostsAtLeast t n.state n.node.cost) (λ expanded. absurd (false≢true expanded));
-          alive = each (λ k n. n.node.is_expanded ≡ true → is_dead n.state ≡ false) (λ expanded. absurd (false≢true expanded));
-          ordered = λ j k m n at_j _ expanded _. absurd (each (λ j m. m.node.is_expanded ≡ true → ⊥) false≢true j m at_j expanded);
+          no_goal = each (λ k n. is_expanded n.node ≡ true → t.meets_goal n.state ≡ false) (λ expanded. absurd (false≢true (sym waits ∙ expanded)));
+          no_dearer = each (λ k n. is_expanded n.node ≡ true → CostsAtLeast t (total_of value n)) (λ expanded. absurd (false≢true (sym waits ∙ expanded)));
+          cheapest = each (λ k n. is_expanded n.node ≡ true → ReachingCostsAtLeast t n.state n.node.cost) (λ expanded. absurd (false≢true (sym waits ∙ expanded)));
+          alive = each (λ k n. is_expanded n.node ≡ true → is_dead n.state ≡ false) (λ expanded. absurd (false≢true (sym waits ∙ expanded)));
+          marked = each (λ k n. is_marked_dead n.node ≡ is_dead n.state) reported;
+          ordered = λ j k m n at_j _ expanded _. absurd (each (λ j m. is_expanded m.node ≡ true → ⊥) (λ expanded. false≢true (sym waits ∙ expanded)) j m at_j expanded);
           queued = each (λ k n. IsWaiting is_dead n → Contains open_list' (entry n.node.cost (value n.state) k)) started.queued;
           entries = started.entries;
         }),
@@ -335,7 +348,7 @@ pub record HasBegun {S : Type 0} (t : System S ℕ) (value : S → ℕ) (is_dead
   pub nodes : AreNodes t value is_dead (found_of states all) open_list
   pub turn : IsTurn value (found_of states all) i
   pub others_open : AreOpenBut t (found_of states all) i
-  pub occurs : slice_get (found_of states all) i ≡ Some (marked true one)
+  pub occurs : slice_get (found_of states all) i ≡ Some (marked Expanded one)
   pub count : expanded_count (found_of states all) ≡ expanded_count before + 1
 
 -- a turn begins
@@ -346,17 +359,17 @@ module _ {S : Type 0} (t : System S ℕ) (value : S → ℕ) (is_dead : S → Bo
     (rest : (k : ℕ) (n : Found S) → slice_get (found_of states all) k ≡ Some n → IsWaiting is_dead n → k ≢ i → Contains open_list' (entry n.node.cost (value n.state) k))
     (entries : All (IsEntryOf value is_dead (found_of states all)) open_list') where
   pub turn_begins : t.meets_goal one.state ≡ false → AreOpen t (found_of states all) → (states' : List S) (all' : List Node)
-      → states' ≡ states → all' ≡ set all i (marked_as true one.node)
+      → states' ≡ states → all' ≡ set all i (marked_as Expanded one.node)
       → HasBegun t value is_dead (found_of states all) states' all' open_list' i one
   turn_begins no_goal are_open states' all' is_states is_all =
-      let now : Node = marked_as true one.node in
-      let marks : found_of states (set all i now) ≡ set (found_of states all) i (marked true one) = found_of-set states all i one now occurs in
+      let now : Node = marked_as Expanded one.node in
+      let marks : found_of states (set all i now) ≡ set (found_of states all) i (marked Expanded one) = found_of-set states all i one now occurs in
       let same : found_of states' all' ≡ found_of states (set all i now) = cc in
-      let is : found_of states' all' ≡ set (found_of states all) i (marked true one) = same ∙ marks in
+      let is : found_of states' all' ≡ set (found_of states all) i (marked Expanded one) = same ∙ marks in
       let after = found_of states' all' in
-      let here : slice_get after i ≡ Some (marked true one) = ap (λ (ns : List (Found S)). slice_get ns i) is ∙ get-set_here (found_of states all) i (marked true one) one occurs in
+      let here : slice_get after i ≡ Some (marked Expanded one) = ap (λ (ns : List (Found S)). slice_get ns i) is ∙ get-set_here (found_of states all) i (marked Expanded one) one occurs in
       let others : (k : ℕ) → k ≢ i → slice_get after k ≡ slice_get (found_of states all) k =
-      λ k elsewhere. ap (λ (ns : List (Found S)). slice_get ns k) is ∙ get-set_other (found_of states all) i (marked true one) k elsewhere in
+      λ k elsewhere. ap (λ (ns : List (Found S)). slice_get ns k) is ∙ get-set_other (found_of states all) i (marked Expanded one) k elsewhere in
       let count : expanded_count after ≡ expanded_count (found_of states all) + 1 = ap expanded_count is ∙ count-mark (found_of states all) i one occurs waits.0 in
       let count_states : length states' ≡ length states = ap length is_states in
       let count_all : length all' ≡ length all = ap length is_all ∙ length-set all i now in

@@ -8,7 +8,7 @@ use Rattle.std.proofs.lemmas.List.Sums.{sum_by-cons}
 use Rattle.model.specs.Runs.{System, run, cost_of_all}
 use Rattle.search.specs.Estimates.{IsConsistent}
 use Rattle.search.specs.DeadEnds.{DetectsDeadEnds}
-use Rattle.search.specs.Outcome.{ReachingCostsAtLeast}
+use Rattle.search.specs.Outcome.{is_expanded, ReachingCostsAtLeast}
 use Rattle.search.specs.Nodes.{Waiting, Found, IsWaiting, total_of, AreNodes, IsFoundWithin, AreOpen}
 use Rattle.search.proofs.Consistent.{falls_along}
 use Rattle.search.proofs.DeadEnds.{dead_along}
@@ -22,7 +22,7 @@ module _ {S : Type 0} (t : System S ℕ) (value : S → ℕ) (is_dead : S → Bo
       → (least ≤ n.node.cost + cost_of_all t plan + value end) ⊎ IsFoundWithin nodes end (n.node.cost + cost_of_all t plan)
   from_found [] end k n alive at runs = inr (k, n, at, same_Some n.state end runs, omega arith)
   from_found (a ∷ plan) end k n alive at runs =
-      elim n.node.is_expanded as (λ b. n.node.is_expanded ≡ b → (least ≤ n.node.cost + cost_of_all t (a ∷ plan) + value end) ⊎ IsFoundWithin nodes end (n.node.cost + cost_of_all t (a ∷ plan))) [
+      elim (is_expanded n.node) as (λ b. is_expanded n.node ≡ b → (least ≤ n.node.cost + cost_of_all t (a ∷ plan) + value end) ⊎ IsFoundWithin nodes end (n.node.cost + cost_of_all t (a ∷ plan))) [
         | false ↦ λ not_expanded.
             elim (is_dead n.state) as (λ d. is_dead n.state ≡ d → (least ≤ n.node.cost + cost_of_all t (a ∷ plan) + value end) ⊎ IsFoundWithin nodes end (n.node.cost + cost_of_all t (a ∷ plan))) [
               | false ↦ λ living. inl (omega (arith, at_least k n at (not_expanded, living), falls_along t value consistent (a ∷ plan) n.state end runs))

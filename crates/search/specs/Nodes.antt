@@ -1,11 +1,13 @@
 -- What a search keeps true of the states that it has found.
-use Rattle.std.specs.Prelude.{◌≡◌, ℕ, ◌+◌, ◌*◌, ◌≤◌, ◌<◌, ◌≢◌, Bool, true, false, List, [], ◌∷◌, ◌++◌, length, slice_get, Some, Contains, count_by, All}
+use Rattle.std.specs.Prelude.{◌≡◌, ℕ, ◌+◌, ◌*◌, ◌≤◌, ◌<◌, ◌≢◌, Bool, true, false, Option, None, Some, List, [], ◌∷◌, ◌++◌, length, slice_get, Contains, count_by, All}
 use Rattle.std.specs.declared.cmp.Reverse.{Reverse}
 use Rattle.model.specs.Runs.{System, CostsAtLeast}
 use Rattle.search.specs.declared.nodes.StateId.{StateId}
 use Rattle.search.specs.declared.nodes.Node.{Node}
+use Rattle.search.specs.declared.nodes.NodeStatus.{NodeStatus}
+use Rattle.search.specs.declared.nodes.NodeStatus.TheVariants.{Open, Dead}
 use Rattle.search.specs.declared.nodes.ShortId.{ShortId}
-use Rattle.search.specs.Outcome.{IsReachableAt, ReachingCostsAtLeast, IsCut}
+use Rattle.search.specs.Outcome.{is_expanded, is_marked_dead, IsReachableAt, ReachingCostsAtLeast, IsCut}
 
 -- a waiting state as the open list holds it: the sum of its cost and its estimate, the estimate, and its place
 abbrev pub Waiting : Type 0
@@ -32,11 +34,16 @@ IsEntry count w = (place_of w < count) × (estimate_of w ≤ sum_of w)
 
 -- the entry reports at what cost a state waits now
 abbrev pub IsCurrent : List Node → Waiting → Type 0
-IsCurrent nodes w = (node : Node) × (slice_get nodes (place_of w) ≡ Some node) × (node.cost + estimate_of w ≡ sum_of w) × (node.is_expanded ≡ false)
+IsCurrent nodes w = (node : Node) × (slice_get nodes (place_of w) ≡ Some node) × (node.cost + estimate_of w ≡ sum_of w) × (is_expanded node ≡ false)
 
 -- the place that three bytes report
 abbrev pub place_in : ShortId → ℕ
 place_in id = id.low + id.middle * 256 + id.high * 65536
+
+-- the status of a state that is reached anew and has this estimate, or none since it is reported dead
+abbrev pub status_of_reached : Option ℕ → NodeStatus
+status_of_reached (Some estimate) = Open
+status_of_reached None = Dead
 
 -- the place of the state that the node was reached from
 abbrev pub parent_of : Node → ℕ
@@ -71,14 +78,14 @@ pub record IsEntryOf {S : Type 0} (value : S → ℕ) (is_dead : S → Bool) (no
 
 -- how many are expanded
 abbrev pub expanded_count : {S : Type 0} → List (Found S) → ℕ
-expanded_count nodes = count_by (λ n. n.node.is_expanded) nodes
+expanded_count nodes = count_by (λ n. is_expanded n.node) nodes
 
 module _ {S : Type 0} (t : System S ℕ) (nodes : List (Found S)) where
   -- the node's action leads to it from its parent, which is expanded
   pub record Leads (n : Found S) : Type 0 where
     pub parent : Found S
     pub occurs : slice_get nodes (parent_of n.node) ≡ Some parent
-    pub is_expanded : parent.node.is_expanded ≡ true
+    pub expanded : is_expanded parent.node ≡ true
     pub cost : n.node.cost ≡ parent.node.cost + t.cost n.node.action
     pub step : t.step parent.state n.node.action ≡ Some n.state
 
@@ -116,11 +123,12 @@ module _ {S : Type 0} (t : System S ℕ) (value : S → ℕ) (is_dead : S → Bo
     pub cheap : (k : ℕ) (n : Found S) → slice_get nodes k ≡ Some n → n.node.cost ≤ expanded_count nodes * dearest
     pub shallow : (k : ℕ) (n : Found S) → slice_get nodes k ≡ Some n → HasWay nodes k (expanded_count nodes)
     pub reachable : (k : ℕ) (n : Found S) → slice_get nodes k ≡ Some n → IsReachableAt t n.state n.node.cost
-    pub no_goal : (k : ℕ) (n : Found S) → slice_get nodes k ≡ Some n → n.node.is_expanded ≡ true → t.meets_goal n.state ≡ false
-    pub no_dearer : (k : ℕ) (n : Found S) → slice_get nodes k ≡ Some n → n.node.is_expanded ≡ true → CostsAtLeast t (n.node.cost + value n.state)
-    pub cheapest : (k : ℕ) (n : Found S) → slice_get nodes k ≡ Some n → n.node.is_expanded ≡ true → ReachingCostsAtLeast t n.state n.node.cost
-    pub alive : (k : ℕ) (n : Found S) → slice_get nodes k ≡ Some n → n.node.is_expanded ≡ true → is_dead n.state ≡ false
-    pub ordered : (j k : ℕ) (m n : Found S) → slice_get nodes j ≡ Some m → slice_get nodes k ≡ Some n → m.node.is_expanded ≡ true → IsWaiting is_dead n
+    pub no_goal : (k : ℕ) (n : Found S) → slice_get nodes k ≡ Some n → is_expanded n.node ≡ true → t.meets_goal n.state ≡ false
+    pub no_dearer : (k : ℕ) (n : Found S) → slice_get nodes k ≡ Some n → is_expanded n.node ≡ true → CostsAtLeast t (n.node.cost + value n.state)
+    pub cheapest : (k : ℕ) (n : Found S) → slice_get nodes k ≡ Some n → is_expanded n.node ≡ true → ReachingCostsAtLeast t n.state n.node.cost
+    pub alive : (k : ℕ) (n : Found S) → slice_get nodes k ≡ Some n → is_expanded n.node ≡ true → is_dead n.state ≡ false
+    pub marked : (k : ℕ) (n : Found S) → slice_get nodes k ≡ Some n → is_marked_dead n.node ≡ is_dead n.state
+    pub ordered : (j k : ℕ) (m n : Found S) → slice_get nodes j ≡ Some m → slice_get nodes k ≡ Some n → is_expanded m.node ≡ true → IsWaiting is_dead n
         → total_of value m ≤ total_of value n
     pub queued : (k : ℕ) (n : Found S) → slice_get nodes k ≡ Some n → IsWaiting is_dead n → Contains open_list (entry n.node.cost (value n.state) k)
     pub entries : All (IsEntryOf value is_dead nodes) open_list
@@ -135,18 +143,18 @@ IsOpen {S} t nodes n = (a : ℕ) (next : S) → t.step n.state a ≡ Some next �
 
 -- each expanded state is open
 abbrev pub AreOpen : {S : Type 0} → System S ℕ → List (Found S) → Type 0
-AreOpen {S} t nodes = (k : ℕ) (n : Found S) → slice_get nodes k ≡ Some n → n.node.is_expanded ≡ true → IsOpen t nodes n
+AreOpen {S} t nodes = (k : ℕ) (n : Found S) → slice_get nodes k ≡ Some n → is_expanded n.node ≡ true → IsOpen t nodes n
 
 -- each expanded state is open, but for the one at this place
 abbrev pub AreOpenBut : {S : Type 0} → System S ℕ → List (Found S) → ℕ → Type 0
-AreOpenBut {S} t nodes i = (k : ℕ) (n : Found S) → slice_get nodes k ≡ Some n → n.node.is_expanded ≡ true → k ≢ i → IsOpen t nodes n
+AreOpenBut {S} t nodes i = (k : ℕ) (n : Found S) → slice_get nodes k ≡ Some n → is_expanded n.node ≡ true → k ≢ i → IsOpen t nodes n
 
 -- the node at this place is being expanded, and no expanded one has a greater sum
 pub record IsTurn {S : Type 0} (value : S → ℕ) (nodes : List (Found S)) (i : ℕ) : Type 0 where
   pub found : Found S
   pub occurs : slice_get nodes i ≡ Some found
-  pub is_expanded : found.node.is_expanded ≡ true
-  pub greatest : (k : ℕ) (n : Found S) → slice_get nodes k ≡ Some n → n.node.is_expanded ≡ true → total_of value n ≤ total_of value found
+  pub expanded : is_expanded found.node ≡ true
+  pub greatest : (k : ℕ) (n : Found S) → slice_get nodes k ≡ Some n → is_expanded n.node ≡ true → total_of value n ≤ total_of value found
   pub cheap : found.node.cost + dearest ≤ expanded_count nodes * dearest
   pub way : List ℕ
   pub leads : IsWay nodes i way
@@ -157,16 +165,16 @@ pub record Updates {S : Type 0} (nodes after : List (Found S)) (j : ℕ) (m : Fo
   pub here : slice_get after j ≡ Some m
   pub others : (k : ℕ) → k ≢ j → slice_get after k ≡ slice_get nodes k
   pub count : expanded_count after ≡ expanded_count nodes
-  pub waits : m.node.is_expanded ≡ false
-  pub waited : (n : Found S) → slice_get nodes j ≡ Some n → n.node.is_expanded ≡ false
+  pub waits : is_expanded m.node ≡ false
+  pub waited : (n : Found S) → slice_get nodes j ≡ Some n → is_expanded n.node ≡ false
   pub same_state : (n : Found S) → slice_get nodes j ≡ Some n → n.state ≡ m.state
   pub cheaper : (n : Found S) → slice_get nodes j ≡ Some n → m.node.cost ≤ n.node.cost
   pub only : (k : ℕ) (n : Found S) → slice_get nodes k ≡ Some n → n.state ≡ m.state → k ≡ j
   pub longer : length nodes ≤ length after
 
--- the node once it is marked as expanded, or as not
-abbrev pub marked_as : Bool → Node → Node
-marked_as is_expanded node = record { cost = node.cost; is_expanded = is_expanded; parent = node.parent; action = node.action }
+-- the node once it has this status
+abbrev pub marked_as : NodeStatus → Node → Node
+marked_as status node = record { cost = node.cost; status = status; parent = node.parent; action = node.action }
 
-abbrev pub marked : {S : Type 0} → Bool → Found S → Found S
-marked is_expanded n = record { state = n.state; node = marked_as is_expanded n.node }
+abbrev pub marked : {S : Type 0} → NodeStatus → Found S → Found S
+marked status n = record { state = n.state; node = marked_as status n.node }

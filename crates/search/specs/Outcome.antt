@@ -3,6 +3,8 @@ use Rattle.std.specs.Prelude.{◌≡◌, ℕ, ◌+◌, ◌*◌, ◌<◌, ◌≤�
 use Rattle.model.specs.Runs.{System, run, cost_of_all, IsReachable, CostsAtLeast, IsOptimal, IsUnsolvable}
 use Rattle.model.specs.Claims.{Claim, bound, none, Mark, opened, cut, dead, Line, IsClosed}
 use Rattle.search.specs.declared.nodes.Node.{Node}
+use Rattle.search.specs.declared.nodes.NodeStatus.{NodeStatus}
+use Rattle.search.specs.declared.nodes.NodeStatus.TheVariants.{Open, Expanded, Dead}
 use Rattle.search.specs.declared.best.Outcome.{Outcome}
 use Rattle.search.specs.declared.best.Outcome.TheVariants.{Found, Exhausted, States}
 use Rattle.packed_state.specs.Store.{AreDistinct}
@@ -15,10 +17,32 @@ IsReachableAt {S} {A} t s cost = (actions : List A) × (run t t.initial actions 
 abbrev pub ReachingCostsAtLeast : {S A : Type 0} → System S A → S → ℕ → Type 0
 ReachingCostsAtLeast {S} {A} t s least = (actions : List A) → run t t.initial actions ≡ Some s → least ≤ cost_of_all t actions
 
+-- the state was expanded
+abbrev pub is_expanded_status : NodeStatus → Bool
+is_expanded_status Open = false
+is_expanded_status Expanded = true
+is_expanded_status Dead = false
+
+abbrev pub is_expanded : Node → Bool
+is_expanded node = is_expanded_status node.status
+
+-- the state is marked as a dead end
+abbrev pub is_dead_status : NodeStatus → Bool
+is_dead_status Open = false
+is_dead_status Expanded = false
+is_dead_status Dead = true
+
+abbrev pub is_marked_dead : Node → Bool
+is_marked_dead node = is_dead_status node.status
+
+-- exactly those states are marked as dead ends that are reported dead
+abbrev pub AreMarked : {S : Type 0} → (S → Bool) → List S → List Node → Type 0
+AreMarked {S} is_dead states nodes = (k : ℕ) (s : S) (node : Node) → slice_get states k ≡ Some s → slice_get nodes k ≡ Some node → is_marked_dead node ≡ is_dead s
+
 -- what a listing says of a found state: that it is open where it was expanded, a dead end where it is reported dead, and
 -- otherwise a cut, where what follows costs at least its estimate
 abbrev pub mark_of : {S : Type 0} → (S → ℕ) → (S → Bool) → S → Node → Mark
-mark_of value is_dead s node = if node.is_expanded then opened else (if is_dead s then dead else cut (value s))
+mark_of value is_dead s node = if is_expanded node then opened else (if is_dead s then dead else cut (value s))
 
 -- a found state in a listing
 abbrev pub line_of : {S : Type 0} → (S → ℕ) → (S → Bool) → S → Node → Line S
@@ -40,16 +64,17 @@ pub record AreFound {S A : Type 0} (t : System S A) (value : S → ℕ) (is_dead
   -- no action costs more than 32 bits can say, and a way to a state takes each other state at most once
   pub cheap : (k : ℕ) (node : Node) → slice_get nodes k ≡ Some node → node.cost ≤ length states * 4294967295
   -- an expanded state was reached by a cheapest way
-  pub expanded_cheapest : (k : ℕ) (s : S) (node : Node) → slice_get states k ≡ Some s → slice_get nodes k ≡ Some node → node.is_expanded ≡ true
+  pub expanded_cheapest : (k : ℕ) (s : S) (node : Node) → slice_get states k ≡ Some s → slice_get nodes k ≡ Some node → is_expanded node ≡ true
       → ReachingCostsAtLeast t s node.cost
+  pub marked : AreMarked is_dead states nodes
   -- no state that is reported dead was expanded
-  pub expanded_alive : (k : ℕ) (s : S) (node : Node) → slice_get states k ≡ Some s → slice_get nodes k ≡ Some node → node.is_expanded ≡ true → is_dead s ≡ false
+  pub expanded_alive : (k : ℕ) (s : S) (node : Node) → slice_get states k ≡ Some s → slice_get nodes k ≡ Some node → is_expanded node ≡ true → is_dead s ≡ false
   pub closed : IsClosed t value is_dead claim (lines_of value is_dead states nodes)
 
 -- each expanded state costs, with its estimate, at most this
 abbrev pub AreExpandedWithin : {S : Type 0} → (S → ℕ) → ℕ → List S → List Node → Type 0
 AreExpandedWithin {S} value most states nodes =
-    (k : ℕ) (s : S) (node : Node) → slice_get states k ≡ Some s → slice_get nodes k ≡ Some node → node.is_expanded ≡ true → node.cost + value s ≤ most
+    (k : ℕ) (s : S) (node : Node) → slice_get states k ≡ Some s → slice_get nodes k ≡ Some node → is_expanded node ≡ true → node.cost + value s ≤ most
 
 -- A search by this estimate may have to find the state before any plan is sure to be cheapest: the state is the initial
 -- one, or an action leads to it from one that does not meet the goal, at the end of a list that costs, with the estimate
@@ -68,7 +93,7 @@ AreMoreReachable {S} t value is_dead max_states =
 
 -- the found state is a cut: it was not expanded, and it is not reported dead
 abbrev pub IsCut : {S : Type 0} → (S → Bool) → S → Node → Type 0
-IsCut is_dead s node = (node.is_expanded ≡ false) × (is_dead s ≡ false)
+IsCut is_dead s node = (is_expanded node ≡ false) × (is_dead s ≡ false)
 
 -- What is known of the found states where a search stops at the limit: they are as many as it may list, and they prove that
 -- each list that solves costs at least as much as the least sum of cost and estimate over their cuts, of which there is

@@ -64,11 +64,11 @@ pub enum Outcome<S> {
 /// than the limit are next to one that is not reported dead and, with its estimate, no dearer than any plan (`PrecedesPlans`):
 /// where there are no more of these, the answer is a plan, or that there is none. Its bound is the least sum of cost and
 /// estimate over the found states that are neither expanded nor reported dead, and the found states prove it (`IsAtLimit`). No
-/// state that is reported dead is expanded. The clause leaves open which of several cheapest plans is answered, which states
-/// whose sum is as much as these cost are expanded before, and the order of the states in the store. Of that order, the
-/// contract of `next_waiting` says that it gives the state found first of those of the least estimate of those of the least
-/// sum; that this is the one to be expanded or answered, and that states are found in the order of the successors, is shown
-/// by tests alone.
+/// state that is reported dead is expanded, and exactly these are marked dead among the found states. The clause leaves open
+/// which of several cheapest plans is answered, which states whose sum is as much as these cost are expanded before, and the
+/// order of the states in the store. Of that order, the contract of `next_waiting` says that it gives the state found first of
+/// those of the least estimate of those of the least sum; that this is the one to be expanded or answered, and that states are
+/// found in the order of the successors, is shown by tests alone.
 ///
 /// ```text
 /// let store = PooledStore::new(alloc, system.width())?;

@@ -1,6 +1,7 @@
 //! The states that a search found, and how it reached them.
 ghost use Rattle.std.specs.Prelude.{◌≡◌, ◌+◌, ◌*◌, ◌<◌, ◌≤◌, length, IfOk};
-ghost use Rattle.search.specs.Nodes.{place_in, IsPath, IsReachedIn};
+ghost use Rattle.search.specs.Outcome.{is_expanded};
+ghost use Rattle.search.specs.Nodes.{place_in, status_of_reached, IsPath, IsReachedIn};
 
 use crate::best::MAX_STATES;
 use faults::NoMemory;
@@ -18,13 +19,24 @@ pub(crate) struct ShortId {
     high: u8,
 }
 
-/// A found state: at what cost it was reached, and whether it was expanded. It takes 16 bytes.
+/// How far a search is with a found state.
+#[derive(Clone, Copy, Debug, PartialEq, Eq)]
+pub enum NodeStatus {
+    /// It is still to be expanded.
+    Open,
+    /// It was expanded: all its successors are among the found states.
+    Expanded,
+    /// It is reported a dead end, and is never expanded.
+    Dead,
+}
+
+/// A found state: at what cost it was reached, and how far the search is with it. It takes 16 bytes.
 #[derive(Clone, Copy, Debug, PartialEq, Eq)]
 pub struct Node {
     /// What some list of actions that leads to the state costs.
     pub cost: u64,
-    /// Whether all its successors are among the found states.
-    pub is_expanded: bool,
+    /// Whether it is still to be expanded, was expanded, or is reported a dead end.
+    pub status: NodeStatus,
     /// The expanded state from which it was reached at this cost. Of the initial state it says nothing.
     pub(crate) parent: ShortId,
     /// The action that leads to it from there.
@@ -38,6 +50,27 @@ pub struct FoundStates<S> {
     pub store: S,
     /// For each state of the store, in the same order, how it was reached.
     pub nodes: Vec<Node>,
+}
+
+impl NodeStatus {
+    /// That of a state that is reached anew and has this estimate, or none since it is reported dead.
+    pub(crate) fn of_reached(estimate: Option<u64>) -> NodeStatus
+        ensures { result ≡ status_of_reached estimate }
+    {
+        match estimate {
+            Some(_) => NodeStatus::Open,
+            None => NodeStatus::Dead,
+        }
+    }
+}
+
+impl Node {
+    /// Whether the state was expanded.
+    pub fn is_expanded(&self) -> bool
+        ensures { result ≡ is_expanded self.now }
+    {
+        matches!(self.status, NodeStatus::Expanded)
+    }
 }
 
 impl ShortId {

@@ -12,7 +12,7 @@ use crate::best::MAX_STATES;
 use crate::dead_ends::DeadEnd;
 use crate::estimates::Estimate;
 use crate::guide::Guide;
-use crate::nodes::{FoundStates, Node, ShortId, StateId, steps_to};
+use crate::nodes::{FoundStates, Node, NodeStatus, ShortId, StateId, steps_to};
 use crate::open_list::OpenList;
 use crate::transitions::TransitionSystem;
 use crate::turns::{Parent, Turn};
@@ -106,7 +106,7 @@ impl<S: StateStore> Progress<S> {
         let value = guide.value_in(&initial);
         let node = Node {
             cost: 0,
-            is_expanded: false,
+            status: NodeStatus::of_reached(value),
             parent: ShortId::new(StateId(0)),
             action: 0,
         };
@@ -131,7 +131,7 @@ impl<S: StateStore> Progress<S> {
     {
         while let Some(Reverse((sum, estimate, id))) = self.open_list.pop() {
             let node = self.nodes[id.0 as usize];
-            if !node.is_expanded && node.cost == sum - estimate {
+            if !node.is_expanded() && node.cost == sum - estimate {
                 return Some(Turn { id, sum, estimate });
             }
         }
@@ -182,15 +182,15 @@ impl<S: StateStore> Progress<S> {
         }
     }
 
-    /// The state is marked as expanded from now on, or as not expanded.
-    fn mark(&mut self, id: StateId, is_expanded: bool)
+    /// The state has this status from now on.
+    fn mark(&mut self, id: StateId, status: NodeStatus)
         requires { id.0 < length self.old.nodes.items }
         ensures store { self.new.store ≡ self.old.store }
         ensures nodes { (node : _) → slice_get self.old.nodes.items id.0 ≡ Some node
-            → self.new.nodes.items ≡ slice_set self.old.nodes.items id.0 (record node { is_expanded = is_expanded }) }
+            → self.new.nodes.items ≡ slice_set self.old.nodes.items id.0 (record node { status = status }) }
         ensures open_list { self.new.open_list ≡ self.old.open_list }
     {
-        self.nodes[id.0 as usize].is_expanded = is_expanded;
+        self.nodes[id.0 as usize].status = status;
     }
 
     /// Lists a successor of the state that is being expanded; says whether the limit allows that.
@@ -221,21 +221,15 @@ impl<S: StateStore> Progress<S> {
     {
         let before = self.nodes[parent.id.0 as usize];
         let cost = before.cost + u64::from(system.cost(action));
-        let node = Node {
-            cost,
-            is_expanded: false,
-            parent: ShortId::new(parent.id),
-            action,
-        };
         let Some((id, is_new)) = place_of_state(&mut self.store, state, max_states)? else {
             return Ok(false);
         };
         if is_new {
             let value = parent.value_after(guide, action, state);
-            self.add(id, node, value)?;
+            self.add(id, parent.child(cost, action, value), value)?;
         } else if cost < self.nodes[id.0 as usize].cost {
             let value = parent.value_after(guide, action, state);
-            self.improve(id, node, value)?;
+            self.improve(id, parent.child(cost, action, value), value)?;
         }
         Ok(true)
     }
@@ -271,7 +265,7 @@ impl<S: StateStore> Progress<S> {
             × IsAtLimit (T.means system.now) (value_by (E.score_of guide.now.estimate.now)) (D.is_dead guide.now.dead_ends.now) max_states turn.sum (S.states self.new.store) self.new.nodes.items)) }
     {
         system.applicable(&buffers.state, &mut buffers.applicable)?;
-        self.mark(turn.id, true);
+        self.mark(turn.id, NodeStatus::Expanded);
         let score = turn.score(guide.estimate, &buffers.state);
         for &action in &buffers.applicable {
             system.successor(action, &buffers.state, &mut buffers.next);
@@ -281,7 +275,7 @@ impl<S: StateStore> Progress<S> {
                 score,
             };
             if !self.reach(system, guide, &parent, action, &buffers.next, max_states)? {
-                self.mark(turn.id, false);
+                self.mark(turn.id, NodeStatus::Open);
                 return Ok(false);
             }
         }

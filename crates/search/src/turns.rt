@@ -1,13 +1,15 @@
 //! The state whose turn it is, as the open list gives it and as its successors need it.
-ghost use Rattle.std.specs.Prelude.{◌≡◌, Some, length};
+ghost use Rattle.std.specs.Prelude.{◌≡◌, ◌<◌, Some, length};
 ghost use Rattle.packed_state.specs.Packed.{bits_of};
 ghost use Rattle.search.specs.Estimates.{value_by};
 ghost use Rattle.search.specs.DeadEnds.{IsValueUnlessDead};
+ghost use Rattle.search.specs.Nodes.{parent_of, status_of_reached};
 
+use crate::best::MAX_STATES;
 use crate::dead_ends::DeadEnd;
 use crate::estimates::{Estimate, value_of};
 use crate::guide::Guide;
-use crate::nodes::StateId;
+use crate::nodes::{Node, NodeStatus, ShortId, StateId};
 use packed_state::Packed;
 
 /// A state whose turn came, its estimate, and the sum of its cost and that.
@@ -62,5 +64,21 @@ impl Parent<'_> {
             .estimate
             .score_after(self.score, self.state, action, next);
         Some(value_of(score))
+    }
+
+    /// The node of a state that the action leads to, reached from here at this cost: one of this estimate, or reported dead.
+    pub(crate) fn child(&self, cost: u64, action: u32, estimate: Option<u64>) -> Node
+        requires { self.now.id.0 < MAX_STATES }
+        ensures cost { result.cost ≡ cost }
+        ensures status { result.status ≡ status_of_reached estimate }
+        ensures parent { parent_of result ≡ self.now.id.0 }
+        ensures action { result.action ≡ action }
+    {
+        Node {
+            cost,
+            status: NodeStatus::of_reached(estimate),
+            parent: ShortId::new(self.id),
+            action,
+        }
     }
 }

@@ -9,7 +9,7 @@ use Rattle.model.specs.Claims.{bound}
 use Rattle.model.specs.Runs.{System}
 use Rattle.search.specs.Estimates.{IsConsistent, value_by}
 use Rattle.search.specs.DeadEnds.{DetectsDeadEnds}
-use Rattle.search.specs.Outcome.{AreFound, AreExpandedWithin}
+use Rattle.search.specs.Outcome.{is_expanded, AreFound, AreExpandedWithin}
 use Rattle.search.specs.Nodes.{Found, found_of, expanded_count, IsEntryOf}
 use Rattle.search.proofs.Linked.{length-found_of}
 use Rattle.search.proofs.Closed.{reached_in, optimal, unsolvable}
@@ -125,7 +125,7 @@ loop-turn-smaller g c =
     let after = found_of (g.S.StateStore.states c.expand.new.self.store) c.expand.new.self.nodes.items in
     let count : expanded_count after ≡ expanded_count (found_of states all) + 1 = rw (c.in-Some.ensures.store, c.in-Some.ensures.nodes) at expands.count in
     let long = length-found_of (g.S.StateStore.states c.expand.new.self.store) c.expand.new.self.nodes.items expands.search.one_each in
-    let most = count_by-le-length (λ (n : Found (List Bool)). n.node.is_expanded) after in
+    let most = count_by-le-length (λ (n : Found (List Bool)). is_expanded n.node) after in
     omega (arith, count, long, most, expands.within)
 
 pub loop-turn-preserved : goal.loop-turn-preserved

@@ -1,5 +1,6 @@
 use Rattle.std.proofs.Common.{rules, ◌≡◌, ℕ, Bool, List, ◌+◌, get_or, drop, set, sym, ap, ◌∙◌, subst, arith, Some, true, false}
 use Rattle.std.specs.Prelude.{IsTrue, is_some, slice_get}
+use Rattle.search.specs.declared.nodes.NodeStatus.TheVariants.{Open, Expanded}
 use Rattle.search.specs.OpenList.{waiting_in}
 use Rattle.std.proofs.lemmas.List.{drop_more, drop_all}
 use Rattle.std.proofs.lemmas.Option.{same_Some}
@@ -66,7 +67,7 @@ loop-action-init g c =
       next = c.requires.buffers.next;
       occurs = rw c.mark.ensures.store c.requires.state;
       left = rw c.deref-action-items.ensures.value
-          (left_start (g.T.TransitionSystem.means c.args.system.now) nodes c.args.turn.id.0 (marked true turn.found) begins.occurs (bits_of c.args.buffers.now.state) c.applicable.new.into.items
+          (left_start (g.T.TransitionSystem.means c.args.system.now) nodes c.args.turn.id.0 (marked Expanded turn.found) begins.occurs (bits_of c.args.buffers.now.state) c.applicable.new.into.items
           (is_state g (goal.at.loop-action-init g c).After-deref-action-items) c.in_ok-applicable.ensures.ok);
     }
 
@@ -127,14 +128,14 @@ returns-then-not-branch-clause-listed g c =
     let stopped : c.in_ok-reach.field-0 ≡ false = c.if-not-branch.true in
     let full = rw stopped at c.in_ok-reach.ensures.listed in
     let here = (goal.at.returns-then-not-branch-clause-listed g c).After-deref-action-items in
-    let one : Found (List Bool) = marked true c.requires.turn.found in
+    let one : Found (List Bool) = marked Expanded c.requires.turn.found in
     let same : one ≡ e.turn.found = same_Some one e.turn.found (sym (inv.continues.stays one (has_begun g here).occurs) ∙ e.turn.occurs) in
     let sum : c.args.turn.sum ≡ total_of value e.turn.found = c.requires.turn.sum ∙ ap (total_of value) same in
     let back = c.mark-then-not-branch.new.self in
     let stored : g.S.StateStore.states back.store ≡ states = ap g.S.StateStore.states c.mark-then-not-branch.ensures.store ∙ full.store in
     let stood : slice_get c.reach.new.self.nodes.items i ≡ Some e.turn.found.node = ap (λ (ns : List Node). slice_get ns i) full.nodes ∙ (found_of-get states all i e.turn.found e.turn.occurs).1 in
-    let taken_back : back.nodes.items ≡ set all i (marked_as false e.turn.found.node) =
-    c.mark-then-not-branch.ensures.nodes e.turn.found.node stood ∙ ap (λ (ns : List Node). set ns i (marked_as false e.turn.found.node)) full.nodes in (
+    let taken_back : back.nodes.items ≡ set all i (marked_as Open e.turn.found.node) =
+    c.mark-then-not-branch.ensures.nodes e.turn.found.node stood ∙ ap (λ (ns : List Node). set ns i (marked_as Open e.turn.found.node)) full.nodes in (
       full.more,
       at_limit (g.T.TransitionSystem.means c.args.system.now) value is_dead states all (waiting_in c.loop-action.self.open_list) e.search.one_each e.search.nodes i e.turn e.others_open
           (consistent g here) (reports g here) (g.S.StateStore.states back.store) back.nodes.items c.args.max_states c.args.turn.sum stored taken_back full.full sum,

@@ -8,10 +8,12 @@ use Rattle.packed_state.specs.Store.{IsPlaced}
 use Rattle.search.specs.declared.nodes.Node.{Node}
 use Rattle.model.specs.Runs.{System}
 use Rattle.search.specs.Estimates.{IsConsistent, value_by}
+use Rattle.search.specs.Outcome.{is_expanded_status, is_dead_status}
 use Rattle.search.specs.Nodes.{found_of}
+use Rattle.search.specs.Progress.{IsListed}
 use Rattle.search.proofs.Limit.{more_reachable}
 use Rattle.search.proofs.Linked.{found_of-get, length-found_of}
-use Rattle.search.proofs.Steps.{turn_limits, value_fits, joined_by, placed_new, placed_old, leads_from, stepped_new, stepped_cheaper, stepped_same}
+use Rattle.search.proofs.Steps.{turn_limits, value_fits, joined_by, marked_by, placed_new, placed_old, leads_from, stepped_new, stepped_cheaper, stepped_same}
 use Rattle.search.proofs.progress.Progress.reach.Given.{Over}
 use Rattle.search.proofs.progress.Progress.reach.Goals.{After-from, In-Some}
 use Rattle.search.proofs.progress.Progress.reach.Goals as goal
@@ -72,12 +74,19 @@ pub overflow_add-cost : goal.overflow_add-cost
 overflow_add-cost g c =
     omega (arith, limits g (goal.at.overflow_add-cost g c).After-from)
 
-pub new-requires : goal.new-requires
-new-requires g c =
+-- the place of the state whose turn it is is below the limit
+parent_within : (g : Over) (c : After-from g) → c.args.parent.now.id.0 < 16777216
+parent_within g c =
     let e = c.requires.expanding in
     let states = g.S.StateStore.states c.args.self.now.store in
     let parts = found_of-get states c.args.self.now.nodes.items c.args.parent.now.id.0 e.turn.found e.turn.occurs in
     omega (arith, slice_get_within states c.args.parent.now.id.0 e.turn.found.state parts.0, c.requires.within, c.requires.limit)
+
+pub child-requires : goal.child-requires
+child-requires g c = parent_within g (goal.at.child-requires g c).After-from
+
+pub child-requires-then-cost-index : goal.child-requires-then-cost-index
+child-requires-then-cost-index g c = parent_within g (goal.at.child-requires-then-cost-index g c).After-from
 
 pub returns-in_default-clause-listed : goal.returns-in_default-clause-listed
 returns-in_default-clause-listed g c =
@@ -116,12 +125,15 @@ returns-in_ok-add-clause-listed g c =
     let new = placed_new states after s c.in-Some.id.0 c.in-Some.is_new c.if-is_new.true placed in
     let stored : g.S.StateStore.states c.add.new.self.store ≡ after = rw c.in_ok-add.ensures.store refl in
     let joined = joined_by (value_by (g.E.Estimate.score_of c.args.guide.now.estimate.now)) (g.D.DeadEnd.is_dead c.args.guide.now.dead_ends.now) s c.value_after-value.result c.args.self.now.open_list c.add.new.self.open_list
-    (c.index-before.result.now.cost + c.from.result) c.in-Some.id.0 c.value_after-value.ensures c.in_ok-add.ensures.open_list in
+    c.child.result.cost c.in-Some.id.0 c.value_after-value.ensures c.in_ok-add.ensures.open_list in
+    let marks = marked_by (value_by (g.E.Estimate.score_of c.args.guide.now.estimate.now)) (g.D.DeadEnd.is_dead c.args.guide.now.dead_ends.now) s c.value_after-value.result c.value_after-value.ensures in
+    let paid = ap (g.T.TransitionSystem.means c.args.system.now).cost c.child.ensures.action in
     let step = stepped_new (g.T.TransitionSystem.means c.args.system.now) (value_by (g.E.Estimate.score_of c.args.guide.now.estimate.now)) (g.D.DeadEnd.is_dead c.args.guide.now.dead_ends.now) states all (waiting_in c.args.self.now.open_list) c.args.parent.now.id.0
     e.search.one_each e.search.nodes e.turn e.others_open s
-    (record { cost = c.index-before.result.now.cost + c.from.result; is_expanded = false; parent = c.new.result; action = c.args.action }) refl c.new.ensures
-    (omega (arith, same, c.from.ensures, c.cost.ensures)) (omega (arith, c.cost.ensures))
-    (leads g here) (falls g here)
+    c.child.result (ap is_expanded_status c.child.ensures.status ∙ marks.0) c.child.ensures.parent
+    (omega (arith, c.child.ensures.cost, same, c.from.ensures, c.cost.ensures, paid)) (omega (arith, c.cost.ensures, paid))
+    (subst (λ a. (g.T.TransitionSystem.means c.args.system.now).step e.turn.found.state a ≡ Some s) (sym c.child.ensures.action) (leads g here)) (omega (arith, falls g here, paid))
+    (ap is_dead_status c.child.ensures.status ∙ marks.1)
     new.0 (g.S.StateStore.states c.add.new.self.store) c.add.new.self.nodes.items c.in-Some.id.0 (waiting_in c.add.new.self.open_list)
     (stored ∙ new.1) c.in_ok-add.ensures.nodes new.2
     joined.0 in
@@ -133,7 +145,7 @@ returns-in_ok-add-clause-listed g c =
       };
       within = rw c.in_ok-add.ensures.store c.in_ok-id.ensures.within;
       continues = step.1.continues;
-      listed = step.1.listed;
+      listed = subst (λ a. IsListed (g.T.TransitionSystem.means c.args.system.now) (found_of (g.S.StateStore.states c.add.new.self.store) c.add.new.self.nodes.items) c.args.parent.now.id.0 a s) c.child.ensures.action step.1.listed;
     }
 
 pub returns-in_ok-improve-clause-listed : goal.returns-in_ok-improve-clause-listed
@@ -150,13 +162,16 @@ returns-in_ok-improve-clause-listed g c =
     slice_get_read all (length all) c.in-Some.id.0 c.index.result.now refl known.2 c.index.ensures in
     let stored : g.S.StateStore.states c.improve.new.self.store ≡ after = rw c.in_ok-improve.ensures.store refl in
     let joined = joined_by (value_by (g.E.Estimate.score_of c.args.guide.now.estimate.now)) (g.D.DeadEnd.is_dead c.args.guide.now.dead_ends.now) s c.value_after-value-then-cost-index.result c.args.self.now.open_list c.improve.new.self.open_list
-    (c.index-before.result.now.cost + c.from.result) c.in-Some.id.0 c.value_after-value-then-cost-index.ensures c.in_ok-improve.ensures.open_list in
+    c.child-then-cost-index.result.cost c.in-Some.id.0 c.value_after-value-then-cost-index.ensures c.in_ok-improve.ensures.open_list in
+    let marks = marked_by (value_by (g.E.Estimate.score_of c.args.guide.now.estimate.now)) (g.D.DeadEnd.is_dead c.args.guide.now.dead_ends.now) s c.value_after-value-then-cost-index.result c.value_after-value-then-cost-index.ensures in
+    let paid = ap (g.T.TransitionSystem.means c.args.system.now).cost c.child-then-cost-index.ensures.action in
     let step = stepped_cheaper (g.T.TransitionSystem.means c.args.system.now) (value_by (g.E.Estimate.score_of c.args.guide.now.estimate.now)) (g.D.DeadEnd.is_dead c.args.guide.now.dead_ends.now) states all (waiting_in c.args.self.now.open_list) c.args.parent.now.id.0
     e.search.one_each e.search.nodes e.turn e.others_open s
-    (record { cost = c.index-before.result.now.cost + c.from.result; is_expanded = false; parent = c.new.result; action = c.args.action }) refl c.new.ensures
-    (omega (arith, same, c.from.ensures, c.cost.ensures)) (omega (arith, c.cost.ensures))
-    (leads g here) (falls g here)
-    c.in-Some.id.0 c.index.result.now known.0 was c.if-cost-index.true
+    c.child-then-cost-index.result (ap is_expanded_status c.child-then-cost-index.ensures.status ∙ marks.0) c.child-then-cost-index.ensures.parent
+    (omega (arith, c.child-then-cost-index.ensures.cost, same, c.from.ensures, c.cost.ensures, paid)) (omega (arith, c.cost.ensures, paid))
+    (subst (λ a. (g.T.TransitionSystem.means c.args.system.now).step e.turn.found.state a ≡ Some s) (sym c.child-then-cost-index.ensures.action) (leads g here)) (omega (arith, falls g here, paid))
+    (ap is_dead_status c.child-then-cost-index.ensures.status ∙ marks.1)
+    c.in-Some.id.0 c.index.result.now known.0 was (omega (arith, c.child-then-cost-index.ensures.cost, c.if-cost-index.true))
     (g.S.StateStore.states c.improve.new.self.store) c.improve.new.self.nodes.items (waiting_in c.improve.new.self.open_list)
     (stored ∙ known.1) c.in_ok-improve.ensures.nodes
     joined.0 in
@@ -168,7 +183,7 @@ returns-in_ok-improve-clause-listed g c =
       };
       within = rw c.in_ok-improve.ensures.store c.in_ok-id.ensures.within;
       continues = step.1.continues;
-      listed = step.1.listed;
+      listed = subst (λ a. IsListed (g.T.TransitionSystem.means c.args.system.now) (found_of (g.S.StateStore.states c.improve.new.self.store) c.improve.new.self.nodes.items) c.args.parent.now.id.0 a s) c.child-then-cost-index.ensures.action step.1.listed;
     }
 
 pub returns-else-cost-index-clause-listed : goal.returns-else-cost-index-clause-listed
@@ -185,9 +200,7 @@ returns-else-cost-index-clause-listed g c =
     slice_get_read all (length all) c.in-Some.id.0 c.index.result.now refl known.2 c.index.ensures in
     let step = stepped_same (g.T.TransitionSystem.means c.args.system.now) (value_by (g.E.Estimate.score_of c.args.guide.now.estimate.now)) (g.D.DeadEnd.is_dead c.args.guide.now.dead_ends.now) states all (waiting_in c.args.self.now.open_list) c.args.parent.now.id.0
     e.search.one_each e.search.nodes e.turn e.others_open s
-    (record { cost = c.index-before.result.now.cost + c.from.result; is_expanded = false; parent = c.new.result; action = c.args.action }) refl c.new.ensures
-    (omega (arith, same, c.from.ensures, c.cost.ensures)) (omega (arith, c.cost.ensures))
-    (leads g here) (falls g here)
+    c.args.action (c.index-before.result.now.cost + c.from.result) (omega (arith, same, c.from.ensures, c.cost.ensures))
     c.in-Some.id.0 c.index.result.now known.0 was c.if-cost-index.false after known.1 in
     record {
       expanding = record {
@@ -203,14 +216,14 @@ returns-else-cost-index-clause-listed g c =
 pub add-requires-clause-sum : goal.add-requires-clause-sum
 add-requires-clause-sum g c =
     value_fits (value_by (g.E.Estimate.score_of c.args.guide.now.estimate.now)) (g.D.DeadEnd.is_dead c.args.guide.now.dead_ends.now) (bits_of c.args.state.now)
-    c.value_after-value.result (c.index-before.result.now.cost + c.from.result) c.value_after-value.ensures
-    (omega (arith, limits g (goal.at.add-requires-clause-sum g c).After-from, c.from.ensures, c.cost.ensures))
+    c.value_after-value.result c.child.result.cost c.value_after-value.ensures
+    (omega (arith, c.child.ensures.cost, limits g (goal.at.add-requires-clause-sum g c).After-from, c.from.ensures, c.cost.ensures))
 
 pub improve-requires-clause-sum : goal.improve-requires-clause-sum
 improve-requires-clause-sum g c =
     value_fits (value_by (g.E.Estimate.score_of c.args.guide.now.estimate.now)) (g.D.DeadEnd.is_dead c.args.guide.now.dead_ends.now) (bits_of c.args.state.now)
-    c.value_after-value-then-cost-index.result (c.index-before.result.now.cost + c.from.result) c.value_after-value-then-cost-index.ensures
-    (omega (arith, limits g (goal.at.improve-requires-clause-sum g c).After-from, c.from.ensures, c.cost.ensures))
+    c.value_after-value-then-cost-index.result c.child-then-cost-index.result.cost c.value_after-value-then-cost-index.ensures
+    (omega (arith, c.child-then-cost-index.ensures.cost, limits g (goal.at.improve-requires-clause-sum g c).After-from, c.from.ensures, c.cost.ensures))
 
 pub add-requires-clause-place : goal.add-requires-clause-place
 add-requires-clause-place g c =

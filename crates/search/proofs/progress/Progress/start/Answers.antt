@@ -1,8 +1,9 @@
-use Rattle.std.proofs.Common.{◌≡◌, refl, ◌∙◌, arith}
+use Rattle.std.proofs.Common.{◌≡◌, refl, ap, ◌∙◌, arith}
 use Rattle.search.specs.OpenList.{waiting_in}
 use Rattle.packed_state.specs.Packed.{bits_of}
 use Rattle.search.specs.Estimates.{value_by}
-use Rattle.search.proofs.Steps.{value_fits, joined_by, placed_first, nodes_start}
+use Rattle.search.specs.Outcome.{is_expanded_status, is_dead_status}
+use Rattle.search.proofs.Steps.{value_fits, joined_by, marked_by, placed_first, nodes_start}
 use Rattle.search.proofs.progress.Progress.start.Goals as goal
 
 pub returns-clause-search : goal.returns-clause-search
@@ -15,8 +16,10 @@ returns-clause-search g c =
     let value = value_by (g.E.Estimate.score_of c.args.guide.now.estimate.now) in
     let is_dead = g.D.DeadEnd.is_dead c.args.guide.now.dead_ends.now in
     let joined = joined_by value is_dead s c.value_in-value.result c.new-2.result c.add.new.self.open_list 0 c.in_ok-place.place c.value_in-value.ensures c.in_ok-add.ensures.open_list in
+    let marks = marked_by value is_dead s c.value_in-value.result c.value_in-value.ensures in
     let nodes = nodes_start (g.T.TransitionSystem.means c.args.system.now) value is_dead (states c.add.new.self.store) c.add.new.self.nodes.items
-    (waiting_in c.new-2.result) (waiting_in c.add.new.self.open_list) s c.in_ok-place.place _ _ (same ∙ placed.0)
+    (waiting_in c.new-2.result) (waiting_in c.add.new.self.open_list) s c.in_ok-place.place _ _ _
+    (ap is_expanded_status c.of_reached.ensures ∙ marks.0) (ap is_dead_status c.of_reached.ensures ∙ marks.1) (same ∙ placed.0)
     (rw c.new.ensures.items at c.in_ok-add.ensures.nodes)
     c.in_ok-initial.ensures.initial placed.1 c.new-2.ensures.none joined.0 in
     record { one_each = nodes.0; nodes = nodes.1; heap = joined.1 c.new-2.ensures.open_list }
