@@ -99,7 +99,7 @@ fn listed(
     if fair.ground().width() != width || dead_ends.ground().width() != width {
         return None;
     }
-    let mark = if node.is_expanded {
+    let mark = if node.is_expanded() {
         Mark::Open
     } else if dead_ends.dead(state) {
         Mark::Dead

@@ -140,7 +140,7 @@ fn have_doors(
 ) -> Result<bool, NoMemory> {
     for (&room, node) in found.iter().zip(nodes) {
         let state = set_of(alloc, rooms.width, &[room])?;
-        if state.width() != rooms.width || node.is_expanded && is_in_vain(rooms, &state) {
+        if state.width() != rooms.width || node.is_expanded() && is_in_vain(rooms, &state) {
             return Ok(false);
         }
     }

@@ -4,7 +4,7 @@ use Rattle.std.specs.Prelude.{slice_get, Contains, if◌then◌else◌}
 use Rattle.std.proofs.lemmas.Bool.{true≢false}
 use Rattle.std.proofs.lemmas.List.{length-map, map-append}
 use Rattle.search.specs.declared.nodes.Node.{Node}
-use Rattle.search.specs.Outcome.{line_of, lines_of, IsCut}
+use Rattle.search.specs.Outcome.{is_expanded, is_marked_dead, AreMarked, line_of, lines_of, IsCut}
 use Rattle.search.specs.Outcome as search
 use Rattle.certificate.specs.declared.states.Listed.{Listed}
 use Rattle.certificate.specs.ListedSets.{lines_with}
@@ -37,19 +37,23 @@ dead_by false d value alive reported = ap (λ b. mark_by false b value) reported
 
 module _ {S : Type 0} (value : S → ℕ) (is_dead : S → Bool) where
   -- an open line is that of an expanded state
-  pub expanded_of_open : (s : S) (node : Node) → search.mark_of value is_dead s node ≡ opened → node.is_expanded ≡ true
-  expanded_of_open s node is = opened_by node.is_expanded (is_dead s) (value s) is
+  pub expanded_of_open : (s : S) (node : Node) → search.mark_of value is_dead s node ≡ opened → is_expanded node ≡ true
+  expanded_of_open s node is = opened_by (is_expanded node) (is_dead s) (value s) is
 
   -- a cut is that of a state which waits, with its value
   pub waits_of_cut : (s : S) (node : Node) (rest : ℕ) → search.mark_of value is_dead s node ≡ cut rest → IsCut is_dead s node × (value s ≡ rest)
-  waits_of_cut s node rest is = let (waits, alive, same) = cut_by node.is_expanded (is_dead s) (value s) rest is in ((waits, alive), same)
+  waits_of_cut s node rest is = let (waits, alive, same) = cut_by (is_expanded node) (is_dead s) (value s) rest is in ((waits, alive), same)
 
   pub cut_of_waits : (s : S) (node : Node) → IsCut is_dead s node → search.mark_of value is_dead s node ≡ cut (value s)
-  cut_of_waits s node waits = cut_is node.is_expanded (is_dead s) (value s) waits.0 waits.1
+  cut_of_waits s node waits = cut_is (is_expanded node) (is_dead s) (value s) waits.0 waits.1
 
   -- a state that is reported dead, and so was not expanded, is said to be
-  pub dead_of_reported : (s : S) (node : Node) → (node.is_expanded ≡ true → is_dead s ≡ false) → is_dead s ≡ true → search.mark_of value is_dead s node ≡ dead
-  dead_of_reported s node alive reported = dead_by node.is_expanded (is_dead s) (value s) alive reported
+  pub dead_of_reported : (s : S) (node : Node) → (is_expanded node ≡ true → is_dead s ≡ false) → is_dead s ≡ true → search.mark_of value is_dead s node ≡ dead
+  dead_of_reported s node alive reported = dead_by (is_expanded node) (is_dead s) (value s) alive reported
+
+  -- the mark of a node whose state is marked dead where it is reported dead
+  marked_line : (s : S) (node : Node) → is_marked_dead node ≡ is_dead s → mark_of_line (line_of value (λ _. is_marked_dead node) s node) ≡ mark_of_line (line_of value is_dead s node)
+  marked_line s node marked = ap (λ b. record { cost = node.cost; mark = mark_by (is_expanded node) b (value s) }) marked
 
   -- ---- the lines
 
@@ -119,12 +123,12 @@ module _ (value : List Bool → ℕ) (is_dead : List Bool → Bool) where
   plus_one k = omega arith
 
   -- one mark more
-  pub marks_next : (marks new : List Listed) (mark : Listed) (states : List (List Bool)) (nodes : List Node) (i : ℕ) (s : List Bool) (node : Node)
-      → map listed_of marks ≡ map mark_of_line (lines_of value is_dead (take i states) (take i nodes)) → new ≡ marks ++ mark ∷ [] → listed_of mark ≡ mark_of_line (line_of value is_dead s node)
+  pub marks_next : (marks new : List Listed) (mark : Listed) (states : List (List Bool)) (nodes : List Node) (i : ℕ) (s : List Bool) (node : Node) → AreMarked is_dead states nodes
+      → map listed_of marks ≡ map mark_of_line (lines_of value is_dead (take i states) (take i nodes)) → new ≡ marks ++ mark ∷ [] → listed_of mark ≡ mark_of_line (line_of value (λ _. is_marked_dead node) s node)
       → slice_get states i ≡ Some s → slice_get nodes i ≡ Some node → map listed_of new ≡ map mark_of_line (lines_of value is_dead (take (i + 1) states) (take (i + 1) nodes))
-  marks_next marks new mark states nodes i s node so_far pushed is at_s at_n =
+  marks_next marks new mark states nodes i s node marked so_far pushed is at_s at_n =
       ap (map listed_of) pushed ∙ map-append listed_of marks (mark ∷ [])
-      ∙ (λ j. so_far j ++ is j ∷ [])
+      ∙ (λ j. so_far j ++ (is ∙ marked_line value is_dead s node (marked i s node at_s at_n)) j ∷ [])
       ∙ sym (ap (λ k. map mark_of_line (lines_of value is_dead (take k states) (take k nodes))) (plus_one i)
       ∙ ap (map mark_of_line) (lines_more value is_dead states nodes i s node at_s at_n)
       ∙ map-append mark_of_line (lines_of value is_dead (take i states) (take i nodes)) (line_of value is_dead s node ∷ []))

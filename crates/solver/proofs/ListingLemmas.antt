@@ -268,7 +268,7 @@ module _ (task : Task) (claim : Claim) (most : ℕ) (p q : PotentialFunction) (s
           (potentials-pass p (length atoms) range width))
           (potentials-pass q (length atoms) dead_range dead_width)
         where
-          small_mark : (is_expanded is_dead : Bool) (rest : ℕ) → rest ≤ most_value → is_mark two (if is_expanded then opened else (if is_dead then dead else cut rest)) ≡ true
+          small_mark : (expanded is_dead : Bool) (rest : ℕ) → rest ≤ most_value → is_mark two (if expanded then opened else (if is_dead then dead else cut rest)) ≡ true
           small_mark true is_dead rest most = refl
           small_mark false true rest most = refl
           small_mark false false rest most = lt-ltb rest 1152921504606846976 (omega (arith, most))
@@ -282,7 +282,7 @@ module _ (task : Task) (claim : Claim) (most : ℕ) (p q : PotentialFunction) (s
           all_pass (s ∷ ss) (n ∷ ns) long low cheap =
               and_from (is_state_line two (length atoms) (state_line (search.line_of (value p) (is_dead_by q) s n))) (list_all (is_state_line two (length atoms)) (map state_line (search.lines_of (value p) (is_dead_by q) ss ns)))
               (and_from (is_number n.cost && is_mark two (search.mark_of (value p) (is_dead_by q) s n)) (rise (length atoms) 0 (numbers_in s))
-              (and_from (is_number n.cost) (is_mark two (search.mark_of (value p) (is_dead_by q) s n)) (lt-ltb n.cost 1152921504606846976 (cheap 0 n refl)) (small_mark n.is_expanded (is_dead_by q s) (value p s) (low 0 s refl)))
+              (and_from (is_number n.cost) (is_mark two (search.mark_of (value p) (is_dead_by q) s n)) (lt-ltb n.cost 1152921504606846976 (cheap 0 n refl)) (small_mark (search.is_expanded n) (is_dead_by q s) (value p s) (low 0 s refl)))
               (ap (λ width. rise width 0 (numbers_in s)) (sym (long 0 s refl)) ∙ numbers_rise s))
               (all_pass ss ns (λ k. long (suc k)) (λ k. low (suc k)) (λ k. cheap (suc k)))
 

@@ -16,7 +16,7 @@ ghost use Rattle.certificate.specs.Certificate.{certificate_of};
 ghost use Rattle.certificate.specs.CertificateParts as parts;
 ghost use Rattle.certificate_reader.specs.declared.line.TheConstants.{MAX_ATOMS, MAX_STATE_LINES};
 ghost use Rattle.search.specs.Outcome as search;
-ghost use Rattle.search.specs.Outcome.{AreFound};
+ghost use Rattle.search.specs.Outcome.{AreFound, AreMarked, is_marked_dead};
 ghost use Rattle.search.specs.Estimates.{value_by};
 ghost use Rattle.grounding.specs.Ground.{task_in, atoms_in};
 ghost use Rattle.potential_functions.specs.PotentialFunctions.{value, is_dead_by};
@@ -33,7 +33,7 @@ use formulas::Atom;
 use grounding::Ground;
 use indexmap::IndexSet;
 use packed_state::{Packed, PooledStore, StateStore};
-use search::{DeadEnd, Estimate, FoundStates, Node, value_of};
+use search::{DeadEnd, Estimate, FoundStates, Node, NodeStatus, value_of};
 use std::alloc::Global;
 
 /// The certificate of the states that a search found by this estimate and this test for dead ends, and of both.
@@ -62,7 +62,7 @@ pub(crate) fn cert_of<E: Estimate + Written, D: DeadEnd + Written>(
             dead_ends: dead_ends.potential(alloc)?,
         },
     };
-    let marks = marks(alloc, estimate, dead_ends, &found)?;
+    let marks = marks(alloc, estimate, &found)?;
     let sets = found.store;
     Ok(Cert::from_parts(header, States { marks, sets }))
 }
@@ -80,46 +80,37 @@ fn copied(alloc: Global, atoms: &[Atom]) -> Result<IndexSet<Atom>, NoMemory>
 }
 
 /// A mark for each found state, in order.
-fn marks<E: Estimate, D: DeadEnd>(
+fn marks<E: Estimate>(
     alloc: Global,
     estimate: &E,
-    dead_ends: &D,
     found: &FoundStates<PooledStore>,
 ) -> Result<Vec<Listed>, NoMemory>
     requires one_for_each { length found.now.nodes.items ≡ length (pooled_states found.now.store) }
     requires few { length (pooled_states found.now.store) ≤ MAX_STATE_LINES }
     requires width { All (λ (bits : List Bool). length bits ≡ E.width_of estimate.now) (pooled_states found.now.store) }
-    requires dead_end_width { D.width_of dead_ends.now ≡ E.width_of estimate.now }
-    ensures { IfOk result (λ marks. map parts.listed_of marks.items ≡ map mark_of_line (search.lines_of (value_by (E.score_of estimate.now)) (D.is_dead dead_ends.now) (pooled_states found.now.store) found.now.nodes.items)) }
+    ensures { IfOk result (λ marks. (is_dead : List Bool → Bool) → AreMarked is_dead (pooled_states found.now.store) found.now.nodes.items
+        → map parts.listed_of marks.items ≡ map mark_of_line (search.lines_of (value_by (E.score_of estimate.now)) is_dead (pooled_states found.now.store) found.now.nodes.items)) }
 {
     let mut state = Packed::empty(alloc, found.store.width())?;
     let mut marks = Vec::with_capacity(alloc, found.nodes.len())?;
     for place in 0..found.nodes.len() {
         found.store.get(place as u32, &mut state);
-        marks.push(listed(estimate, dead_ends, &state, found.nodes[place]))?;
+        marks.push(listed(estimate, &state, found.nodes[place]))?;
     }
     Ok(marks)
 }
 
-/// How a state is listed that was reached so. What is not needed of estimate and test is not asked.
-fn listed<E: Estimate, D: DeadEnd>(
-    estimate: &E,
-    dead_ends: &D,
-    state: &Packed,
-    node: Node,
-) -> Listed
-    requires width { length (bits_of state.now) ≡ E.width_of estimate.now }
-    requires dead_end_width { length (bits_of state.now) ≡ D.width_of dead_ends.now }
-    ensures { parts.listed_of result ≡ mark_of_line (search.line_of (value_by (E.score_of estimate.now)) (D.is_dead dead_ends.now) (bits_of state.now) node) }
+/// How a state is listed that was reached so: as a dead end where its node says so. The estimate is asked of a cut alone.
+fn listed<E: Estimate>(estimate: &E, state: &Packed, node: Node) -> Listed
+    requires { length (bits_of state.now) ≡ E.width_of estimate.now }
+    ensures { parts.listed_of result ≡ mark_of_line (search.line_of (value_by (E.score_of estimate.now)) (λ _. is_marked_dead node) (bits_of state.now) node) }
 {
-    let mark = if node.is_expanded {
-        Mark::Open
-    } else if dead_ends.dead(state) {
-        Mark::Dead
-    } else {
-        Mark::Cut {
+    let mark = match node.status {
+        NodeStatus::Expanded => Mark::Open,
+        NodeStatus::Dead => Mark::Dead,
+        NodeStatus::Open => Mark::Cut {
             rest: value_of(estimate.score(state)),
-        }
+        },
     };
     Listed {
         cost: node.cost,

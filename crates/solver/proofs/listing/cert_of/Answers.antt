@@ -34,9 +34,6 @@ marks-requires-clause-width g c =
     subst (λ (n : ℕ). All (λ (bits : List Bool). length bits ≡ n) states) (sym c.requires.estimate.width)
     (found_widths (task_in known) (claim_of c.args.claim) 16777216 p q states c.args.found.nodes.items (atoms_in known) c.requires.atoms c.requires.found)
 
-pub marks-requires-clause-dead_end_width : goal.marks-requires-clause-dead_end_width
-marks-requires-clause-dead_end_width g c = c.requires.dead_ends.width ∙ sym c.requires.estimate.width
-
 -- the certificate of the parts is that of what was found
 made : (g : Over) (c : In_ok-marks g) → certificate_with (record { version = Two; claim = c.args.claim; atoms = c.in_ok-copied.field-0; bounds = record { values = c.in_ok-potential.field-0; dead_ends = c.in_ok-potential-2.field-0 } })
     (record { marks = c.in_ok-marks.marks; sets = c.args.found.store })
@@ -44,13 +41,11 @@ made : (g : Over) (c : In_ok-marks g) → certificate_with (record { version = T
 made g c =
     let p = g.E.Written.written c.args.estimate.now in
     let q = g.D.Written.written c.args.dead_ends.now in
-    let reported = g.D.DeadEnd.is_dead c.args.dead_ends.now in
     let states = pooled_states c.args.found.store in
     let nodes = c.args.found.nodes.items in
     let atoms = ap (map atom_of) c.as_slice.ensures.keys ∙ c.atoms.ensures in
-    let marks = c.in_ok-marks.ensures
-    ∙ ap (λ (v : List Bool → ℕ). map mark_of_line (search.lines_of v reported states nodes)) (value_by-value (g.E.Estimate.score_of c.args.estimate.now) p c.requires.estimate.score)
-    ∙ ap (λ (d : List Bool → Bool). map mark_of_line (search.lines_of (value p) d states nodes)) c.requires.dead_ends.is_dead in
+    let marks = c.in_ok-marks.ensures (is_dead_by q) c.requires.found.marked
+    ∙ ap (λ (v : List Bool → ℕ). map mark_of_line (search.lines_of v (is_dead_by q) states nodes)) (value_by-value (g.E.Estimate.score_of c.args.estimate.now) p c.requires.estimate.score) in
     let lines = ap (λ ms. lines_with ms states) marks ∙ lines_of_marks (value p) (is_dead_by q) states nodes in
     λ i. record { version = two; claim = claim_of c.args.claim; atoms = (c.in_ok-copied.ensures ∙ atoms) i; potentials = c.in_ok-potential.ensures i; dead_ends = c.in_ok-potential-2.ensures i; lines = lines i }
 
@@ -67,7 +62,9 @@ from_parts-requires-clause-limits g c =
 pub from_parts-requires-clause-marked : goal.from_parts-requires-clause-marked
 from_parts-requires-clause-marked g c =
     let found = c.args.found in
-    as_many_marks (value_by (g.E.Estimate.score_of c.args.estimate.now)) (g.D.DeadEnd.is_dead c.args.dead_ends.now) c.in_ok-marks.marks.items (pooled_states found.store) found.nodes.items c.requires.found.one_for_each c.in_ok-marks.ensures
+    let is_dead = is_dead_by (g.D.Written.written c.args.dead_ends.now) in
+    as_many_marks (value_by (g.E.Estimate.score_of c.args.estimate.now)) is_dead c.in_ok-marks.marks.items (pooled_states found.store) found.nodes.items c.requires.found.one_for_each
+    (c.in_ok-marks.ensures is_dead c.requires.found.marked)
 
 pub returns : goal.returns
 returns g c = c.from_parts.ensures.certificate ∙ made g (goal.at.returns g c).In_ok-marks

@@ -1,4 +1,4 @@
-use Rattle.std.proofs.Common.{◌≡◌, take, map, length}
+use Rattle.std.proofs.Common.{◌≡◌, Bool, List, take, map, length}
 use Rattle.packed_state.specs.Packed.{bits_of}
 use Rattle.packed_state.specs.PooledView.{pooled_width, pooled_states}
 use Rattle.certificate.specs.CertificateParts.{listed_of}
@@ -11,5 +11,5 @@ use Rattle.solver.proofs.listing.marks.Given as goal
 abbrev pub invariant-loop-place : goal.invariant-loop-place
 invariant-loop-place g l =
     (length (bits_of l.state) ≡ pooled_width l.found.store)
-    × (map listed_of l.marks.items
-    ≡ map mark_of_line (search.lines_of (value_by (g.E.Estimate.score_of l.estimate)) (g.D.DeadEnd.is_dead l.dead_ends) (take l.place (pooled_states l.found.store)) (take l.place l.found.nodes.items)))
+    × ((is_dead : List Bool → Bool) → search.AreMarked is_dead (pooled_states l.found.store) l.found.nodes.items
+    → map listed_of l.marks.items ≡ map mark_of_line (search.lines_of (value_by (g.E.Estimate.score_of l.estimate)) is_dead (take l.place (pooled_states l.found.store)) (take l.place l.found.nodes.items)))
