@@ -1,12 +1,16 @@
 //! Hops and leaps: places `a`, `b` and `c`, from each of which to the next a hop leads at 3, and from `a` to `c` a leap at 10.
 //! The numbered atoms are those of being at `a`, `b` and `c`; the kept instances are the two hops, and then the leap.
-ghost use Rattle.std.specs.Prelude.{◌≡◌, length};
+ghost use Rattle.std.specs.Prelude.{◌≡◌, IfOk, IfSome, length};
 ghost use Rattle.packed_state.specs.Packed.{bits_of};
+ghost use Rattle.grounding.specs.Ground.{atoms_in};
+ghost use Rattle.potentials_improved.specs.Potentials.{potentials_of};
 
 use faults::NoMemory;
 use grounding::Ground;
 use packed_state::Packed;
-use potentials_improved::{DeadFair, Fair, Fairness, Groundwork, Improve, Potentials};
+use potentials_improved::{
+    Allowance, Costs, DeadEnds, DeadFair, Fair, Fairness, Groundwork, Improve, Potentials,
+};
 use search::DeadEnd;
 use std::alloc::Global;
 use std::process::Abort;
@@ -24,36 +28,35 @@ pub(crate) fn weighing(
     Ok(Potentials::new(constant, list))
 }
 
-/// What is reported for the potentials.
-fn reported(
+/// The same, if there is a weight for each numbered atom of the ground task.
+fn weighing_atoms(
     alloc: Global,
     ground: &Ground<'_>,
     constant: i64,
     weights: &[i64],
-) -> Result<Option<Fairness>, NoMemory> {
+) -> Result<Option<Potentials>, NoMemory>
+    ensures { IfOk result (λ made. IfSome made (λ p. length (potentials_of p).weights ≡ length (atoms_in ground.now))) }
+{
     let Some(potentials) = weighing(alloc, constant, weights)? else {
         return Ok(None);
     };
     if potentials.weights().len() != ground.width() as usize {
         return Ok(None);
     }
-    Ok(Some(potentials.fair(alloc, ground)?))
+    Ok(Some(potentials))
 }
 
-/// What is reported for the potentials where nothing is allowed to an instance.
-fn reported_dead(
+/// What is reported for the potentials at the allowance.
+fn reported<A: Allowance>(
     alloc: Global,
     ground: &Ground<'_>,
     constant: i64,
     weights: &[i64],
 ) -> Result<Option<Fairness>, NoMemory> {
-    let Some(potentials) = weighing(alloc, constant, weights)? else {
+    let Some(potentials) = weighing_atoms(alloc, ground, constant, weights)? else {
         return Ok(None);
     };
-    if potentials.weights().len() != ground.width() as usize {
-        return Ok(None);
-    }
-    Ok(Some(potentials.dead_fair(alloc, ground)?))
+    Ok(Some(A::fairness(&potentials, alloc, ground)?))
 }
 
 /// Whether the first state is reported dead, and the second, which is as wide.
@@ -73,12 +76,9 @@ fn are_dead(
     constant: i64,
     weights: &[i64],
 ) -> Result<Option<(bool, bool)>, NoMemory> {
-    let Some(potentials) = weighing(alloc, constant, weights)? else {
+    let Some(potentials) = weighing_atoms(alloc, ground, constant, weights)? else {
         return Ok(None);
     };
-    if potentials.weights().len() != ground.width() as usize {
-        return Ok(None);
-    }
     let initial = ground.initial(alloc)?;
     let empty = Packed::empty(alloc, initial.width())?;
     match DeadFair::new(alloc, potentials, ground)? {
@@ -94,12 +94,9 @@ fn estimated(
     constant: i64,
     weights: &[i64],
 ) -> Result<Option<u64>, NoMemory> {
-    let Some(potentials) = weighing(alloc, constant, weights)? else {
+    let Some(potentials) = weighing_atoms(alloc, ground, constant, weights)? else {
         return Ok(None);
     };
-    if potentials.weights().len() != ground.width() as usize {
-        return Ok(None);
-    }
     let initial = ground.initial(alloc)?;
     match Fair::new(alloc, potentials, ground)? {
         Some(fair) => Ok(Some(fair.estimate(&initial))),
@@ -131,9 +128,9 @@ fn reported_of_three(
     ground: &Ground<'_>,
 ) -> Result<[Option<Fairness>; 3], NoMemory> {
     Ok([
-        reported(alloc, ground, 6, &[0, -3, -6])?,
-        reported(alloc, ground, 6, &[0, -2, -6])?,
-        reported(alloc, ground, 7, &[0, -3, -6])?,
+        reported::<Costs>(alloc, ground, 6, &[0, -3, -6])?,
+        reported::<Costs>(alloc, ground, 6, &[0, -2, -6])?,
+        reported::<Costs>(alloc, ground, 7, &[0, -3, -6])?,
     ])
 }
 
@@ -155,9 +152,9 @@ fn reported_dead_of_three(
     ground: &Ground<'_>,
 ) -> Result<[Option<Fairness>; 3], NoMemory> {
     Ok([
-        reported_dead(alloc, ground, 1, &[-1, -1, -1])?,
-        reported_dead(alloc, ground, 1, &[-1, -2, -1])?,
-        reported_dead(alloc, ground, 2, &[-1, -1, -1])?,
+        reported::<DeadEnds>(alloc, ground, 1, &[-1, -1, -1])?,
+        reported::<DeadEnds>(alloc, ground, 1, &[-1, -2, -1])?,
+        reported::<DeadEnds>(alloc, ground, 2, &[-1, -1, -1])?,
     ])
 }
 
