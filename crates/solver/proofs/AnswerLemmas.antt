@@ -72,6 +72,7 @@ found_among_more found le = record {
   reachable = found.reachable;
   cheap = found.cheap;
   expanded_cheapest = found.expanded_cheapest;
+  marked = found.marked;
   expanded_alive = found.expanded_alive;
   closed = found.closed;
 }
