@@ -1,4 +1,4 @@
-use Rattle.std.proofs.Common.{◌≤◌, ◌++◌, ◌∷◌, [], length, false, get_or, ap, arith}
+use Rattle.std.proofs.Common.{◌≤◌, ◌++◌, ◌∷◌, [], length, get_or, ap, arith}
 use Rattle.std.proofs.lemmas.List.{length-append}
 use Rattle.search.specs.declared.nodes.Node.{Node}
 use Rattle.search.specs.declared.nodes.NodeStatus.TheVariants.{Open}
