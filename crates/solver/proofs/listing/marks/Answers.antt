@@ -1,4 +1,4 @@
-use Rattle.std.proofs.Common.{◌∙◌, ◌<◌, refl, ap, sym, map, length, arith}
+use Rattle.std.proofs.Common.{◌∙◌, ◌<◌, refl, ap, map, length, arith}
 use Rattle.std.proofs.lemmas.Option.{slice_get_read}
 use Rattle.std.proofs.lemmas.List.FromFn.{length-map-range_with_len}
 use Rattle.packed_state.specs.Packed.{bits_of}
