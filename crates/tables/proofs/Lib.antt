@@ -2,3 +2,11 @@ pub mod RowLemmas
 pub mod StoreLemmas
 pub mod PlacedLemmas
 pub mod AgreeingLemmas
+pub mod AfterLemmas
+pub mod MostLemmas
+pub mod WayLemmas
+pub mod ListsLemmas
+pub mod FateLemmas
+pub mod PlacingLemmas
+pub mod LossLemmas
+pub mod GivingLemmas

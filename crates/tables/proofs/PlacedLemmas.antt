@@ -48,14 +48,14 @@ some-place p (x ∷ xs) some =
       | false ↦ λ later. let rest = some-place p xs later in omega arith
     ] some
 
-no-place : (scope : List ℕ) (number : ℕ) → place_in scope number ≡ None → is_among scope number ≡ false
+pub no-place : (scope : List ℕ) (number : ℕ) → place_in scope number ≡ None → is_among scope number ≡ false
 no-place scope number none =
     false_from_ne_true (is_among scope number) (λ some.
     let place = position_or_len (λ n. n == number) scope in
     let found : place_in scope number ≡ Some place = ap (λ b. cond b (Some place) None) (lt-ltb place (length scope) (some-place (λ n. n == number) scope some)) in
     absurd (cc))
 
-among-got : (scope : List ℕ) (k : ℕ) → k < length scope → is_among scope (get_or scope k 0) ≡ true
+pub among-got : (scope : List ℕ) (k : ℕ) → k < length scope → is_among scope (get_or scope k 0) ≡ true
 among-got [] k below = absurd (omega (arith, below))
 among-got (n ∷ scope) zero below = or_left (n == n) (is_among scope n) (eq-eqb n n refl)
 among-got (n ∷ scope) (suc k) below = or_right (n == get_or scope k 0) (is_among scope (get_or scope k 0)) (among-got scope k (omega (arith, below)))
@@ -82,7 +82,7 @@ all-within scope (n ∷ literals) =
 
 -- ---- atoms of a rising scope
 
-above-got : (n : ℕ) (scope : List ℕ) (k : ℕ) → IsTrue (are_rising (n ∷ scope)) → k < length scope → n < get_or scope k 0
+pub above-got : (n : ℕ) (scope : List ℕ) (k : ℕ) → IsTrue (are_rising (n ∷ scope)) → k < length scope → n < get_or scope k 0
 above-got n [] k rising below = absurd (omega (arith, below))
 above-got n (m ∷ scope) zero rising below = ltb-true n m (and_parts (nat_lt n m) (are_rising (m ∷ scope)) rising).0
 above-got n (m ∷ scope) (suc k) rising below =
@@ -107,7 +107,7 @@ above-each n (k ∷ scope) (false ∷ bits) m rising at =
     omega (arith, first, rest)
 
 -- an atom of the scope is among those of a set where its place is in the set
-atom-at : (scope : List ℕ) (bits : List Bool) (k : ℕ) → IsTrue (are_rising scope) → k < length scope → length bits ≡ length scope → is_among (atoms_at scope bits) (get_or scope k 0) ≡ has bits k
+pub atom-at : (scope : List ℕ) (bits : List Bool) (k : ℕ) → IsTrue (are_rising scope) → k < length scope → length bits ≡ length scope → is_among (atoms_at scope bits) (get_or scope k 0) ≡ has bits k
 atom-at [] bits k rising below long = absurd (omega (arith, below))
 atom-at (n ∷ scope) [] k rising below long = absurd (omega (arith, long))
 atom-at (n ∷ scope) (true ∷ bits) zero rising below long = or_left (n == n) (is_among (atoms_at scope bits) n) (eq-eqb n n refl)

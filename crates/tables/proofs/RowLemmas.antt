@@ -1,11 +1,12 @@
 -- Rows in memory, as the rows that they are.
 use Rattle.std.proofs.Common.{◌≡◌, ◌∙◌, ℕ, zero, suc, ◌+◌, ◌*◌, ◌<◌, ◌≤◌, Bool, true, false, true≢false, List, [], ◌∷◌, ◌++◌, length, take, drop, get_or, Option, None, Some, refl, sym, ap, subst, arith, ℤ, pos}
-use Rattle.std.specs.Prelude.{IsTrue, Contains, MatchOption, MatchBool, nat_lt, ◌==◌, cond, is_some, slice_get}
+use Rattle.std.specs.Prelude.{IsTrue, Contains, MatchOption, MatchBool, IfSome, nat_lt, ◌==◌, cond, is_some, slice_get}
 use Rattle.std.specs.List.{find}
 use Rattle.std.specs.Cmp.Lexicographic.{pointwise}
 use Rattle.std.proofs.lemmas.Bool.{and_parts, and_from, eq-eqb, false_from_ne_true, ltb-true}
 use Rattle.std.proofs.Math.Nat.{mul-suc, mul-le-mul_left}
 use Rattle.std.proofs.lemmas.List.{length-append, take-append-le, drop-append-le, get_or-take, get_or-drop}
+use Rattle.std.proofs.lemmas.Option.{slice_get_within}
 use Rattle.packed_state.specs.Store.{AreDistinct}
 use Rattle.table_functions.specs.TableFunctions.{Row, Table, row_of, weight_at}
 use Rattle.table_functions.proofs.Lists.{same-numbers}
@@ -154,6 +155,11 @@ module _ (count : ℕ) (scope : List ℕ) (rising : IsTrue (are_rising scope)) (
     (λ i. table (pushed i) (given i)) ∙ ap (λ rows. record { scope = scope; rows = rows }) (rows-more count scope sets weights bits more many long),
   )
   inserted sets new weights new_weights more false wide many long (among, same, kept) = (present sets weights wide among, (λ i. table (same i) (kept i)))
+
+pub found-within : (count : ℕ) (scope : List ℕ) (sets : List (List Bool)) (weights : List ℤ) (bits : List Bool) (result : Option ℕ)
+    → MatchOption result (Contains sets bits → ⊥) (λ place. slice_get sets place ≡ Some bits) → IfSome result (λ place. place < length (rows_from count scope sets weights))
+found-within count scope sets weights bits None none = tt
+found-within count scope sets weights bits (Some place) at = let within = slice_get_within sets place bits at in omega (arith, within, length-rows count scope sets weights)
 
 -- ---- how many weights there are
 

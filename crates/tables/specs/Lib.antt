@@ -2,3 +2,11 @@ pub mod Rows
 pub mod Pushing
 pub mod Placed
 pub mod Tables
+pub mod Lists
+pub mod Candidates
+pub mod Afters
+pub mod PlacedChanges
+pub mod Fates
+pub mod FitsTable
+pub mod Losses
+pub mod Giving

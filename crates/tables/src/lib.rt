@@ -1,12 +1,20 @@
 //! Tables in memory: rows over the atoms of a scope, found by their atoms, and which of them agree with literals.
 #![tactic(auto)]
 
+mod afters;
 mod agreeing;
+mod candidates;
+mod giving;
+mod indexed;
+mod lists;
+mod losses;
 mod placed;
+mod placing;
 mod rows;
 mod table;
 #[cfg(test)]
 mod tests;
 
 pub use agreeing::{is_shut_out, some_agrees};
+pub use indexed::IndexedTable;
 pub use table::Table;

@@ -58,7 +58,7 @@ fn add_placed(
 }
 
 /// The place of the atom in the scope, from 0, if it is there.
-fn place_in(scope: &[u32], atom: u32) -> Option<u32>
+pub(crate) fn place_in(scope: &[u32], atom: u32) -> Option<u32>
     requires { length scope.now < 2 ^ 32 }
     ensures { result ≡ model.place_in scope.now atom }
 {

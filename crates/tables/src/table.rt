@@ -23,7 +23,7 @@ pub struct Table {
 }
 
 impl Table {
-    ghost use Rattle.std.specs.Prelude.{[], IfOk, OnErr, MatchOption, None, Some, slice_get};
+    ghost use Rattle.std.specs.Prelude.{[], IfOk, IfSome, OnErr, MatchOption, None, Some, slice_get};
     ghost use Rattle.packed_state.specs.Packed.{bits_of};
     ghost use Rattle.table_functions.specs.TableFunctions.{Row, row_of, weight_at};
     ghost use Rattle.tables.specs.Tables.{table_of, weight_count_of, IsInserted};
@@ -66,7 +66,8 @@ impl Table {
     /// The place of the row of this set, if there is one.
     pub fn find(&self, set: &Packed) -> Option<u32>
         requires { length (bits_of set.now) ≡ length (table_of self.now).scope }
-        ensures { MatchOption result
+        ensures there { IfSome result (λ place. place < length (table_of self.now).rows) }
+        ensures row { MatchOption result
             (row_of (table_of self.now) (rows_in_memory.atoms_at (table_of self.now).scope (bits_of set.now)) ≡ None)
             (λ place. slice_get (table_of self.now).rows place ≡ row_of (table_of self.now) (rows_in_memory.atoms_at (table_of self.now).scope (bits_of set.now))) }
     {

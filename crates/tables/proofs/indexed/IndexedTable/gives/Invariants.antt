@@ -1,0 +1,12 @@
+use Rattle.std.proofs.Common.{◌≡◌, map, take, length}
+use Rattle.grounding.specs.Views.{numbered_of}
+use Rattle.packed_state.specs.Packed.{bits_of}
+use Rattle.tables.specs.Tables.{table_of}
+use Rattle.tables.proofs.GivingLemmas.{most_given}
+use Rattle.tables.proofs.indexed.IndexedTable.gives.Given as goal
+
+abbrev pub invariant-loop-row : goal.invariant-loop-row
+invariant-loop-row l = record {
+  wide : length (bits_of l.set) ≡ length (table_of l.self.table).scope;
+  most : l.most ≡ most_given (table_of l.self.table).scope l.self.table.rising (table_of l.self.table).rows (map numbered_of l.literals) l.place (take l.row (table_of l.self.table).rows);
+}

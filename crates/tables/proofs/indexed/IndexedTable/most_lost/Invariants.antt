@@ -1,0 +1,14 @@
+use Rattle.std.proofs.Common.{◌≡◌, length, take}
+use Rattle.packed_state.specs.Packed.{bits_of}
+use Rattle.tables.specs.Candidates.{candidates_of}
+use Rattle.tables.specs.Fates.{question_of}
+use Rattle.tables.specs.Tables.{table_of}
+use Rattle.tables.proofs.FateLemmas.{LosesSoFar}
+use Rattle.tables.proofs.indexed.IndexedTable.most_lost.Given as goal
+
+abbrev pub invariant-loop-k : goal.invariant-loop-k
+invariant-loop-k l = record {
+  set : length (bits_of l.set) ≡ length (table_of l.self.table).scope;
+  left : length (bits_of l.left) ≡ length (table_of l.self.table).scope;
+  lost : LosesSoFar (question_of l.self.table l.question) (take l.k (candidates_of l.candidates)) l.most;
+}

@@ -1,0 +1,90 @@
+//! Tables with an index of their rows.
+ghost use Rattle.std.specs.Prelude.{◌≡◌, ℕ, ◌<◌, ◌⊎◌, true, All, IfOk, length, map, slice_get, Some};
+ghost use Rattle.std.proofs.Props.{props};
+ghost use Rattle.packed_state.specs.Packed.{bits_of};
+ghost use Rattle.packed_state.specs.PooledView.{pooled_width, pooled_states};
+ghost use Rattle.potential_functions.specs.PotentialFunctions.{IsInRange};
+ghost use Rattle.table_functions.specs.TableFunctions.{Row};
+ghost use Rattle.tables.specs.Lists.{list_at, IsIndexOf};
+ghost use Rattle.tables.specs.Tables.{table_of};
+
+use crate::candidates::Candidates;
+use crate::lists::Lists;
+use crate::placed::PlacedLiteral;
+use crate::table::Table;
+use faults::NoMemory;
+use packed_state::{Packed, StateStore};
+use std::alloc::Global;
+
+/// A table, and for each atom of its scope the rows in which it is true.
+#[derive(Drop)]
+pub struct IndexedTable {
+    pub(crate) table: Table,
+    index: Lists,
+    ghost indexed: { IsIndexOf (pooled_states table.rows.sets) (length (pooled_states table.rows.sets)) index } by { Prim.hlevel props },
+    ghost in_range: { All (λ (r : Row). All IsInRange r.weights) (table_of table).rows } by { Prim.hlevel props },
+}
+
+impl IndexedTable {
+    ghost use Rattle.tables.specs.Candidates.{candidates_of, AreCandidates};
+    ghost use Rattle.tables.specs.Placed as by_places;
+    ghost use Rattle.tables.specs.Placed.{placed_of};
+
+    /// The table, whose weights are from -2147483647 to 2147483647.
+    ///
+    /// # Errors
+    /// Where memory is refused.
+    pub fn new(alloc: Global, table: Table) -> Result<IndexedTable, NoMemory>
+        requires { All (λ (r : Row). All IsInRange r.weights) (table_of table).rows }
+        ensures { IfOk result (λ t. table_of t.table ≡ table_of table) }
+    {
+        let index = index_of(alloc, &table)?;
+        Ok(IndexedTable { table, index })
+    }
+
+    /// The table.
+    pub fn table(&self) -> &Table
+        ensures { result.now ≡ self.now.table }
+    {
+        &self.table
+    }
+
+    /// The rows with the rarest of the atoms that are to be true, or all where none is.
+    pub(crate) fn candidates(&self, literals: &[PlacedLiteral]) -> Candidates<'_>
+        ensures { AreCandidates (pooled_states self.now.table.rows.sets) (map placed_of literals.now) (candidates_of result) }
+    {
+        let mut best = Candidates::All(self.table.row_count() as u32);
+        for literal in literals {
+            best = self.narrowed(best, literal);
+        }
+        best
+    }
+
+    /// The rows with the atom of the literal, if it is to be true and these are fewer.
+    fn narrowed<'a>(&'a self, best: Candidates<'a>, literal: &PlacedLiteral) -> Candidates<'a>
+        ensures { (candidates_of result ≡ candidates_of best.entry) ⊎ ((candidates_of result ≡ list_at self.now.index literal.now.place) × (literal.now.value ≡ true)) }
+    {
+        if !literal.value {
+            return best;
+        }
+        let rows = self.index.of(literal.place);
+        if rows.len() >= best.len() {
+            return best;
+        }
+        Candidates::These(rows)
+    }
+}
+
+/// For each atom of the table's scope the rows in which it is true.
+fn index_of(alloc: Global, table: &Table) -> Result<Lists, NoMemory>
+    ensures { IfOk result (IsIndexOf (pooled_states table.now.rows.sets) (length (pooled_states table.now.rows.sets))) }
+{
+    let width = table.rows.sets.width();
+    let mut index = Lists::empty(alloc, width)?;
+    let mut set = Packed::empty(alloc, width)?;
+    for row in 0..table.rows.sets.len() {
+        table.rows.sets.get(row as u32, &mut set);
+        index.file(&set, row as u32)?;
+    }
+    Ok(index)
+}
