@@ -10,3 +10,4 @@ pub mod FateLemmas
 pub mod PlacingLemmas
 pub mod LossLemmas
 pub mod GivingLemmas
+pub mod TablesLemmas

@@ -10,3 +10,5 @@ pub mod Fates
 pub mod FitsTable
 pub mod Losses
 pub mod Giving
+pub mod ByAtom
+pub mod AllTables

@@ -12,9 +12,11 @@ mod placed;
 mod placing;
 mod rows;
 mod table;
+mod tables;
 #[cfg(test)]
 mod tests;
 
 pub use agreeing::{is_shut_out, some_agrees};
 pub use indexed::IndexedTable;
 pub use table::Table;
+pub use tables::IndexedTables;

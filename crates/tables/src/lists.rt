@@ -1,7 +1,9 @@
 //! Lists of numbers by places.
-ghost use Rattle.std.specs.Prelude.{◌≡◌, ℕ, ◌<◌, ◌++◌, ◌∷◌, [], ◌==◌, ◌&&◌, if◌then◌else◌, IfOk, OnOk, length};
+ghost use Rattle.std.specs.Prelude.{◌≡◌, ℕ, ◌<◌, ◌++◌, ◌∷◌, [], ◌==◌, ◌&&◌, true, All, if◌then◌else◌, IfOk, OnOk, length};
 ghost use Rattle.packed_state.specs.Sets.{has};
 ghost use Rattle.packed_state.specs.Packed.{bits_of};
+ghost use Rattle.table_functions.specs.TableFunctions.{is_among};
+ghost use Rattle.tables.specs.ByAtom.{IsFiledAt};
 ghost use Rattle.tables.specs.Lists.{list_at, IsFiled};
 
 use faults::NoMemory;
@@ -60,6 +62,29 @@ impl Lists {
         }
         self.push(place, number)?;
         Ok(())
+    }
+
+    /// Puts the number at the end of the list of each of these places.
+    pub(crate) fn file_at_all(&mut self, places: &[u32], number: u32) -> Result<(), NoMemory>
+        requires { All (λ place. place < length self.old.lists.items) places.now }
+        ensures { OnOk result (IsFiledAt places.now number self.old self.new) }
+    {
+        for place in places {
+            self.push(*place, number)?;
+        }
+        Ok(())
+    }
+
+    /// Puts the numbers of the list at this place into the set.
+    pub(crate) fn mark(&self, place: u32, set: &mut Packed)
+        requires { (k : ℕ) → is_among (list_at self.now place) k ≡ true → k < length (bits_of set.old) }
+        ensures width { length (bits_of set.new) ≡ length (bits_of set.old) }
+        ensures kept { (k : ℕ) → has (bits_of set.old) k ≡ true → has (bits_of set.new) k ≡ true }
+        ensures marked { (k : ℕ) → is_among (list_at self.now place) k ≡ true → has (bits_of set.new) k ≡ true }
+    {
+        for number in self.of(place) {
+            set.insert(*number);
+        }
     }
 
     /// The list at this place.

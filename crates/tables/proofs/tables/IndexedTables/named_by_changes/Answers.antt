@@ -1,0 +1,15 @@
+use Rattle.std.proofs.Common.{◌≡◌, ◌∙◌, [], length, sym, ap, subst, arith}
+use Rattle.std.proofs.lemmas.List.{length-map}
+use Rattle.packed_state.specs.Packed.{bits_of}
+use Rattle.packed_state.specs.Sets.{set_of}
+use Rattle.tables.specs.AllTables.{tables_of}
+use Rattle.tables.specs.ByAtom.{AreMarked}
+use Rattle.tables.specs.Losses.{indexed_of}
+use Rattle.tables.proofs.TablesLemmas.{marked-none}
+use Rattle.tables.proofs.tables.IndexedTables.named_by_changes.Goals as goal
+
+pub loop-change-init : goal.loop-change-init
+loop-change-init c =
+    let s = c.args.self.now in
+    let many : c.len.result ≡ length (tables_of s) = omega (arith, c.len.ensures, length-map s.tables.items indexed_of) in
+    subst (AreMarked s.by_atom (length (tables_of s)) []) (sym (c.in_ok-named.ensures ∙ ap (λ n. set_of n []) many)) (marked-none s.by_atom (length (tables_of s)))

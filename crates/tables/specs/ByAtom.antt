@@ -1,0 +1,36 @@
+-- Which tables have an atom in their scope, as the code keeps it, and what all tables lose.
+use Rattle.std.specs.Prelude.{◌≡◌, ℕ, ◌+◌, ◌*◌, ◌<◌, ◌==◌, Bool, true, false, ◌&&◌, ◌||◌, ℤ, pos, neg_ℤ, ◌≤ℤ◌, List, [], ◌∷◌, length, map, slice_get, Option, None, Some}
+use Rattle.std.specs.List.{list_all}
+use Rattle.packed_state.specs.Sets.{has}
+use Rattle.model.specs.NumberedLiterals.{NumberedLiteral}
+use Rattle.table_functions.specs.TableFunctions.{Table, is_among, sum_over}
+use Rattle.table_functions.specs.FairTables.{ConditionalChange, is_closed, table_loses}
+use Rattle.tables.specs.declared.lists.Lists.{Lists}
+use Rattle.tables.specs.Lists.{list_at}
+
+-- the number is at the end of the list of each of these places, and nothing else is new
+pub record IsFiledAt (places : List ℕ) (number : ℕ) (old new : Lists) : Type 0 where
+  pub width : length new.lists.items ≡ length old.lists.items
+  pub lists : (place k : ℕ) → is_among (list_at new place) k ≡ (is_among (list_at old place) k || (is_among places place && number == k))
+
+-- of each atom, the list has the numbers of the tables, from 0, in whose scope it is; so far, of so many tables
+pub record IsByAtom (tables : List Table) (count : ℕ) (l : Lists) : Type 0 where
+  pub covers : (atom number : ℕ) (t : Table) → number < count → slice_get tables number ≡ Some t → is_among t.scope atom ≡ true → is_among (list_at l atom) number ≡ true
+  pub within : (atom number : ℕ) → is_among (list_at l atom) number ≡ true → number < count
+
+-- the set has the numbers that are in the list of one of these atoms
+pub record AreMarked (l : Lists) (count : ℕ) (atoms : List ℕ) (set : List Bool) : Type 0 where
+  pub width : length set ≡ count
+  pub covers : (atom number : ℕ) → is_among atoms atom ≡ true → is_among (list_at l atom) number ≡ true → has set number ≡ true
+
+-- the instance leads from rows to rows of each table, and loses this much by all
+pub record LosesByAll (place : ℕ) (literals : List NumberedLiteral) (changes : List ConditionalChange) (tables : List Table) (lost : ℤ) : Type 0 where
+  pub closed : list_all (is_closed literals changes) tables ≡ true
+  pub is : lost ≡ sum_over tables (table_loses place literals changes)
+  pub least : neg_ℤ (pos (4294967294 * length tables)) ≤ℤ lost
+  pub most : lost ≤ℤ pos (4294967294 * length tables)
+
+-- none where it leads from a row of some table to what is no row
+abbrev pub IsLossByAll : ℕ → List NumberedLiteral → List ConditionalChange → List Table → Option ℤ → Type 0
+IsLossByAll place literals changes tables None = list_all (is_closed literals changes) tables ≡ false
+IsLossByAll place literals changes tables (Some lost) = LosesByAll place literals changes tables lost

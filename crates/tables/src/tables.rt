@@ -1,0 +1,225 @@
+//! All tables of a value, each looked at only where its scope is named.
+ghost use Rattle.std.specs.Prelude.{◌≡◌, ◌<◌, ◌^◌, IsTrue, All, IfOk, length, map};
+ghost use Rattle.std.proofs.Props.{props};
+ghost use Rattle.table_functions.specs.Laws.{are_over};
+ghost use Rattle.tables.specs.declared.indexed.IndexedTable as declared;
+ghost use Rattle.tables.specs.Losses.{indexed_of, indexed_count_of};
+ghost use Rattle.tables.specs.ByAtom.{IsByAtom};
+
+use crate::indexed::IndexedTable;
+use crate::lists::Lists;
+use faults::NoMemory;
+use grounding::{CountingChange, NumberedLiteral};
+use packed_state::Packed;
+use std::alloc::Global;
+
+/// Tables whose rows have as many weights, and for each atom those that have it in their scope.
+#[derive(Drop)]
+pub struct IndexedTables {
+    tables: Vec<IndexedTable>,
+    count: u32,
+    by_atom: Lists,
+    ghost few: { length tables.items < 2 ^ 24 },
+    ghost counts: { All (λ (t : declared.IndexedTable). indexed_count_of t ≡ count) tables.items } by { Prim.hlevel props },
+    ghost named: { IsByAtom (map indexed_of tables.items) (length tables.items) by_atom } by { Prim.hlevel props },
+}
+
+impl IndexedTables {
+    ghost use Rattle.std.specs.Prelude.{◌∷◌, [], ℕ, ℤ, pos, neg_ℤ, ◌*◌, ◌≤ℤ◌, OnOk, Some, slice_get};
+    ghost use Rattle.std.specs.List.{list_any};
+    ghost use Rattle.grounding.specs.Changes.{counting_of, conditional_of};
+    ghost use Rattle.grounding.specs.Views.{numbered_of};
+    ghost use Rattle.model.specs.NumberedLiterals as numbered;
+    ghost use Rattle.packed_state.specs.Packed.{bits_of};
+    ghost use Rattle.table_functions.specs.TableFunctions.{Row, Table, sum_over};
+    ghost use Rattle.table_functions.specs.FairTables as model;
+    ghost use Rattle.tables.specs.AllTables.{tables_of, count_of};
+    ghost use Rattle.tables.specs.ByAtom.{AreMarked, IsLossByAll};
+    ghost use Rattle.tables.specs.Losses.{IsLossByTable};
+
+    /// These tables over so many atoms, whose rows have so many weights.
+    ///
+    /// # Errors
+    /// Where memory is refused.
+    pub fn new(
+        alloc: Global,
+        width: u32,
+        count: u32,
+        tables: Vec<IndexedTable>,
+    ) -> Result<IndexedTables, NoMemory>
+        requires few { length tables.items < 2 ^ 24 }
+        requires counts { All (λ (t : declared.IndexedTable). indexed_count_of t ≡ count) tables.items }
+        requires scopes { IsTrue (are_over width (map indexed_of tables.items)) }
+        ensures tables { IfOk result (λ all. tables_of all ≡ map indexed_of tables.items) }
+        ensures count { IfOk result (λ all. count_of all ≡ count) }
+    {
+        let by_atom = by_atom(alloc, width, &tables)?;
+        Ok(IndexedTables {
+            tables,
+            count,
+            by_atom,
+        })
+    }
+
+    /// How many tables there are.
+    pub fn len(&self) -> usize
+        ensures { result ≡ length (tables_of self.now) }
+    {
+        self.tables.len()
+    }
+
+    /// How many weights each row has.
+    pub fn weight_count(&self) -> u32
+        ensures { result ≡ count_of self.now }
+    {
+        self.count
+    }
+
+    /// Whether the literals are shut out: some table has no row that agrees with them.
+    ///
+    /// # Errors
+    /// Where memory is refused.
+    pub fn is_shut_out(&self, alloc: Global, literals: &[NumberedLiteral]) -> Result<bool, NoMemory>
+        ensures { IfOk result (λ out. out ≡ model.is_shut_out (map numbered_of literals.now) (tables_of self.now)) }
+    {
+        let named = self.named_by_literals(alloc, literals)?;
+        for table in 0..self.tables.len() {
+            if !self.agrees_in(alloc, table, &named, literals)? {
+                return Ok(true);
+            }
+        }
+        Ok(false)
+    }
+
+    /// Whether some row of the table at this place agrees with the literals, of which these tables may have atoms.
+    fn agrees_in(
+        &self,
+        alloc: Global,
+        table: usize,
+        named: &Packed,
+        literals: &[NumberedLiteral],
+    ) -> Result<bool, NoMemory>
+        requires there { table < length (tables_of self.now) }
+        requires named { AreMarked self.now.by_atom (length (tables_of self.now)) (map (λ (l : numbered.NumberedLiteral). l.atom) (map numbered_of literals.now)) (bits_of named.now) }
+        ensures { (t : Table) → slice_get (tables_of self.now) table ≡ Some t
+            → IfOk result (λ some. some ≡ list_any (λ (r : Row). model.agrees (map numbered_of literals.now) t.scope r.atoms) t.rows) }
+    {
+        if !named.has(table as u32) {
+            return Ok(self.tables[table].table().row_count() > 0);
+        }
+        self.tables[table].some_agrees(alloc, literals)
+    }
+
+    /// The most that an instance of these literals and changes may lose by all tables, by the weights at this place. None where
+    /// it leads from a row of one of them that agrees to what is no row.
+    ///
+    /// # Errors
+    /// Where memory is refused.
+    pub fn lose(
+        &self,
+        alloc: Global,
+        literals: &[NumberedLiteral],
+        changes: &[CountingChange<'_>],
+        place: u32,
+    ) -> Result<Option<i64>, NoMemory>
+        requires { place < count_of self.now }
+        ensures { IfOk result (IsLossByAll place (map numbered_of literals.now) (map conditional_of changes.now) (tables_of self.now)) }
+    {
+        let named = self.named_by_changes(alloc, changes)?;
+        let mut total = 0i64;
+        for table in 0..self.tables.len() {
+            let Some(lost) = self.lost_by(alloc, table, &named, literals, changes, place)? else {
+                return Ok(None);
+            };
+            total += lost;
+        }
+        Ok(Some(total))
+    }
+
+    /// What it may lose by the table at this place, where these tables may have atoms of the changes in their scope.
+    fn lost_by(
+        &self,
+        alloc: Global,
+        table: usize,
+        named: &Packed,
+        literals: &[NumberedLiteral],
+        changes: &[CountingChange<'_>],
+        place: u32,
+    ) -> Result<Option<i64>, NoMemory>
+        requires there { table < length (tables_of self.now) }
+        requires place { place < count_of self.now }
+        requires named { AreMarked self.now.by_atom (length (tables_of self.now)) (map (λ (c : numbered.NumberedChange). c.atom) (map counting_of changes.now)) (bits_of named.now) }
+        ensures { (t : Table) → slice_get (tables_of self.now) table ≡ Some t
+            → IfOk result (IsLossByTable place (map numbered_of literals.now) (map conditional_of changes.now) t) }
+    {
+        if !named.has(table as u32) {
+            return Ok(Some(0));
+        }
+        self.tables[table].loses(alloc, literals, changes, place)
+    }
+
+    /// The most that rows that agree with the literals give, one of each table, by the weights at this place.
+    ///
+    /// # Errors
+    /// Where memory is refused.
+    pub fn give(
+        &self,
+        alloc: Global,
+        literals: &[NumberedLiteral],
+        place: u32,
+    ) -> Result<i64, NoMemory>
+        requires { place < count_of self.now }
+        ensures value { IfOk result (λ given. given ≡ sum_over (tables_of self.now) (model.table_gives place (map numbered_of literals.now))) }
+        ensures least { IfOk result (λ given. neg_ℤ (pos (4294967294 * length (tables_of self.now))) ≤ℤ given) }
+        ensures most { IfOk result (λ given. given ≤ℤ pos (4294967294 * length (tables_of self.now))) }
+    {
+        let mut total = 0i64;
+        for table in 0..self.tables.len() {
+            total += self.tables[table].gives(alloc, literals, place)?;
+        }
+        Ok(total)
+    }
+
+    /// The tables that have an atom of one of the literals in their scope.
+    fn named_by_literals(
+        &self,
+        alloc: Global,
+        literals: &[NumberedLiteral],
+    ) -> Result<Packed, NoMemory>
+        ensures { IfOk result (λ named. AreMarked self.now.by_atom (length (tables_of self.now)) (map (λ (l : numbered.NumberedLiteral). l.atom) (map numbered_of literals.now)) (bits_of named)) }
+    {
+        let mut named = Packed::empty(alloc, self.tables.len() as u32)?;
+        for literal in literals {
+            self.by_atom.mark(literal.atom, &mut named);
+        }
+        Ok(named)
+    }
+
+    /// The tables that have an atom of one of the changes in their scope.
+    fn named_by_changes(
+        &self,
+        alloc: Global,
+        changes: &[CountingChange<'_>],
+    ) -> Result<Packed, NoMemory>
+        ensures { IfOk result (λ named. AreMarked self.now.by_atom (length (tables_of self.now)) (map (λ (c : numbered.NumberedChange). c.atom) (map counting_of changes.now)) (bits_of named)) }
+    {
+        let mut named = Packed::empty(alloc, self.tables.len() as u32)?;
+        for change in changes {
+            self.by_atom.mark(change.atom, &mut named);
+        }
+        Ok(named)
+    }
+}
+
+/// For each of so many atoms the tables that have it in their scope.
+fn by_atom(alloc: Global, width: u32, tables: &[IndexedTable]) -> Result<Lists, NoMemory>
+    requires few { length tables.now < 2 ^ 24 }
+    requires scopes { IsTrue (are_over width (map indexed_of tables.now)) }
+    ensures { IfOk result (IsByAtom (map indexed_of tables.now) (length tables.now)) }
+{
+    let mut lists = Lists::empty(alloc, width)?;
+    for number in 0..tables.len() {
+        lists.file_at_all(tables[number].table().scope(), number as u32)?;
+    }
+    Ok(lists)
+}
