@@ -72,31 +72,41 @@ guard-has has d g is holds =
     guarded : Bool → Option Guard
     guarded b = if b then None else Some whole
 
-module _ (t : Task) (atoms : List Atom) (i : Instance) (changes : Vec CountingChange) (are : AreChangesOf t atoms i changes)
-    (k : ℕ) (c : CountingChange) (at : slice_get changes.items k ≡ Some c) where
+module _ (t : Task) (atoms : List Atom) (i : Instance) (k : ℕ) (e : NumberedEffect) (at : slice_get (effects_of_instance t atoms i) k ≡ Some e) where
   -- the change of the instance that it comes from
-  origin : (d : Change) × Contains (changes_of_instance t i) d × (counted_effect t atoms d ≡ Some (effect_in c))
-  origin =
-      filter_map-Contains (counted_effect t atoms) (changes_of_instance t i) (effect_in c)
-      (Contains-got (effects_of_instance t atoms i) k (effect_in c)
-      (ap (λ (l : List NumberedEffect). slice_get l k) (sym are.effects) ∙ slice_get-map effect_in changes.items k ∙ ap (option_map effect_in) at))
+  origin : (d : Change) × Contains (changes_of_instance t i) d × (counted_effect t atoms d ≡ Some e)
+  origin = filter_map-Contains (counted_effect t atoms) (changes_of_instance t i) e (Contains-got (effects_of_instance t atoms i) k e at)
 
-  parts : (guard_of origin.0 ≡ guard_in c.condition) × (c.atom < length atoms) × (counts t origin.0 ≡ true)
-  parts = effect-parts t atoms origin.0 (effect_in c) origin.2
+  parts : (guard_of origin.0 ≡ e.guard) × (e.atom < length atoms) × (counts t origin.0 ≡ true)
+  parts = effect-parts t atoms origin.0 e origin.2
 
-  pub change-within : c.atom < length atoms
-  change-within = parts.1
+  effect-within : e.atom < length atoms
+  effect-within = parts.1
 
-  pub guard-counts : (g : Guard) → guard_in c.condition ≡ Some g → is_statically_false t g.formula g.binding ≡ false
-  guard-counts g is =
+  effect-counts : (g : Guard) → e.guard ≡ Some g → is_statically_false t g.formula g.binding ≡ false
+  effect-counts g is =
       guard-has (λ f b. is_statically_false t f b ≡ false) origin.0 g (parts.0 ∙ is)
       (not-true (is_statically_false t origin.0.condition origin.0.binding) parts.2)
 
-  pub change-fits : IsTrue (is_task t) → IsTrue (is_instance t i) → GuardFits t (guard_in c.condition)
-  change-fits well instance g is =
+  pub effect-fits : IsTrue (is_task t) → IsTrue (is_instance t i) → GuardFits t e.guard
+  effect-fits well instance g is =
       let place = Contains-place (changes_of_instance t i) origin.0 origin.1 in
       guard-has (FitsFormula t) origin.0 g (parts.0 ∙ is)
       (all-fit t well i instance (changes_of_instance t i) refl place.0 origin.0 place.1)
+
+module _ (t : Task) (atoms : List Atom) (i : Instance) (changes : Vec CountingChange) (are : AreChangesOf t atoms i changes)
+    (k : ℕ) (c : CountingChange) (at : slice_get changes.items k ≡ Some c) where
+  effect-at : slice_get (effects_of_instance t atoms i) k ≡ Some (effect_in c)
+  effect-at = ap (λ (l : List NumberedEffect). slice_get l k) (sym are.effects) ∙ slice_get-map effect_in changes.items k ∙ ap (option_map effect_in) at
+
+  pub change-within : c.atom < length atoms
+  change-within = effect-within t atoms i k (effect_in c) effect-at
+
+  pub guard-counts : (g : Guard) → guard_in c.condition ≡ Some g → is_statically_false t g.formula g.binding ≡ false
+  guard-counts = effect-counts t atoms i k (effect_in c) effect-at
+
+  pub change-fits : IsTrue (is_task t) → IsTrue (is_instance t i) → GuardFits t (guard_in c.condition)
+  change-fits = effect-fits t atoms i k (effect_in c) effect-at
 
 -- ---- one change after another
 

@@ -1,8 +1,7 @@
 -- What is kept for an instance, found by its number.
-use Rattle.std.proofs.Common.{arith, ◌≡◌, ◌∙◌, ℕ, ◌<◌, ◌+◌, Bool, true, false, List, [], ◌∷◌, ◌++◌, map, length, take, drop, get_or, append_assoc, Option, None, Some, inl, inr, refl, sym, ap, subst, true≢false}
-use Rattle.std.specs.Prelude.{IfOk, Result, Ok, Err, slice_get, is_none}
+use Rattle.std.proofs.Common.{arith, ◌≡◌, ◌∙◌, ℕ, ◌<◌, ◌+◌, Bool, true, false, List, [], ◌∷◌, ◌++◌, map, length, take, get_or, Option, None, Some, inl, inr, refl, sym, ap, subst, true≢false}
+use Rattle.std.specs.Prelude.{slice_get, is_none}
 use Rattle.std.specs.Global.{Box, Vec}
-use Rattle.std.specs.List.{cons_option}
 use Rattle.std.specs.Option.{option_map, option_map_or}
 use Rattle.std.proofs.lemmas.List.{map_push, take_more}
 use Rattle.std.proofs.lemmas.Option.{slice_get-get_or, slice_get_read, slice_get-map, slice_get_within, get_or_from_slice_get}
@@ -11,13 +10,12 @@ use Rattle.grounding.specs.declared.condition.Condition.{Condition}
 use Rattle.grounding.specs.declared.ground.Ground.{Ground}
 use Rattle.grounding.specs.Conditions.{literals_in}
 use Rattle.model.specs.Task.{Atom, Schema, Task, Instance}
-use Rattle.model.specs.Meaning.{is_instance, fits, Change, changes_of_instance}
+use Rattle.model.specs.Meaning.{is_instance, fits}
 use Rattle.model.specs.StaticallyFalse.{kept_instances}
 use Rattle.model.specs.NumberedLiterals.{NumberedLiteral, NumberedChange, numbered_literals, literals_of_instance, literals_of_number, counting_of_instance, counting_of_number}
-use Rattle.model.proofs.ListLemmas.{drop-here}
 use Rattle.grounding.specs.declared.changes.CountingChange.{CountingChange}
 use Rattle.grounding.specs.declared.changes.ChangeCondition.{ChangeCondition}
-use Rattle.grounding.specs.NumberedEffects.{NumberedEffect, counted_effect, counted_effects, change_of_effect}
+use Rattle.grounding.specs.NumberedEffects.{change_of_effect}
 use Rattle.grounding.specs.Changes.{counting_of, guard_in, effect_in, IsCompiled, AreCompiled, AreChangesOf}
 use Rattle.grounding.specs.Preconditions.{IsPrecondition}
 use Rattle.grounding.specs.Ground.{task_in, atoms_in}
@@ -97,18 +95,6 @@ pub costs-more : {X : Type 0} (f : X → ℕ) (xs : List X) (k : ℕ) (x : X) �
 costs-more f xs k x at =
     sym (ap (map f) (take_more xs k x (slice_get_within xs k x at) ∙ ap (λ y. take k xs ++ y ∷ []) (get_or_from_slice_get xs k x x at)) ∙ map_push f (take k xs) x)
 
-pub effects-more : (t : Task) (atoms : List Atom) (xs : List Change) (k : ℕ) (x : Change) (now before whole : List NumberedEffect) → slice_get xs k ≡ Some x
-    → now ≡ before ++ counted_effects t atoms (x ∷ []) → before ++ counted_effects t atoms (drop k xs) ≡ whole → now ++ counted_effects t atoms (drop (k + 1) xs) ≡ whole
-effects-more t atoms xs k x now before whole at is all =
-    ap (λ l. l ++ counted_effects t atoms (drop (k + 1) xs)) is
-    ∙ append_assoc before (counted_effects t atoms (x ∷ [])) (counted_effects t atoms (drop (k + 1) xs))
-    ∙ ap (λ l. before ++ l) (joined (counted_effect t atoms x) (counted_effects t atoms (drop (k + 1) xs)) ∙ ap (counted_effects t atoms) (sym (drop-here xs k x at)))
-    ∙ all
-  where
-    joined : (o : Option NumberedEffect) (rest : List NumberedEffect) → cons_option o [] ++ rest ≡ cons_option o rest
-    joined None rest = refl
-    joined (Some e) rest = refl
-
 -- one more that is compiled
 pub compiled-more : (t : Task) (atoms : List Atom) (before after : List CountingChange) (last : CountingChange) → after ≡ before ++ last ∷ []
     → AreCompiled t atoms before → IsCompiled t atoms last.condition → AreCompiled t atoms after
@@ -117,9 +103,3 @@ compiled-more t atoms before after last is all here k c at =
       | inl earlier ↦ all k c earlier
       | inr there ↦ subst (λ (d : CountingChange). IsCompiled t atoms d.condition) there.1 here
     ]
-
-pub both-parts : {E : Type 0} (t : Task) (atoms : List Atom) (i : Instance) (changes : List Change) → changes ≡ changes_of_instance t i → (r : Result (Vec CountingChange) E)
-    → IfOk r (λ (found : Vec CountingChange). map effect_in found.items ≡ counted_effects t atoms changes) → IfOk r (λ (found : Vec CountingChange). AreCompiled t atoms found.items)
-    → IfOk r (AreChangesOf t atoms i)
-both-parts t atoms i changes is (Ok found) effects compiled = record { effects = effects ∙ ap (counted_effects t atoms) is; compiled = compiled }
-both-parts t atoms i changes is (Err e) effects compiled = tt

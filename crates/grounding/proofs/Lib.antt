@@ -7,6 +7,7 @@ pub mod StepLemmas
 pub mod EffectLemmas
 pub mod ChangeLemmas
 pub mod InPlaceLemmas
+pub mod KeptRows
 pub mod InitialBits
 pub mod UnnumberedLemmas
 pub mod GroundLemmas

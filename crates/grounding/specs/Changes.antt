@@ -37,6 +37,10 @@ effect_in c = record { atom = c.atom; value = c.value; guard = guard_in c.condit
 abbrev pub GuardFits : Task → Option Guard → Type 0
 GuardFits t o = (g : Guard) → o ≡ Some g → FitsFormula t g.formula g.binding
 
+-- so are those of each of them
+abbrev pub AllGuardsFit : Task → List NumberedEffect → Type 0
+AllGuardsFit t effects = (k : ℕ) (e : NumberedEffect) → slice_get effects k ≡ Some e → GuardFits t e.guard
+
 -- what is kept of the condition, if there is one, is that of its formula and objects
 abbrev pub IsCompiled : Task → List Atom → Option (Box ChangeCondition) → Type 0
 IsCompiled t atoms o = (c : Box ChangeCondition) → o ≡ Some c → IsConditionOf t atoms (guard_of_condition c).formula (guard_of_condition c).binding c.value.condition

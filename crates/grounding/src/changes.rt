@@ -1,23 +1,18 @@
 //! The changes of an instance that count, by the numbers of their atoms.
-ghost use Rattle.std.specs.Prelude.{◌≡◌, ◌++◌, ◌∷◌, [], map, IfOk, OnOk, IsTrue};
-ghost use Rattle.task.specs.TaskParts.{atom_of, object_of, formula_of};
-ghost use Rattle.formulas.specs.State.{instance_of, FitsFormula};
-ghost use Rattle.formulas.specs.Effects.{ground_literal_of, change_of};
-ghost use Rattle.model.specs.Meaning.{is_instance};
-ghost use Rattle.model.specs.StaticallyFalse as statically_false;
-ghost use Rattle.model.specs.NumberedAtoms.{atom_of_literal};
+ghost use Rattle.std.specs.Prelude.{◌≡◌, Some, map, IfOk};
+ghost use Rattle.task.specs.TaskParts.{object_of, formula_of};
+ghost use Rattle.formulas.specs.State.{FitsFormula};
 ghost use Rattle.grounding_kept.specs.Numbering.{task_in, atoms_in};
-ghost use Rattle.grounding_kept.specs.Atoms.{AllFit};
-ghost use Rattle.grounding.specs.NumberedEffects.{guard_of, counted_effects, is_adding};
 ghost use Rattle.grounding_kept.specs.Numbers.{numbered_of};
-ghost use Rattle.grounding.specs.Changes.{counting_of, conditional_of, effect_in, guard_in, IsCompiled, AreCompiled, AreChangesOf};
+ghost use Rattle.grounding_kept.specs.KeptChanges.{effect_of};
+ghost use Rattle.grounding.specs.Changes.{counting_of, conditional_of, effect_in, guard_in, GuardFits, AllGuardsFit, IsCompiled, AreCompiled};
 
 use crate::condition::Condition;
 use faults::NoMemory;
-use formulas::{Binding, Change, GroundLiteral, Instance, changes, copied};
-use grounding_kept::{NumberedLiteral, Numbering};
+use formulas::{Binding, copied};
+use grounding_kept::{NumberedChange, NumberedLiteral, Numbering};
 use std::alloc::Global;
-use task::{Atom, Formula};
+use task::Formula;
 
 /// A change that counts: a numbered atom becomes true, or false, under a condition or under none.
 #[derive(Drop)]
@@ -69,102 +64,42 @@ impl CountingChange<'_> {
     }
 }
 
-/// The changes of the instance that count and whose atoms have numbers, in order.
+/// These changes of an instance, with what their conditions ask of packed states.
 pub(crate) fn counting_changes<'t>(
     alloc: Global,
     numbering: &Numbering<'t>,
-    instance: &Instance,
+    changes: &[NumberedChange<'t>],
 ) -> Result<Vec<CountingChange<'t>>, NoMemory>
-    requires { IsTrue (is_instance (task_in numbering.now) (instance_of instance.now)) }
-    ensures { IfOk result (λ found. AreChangesOf (task_in numbering.now) (atoms_in numbering.now) (instance_of instance.now) found) }
-{
-    let changes = changes(alloc, numbering.task(), instance)?;
-    numbered(alloc, numbering, changes.as_slice())
-}
-
-/// Those of the changes that count and whose atoms have numbers.
-fn numbered<'t>(
-    alloc: Global,
-    numbering: &Numbering<'t>,
-    changes: &[Change<'t>],
-) -> Result<Vec<CountingChange<'t>>, NoMemory>
-    requires { AllFit (task_in numbering.now) (map change_of changes.now) }
-    ensures effects { IfOk result (λ found. map effect_in found.items ≡ counted_effects (task_in numbering.now) (atoms_in numbering.now) (map change_of changes.now)) }
+    requires { AllGuardsFit (task_in numbering.now) (map effect_of changes.now) }
+    ensures effects { IfOk result (λ found. map effect_in found.items ≡ map effect_of changes.now) }
     ensures compiled { IfOk result (λ found. AreCompiled (task_in numbering.now) (atoms_in numbering.now) found.items) }
 {
-    let mut found = Vec::new(alloc);
+    let mut found = Vec::with_capacity(alloc, changes.len())?;
     for change in changes {
-        add_change(alloc, numbering, change, &mut found)?;
+        found.push(counting_change(alloc, numbering, change)?)?;
     }
     Ok(found)
 }
 
-/// Adds the change, if it counts and its atom has a number.
-fn add_change<'t>(
+/// The same of one change.
+fn counting_change<'t>(
     alloc: Global,
     numbering: &Numbering<'t>,
-    change: &Change<'t>,
-    found: &mut Vec<CountingChange<'t>>,
-) -> Result<(), NoMemory>
-    requires fits { FitsFormula (task_in numbering.now) (change_of change.now).condition (change_of change.now).binding }
-    requires compiled { AreCompiled (task_in numbering.now) (atoms_in numbering.now) found.old.items }
-    ensures effects { OnOk result (map effect_in found.new.items ≡ map effect_in found.old.items ++ counted_effects (task_in numbering.now) (atoms_in numbering.now) (change_of change.now ∷ [])) }
-    ensures compiled { OnOk result (AreCompiled (task_in numbering.now) (atoms_in numbering.now) found.new.items) }
+    change: &NumberedChange<'t>,
+) -> Result<CountingChange<'t>, NoMemory>
+    requires { GuardFits (task_in numbering.now) (effect_of change.now).guard }
+    ensures effect { IfOk result (λ found. effect_in found ≡ effect_of change.now) }
+    ensures compiled { IfOk result (λ found. IsCompiled (task_in numbering.now) (atoms_in numbering.now) found.condition) }
 {
-    if !numbering.counts(change) {
-        return Ok(());
-    }
-    let Some(atom) = numbering.number_of(changed_atom(&change.literal)) else {
-        return Ok(());
+    let condition = match &change.guard {
+        Some(guard) => Some(compiled(alloc, numbering, guard.formula, &guard.binding)?),
+        None => None,
     };
-    let value = is_addition(&change.literal);
-    let condition = condition_of(alloc, numbering, change)?;
-    found.push(CountingChange {
-        atom,
-        value,
+    Ok(CountingChange {
+        atom: change.atom,
+        value: change.value,
         condition,
-    })?;
-    Ok(())
-}
-
-/// The atom that becomes true, or false.
-fn changed_atom(literal: &GroundLiteral) -> &Atom
-    ensures { atom_of result.now ≡ atom_of_literal (ground_literal_of literal.now) }
-{
-    match literal {
-        GroundLiteral::Adds(atom) => atom,
-        GroundLiteral::Deletes(atom) => atom,
-    }
-}
-
-/// Whether the atom becomes true.
-fn is_addition(literal: &GroundLiteral) -> bool
-    ensures { result ≡ is_adding (ground_literal_of literal.now) }
-{
-    match literal {
-        GroundLiteral::Adds(_) => true,
-        GroundLiteral::Deletes(_) => false,
-    }
-}
-
-/// The condition of the change over packed states, and none where it is `(and)`.
-fn condition_of<'t>(
-    alloc: Global,
-    numbering: &Numbering<'t>,
-    change: &Change<'t>,
-) -> Result<Option<Box<ChangeCondition<'t>>>, NoMemory>
-    requires { FitsFormula (task_in numbering.now) (change_of change.now).condition (change_of change.now).binding }
-    ensures guard { IfOk result (λ condition. guard_in condition ≡ guard_of (change_of change.now)) }
-    ensures compiled { IfOk result (IsCompiled (task_in numbering.now) (atoms_in numbering.now)) }
-{
-    let Some(formula) = change.condition else {
-        return Ok(None);
-    };
-    if is_empty_and(formula) {
-        return Ok(None);
-    }
-    let condition = compiled(alloc, numbering, formula, &change.binding)?;
-    Ok(Some(condition))
+    })
 }
 
 /// The formula, where the variables have these objects, over packed states.
@@ -188,14 +123,4 @@ fn compiled<'t>(
         },
     )?;
     Ok(change)
-}
-
-/// Whether the formula is `(and)`, as it is written.
-fn is_empty_and(formula: &Formula) -> bool
-    ensures { result ≡ statically_false.is_empty_and (formula_of formula.now) }
-{
-    match formula {
-        Formula::And(parts) => parts.is_empty(),
-        _ => false,
-    }
 }

@@ -16,7 +16,7 @@ use crate::match_tree::MatchTree;
 use crate::parts::{changes_of_all, costs, goal_condition, preconditions};
 use faults::NoMemory;
 use formulas::Instance;
-use grounding_kept::{GroundFault, NumberedLiteral, Numbering};
+use grounding_kept::{GroundFault, KeptChanges, NumberedLiteral, Numbering};
 use indexmap::IndexSet;
 use std::alloc::Global;
 use task::{Atom, Task};
@@ -54,6 +54,7 @@ impl<'t> Ground<'t> {
     ghost use Rattle.model.specs.ConditionalChanges.{conditional_of_number, number_wants_unnumbered};
     ghost use Rattle.model.specs.Grounding.{ground_system};
     ghost use Rattle.grounding_kept.specs.Numbers.{numbered_of};
+    ghost use Rattle.grounding_kept.specs.KeptChanges.{AreKept};
     ghost use Rattle.grounding.specs.Changes.{counting_of, conditional_of};
     ghost use Rattle.grounding.specs.Ground.{numbering_in, task_in, atoms_in, IsGroundOf, ReportsLimit};
 
@@ -73,19 +74,26 @@ impl<'t> Ground<'t> {
         ensures ground_task { IfOk result (IsGroundOf (task_of task.now) (map atom_of more.now) max_instances) }
         ensures reported { IfErr result (ReportsLimit (task_of task.now) (map atom_of more.now) max_instances) }
     {
-        let numbering = Numbering::new(alloc, task, more, max_instances)?;
-        let ground = Ground::of_numbering(alloc, numbering)?;
+        let mut kept = KeptChanges::new(alloc);
+        let numbering = Numbering::with_changes(alloc, task, more, max_instances, &mut kept)?;
+        let ground = Ground::of_numbering(alloc, numbering, kept)?;
         Ok(ground)
     }
 
-    /// That of these numbers.
-    fn of_numbering(alloc: Global, numbering: Numbering<'t>) -> Result<Ground<'t>, NoMemory>
-        requires { length (numbering_views.instances_in numbering) < 2 ^ 32 }
+    /// That of these numbers, where these are the changes of its instances that count.
+    fn of_numbering(
+        alloc: Global,
+        numbering: Numbering<'t>,
+        kept: KeptChanges<'t>,
+    ) -> Result<Ground<'t>, NoMemory>
+        requires kept { AreKept (numbering_views.task_in numbering) (numbering_views.atoms_in numbering) (numbering_views.instances_in numbering) kept }
+        requires few { length (numbering_views.instances_in numbering) < 2 ^ 32 }
         ensures { IfOk result (λ g. numbering_in g ≡ numbering.entry) }
     {
+        let changes = changes_of_all(alloc, &numbering, &kept)?;
+        drop(kept);
         let conditions = preconditions(alloc, &numbering)?;
         let tree = MatchTree::new(alloc, numbering.width(), &conditions)?;
-        let changes = changes_of_all(alloc, &numbering)?;
         let costs = costs(alloc, &numbering)?;
         let goal = goal_condition(alloc, &numbering)?;
         Ok(Ground {

@@ -3,6 +3,7 @@ ghost use Rattle.std.specs.Prelude.{◌≡◌, [], map, IfOk, IsTrue};
 ghost use Rattle.formulas.specs.State.{instance_of};
 ghost use Rattle.model.specs.Meaning.{is_instance, cost_of};
 ghost use Rattle.grounding_kept.specs.Numbering.{task_in, atoms_in, instances_in};
+ghost use Rattle.grounding_kept.specs.KeptChanges.{AreKept};
 ghost use Rattle.grounding.specs.Conditions.{IsConditionOf};
 ghost use Rattle.grounding.specs.InPlace.{AreInPlace};
 ghost use Rattle.grounding.specs.Changes.{AreChangesOf};
@@ -12,7 +13,7 @@ use crate::changes::{CountingChange, counting_changes};
 use crate::condition::Condition;
 use faults::NoMemory;
 use formulas::{Binding, Instance, cost};
-use grounding_kept::Numbering;
+use grounding_kept::{KeptChanges, Numbering};
 use std::alloc::Global;
 
 /// The conditions of the instances' preconditions.
@@ -45,17 +46,24 @@ fn precondition(
     }
 }
 
-/// The changes of each instance that count.
+/// The changes of each instance that count, of those that were kept when atoms were numbered.
 pub(crate) fn changes_of_all<'t>(
     alloc: Global,
     numbering: &Numbering<'t>,
+    kept: &KeptChanges<'t>,
 ) -> Result<Vec<Vec<CountingChange<'t>>>, NoMemory>
+    requires { AreKept (task_in numbering.now) (atoms_in numbering.now) (instances_in numbering.now) kept.now }
     ensures { IfOk result (λ found. AreInPlace (AreChangesOf (task_in numbering.now) (atoms_in numbering.now)) (instances_in numbering.now) found.items) }
 {
-    let instances = numbering.instances();
+    let counts = kept.counts.as_slice();
+    let all = kept.changes.as_slice();
+    let mut begin = 0;
     let mut found = Vec::new(alloc);
-    for instance in instances {
-        found.push(counting_changes(alloc, numbering, instance)?)?;
+    for &count in counts {
+        let (_, left) = all.split_at(begin);
+        let (changes, _) = left.split_at(count);
+        found.push(counting_changes(alloc, numbering, changes)?)?;
+        begin += count;
     }
     Ok(found)
 }

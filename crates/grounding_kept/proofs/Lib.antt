@@ -10,3 +10,5 @@ pub mod HashedAtoms
 pub mod LimitsReported
 pub mod NumberedParts
 pub mod NumberedFacts
+pub mod LaterNumbers
+pub mod KeptLemmas

@@ -6,3 +6,6 @@ pub mod Kept
 pub mod Atoms
 pub mod Numbering
 pub mod Numbers
+pub mod NumberedEffects
+pub mod KeptNumbers
+pub mod KeptChanges

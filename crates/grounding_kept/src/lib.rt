@@ -2,6 +2,7 @@
 #![tactic(auto)]
 
 mod atoms;
+mod changes;
 mod fault;
 mod initial;
 mod joins;
@@ -12,6 +13,7 @@ mod parameters;
 mod statics;
 
 pub use atoms::MAX_ATOMS;
+pub use changes::{Guard, KeptChanges, NumberedChange};
 pub use fault::{GroundFault, GroundLimit};
 pub use numbering::Numbering;
 pub use numbers::NumberedLiteral;

@@ -11,6 +11,7 @@ ghost use Rattle.model.specs.NumberedAtoms.{occurs_in, are_distinct};
 ghost use Rattle.grounding_kept.specs.declared.atoms.TheConstants.{MAX_ATOMS};
 
 use crate::atoms::{MAX_ATOMS, numbered_atoms};
+use crate::changes::KeptChanges;
 use crate::fault::GroundFault;
 use crate::kept::kept_instances;
 use crate::numbers::{NumberedLiteral, number_of, numbered, numbered_literals};
@@ -48,6 +49,7 @@ impl<'t> Numbering<'t> {
     ghost use Rattle.model.specs.NumberedAtoms as model_atoms;
     ghost use Rattle.model.specs.NumberedLiterals as model_literals;
     ghost use Rattle.grounding_kept.specs.Numbers.{numbered_of};
+    ghost use Rattle.grounding_kept.specs.KeptChanges.{IsEmpty, AreKept};
     ghost use Rattle.grounding_kept.specs.Numbering.{task_in, atoms_in, instances_in, IsNumberingOf, ReportsLimit};
 
     /// That of the task, in which `more` have the first numbers, if none of them is there twice.
@@ -66,8 +68,33 @@ impl<'t> Numbering<'t> {
         ensures numbering { IfOk result (IsNumberingOf (task_of task.now) (map atom_of more.now) max_instances) }
         ensures reported { IfErr result (ReportsLimit (task_of task.now) (map atom_of more.now) max_instances) }
     {
+        Numbering::with_changes(
+            alloc,
+            task,
+            more,
+            max_instances,
+            &mut KeptChanges::none(alloc),
+        )
+    }
+
+    /// The same. The changes that count of the kept instances are kept.
+    ///
+    /// # Errors
+    /// The same.
+    pub fn with_changes(
+        alloc: Global,
+        task: &'t Task,
+        more: &[Atom],
+        max_instances: u32,
+        changes: &mut KeptChanges<'t>,
+    ) -> Result<Numbering<'t>, GroundFault>
+        requires fluent { All (λ a. IsTrue (is_fluent_atom (task_of task.now) a)) (map atom_of more.now) }
+        ensures numbering { IfOk result (IsNumberingOf (task_of task.now) (map atom_of more.now) max_instances) }
+        ensures reported { IfErr result (ReportsLimit (task_of task.now) (map atom_of more.now) max_instances) }
+        ensures kept { IfOk result (λ n. IsEmpty changes.old → AreKept (task_in n) (atoms_in n) (instances_in n) changes.new) }
+    {
         let statics = Statics::new(alloc, task)?;
-        Numbering::of_statics(alloc, statics, more, max_instances)
+        Numbering::of_statics(alloc, statics, more, max_instances, changes)
     }
 
     /// That of the task with these statics.
@@ -76,13 +103,15 @@ impl<'t> Numbering<'t> {
         statics: Statics<'t>,
         more: &[Atom],
         max_instances: u32,
+        changes: &mut KeptChanges<'t>,
     ) -> Result<Numbering<'t>, GroundFault>
         requires fluent { All (λ a. IsTrue (is_fluent_atom (task_of statics.task.now) a)) (map atom_of more.now) }
         ensures numbering { IfOk result (IsNumberingOf (task_of statics.entry.task.now) (map atom_of more.now) max_instances) }
         ensures reported { IfErr result (ReportsLimit (task_of statics.entry.task.now) (map atom_of more.now) max_instances) }
+        ensures kept { IfOk result (λ n. IsEmpty changes.old → AreKept (task_in n) (atoms_in n) (instances_in n) changes.new) }
     {
         let instances = kept_instances(alloc, &statics, max_instances)?;
-        let atoms = numbered_atoms(alloc, &statics, more, instances.as_slice())?;
+        let atoms = numbered_atoms(alloc, &statics, more, instances.as_slice(), changes)?;
         Ok(Numbering {
             statics,
             atoms,

@@ -1,9 +1,16 @@
-use Rattle.std.proofs.Common.{map}
-use Rattle.formulas.specs.State.{instance_of}
-use Rattle.grounding_kept.specs.Numbering.{task_in, atoms_in}
+use Rattle.std.proofs.Common.{◌≡◌, ◌≤◌, length, map, drop}
+use Rattle.std.specs.List.{flat_map}
+use Rattle.grounding_kept.specs.Numbering.{task_in, atoms_in, instances_in}
+use Rattle.grounding_kept.specs.KeptChanges.{effect_of}
 use Rattle.grounding.specs.Changes.{AreChangesOf}
+use Rattle.grounding.specs.NumberedEffects.{effects_of_instance}
 use Rattle.grounding.proofs.InPlaceLemmas.{AreSoFar}
 use Rattle.grounding.proofs.parts.changes_of_all.Given as goal
 
-abbrev pub invariant-loop-instance : goal.invariant-loop-instance
-invariant-loop-instance l = AreSoFar (AreChangesOf (task_in l.numbering) (atoms_in l.numbering)) (map instance_of l.instances) l.found.items l.instance-index
+-- those of the instances so far, and what is left is of the others
+abbrev pub invariant-loop-count : goal.invariant-loop-count
+invariant-loop-count l = record {
+  within : l.begin ≤ length l.all;
+  left : map effect_of (drop l.begin l.all) ≡ flat_map (effects_of_instance (task_in l.numbering) (atoms_in l.numbering)) (drop l.count-index (instances_in l.numbering));
+  found : AreSoFar (AreChangesOf (task_in l.numbering) (atoms_in l.numbering)) (instances_in l.numbering) l.found.items l.count-index;
+}

@@ -1,18 +1,18 @@
-use Rattle.std.proofs.Common.{◌∙◌, ◌≤◌, sym, subst}
-use Rattle.std.specs.List.{each_same}
-use Rattle.formulas.proofs.States.{copied}
-use Rattle.grounding_kept.proofs.NumberLists.{numbered-there, numbered-new, numbered-full}
+use Rattle.std.proofs.Common.{◌≡◌, ◌∙◌, Some, map, sym}
+use Rattle.task.specs.TaskParts.{atom_of}
+use Rattle.model.specs.NumberedAtoms.{number_of}
+use Rattle.grounding_kept.proofs.LaterNumbers.{had-number}
 use Rattle.grounding_kept.proofs.atoms.number.Goals as goal
 
-pub returns-then-contains-clause-numbered : goal.returns-then-contains-clause-numbered
-returns-then-contains-clause-numbered c = numbered-there c.args.atom.now c.args.atoms.now.keys (sym c.contains.ensures ∙ c.if-contains.true)
+pub add-requires-clause-new : goal.add-requires-clause-new
+add-requires-clause-new c = sym c.number_of.ensures ∙ c.in-None.is
 
-pub returns-then-len-ge-MAX_ATOMS-clause-reported : goal.returns-then-len-ge-MAX_ATOMS-clause-reported
-returns-then-len-ge-MAX_ATOMS-clause-reported c =
-    numbered-full c.args.atom.now c.args.atoms.now.keys (sym c.contains.ensures ∙ c.if-contains.false) (subst (λ n. 1048576 ≤ n) c.len.ensures.len c.if-len-ge-MAX_ATOMS.true)
+pub returns-in-Some-clause-numbered : goal.returns-in-Some-clause-numbered
+returns-in-Some-clause-numbered c =
+    let is : number_of (map atom_of c.args.atoms.now.keys) (atom_of c.args.atom.now) ≡ Some c.in-Some.number = sym c.number_of.ensures ∙ c.in-Some.is in
+    (had-number (map atom_of c.args.atoms.now.keys) (atom_of c.args.atom.now) c.in-Some.number is).0
 
-pub returns-clause-numbered : goal.returns-clause-numbered
-returns-clause-numbered c =
-    let copy = c.in_ok-clone.field-0 in
-    let same = copied c.args.atom.now copy c.in_ok-clone.ensures.cases.0 (each_same c.args.atom.now.objects.items copy.objects.items c.in_ok-clone.ensures.cases.1) in
-    numbered-new c.args.atom.now c.args.atoms.now.keys copy c.insert.new.self.keys (sym c.contains.ensures ∙ c.if-contains.false) same c.in_ok-insert.ensures.keys
+pub returns-in-Some-clause-number : goal.returns-in-Some-clause-number
+returns-in-Some-clause-number c =
+    let is : number_of (map atom_of c.args.atoms.now.keys) (atom_of c.args.atom.now) ≡ Some c.in-Some.number = sym c.number_of.ensures ∙ c.in-Some.is in
+    (had-number (map atom_of c.args.atoms.now.keys) (atom_of c.args.atom.now) c.in-Some.number is).1

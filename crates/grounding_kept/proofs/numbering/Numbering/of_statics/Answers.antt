@@ -1,4 +1,4 @@
-use Rattle.std.proofs.Common.{◌≤◌, ◌∙◌, ap, map, length, arith, refl}
+use Rattle.std.proofs.Common.{◌≤◌, ◌∙◌, ap, map, length, subst, arith, refl}
 use Rattle.std.proofs.lemmas.List.{length-map}
 use Rattle.faults.proofs.Results.{passed_on}
 use Rattle.task.specs.Task.{task_of}
@@ -8,6 +8,7 @@ use Rattle.model.specs.StaticallyFalse as statically_false
 use Rattle.model.specs.Limits.{max_numbered_atoms}
 use Rattle.model.proofs.GroundTaskLemmas.{reported_none}
 use Rattle.grounding_kept.specs.Numbering.{ReportsLimit}
+use Rattle.grounding_kept.specs.KeptChanges.{AreKept}
 use Rattle.grounding_kept.proofs.NumberedFacts.{atoms-fluent, atoms-distinct}
 use Rattle.grounding_kept.proofs.LimitsReported.{first-reported, second-reported}
 use Rattle.grounding_kept.proofs.numbering.Numbering.of_statics.Goals as goal
@@ -57,3 +58,7 @@ invariant_of-result c =
       fluent = atoms-fluent t more atoms c.in_ok-atoms.ensures.numbered c.requires.fluent;
       distinct = atoms-distinct t more atoms c.in_ok-atoms.ensures.numbered;
     }
+
+pub returns-clause-kept : goal.returns-clause-kept
+returns-clause-kept c none =
+    subst (λ l. AreKept (task_of c.args.statics.task.now) (map atom_of c.in_ok-atoms.atoms.keys) (map instance_of l) c.numbered_atoms.new.changes) c.as_slice.ensures.value (c.in_ok-atoms.ensures.kept none)

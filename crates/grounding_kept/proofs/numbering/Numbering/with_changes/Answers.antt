@@ -3,7 +3,7 @@ use Rattle.std.specs.Prelude.{IfOk, IfErr}
 use Rattle.task.specs.Task.{task_of}
 use Rattle.task.specs.TaskParts.{atom_of}
 use Rattle.grounding_kept.specs.Numbering.{IsNumberingOf, ReportsLimit}
-use Rattle.grounding_kept.proofs.numbering.Numbering.new.Goals as goal
+use Rattle.grounding_kept.proofs.numbering.Numbering.with_changes.Goals as goal
 
 pub returns-clause-numbering : goal.returns-clause-numbering
 returns-clause-numbering c =

@@ -1,5 +1,6 @@
-use Rattle.std.proofs.Common.{ap, map}
+use Rattle.std.proofs.Common.{[], ap, map, take, subst}
 use Rattle.std.specs.Prelude.{filter}
+use Rattle.std.proofs.lemmas.List.{take_all}
 use Rattle.faults.proofs.Results.{passed_on}
 use Rattle.task.specs.Task.{task_of}
 use Rattle.task.specs.TaskParts.{atom_of}
@@ -8,13 +9,15 @@ use Rattle.model.specs.StaticallyFalse.{counts}
 use Rattle.model.specs.NumberedAtoms.{with_atoms}
 use Rattle.model.proofs.NumberingLemmas.{numbered-end}
 use Rattle.grounding_kept.specs.Atoms.{ReportsAtoms, atoms_changed}
+use Rattle.grounding_kept.specs.KeptChanges.{AddsEffects}
+use Rattle.grounding_kept.proofs.KeptLemmas.{adds-nothing, adds-more, mapped-more}
 use Rattle.grounding_kept.proofs.NumberLists.{item-reported, next-numbered, got-item, got-mapped, if_counting, counting-atoms}
-use Rattle.grounding_kept.proofs.atoms.number_counting.Goals as goal
+use Rattle.grounding_kept.proofs.changes.number_counting.Goals as goal
 
 pub loop-change-init : goal.loop-change-init
 loop-change-init c =
     let t = task_of c.args.statics.now.task.now in
-    record { all = ap (with_atoms (map atom_of c.args.atoms.now.keys)) (counting-atoms t c.args.changes.now); few = c.requires.few }
+    record { all = ap (with_atoms (map atom_of c.args.atoms.now.keys)) (counting-atoms t c.args.changes.now); few = c.requires.few; found = adds-nothing t (map atom_of c.args.atoms.now.keys) c.args.found.now.items }
 
 pub number_if_counting-requires-clause-fits : goal.number_if_counting-requires-clause-fits
 number_if_counting-requires-clause-fits c =
@@ -42,9 +45,19 @@ loop-change-preserved c =
     record {
       all = next-numbered (if_counting t) items c.loop-change.change-index c.change-item.result got now whole c.loop-change.invariant.all (map atom_of c.number_if_counting.new.atoms.keys) c.in_ok-number_if_counting.ensures.numbered;
       few = c.in_ok-number_if_counting.ensures.few;
+      found = subst (λ xs. AddsEffects t (map atom_of c.number_if_counting.new.atoms.keys) xs c.args.found.now.items c.number_if_counting.new.found.items)
+          (mapped-more change_of items c.loop-change.change-index c.change-item.result c.loop-change-test.true c.change-item.is)
+          (adds-more t now (map atom_of c.number_if_counting.new.atoms.keys) (if_counting t c.change-item.result) (map change_of (take c.loop-change.change-index items)) (change_of c.change-item.result)
+          c.args.found.now.items c.loop-change.found.items c.number_if_counting.new.found.items c.in_ok-number_if_counting.ensures.numbered c.loop-change.invariant.found c.in_ok-number_if_counting.ensures.found);
     }
 
 pub returns-clause-numbered : goal.returns-clause-numbered
 returns-clause-numbered c =
     let t = task_of c.args.statics.now.task.now in
     numbered-end (if_counting t) (c.args.changes.now) c.loop-change.change-index (map atom_of c.loop-change.atoms.keys) _ c.loop-change-test.false c.loop-change.invariant.all
+
+pub returns-clause-found : goal.returns-clause-found
+returns-clause-found c =
+    let t = task_of c.args.statics.now.task.now in
+    subst (λ xs. AddsEffects t (map atom_of c.loop-change.atoms.keys) (map change_of xs) c.args.found.now.items c.loop-change.found.items)
+    (take_all c.loop-change.change-index c.args.changes.now c.loop-change-test.false) c.loop-change.invariant.found

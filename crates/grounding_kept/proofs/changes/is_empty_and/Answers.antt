@@ -6,7 +6,7 @@ use Rattle.task.specs.TaskParts.{formula_of}
 use Rattle.formulas.proofs.Trees.{formula_of-And, formulas_in}
 use Rattle.model.specs.Task.{and}
 use Rattle.model.specs.StaticallyFalse as statically_false
-use Rattle.grounding.proofs.changes.is_empty_and.Goals as goal
+use Rattle.grounding_kept.proofs.changes.is_empty_and.Goals as goal
 
 no_parts : (n : ℕ) (items : List Formula) → n ≡ length items → (n == 0) ≡ statically_false.is_empty_and (and (formulas_in items))
 no_parts n [] is = ap (λ m. m == 0) is
