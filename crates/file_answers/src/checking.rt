@@ -17,13 +17,14 @@ use devices::Source;
 use std::alloc::Global;
 use task::Task;
 
-/// A task with what is reported for a certificate for it.
+/// A task, whose names are names, with what is reported for a certificate for it.
 #[derive(Drop)]
 pub struct Checked {
     /// The task of the two files.
     pub task: Task,
     /// What the certificate shows, or why it is refused.
     pub answer: Result<Accepted, Refusal>,
+    pub ghost names: { IsTrue (has_names (task_of task)) },
 }
 
 /// What a certificate shows of the task of two files, and of the plan of a third one, if it is given. Nothing was read
@@ -75,7 +76,8 @@ fn check_task<R: Source>(
     plan: Option<&[u8]>,
     max_instances: u32,
 ) -> Result<Checked, FileFault>
-    requires { IsFresh cert.old }
+    requires fresh { IsFresh cert.old }
+    requires names { IsTrue (has_names (task_of task)) }
     ensures task { (domain problem : List ℕ) → IsTaskOf domain problem (task_of task) → IfOk result (λ c. IsTaskOf domain problem (task_of c.task)) }
     ensures answer { IfOk result (λ c. IsChecked R.remaining (task_of c.task) cert.old cert.new (text_in plan.entry) max_instances c.answer) }
     ensures failures { IfOk result (λ c. CountsRefusal (R.failures (source_of cert.old)) (R.failures (source_of cert.new)) c.answer) }

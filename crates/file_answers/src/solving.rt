@@ -13,13 +13,14 @@ use solver::{Answer, Limits, solve};
 use std::alloc::Global;
 use task::Task;
 
-/// A task with what was found out of it.
+/// A task, whose names are names, with what was found out of it.
 #[derive(Drop)]
 pub struct Solved {
     /// The task of the two files.
     pub task: Task,
     /// What was found.
     pub answer: Answer,
+    pub ghost names: { IsTrue (has_names (task_of task)) },
 }
 
 /// A cheapest plan, or that there is none, from the bytes of the two files.
@@ -58,6 +59,7 @@ pub fn solve_files(
 
 /// The task with what is found out of it. The only error is running out of memory.
 fn solve_task(alloc: Global, task: Task, limits: Limits) -> Result<Solved, FileFault>
+    requires { IsTrue (has_names (task_of task)) }
     ensures task { (domain problem : List ℕ) → IsTaskOf domain problem (task_of task) → IfOk result (λ s. IsTaskOf domain problem (task_of s.task)) }
     ensures answer { IfOk result (λ s. IsTrueAnswer (task_of s.task) limits.states limits.instances s.answer) }
     ensures memory { IfErr result (λ fault. reported_in fault ≡ None) }

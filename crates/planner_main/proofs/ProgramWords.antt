@@ -16,12 +16,10 @@ use Rattle.devices.specs.Written.{NamedText}
 use Rattle.file_answers.specs.Inputs.{IsInputFault}
 use Rattle.planner_main.specs.CheckReported as check
 use Rattle.planner_main.specs.Reported as reported
-use Rattle.planner_main.specs.Reported.{HasText, status_of}
+use Rattle.planner_main.specs.Reported.{status_of}
 use Rattle.planner_main.specs.declared.printing.reports.Report.{Report}
 use Rattle.planner_main.specs.declared.printing.reports.Report.TheVariants as report
-use Rattle.task.specs.Task.{task_of}
 use Rattle.validator.specs.Verdict.{verdict_of}
-use Rattle.model.proofs.TaskNames.{task_has_names}
 use Rattle.cert_checker.specs.declared.refusal.Refusal.{Refusal}
 use Rattle.cert_checker.specs.declared.checker.Accepted.{Accepted}
 use Rattle.planner_main.specs.Program.{IsTextIfNamed, OnTwo, OnThree, OnInputs, IsAnswerTo, IsReportOn, Refuses, fault_in, IsFaultFor, IsOneOf, IsReportedOn, IsReportedOfWords, SaysOfWords, HasFailed, HasNotFailed, CountsFailure, CountsEither, device_failure}
@@ -109,20 +107,13 @@ pub answered_status : (contents : List ℕ → Option (List ℕ)) (wanted : Want
     → IsAnswerTo contents wanted text status written → IsOfReport status
 answered_status contents wanted text status written (found, is_found, (is_text, is_status, files)) = subst IsOfReport (sym is_status) (report_status found)
 
--- What is found out of files can be reported, as a text and as JSON.
-pub can_be_reported : (contents : List ℕ → Option (List ℕ)) (wanted : Wanted) (found : Report) → IsReportOn contents wanted found → HasText found
-can_be_reported contents (to_validate domain problem plan json) found (v, is, on) = subst HasText (sym is) tt
-can_be_reported contents (to_solve domain problem asked) found (s, is, (d, p, d_is, p_is, (is_task, answer))) =
-    subst HasText (sym is) (task_has_names d p (task_of s.task) is_task)
+-- what is found out of files can be reported
+pub can_be_reported : (contents : List ℕ → Option (List ℕ)) (wanted : Wanted) (found : Report) → IsReportOn contents wanted found → reported.IsReported found
+can_be_reported contents (to_validate domain problem plan json) found (v, is, on) = subst reported.IsReported (sym is) tt
+can_be_reported contents (to_solve domain problem asked) found (s, is, on) = subst reported.IsReported (sym is) tt
 can_be_reported contents (to_check domain problem cert asked) found (c, is, (d, p, l, d_is, p_is, l_is, (text, steps, whole, is_task, handed, is_true, said))) =
-    subst HasText (sym is) (task_has_names d p (task_of c.task) is_task, said)
-can_be_reported contents (to_explain domain problem asked) found (e, is, on) = subst HasText (sym is) tt
-
-pub object_too : (r : Report) → HasText r → reported.IsReported r
-object_too (report.Solve solved) names = names
-object_too (report.Validate v) says = says
-object_too (report.Check checked) (names, said) = said
-object_too (report.Explain e) says = says
+    subst reported.IsReported (sym is) said
+can_be_reported contents (to_explain domain problem asked) found (e, is, on) = subst reported.IsReported (sym is) tt
 
 pub no_failure : (n status : ℕ) → IsOfReport status → is_failure n ≡ true → (n ≡ 20 → ⊥) → status ≡ n → ⊥
 no_failure n status (inl answers) fails other same = absurd (cc (ap is_failure same))

@@ -1,5 +1,5 @@
 -- What is reported: the members of its object, the text that reports it, and the status beside it.
-use Rattle.std.specs.Prelude.{ℕ, Bool, List, IsTrue, if◌then◌else◌}
+use Rattle.std.specs.Prelude.{ℕ, Bool, List, if◌then◌else◌}
 use Rattle.std.specs.String.{string_bytes}
 use Rattle.planner_main.specs.JsonText.{Member}
 use Rattle.task.specs.Task.{task_of}
@@ -12,7 +12,6 @@ use Rattle.planner_main.specs.ExplanationReported as explanations
 use Rattle.planner_main.specs.CheckReported.{IsReportedRefusal}
 use Rattle.planner_main.specs.declared.printing.reports.Report.{Report}
 use Rattle.planner_main.specs.declared.printing.reports.Report.TheVariants as report
-use Rattle.model.specs.PlanWriting.{has_names}
 
 -- the members of what is reported
 abbrev pub of_report : Report → List Member
@@ -21,19 +20,12 @@ of_report (report.Validate verdict) = of_verdict (verdict_of verdict)
 of_report (report.Check checked) = of_checked checked.answer
 of_report (report.Explain e) = of_explanation (string_bytes e.text)
 
--- What is reported can be reported: the names of a task that was solved are names, as those of each task of files, and a refusal is reported.
+-- what is reported can be reported: a refusal is one that is reported
 abbrev pub IsReported : Report → Type 0
-IsReported (report.Solve solved) = IsTrue (has_names (task_of solved.task))
+IsReported (report.Solve solved) = Unit {0}
 IsReported (report.Validate verdict) = Unit {0}
 IsReported (report.Check checked) = IsReportedRefusal checked.answer
 IsReported (report.Explain e) = Unit {0}
-
--- It can be reported as a text too: the names of a task whose certificate was checked are names.
-abbrev pub HasText : Report → Type 0
-HasText (report.Solve solved) = IsTrue (has_names (task_of solved.task))
-HasText (report.Validate verdict) = Unit {0}
-HasText (report.Check checked) = IsTrue (has_names (task_of checked.task)) × IsReportedRefusal checked.answer
-HasText (report.Explain e) = Unit {0}
 
 -- the text that reports it: a plan, a line, or the lines of an explanation
 abbrev pub text_of : Report → List ℕ

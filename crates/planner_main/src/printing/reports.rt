@@ -5,7 +5,7 @@ ghost use Rattle.std.specs.String.{string_bytes};
 ghost use Rattle.planner_main.specs.Asked.{is_json};
 ghost use Rattle.planner_main.specs.JsonText.{object_text};
 ghost use Rattle.planner_main.specs.Objects.{line_of_members};
-ghost use Rattle.planner_main.specs.Reported.{HasText, IsReported, of_report, text_of};
+ghost use Rattle.planner_main.specs.Reported.{IsReported, of_report, text_of};
 
 use crate::printing::answer::answer_text;
 use crate::printing::check::checked_line;
@@ -67,7 +67,7 @@ pub fn json_line(alloc: Global, report: &Report) -> Result<String, NoMemory>
 
 /// The text of what was found out: a plan, a line, or the lines of an explanation.
 pub(crate) fn report_text(alloc: Global, report: &Report) -> Result<Vec<u8>, NoMemory>
-    requires { HasText report.now }
+    requires { IsReported report.now }
     ensures { IfOk result (λ text. text.items ≡ text_of report.now) }
 {
     match report {

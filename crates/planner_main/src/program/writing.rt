@@ -30,7 +30,7 @@ pub(super) fn write_report<F: Files, O: Sink>(
     files: &mut F,
     out: &mut O,
 ) -> Result<u8, Failure>
-    requires { reported.HasText report.now }
+    requires { reported.IsReported report.now }
     ensures said { IfOk result (IsReported (WritesReport report.now (outputs_in outputs.entry))
         F.is_known (F.contents files.old) (F.contents files.new) (O.taken out.old) (O.taken out.new)) }
     ensures partly { IfErr result (λ _. IsReportedPartly (WritesReport report.now (outputs_in outputs.entry))

@@ -23,6 +23,9 @@ returns-clause-task g c = c.check_task.ensures.task c.args.domain.now c.args.pro
 pub returns-clause-answer : goal.returns-clause-answer
 returns-clause-answer g c = c.check_task.ensures.answer
 
+pub check_task-requires-clause-names : goal.check_task-requires-clause-names
+check_task-requires-clause-names g c = task_has_names c.args.domain.now c.args.problem.now (task_of c.in_ok-task.task) c.in_ok-task.ensures.task
+
 pub returns-clause-refused : goal.returns-clause-refused
 returns-clause-refused g c = c.check_task.ensures.refused c.args.domain.now c.args.problem.now c.in_ok-task.ensures.task
 

@@ -15,6 +15,9 @@ returns-in_err-task-clause-taken c = λ task is.
     let p = err_from_is_err_and c.from_residual.result c.from_residual.ensures.1 in
     rw (p.1, p.2) (none_reported_of_task c.args.domain.now c.args.problem.now _ c.in_err-task.ensures.refused task is)
 
+pub solve_task-requires : goal.solve_task-requires
+solve_task-requires c = task_has_names c.args.domain.now c.args.problem.now (task_of c.in_ok-task.task) c.in_ok-task.ensures.task
+
 pub returns-clause-task : goal.returns-clause-task
 returns-clause-task c = c.solve_task.ensures.task c.args.domain.now c.args.problem.now c.in_ok-task.ensures.task
 

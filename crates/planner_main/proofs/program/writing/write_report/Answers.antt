@@ -6,12 +6,8 @@ use Rattle.planner_main.specs.Asked.{outputs_in}
 use Rattle.planner_main.specs.Program.{on_the_output}
 use Rattle.planner_main.specs.Reported.{status_of}
 use Rattle.planner_main.specs.Solution.{files_for}
-use Rattle.planner_main.proofs.ProgramWords.{object_too}
 use Rattle.planner_main.proofs.ProgramReported.{both_written, partly_in_cert, partly_in_plan, reported_is}
 use Rattle.planner_main.proofs.program.writing.write_report.Goals as goal
-
-pub json_text-requires : goal.json_text-requires
-json_text-requires g c = object_too c.args.report.now c.requires
 
 pub plan_text-plan-requires : goal.plan_text-plan-requires
 plan_text-plan-requires g c = c.deref.ensures.value ∙ c.in_ok-text.ensures
