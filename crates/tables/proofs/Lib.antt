@@ -11,3 +11,4 @@ pub mod PlacingLemmas
 pub mod LossLemmas
 pub mod GivingLemmas
 pub mod TablesLemmas
+pub mod FairnessLemmas

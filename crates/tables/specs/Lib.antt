@@ -12,3 +12,4 @@ pub mod Losses
 pub mod Giving
 pub mod ByAtom
 pub mod AllTables
+pub mod Fairness

@@ -4,6 +4,7 @@
 mod afters;
 mod agreeing;
 mod candidates;
+mod fairness;
 mod giving;
 mod indexed;
 mod lists;
@@ -17,6 +18,7 @@ mod tables;
 mod tests;
 
 pub use agreeing::{is_shut_out, some_agrees};
+pub use fairness::{TableValue, is_instance_shut_out};
 pub use indexed::IndexedTable;
 pub use table::Table;
 pub use tables::IndexedTables;
