@@ -1,4 +1,5 @@
-//! Tables in memory: rows over the atoms of a scope, found by their atoms, and which of them agree with literals.
+//! Tables in memory: rows over the atoms of a scope, with an index by these atoms; which rows agree with literals, what an
+//! instance may lose by them, and whether a value over tables is fair for a ground task.
 #![tactic(auto)]
 
 mod afters;
