@@ -11,6 +11,7 @@ use Rattle.cert_checker.specs.declared.refusal.Refusal.TheVariants as refusal
 use Rattle.cert_checker.specs.declared.refusal.RefusalCode.{RefusalCode}
 use Rattle.cert_checker.specs.declared.refusal.RefusalCode.TheVariants as code
 use Rattle.cert_checker.specs.RefusalCode.{number_of}
+use Rattle.cert_checker.specs.Reasons.{reason_of}
 use Rattle.cert_checker.specs.Reading.{CountsRefusal, IsLineRefusal, IsRead, IsReportedAt}
 use Rattle.cert_checker.proofs.AcceptedLemmas.{accepted_has_no_fault, one_certificate}
 use Rattle.model.specs.Task.{Task, Instance}
@@ -66,6 +67,7 @@ module _ {R : Type 0} (remaining : R → Option (List ℕ)) (task : Task) (first
     -- no line of an accepted text is refused
     pub none_at_fault : (plan : Option (List Instance)) → IsAccepted task text plan → (e : Refusal) → IsLineRefusal remaining task first now e → IsNoFault e
     none_at_fault plan accepted (refusal.Line c line) reported = accepted_has_no_fault task text plan accepted (number_of c) line (reported_of_text c line reported)
+    none_at_fault plan accepted (refusal.Plain c) (is, (line, reported)) = ap reason_of is
     none_at_fault plan accepted refusal.NoMemory reported = tt
     none_at_fault plan accepted refusal.Device reported = tt
     none_at_fault plan accepted _ reported = absurd reported

@@ -133,10 +133,10 @@ body_follows before line next begun body =
 pub last_reports : (task : Task) (before : List TextLine) (heading : Heading) (claim : Claim) (width : ℕ) (marks : List Marked) (sets : List (List Bool)) (line : CertLine)
     → ((l : StateLine_) → line ≡ code.Listed l → ⊥) → is_body (text_line_of line) ≡ true → HaveGiven task before heading → HaveListed before claim width marks sets
     → HaveGiven task (before ++ text_line_of line ∷ []) heading × HaveListed (before ++ text_line_of line ∷ []) claim width marks sets
-last_reports task before heading claim width marks sets (code.Version v) other body reported have = absurd (true≢false (sym body))
+last_reports task before heading claim width marks sets (code.Head v) other body reported have = absurd (true≢false (sym body))
 last_reports task before heading claim width marks sets (code.Claim c) other body reported have = absurd (true≢false (sym body))
-last_reports task before heading claim width marks sets (code.Constants k) other body reported have = absurd (true≢false (sym body))
-last_reports task before heading claim width marks sets (code.Weight weights a) other body reported have = absurd (true≢false (sym body))
+last_reports task before heading claim width marks sets (code.Constant k) other body reported have = absurd (true≢false (sym body))
+last_reports task before heading claim width marks sets (code.Weight weights predicate objects) other body reported have = absurd (true≢false (sym body))
 last_reports task before heading claim width marks sets (code.Listed l) other body reported have = absurd (other l refl)
 last_reports task before heading claim width marks sets (code.Last n) other body reported have =
     let same : states_given (before ++ last n ∷ []) ≡ states_given before = states_same before (last n) refl in (

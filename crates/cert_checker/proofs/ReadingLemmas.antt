@@ -11,15 +11,15 @@ use Rattle.certificate_definitions.proofs.Machine.{begins, occurs}
 use Rattle.certificate_reader.specs.declared.reader.CertReader.{CertReader}
 use Rattle.certificate_reader.specs.declared.reader.CertFault.{CertFault}
 use Rattle.certificate_reader.specs.declared.reader.CertFault.TheVariants as cert
-use Rattle.certificate_reader.specs.declared.fault.TextFault.TheVariants.{Truncated}
+use Rattle.certificate_reader.specs.declared.fault.TextFault.TheVariants.{Form, Version, Truncated, Limit}
 use Rattle.certificate_reader.specs.Reader.{HasRead, IsAnswer, IsYielded, IsOver, has_failed, lines_read, source_of, waits_in}
 use Rattle.certificate_reader.specs.Stages.{place_of}
 use Rattle.certificate_reader.proofs.ReaderLemmas.{few_lines}
 use Rattle.cert_checker.specs.declared.refusal.Refusal.{Refusal}
 use Rattle.cert_checker.specs.declared.refusal.Refusal.TheVariants as refusal
 use Rattle.cert_checker.specs.declared.refusal.RefusalCode.{RefusalCode}
-use Rattle.cert_checker.specs.declared.refusal.RefusalCode.TheVariants.{Truncated as CutShort}
-use Rattle.cert_checker.specs.RefusalCode.{code_of, number_of}
+use Rattle.cert_checker.specs.declared.refusal.RefusalCode.TheVariants.{CertForm, CertVersion, Truncated as CutShort, Limit as TooMany}
+use Rattle.cert_checker.specs.RefusalCode.{number_of}
 use Rattle.cert_checker.proofs.GivenLemmas.{begin_front}
 use Rattle.cert_checker.specs.CertFaults.{refusal_of}
 use Rattle.cert_checker.specs.Reading.{CountsRefusal, IsFresh, IsAt, IsAtLast, IsLineRefusal, IsReportedAt}
@@ -111,9 +111,12 @@ module _ {R : Type 0} (remaining : R → Option (List ℕ)) (first : CertReader 
               at_fault = inl reported;
             },
           )
-      fault_reported (cert.Line fault line) (line_is, (bytes, consumed, reported, prompt)) =
-          subst (IsReportedAt remaining task first next (code_of fault)) (sym line_is)
-          (at.bytes ++ bytes, came bytes consumed, λ more. line_fault bytes more (number_of (code_of fault)) (reported more))
+      fault_reported (cert.Line Form line) (line_is, (bytes, consumed, reported, prompt)) =
+          subst (IsReportedAt remaining task first next CertForm) (sym line_is) (at.bytes ++ bytes, came bytes consumed, λ more. line_fault bytes more 40 (reported more))
+      fault_reported (cert.Line Version line) (line_is, (bytes, consumed, reported, prompt)) =
+          subst (IsReportedAt remaining task first next CertVersion) (sym line_is) (at.bytes ++ bytes, came bytes consumed, λ more. line_fault bytes more 41 (reported more))
+      fault_reported (cert.Line Limit line) (line_is, (bytes, consumed, reported, prompt)) =
+          (refl, (line, subst (IsReportedAt remaining task first next TooMany) (sym line_is) (at.bytes ++ bytes, came bytes consumed, λ more. line_fault bytes more 55 (reported more))))
       fault_reported cert.Device reported = tt
       fault_reported cert.NoMemory reported = tt
       fault_reported cert.Failed reported = absurd reported

@@ -16,7 +16,7 @@ use Rattle.certificate_reader.specs.declared.reader.CertReader.{CertReader}
 use Rattle.certificate_reader.specs.Reader.{HasRead, has_failed, source_of, waits_in}
 use Rattle.certificate.specs.declared.header.Header.{Header}
 use Rattle.cert_checker.specs.declared.refusal.RefusalCode.{RefusalCode}
-use Rattle.cert_checker.specs.declared.refusal.RefusalCode.TheVariants.{Truncated}
+use Rattle.cert_checker.specs.declared.refusal.RefusalCode.TheVariants.{Limit, Truncated}
 use Rattle.cert_checker.specs.declared.refusal.Refusal.{Refusal}
 use Rattle.cert_checker.specs.declared.refusal.Refusal.TheVariants as refusal
 use Rattle.cert_checker.specs.RefusalCode.{number_of}
@@ -52,9 +52,10 @@ IsReportedAt remaining task first now Truncated line =
 IsReportedAt remaining task first now code line =
     (bytes : List ℕ) × Consumes (remaining (source_of first)) (remaining (source_of now)) bytes × ((more : List ℕ) → IsLineFault task (bytes ++ more) (number_of code) line)
 
--- the refusal is that of a line; or memory was refused, or the device failed
+-- the refusal is that of a line, and that of a limit is reported without its line; or memory was refused, or the device failed
 abbrev pub IsLineRefusal : {R : Type 0} → (remaining : R → Option (List ℕ)) → Task → (first now : CertReader R) → Refusal → Type 0
 IsLineRefusal remaining task first now (refusal.Line code line) = IsReportedAt remaining task first now code line
+IsLineRefusal remaining task first now (refusal.Plain code) = (code ≡ Limit) × ((line : ℕ) × IsReportedAt remaining task first now code line)
 IsLineRefusal remaining task first now refusal.NoMemory = Unit {0}
 IsLineRefusal remaining task first now refusal.Device = Unit {0}
 IsLineRefusal remaining task first now _ = ⊥

@@ -1,7 +1,5 @@
 -- The numbers and the names of the checker's refusals.
 use Rattle.std.specs.Prelude.{ℕ, List, codes}
-use Rattle.certificate_reader.specs.declared.fault.TextFault.{TextFault}
-use Rattle.certificate_reader.specs.declared.fault.TextFault.TheVariants as text
 use Rattle.cert_checker.specs.declared.refusal.RefusalCode.{RefusalCode}
 use Rattle.cert_checker.specs.declared.refusal.RefusalCode.TheVariants.{CertForm, CertVersion, Truncated, NotFluent, Repeated, NoInitial, Unfair, UnfairGoal, GoalOpen, SuccessorMissing, SuccessorDearer, CutWeak, CutNotAllowed, PlanInvalid, PlanDearer, Limit, DeadUnfair, DeadUnfairGoal, NotDead}
 
@@ -48,10 +46,3 @@ name_of Limit = codes "Limit"
 name_of DeadUnfair = codes "DeadUnfair"
 name_of DeadUnfairGoal = codes "DeadUnfairGoal"
 name_of NotDead = codes "NotDead"
-
--- the refusal of a text
-abbrev pub code_of : TextFault → RefusalCode
-code_of text.Form = CertForm
-code_of text.Version = CertVersion
-code_of text.Truncated = Truncated
-code_of text.Limit = Limit

@@ -72,7 +72,7 @@ fn take(
         → HasTaken (task_of task.now) before header.old → IsWrongNow (task_of task.now) before (text_line_of line) refusal) }
 {
     match line {
-        CertLine::Version(version) => {
+        CertLine::Head(version) => {
             header.version = version;
             Ok(None)
         }
@@ -80,12 +80,17 @@ fn take(
             header.claim = claim;
             Ok(None)
         }
-        CertLine::Constants(constants) => {
+        CertLine::Constant(constants) => {
             header.bounds.values.constant = constants.of_value;
             header.bounds.dead_ends.constant = dead_end_weight(constants);
             Ok(None)
         }
-        CertLine::Weight { weights, atom } => {
+        CertLine::Weight {
+            weights,
+            predicate,
+            objects,
+        } => {
+            let atom = NamedAtom { predicate, objects };
             add_atom(header, task, fluents, &atom, weights, number)?;
             Ok(None)
         }

@@ -1,6 +1,6 @@
 //! Why a certificate is refused.
 ghost use Rattle.std.specs.Prelude.{◌≡◌};
-ghost use Rattle.cert_checker.specs.RefusalCode.{code_of};
+ghost use Rattle.cert_checker.specs.CertFaults.{text_refusal};
 
 use certificate::{CertFault, TextFault};
 use faults::NoMemory;
@@ -112,7 +112,7 @@ pub enum Refusal {
     Unfair(Instance),
     /// This instance, the first such one, may make the potential function of dead ends fall.
     DeadUnfair(Instance),
-    /// This is wrong, and not with one line.
+    /// This is wrong, and not with one line; or the text has one atom, or one state, more than there may be.
     Plain(RefusalCode),
     /// Memory that was asked for was refused.
     NoMemory,
@@ -122,15 +122,24 @@ pub enum Refusal {
     Failed,
 }
 
-/// The refusal of a text for this.
-fn code_of(fault: TextFault) -> RefusalCode
-    ensures { result ≡ code_of fault }
+/// The refusal of a text for this fault, which this line has. A limit is reported without its line.
+fn text_refusal(fault: TextFault, line: u64) -> Refusal
+    ensures { result ≡ text_refusal fault line }
 {
     match fault {
-        TextFault::Form => RefusalCode::CertForm,
-        TextFault::Version => RefusalCode::CertVersion,
-        TextFault::Truncated => RefusalCode::Truncated,
-        TextFault::Limit => RefusalCode::Limit,
+        TextFault::Form => Refusal::Line {
+            code: RefusalCode::CertForm,
+            line,
+        },
+        TextFault::Version => Refusal::Line {
+            code: RefusalCode::CertVersion,
+            line,
+        },
+        TextFault::Truncated => Refusal::Line {
+            code: RefusalCode::Truncated,
+            line,
+        },
+        TextFault::Limit => Refusal::Plain(RefusalCode::Limit),
     }
 }
 
@@ -142,10 +151,7 @@ impl From<CertFault> for Refusal {
 
     fn from(fault: CertFault) -> Refusal {
         match fault {
-            CertFault::Line { fault, line } => Refusal::Line {
-                code: code_of(fault),
-                line,
-            },
+            CertFault::Line { code, line } => text_refusal(code, line),
             CertFault::Device => Refusal::Device,
             CertFault::NoMemory => Refusal::NoMemory,
             CertFault::Failed => Refusal::Failed,

@@ -42,9 +42,10 @@ abbrev pub named_atom_of : NamedAtom → text.NamedAtom
 named_atom_of a = record { predicate = name_of a.predicate; objects = map name_of a.objects.items }
 
 abbrev pub text_line_of : CertLine → text.TextLine
-text_line_of (line.Version version) = text.version (version_of version)
+text_line_of (line.Head version) = text.version (version_of version)
 text_line_of (line.Claim claim) = text.claims (claim_of claim)
-text_line_of (line.Constants k) = text.constant (weights_of k)
-text_line_of (line.Weight weights a) = text.atom (record { weights = weights_of weights; atom = named_atom_of a })
+text_line_of (line.Constant k) = text.constant (weights_of k)
+text_line_of (line.Weight weights predicate objects) =
+    text.atom (record { weights = weights_of weights; atom = record { predicate = name_of predicate; objects = map name_of objects.items } })
 text_line_of (line.Listed l) = text.listed (line_of l)
 text_line_of (line.Last count) = text.last count

@@ -42,7 +42,7 @@ pub record HasRead {R : Type 0} (reader : CertReader R) (lines : List TextLine) 
   pub count : reader.position.lines ≡ length lines
 
 abbrev pub fault_at : NextFault → ℕ → CertFault
-fault_at (next.Text fault) line = cert.Line fault line
+fault_at (next.Text code) line = cert.Line code line
 fault_at next.Device line = cert.Device
 fault_at next.NoMemory line = cert.NoMemory
 
@@ -99,7 +99,7 @@ IsAdvance remaining old new before (Err next.NoMemory) = Unit {0}
 abbrev pub IsAnswer : {R : Type 0} → (remaining : R → Option (List ℕ)) → (old new : CertReader R) → List TextLine → Result (Option CertLine) CertFault → Type 0
 IsAnswer remaining old new before (Ok (Some line)) = IsYielded remaining old new before (text_line_of line)
 IsAnswer remaining old new before (Ok None) = IsOver remaining old new before
-IsAnswer remaining old new before (Err (cert.Line fault line)) = (line ≡ length before + 1) × IsReportedOf remaining old new before fault
+IsAnswer remaining old new before (Err (cert.Line code line)) = (line ≡ length before + 1) × IsReportedOf remaining old new before code
 IsAnswer remaining old new before (Err cert.Device) = IsCutOff remaining old new
 IsAnswer remaining old new before (Err cert.NoMemory) = Unit {0}
 IsAnswer remaining old new before (Err cert.Failed) = ⊥

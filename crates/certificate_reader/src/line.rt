@@ -81,17 +81,19 @@ pub struct NamedAtom {
 #[derive(Debug, PartialEq, Eq, Drop)]
 pub enum CertLine {
     /// The first line: `pddl-cert 2`.
-    Version(Version),
+    Head(Version),
     /// The claim: `claim bound 6`, `claim none`.
     Claim(Claim),
     /// The constants of the potential functions: `constant 6 1`, and in version 1 `constant 6`.
-    Constants(Weights),
+    Constant(Weights),
     /// An atom and its weights: `atom -3 0 (at b)`, and in version 1 `atom -3 (at b)`.
     Weight {
         /// The weights.
         weights: Weights,
-        /// The atom.
-        atom: NamedAtom,
+        /// The name of the atom's predicate, in lower case.
+        predicate: Vec<u8>,
+        /// The names of its objects, in order.
+        objects: Vec<Vec<u8>>,
     },
     /// A state: `open 3 0 2`, `cut 6 2 0 1`, `dead 1 2`.
     Listed(StateLine),

@@ -83,8 +83,8 @@ fn head_line(rest: &[u8]) -> Result<CertLine, NextFault>
     ensures { (v : certificates.Version) (atom_count : ℕ) → IsParsedAfter (codes "pddl-cert") rest.now v atom_count result }
 {
     match number(rest) {
-        Some(1) => Ok(CertLine::Version(Version::One)),
-        Some(2) => Ok(CertLine::Version(Version::Two)),
+        Some(1) => Ok(CertLine::Head(Version::One)),
+        Some(2) => Ok(CertLine::Head(Version::Two)),
         Some(_) => Err(NextFault::Text(TextFault::Version)),
         None => Err(NextFault::Text(TextFault::Form)),
     }
@@ -108,7 +108,7 @@ fn constant_line(rest: &[u8], version: Version) -> Result<CertLine, NextFault>
         return Err(NextFault::Text(TextFault::Form));
     };
     match following {
-        None => Ok(CertLine::Constants(constants)),
+        None => Ok(CertLine::Constant(constants)),
         Some(_) => Err(NextFault::Text(TextFault::Form)),
     }
 }
@@ -135,7 +135,11 @@ fn atom_line(alloc: Global, rest: &[u8], version: Version) -> Result<CertLine, N
         return Err(NextFault::Text(TextFault::Form));
     };
     match named_atom(alloc, following)? {
-        Some(atom) => Ok(CertLine::Weight { weights, atom }),
+        Some(NamedAtom { predicate, objects }) => Ok(CertLine::Weight {
+            weights,
+            predicate,
+            objects,
+        }),
         None => Err(NextFault::Text(TextFault::Form)),
     }
 }

@@ -21,7 +21,7 @@ pub enum CertFault {
     /// The text is at fault: what, and at which line, counted from 1. It is the first line at fault.
     Line {
         /// What is at fault.
-        fault: TextFault,
+        code: TextFault,
         /// The line's number, from 1.
         line: u64,
     },
@@ -140,7 +140,7 @@ fn reported_at(fault: NextFault, line: u64) -> CertFault
     ensures { result ≡ fault_at fault line }
 {
     match fault {
-        NextFault::Text(fault) => CertFault::Line { fault, line },
+        NextFault::Text(code) => CertFault::Line { code, line },
         NextFault::Device => CertFault::Device,
         NextFault::NoMemory => CertFault::NoMemory,
     }

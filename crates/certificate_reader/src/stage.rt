@@ -63,7 +63,7 @@ impl Stage {
     {
         match self {
             Stage::Version => match line {
-                CertLine::Version(version) => Ok(Stage::Claim(*version)),
+                CertLine::Head(version) => Ok(Stage::Claim(*version)),
                 _ => Err(TextFault::Form),
             },
             Stage::Claim(version) => match line {
@@ -71,7 +71,7 @@ impl Stage {
                 _ => Err(TextFault::Form),
             },
             Stage::Constants(version) => match line {
-                CertLine::Constants(_) => Ok(Stage::Body {
+                CertLine::Constant(_) => Ok(Stage::Body {
                     version,
                     atoms: 0,
                     states: 0,

@@ -8,6 +8,7 @@ use Rattle.certificate_reader.specs.declared.reader.CertReader.{CertReader}
 use Rattle.certificate_reader.specs.Reader.{source_of}
 use Rattle.cert_checker.specs.declared.refusal.Refusal.{Refusal}
 use Rattle.cert_checker.specs.declared.refusal.Refusal.TheVariants as refusal
+use Rattle.cert_checker.specs.declared.refusal.RefusalCode.TheVariants.{Limit}
 use Rattle.cert_checker.specs.RefusalCode.{number_of}
 use Rattle.cert_checker.specs.declared.checker.Accepted.{Accepted}
 use Rattle.cert_checker.specs.CertChecker.{Answers, IsFirstRefusal, IsNoFault, IsShown, IsTrueRefusal}
@@ -42,12 +43,12 @@ pub record IsRightText (task : Task) (text : List ℕ) (c : Certificate) : Type 
   pub text_is : text ≡ text_of lines
   pub right : AreRight task lines
 
--- the refusal is that of the text's first line at fault
+-- the refusal is that of the text's first line at fault, of which none is reported with a limit
 abbrev pub IsAtLine : Task → (text : List ℕ) → Refusal → Type 0
 IsAtLine task text (refusal.Line code line) = IsLineFault task text (number_of code) line
 IsAtLine task text (refusal.Unfair i) = ⊥
 IsAtLine task text (refusal.DeadUnfair i) = ⊥
-IsAtLine task text (refusal.Plain code) = ⊥
+IsAtLine task text (refusal.Plain code) = (code ≡ Limit) × ((line : ℕ) × IsLineFault task text (number_of code) line)
 IsAtLine task text refusal.NoMemory = ⊥
 IsAtLine task text refusal.Device = ⊥
 IsAtLine task text refusal.Failed = ⊥

@@ -102,7 +102,9 @@ module _ {R : Type 0} (remaining : R → Option (List ℕ)) (task : Task) (first
     true_of_text (Err (refusal.DeadUnfair i)) is shown accepts (inl said) = absurd said
     true_of_text (Err (refusal.DeadUnfair i)) is shown accepts (inr (c, read, is_true, is_first)) =
         of_certificate (refusal.DeadUnfair i) c read is_true is_first
-    true_of_text (Err (refusal.Plain code)) is shown accepts (inl said) = absurd said
+    true_of_text (Err (refusal.Plain code)) is shown accepts (inl (limit, (line, said))) =
+        let (text, whole, fault) = line_of_text code line said in
+        (text, whole, inl (limit, (line, fault)))
     true_of_text (Err (refusal.Plain code)) is shown accepts (inr (c, read, is_true, is_first)) =
         of_certificate (refusal.Plain code) c read is_true is_first
     true_of_text (Err refusal.NoMemory) is shown accepts refuses = absurd (cc is)

@@ -1,5 +1,5 @@
 -- What the answer of the checker is reported as, and the status beside it.
-use Rattle.std.specs.Prelude.{◌≡◌, ℕ, ◌==◌, if◌then◌else◌, List, [], ◌++◌, codes, Option, None, Some, Result, Ok, Err}
+use Rattle.std.specs.Prelude.{◌≡◌, ℕ, List, [], ◌++◌, codes, Option, None, Some, Result, Ok, Err}
 use Rattle.std.specs.Fmt.{decimal}
 use Rattle.cert_checker.specs.declared.refusal.RefusalCode.{RefusalCode}
 use Rattle.cert_checker.specs.declared.refusal.RefusalCode.TheVariants.{DeadUnfair, Unfair}
@@ -20,14 +20,12 @@ accepted_line (Optimal cost) = codes "optimal cost " ++ (decimal cost ++ codes "
 accepted_line (AtLeast cost) = codes "at least " ++ (decimal cost ++ codes "\n")
 accepted_line Unsolvable = codes "unsolvable\n"
 
--- the lines of refusals: `not accepted CODE Name`, and `not accepted CODE Name line L` of a line, but for 55, of which none is reported
+-- the lines of refusals: `not accepted CODE Name`, and `not accepted CODE Name line L` of a line
 abbrev pub plain_refused : RefusalCode → List ℕ
 plain_refused code = codes "not accepted " ++ (decimal (number_of code) ++ (codes " " ++ (name_of code ++ codes "\n")))
 
 abbrev pub line_refused : RefusalCode → (line : ℕ) → List ℕ
-line_refused code line =
-    if number_of code == 55 then plain_refused code
-    else (codes "not accepted " ++ (decimal (number_of code) ++ (codes " " ++ (name_of code ++ (codes " line " ++ (decimal line ++ codes "\n"))))))
+line_refused code line = codes "not accepted " ++ (decimal (number_of code) ++ (codes " " ++ (name_of code ++ (codes " line " ++ (decimal line ++ codes "\n")))))
 
 -- the line of a potential function under which this instance may lose more than it is allowed to
 abbrev pub instance_refused : RefusalCode → Task → Instance → List ℕ

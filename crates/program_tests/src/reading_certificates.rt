@@ -1,6 +1,6 @@
 //! The lines of certificates' texts, over devices that give bytes one by one, that fail, and that never end.
 use certificate::{
-    CertFault, CertLine, CertReader, Claim, Mark, NamedAtom, StateLine, TextFault, Version, Weights,
+    CertFault, CertLine, CertReader, Claim, Mark, StateLine, TextFault, Version, Weights,
 };
 use devices::{Memory, Source};
 use std::alloc::{AllocError, Global};
@@ -12,8 +12,8 @@ const HOP: &[u8] =
     b"pddl-cert 1\nclaim bound 6\nconstant 6\natom 0 (at a)\natom -3 (at b)\natom -6 (at c)\nopen 0 0\nopen 3 1\ncut 6 0 2\nend 3\n";
 
 /// What is reported at a line.
-const fn at_line(fault: TextFault, line: u64) -> CertFault {
-    CertFault::Line { fault, line }
+const fn at_line(code: TextFault, line: u64) -> CertFault {
+    CertFault::Line { code, line }
 }
 
 /// How many lines are given out, and the fault after them; `None` where the text is a certificate.
@@ -61,11 +61,11 @@ fn weights(version: Version, of_value: i64, of_dead_end: i64) -> Weights {
 
 /// An atom of one object, with these weights.
 fn atom_at(alloc: Global, weights: Weights, object: &[u8]) -> Result<CertLine, AllocError> {
-    let atom = NamedAtom {
+    Ok(CertLine::Weight {
+        weights,
         predicate: b"at".to_vec(alloc)?,
         objects: vec![in alloc; object.to_vec(alloc)?]?,
-    };
-    Ok(CertLine::Weight { weights, atom })
+    })
 }
 
 /// A state of one atom.
@@ -85,9 +85,9 @@ fn last_mark(version: Version) -> Mark {
 /// The line of this number of `HOP`, or of `DEAD`, from 0 on.
 fn line_of(alloc: Global, version: Version, number: u32) -> Result<CertLine, AllocError> {
     match number {
-        0 => Ok(CertLine::Version(version)),
+        0 => Ok(CertLine::Head(version)),
         1 => Ok(CertLine::Claim(Claim::Bound(6))),
-        2 => Ok(CertLine::Constants(weights(version, 6, -1))),
+        2 => Ok(CertLine::Constant(weights(version, 6, -1))),
         3 => atom_at(alloc, weights(version, 0, 0), b"a"),
         4 => atom_at(alloc, weights(version, -3, 0), b"b"),
         5 => atom_at(alloc, weights(version, -6, 2), b"c"),

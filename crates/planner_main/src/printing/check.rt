@@ -14,9 +14,6 @@ use plan_file::step_text;
 use std::alloc::{AllocError, Global};
 use task::Task;
 
-/// The number of a limit, which is reported without a line.
-const LIMIT: u8 = 55;
-
 /// Why nothing is reported for a certificate: its device failed, or memory was refused. `None` where the answer is reported.
 pub(crate) fn failure_of(answer: &Result<Accepted, Refusal>) -> Option<IoFault>
     ensures { result ≡ failure_of answer.now }
@@ -69,9 +66,6 @@ fn line_refused(alloc: Global, code: RefusalCode, line: u64) -> Result<String, A
     ensures { IfOk result (λ said. string_bytes said ≡ line_refused code line) }
 {
     let number = code.number();
-    if number == LIMIT {
-        return plain_refused(alloc, code);
-    }
     let name = code.name();
     format!(in alloc; "not accepted {number} {name} line {line}\n")
 }

@@ -12,13 +12,13 @@ use Rattle.cert_checker.specs.Taking.{HasTaken, IsTaken, IsWrongNow, heading_of}
 use Rattle.cert_checker.proofs.GivenLemmas.{reported_version, reported_claim, reported_constant}
 use Rattle.cert_checker.proofs.header.take.Goals as goal
 
-pub returns-in-Version-clause-taken : goal.returns-in-Version-clause-taken
-returns-in-Version-clause-taken c =
+pub returns-in-Head-clause-taken : goal.returns-in-Head-clause-taken
+returns-in-Head-clause-taken c =
     let task = task_of c.args.task.now in
     let header = c.args.header.now in
-    let after : Header = record { version = c.in-Version.version; claim = header.claim; atoms = header.atoms; bounds = header.bounds } in
+    let after : Header = record { version = c.in-Head.version; claim = header.claim; atoms = header.atoms; bounds = header.bounds } in
     subst (λ line. (before : List TextLine) → BeginCertificate (before ++ text_line_of line ∷ []) → HasTaken task before header → IsTaken task before (text_line_of line) after None)
-    (sym c.in-Version.is) (λ before begun reported. (reported_version task before (heading_of header) reported (version_of c.in-Version.version) begun, refl))
+    (sym c.in-Head.is) (λ before begun reported. (reported_version task before (heading_of header) reported (version_of c.in-Head.version) begun, refl))
 
 pub returns-in-Claim-clause-taken : goal.returns-in-Claim-clause-taken
 returns-in-Claim-clause-taken c =
@@ -28,11 +28,11 @@ returns-in-Claim-clause-taken c =
     subst (λ line. (before : List TextLine) → BeginCertificate (before ++ text_line_of line ∷ []) → HasTaken task before header → IsTaken task before (text_line_of line) after None)
     (sym c.in-Claim.is) (λ before begun reported. (reported_claim task before (heading_of header) reported (claim_of c.in-Claim.claim) begun, refl))
 
-pub returns-in-Constants-clause-taken : goal.returns-in-Constants-clause-taken
-returns-in-Constants-clause-taken c =
+pub returns-in-Constant-clause-taken : goal.returns-in-Constant-clause-taken
+returns-in-Constant-clause-taken c =
     let task = task_of c.args.task.now in
     let header = c.args.header.now in
-    let constants = c.in-Constants.constants in
+    let constants = c.in-Constant.constants in
     let with_constants : ℤ → ℤ → Header = λ value dead_end. record {
       version = header.version;
       claim = header.claim;
@@ -48,7 +48,7 @@ returns-in-Constants-clause-taken c =
     (λ i. with_constants (sym value_is i) (sym dead_end_is i))
     (subst (λ line. (before : List TextLine) → BeginCertificate (before ++ text_line_of line ∷ []) → HasTaken task before header
     → IsTaken task before (text_line_of line) (with_constants constants.of_value (of_dead_end_or_zero (weights_of constants))) None)
-    (sym c.in-Constants.is) (λ before begun reported. (reported_constant task before (heading_of header) reported (weights_of constants) begun, refl)))
+    (sym c.in-Constant.is) (λ before begun reported. (reported_constant task before (heading_of header) reported (weights_of constants) begun, refl)))
 
 pub returns-in_ok-add_atom-in-Weight-clause-taken : goal.returns-in_ok-add_atom-in-Weight-clause-taken
 returns-in_ok-add_atom-in-Weight-clause-taken c =

@@ -6,8 +6,8 @@ use Rattle.certificate_reader.proofs.ParseLemmas.{malformed_atom}
 use Rattle.std.proofs.lemmas.Result.{err_from_is_err_and}
 use Rattle.certificate_reader.proofs.parsing.atom_line.Goals as goal
 
-pub returns-in_err-atom : goal.returns-in_err-atom
-returns-in_err-atom c = λ count. let p = err_from_is_err_and c.from_residual.result c.from_residual.ensures.1 in rw (p.1, p.2) tt
+pub returns-in_err-predicate : goal.returns-in_err-predicate
+returns-in_err-predicate c = λ count. let p = err_from_is_err_and c.from_residual.result c.from_residual.ensures.1 in rw (p.1, p.2) tt
 
 pub returns-in_default : goal.returns-in_default
 returns-in_default c =
@@ -15,7 +15,7 @@ returns-in_default c =
 
 pub returns-in-None : goal.returns-in-None
 returns-in-None c =
-    let never = rw c.in-None.is at c.in_ok-atom.ensures.none in
+    let never = rw c.in-None.is at c.in_ok-predicate.ensures.none in
     let read = c.in-Some.ensures.some in
     malformed_atom c.args.rest.now (version_of c.args.version) (λ count. no_atom_after c.args.rest.now (version_of c.args.version) count
     (weights_of c.in-Some.weights) (text_in c.in-Some.following) read.0 read.1 c.in-Some-following.following.now (ap text_in c.in-Some-following.is) never)
@@ -29,7 +29,7 @@ returns-in_default-following c =
 pub returns-in-Some-2 : goal.returns-in-Some-2
 returns-in-Some-2 c = λ count.
     let read = c.in-Some.ensures.some in
-    let atom = rw c.in-Some-2.is at c.in_ok-atom.ensures.some in
-    atom_is_read c.args.rest.now (version_of c.args.version) count (record { weights = weights_of c.in-Some.weights; atom = named_atom_of c.in-Some-2.atom }) read.0 atom.0
+    let atom = rw c.in-Some-2.is at c.in_ok-predicate.ensures.some in
+    atom_is_read c.args.rest.now (version_of c.args.version) count (record { weights = weights_of c.in-Some.weights; atom = named_atom_of c.in-Some-2.field-0 }) read.0 atom.0
     (ap (λ text. with_weights (weights_of c.in-Some.weights) (Some text)) atom.1 ∙ ap (λ following. with_weights (weights_of c.in-Some.weights) (text_in following)) (sym c.in-Some-following.is) ∙ read.1)
     c.requires.short
