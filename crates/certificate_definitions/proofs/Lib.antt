@@ -1,4 +1,5 @@
 pub mod CertificateRefusalsLemmas
 pub mod CertificateExampleProofs
+pub mod Beginnings
 pub mod Machine
 pub mod TooMany
