@@ -1,6 +1,6 @@
 -- The place of a reader after some lines says just what they are.
 use Rattle.std.proofs.Common.{◌≡◌, ℕ, suc, ◌+◌, ◌<◌, ◌≤◌, Bool, true, false, List, [], ◌∷◌, ◌++◌, map, length, Option, None, Some, refl, sym, ap, ◌∙◌, subst, append_assoc, append-nil, length-append, arith}
-use Rattle.std.specs.Prelude.{◌&&◌, not, ◌==◌, nat_le, nat_lt, ℤ, pos, IsTrue}
+use Rattle.std.specs.Prelude.{◌&&◌, ◌==◌, nat_le, nat_lt, ℤ, pos, IsTrue}
 use Rattle.std.specs.List.{list_all}
 use Rattle.std.specs.Option.{option_and_then}
 use Rattle.std.proofs.lemmas.Bool.{and_parts, eqb-true, leb-true, le-leb, ltb-true, lt-ltb}
@@ -10,19 +10,14 @@ use Rattle.std.proofs.lemmas.List.Folds.{list_all-append, list_all-map}
 use Rattle.model.specs.Claims.{Claim, none}
 use Rattle.certificate_definitions.specs.Certificates.{Version, one, two, three, StateLine, is_number, is_claim}
 use Rattle.table_functions.specs.TableFunctions.{Row}
-use Rattle.certificate_definitions.specs.CertificateText.{WeightedAtom, TableLine, scope, row, NamedCertificate, TextLine, version, claims, constant, atom, tabled, listed, last, Format, is_line, row_count, begin_with_scope, format_of, most_atoms, most_rows, most_states, text_lines, keeps_text_limits, AreWhole, BeginCertificate, Beginning, head_lines, format_in}
+use Rattle.certificate_definitions.specs.CertificateText.{WeightedAtom, TableLine, scope, row, NamedCertificate, TextLine, version, claims, constant, atom, tabled, listed, last, Format, is_line, row_count, scope_count, begin_with_scope, format_of, most_atoms, most_tables, most_rows, most_states, text_lines, keeps_text_limits, AreWhole, BeginCertificate, Beginning, head_lines, format_in}
 use Rattle.certificate_definitions.specs.CertificateMachine.{Body, CertificatePlace, at_version, at_claim, at_constant, in_body, ended, no_format, no_body, atom_more, scope_more, row_more, state_more, atom_follows, row_follows, only_if, next_place, place_from, place_after}
 use Rattle.certificate_definitions.proofs.Beginnings.{body_lines}
 
 -- ---- what comes before a place
 
--- a table began
-abbrev pub has_begun : List TableLine → Bool
-has_begun [] = false
-has_begun (t ∷ tables) = true
-
 abbrev pub body_of : Beginning → Body
-body_of g = record { format = format_in g; in_tables = has_begun g.tables; rows = row_count g.tables; states = length g.states }
+body_of g = record { format = format_in g; tables = scope_count g.tables; rows = row_count g.tables; states = length g.states }
 
 -- the first lines keep the limits
 pub record Keeps (g : Beginning) : Type 0 where
@@ -33,6 +28,7 @@ pub record Keeps (g : Beginning) : Type 0 where
   pub states_are : IsTrue (list_all (λ l. is_line (format_in g) (listed l)) g.states)
   pub scope_first : IsTrue (begin_with_scope g.tables)
   pub few_atoms : length g.atoms ≤ most_atoms
+  pub few_tables : scope_count g.tables ≤ most_tables
   pub few_rows : row_count g.tables ≤ most_rows
   pub few_states : length g.states ≤ most_states
 
@@ -74,20 +70,23 @@ pub no_states : (states : List StateLine) → length states ≡ 0 → states ≡
 no_states [] empty = refl
 no_states (l ∷ states) empty = absurd (omega (arith, empty))
 
-pub no_tables : (tables : List TableLine) → has_begun tables ≡ false → tables ≡ []
-no_tables [] none_yet = refl
-no_tables (t ∷ tables) none_yet = absurd (cc none_yet)
-
-not_true : (b : Bool) → not b ≡ true → b ≡ false
-not_true true is = absurd (cc is)
-not_true false is = refl
+pub no_tables : (tables : List TableLine) → IsTrue (begin_with_scope tables) → scope_count tables ≡ 0 → tables ≡ []
+no_tables [] first none_yet = refl
+no_tables (scope s ∷ tables) first none_yet = absurd (omega (arith, none_yet))
+no_tables (row r ∷ tables) first none_yet = absurd (cc first)
 
 both_true : (a b : Bool) → a ≡ true → b ≡ true → a && b ≡ true
 both_true a b x y = λ i. x i && y i
 
-begun_after : (tables : List TableLine) (t : TableLine) → has_begun (tables ++ t ∷ []) ≡ true
-begun_after [] t = refl
-begun_after (s ∷ tables) t = refl
+scopes_and_scope : (tables : List TableLine) (atoms : List ℕ) → scope_count (tables ++ scope atoms ∷ []) ≡ scope_count tables + 1
+scopes_and_scope [] atoms = refl
+scopes_and_scope (scope s ∷ tables) atoms = omega (arith, scopes_and_scope tables atoms)
+scopes_and_scope (row r ∷ tables) atoms = scopes_and_scope tables atoms
+
+scopes_and_row : (tables : List TableLine) (r : Row) → scope_count (tables ++ row r ∷ []) ≡ scope_count tables
+scopes_and_row [] r = refl
+scopes_and_row (scope s ∷ tables) r = ap (λ n. 1 + n) (scopes_and_row tables r)
+scopes_and_row (row q ∷ tables) r = scopes_and_row tables r
 
 rows_and_scope : (tables : List TableLine) (atoms : List ℕ) → row_count (tables ++ scope atoms ∷ []) ≡ row_count tables
 rows_and_scope [] atoms = refl
@@ -99,8 +98,8 @@ rows_and_row [] r = refl
 rows_and_row (scope s ∷ tables) r = rows_and_row tables r
 rows_and_row (row q ∷ tables) r = omega (arith, rows_and_row tables r)
 
-scope_stays_first : (tables : List TableLine) (t : TableLine) → has_begun tables ≡ true → IsTrue (begin_with_scope tables) → IsTrue (begin_with_scope (tables ++ t ∷ []))
-scope_stays_first [] t begun first = absurd (cc begun)
+scope_stays_first : (tables : List TableLine) (t : TableLine) → 0 < scope_count tables → IsTrue (begin_with_scope tables) → IsTrue (begin_with_scope (tables ++ t ∷ []))
+scope_stays_first [] t begun first = absurd (omega (arith, begun))
 scope_stays_first (s ∷ tables) t begun first = by_first s first
   where
     by_first : (s : TableLine) → IsTrue (begin_with_scope (s ∷ tables)) → IsTrue (begin_with_scope (s ∷ (tables ++ t ∷ [])))
@@ -137,10 +136,11 @@ module _ (g : Beginning) (keeps : Keeps g) where
           states_are = ap (list_all (λ l. is_line format (listed l))) no_states;
           scope_first = keeps.scope_first;
           few_atoms = omega (arith, below, one_longer g.atoms a);
+          few_tables = keeps.few_tables;
           few_rows = keeps.few_rows;
           few_states = keeps.few_states;
         };
-        body_is = (λ i. record { format = record { version = g.version; weights = length g.constants; atoms = one_longer g.atoms a i }; in_tables = has_begun g.tables; rows = row_count g.tables; states = length g.states });
+        body_is = (λ i. record { format = record { version = g.version; weights = length g.constants; atoms = one_longer g.atoms a i }; tables = scope_count g.tables; rows = row_count g.tables; states = length g.states });
         lines_are =
             (λ i. first_three (body_lines g.atoms (no_tables i) (no_states i) ++ atom a ∷ []))
             ∙ ap (λ lines. first_three (lines ++ atom a ∷ [])) (append-nil (map atom g.atoms ++ []) ∙ append-nil (map atom g.atoms))
@@ -149,8 +149,8 @@ module _ (g : Beginning) (keeps : Keeps g) where
       }
 
   with_table_line : (t : TableLine) (b : Body) → g.states ≡ [] → is_line (format_in g) (tabled t) ≡ true → IsTrue (begin_with_scope (g.tables ++ t ∷ []))
-      → row_count (g.tables ++ t ∷ []) ≤ most_rows → body_of (with_parts g.atoms (g.tables ++ t ∷ []) g.states) ≡ b → IsBody b (head_lines g ++ tabled t ∷ [])
-  with_table_line t b no_states is first few same = record {
+      → scope_count (g.tables ++ t ∷ []) ≤ most_tables → row_count (g.tables ++ t ∷ []) ≤ most_rows → body_of (with_parts g.atoms (g.tables ++ t ∷ []) g.states) ≡ b → IsBody b (head_lines g ++ tabled t ∷ [])
+  with_table_line t b no_states is first few_tables few same = record {
     beginning = with_parts g.atoms (g.tables ++ t ∷ []) g.states;
     keeps = record {
       claim_is = keeps.claim_is;
@@ -160,6 +160,7 @@ module _ (g : Beginning) (keeps : Keeps g) where
       states_are = keeps.states_are;
       scope_first = first;
       few_atoms = keeps.few_atoms;
+      few_tables = few_tables;
       few_rows = few;
       few_states = keeps.few_states;
     };
@@ -173,18 +174,20 @@ module _ (g : Beginning) (keeps : Keeps g) where
         ∙ (λ i. first_three (body_lines g.atoms (g.tables ++ t ∷ []) (sym no_states i)));
   }
 
-  with_scope : (s : List ℕ) → g.states ≡ [] → is_line (format_in g) (tabled (scope s)) ≡ true → IsBody (scope_more (body_of g)) (head_lines g ++ tabled (scope s) ∷ [])
-  with_scope s no_states is =
+  with_scope : (s : List ℕ) → g.states ≡ [] → scope_count g.tables < most_tables → is_line (format_in g) (tabled (scope s)) ≡ true → IsBody (scope_more (body_of g)) (head_lines g ++ tabled (scope s) ∷ [])
+  with_scope s no_states below is =
       with_table_line (scope s) (scope_more (body_of g)) no_states is (scope_after g.tables s keeps.scope_first)
+      (omega (arith, scopes_and_scope g.tables s, below))
       (omega (arith, rows_and_scope g.tables s, keeps.few_rows))
-      (λ i. record { format = format_in g; in_tables = begun_after g.tables (scope s) i; rows = rows_and_scope g.tables s i; states = length g.states })
+      (λ i. record { format = format_in g; tables = scopes_and_scope g.tables s i; rows = rows_and_scope g.tables s i; states = length g.states })
 
-  with_row : (r : Row) → has_begun g.tables ≡ true → g.states ≡ [] → row_count g.tables < most_rows → is_line (format_in g) (tabled (row r)) ≡ true
+  with_row : (r : Row) → 0 < scope_count g.tables → g.states ≡ [] → row_count g.tables < most_rows → is_line (format_in g) (tabled (row r)) ≡ true
       → IsBody (row_more (body_of g)) (head_lines g ++ tabled (row r) ∷ [])
   with_row r begun no_states below is =
       with_table_line (row r) (row_more (body_of g)) no_states is (scope_stays_first g.tables (row r) begun keeps.scope_first)
+      (omega (arith, scopes_and_row g.tables r, keeps.few_tables))
       (omega (arith, rows_and_row g.tables r, below))
-      (λ i. record { format = format_in g; in_tables = (begun_after g.tables (row r) ∙ sym begun) i; rows = rows_and_row g.tables r i; states = length g.states })
+      (λ i. record { format = format_in g; tables = scopes_and_row g.tables r i; rows = rows_and_row g.tables r i; states = length g.states })
 
   with_state : (l : StateLine) → length g.states < most_states → is_line (format_in g) (listed l) ≡ true → IsBody (state_more (body_of g)) (head_lines g ++ listed l ∷ [])
   with_state l below is = record {
@@ -197,10 +200,11 @@ module _ (g : Beginning) (keeps : Keeps g) where
       states_are = all_more (λ l. is_line (format_in g) (listed l)) g.states l keeps.states_are is;
       scope_first = keeps.scope_first;
       few_atoms = keeps.few_atoms;
+      few_tables = keeps.few_tables;
       few_rows = keeps.few_rows;
       few_states = omega (arith, below, one_longer g.states l);
     };
-    body_is = (λ i. record { format = format_in g; in_tables = has_begun g.tables; rows = row_count g.tables; states = one_longer g.states l i });
+    body_is = (λ i. record { format = format_in g; tables = scope_count g.tables; rows = row_count g.tables; states = one_longer g.states l i });
     lines_are =
         ap first_three (append_assoc (map atom g.atoms ++ map tabled g.tables) (map listed g.states) (listed l ∷ [])
         ∙ ap (λ lines. (map atom g.atoms ++ map tabled g.tables) ++ lines) (sym (map-append listed g.states (l ∷ []))));
@@ -222,9 +226,10 @@ module _ (g : Beginning) (keeps : Keeps g) where
       list_all-append test (body_lines g.atoms g.tables g.states) (last (length g.states) ∷ []) ∙ both_true _ _ body (both_true (is_number (length g.states)) true number refl) in
       let each : list_all test (text_lines c) ≡ true = both_true (is_claim g.claim) _ keeps.claim_is (both_true (test (constant g.constants)) _ keeps.constants_are following) in
       let few : nat_le (length g.atoms) most_atoms ≡ true = le-leb (length g.atoms) most_atoms keeps.few_atoms in
+      let few_tables : nat_le (scope_count g.tables) most_tables ≡ true = le-leb (scope_count g.tables) most_tables keeps.few_tables in
       let few_rows : nat_le (row_count g.tables) most_rows ≡ true = le-leb (row_count g.tables) most_rows keeps.few_rows in
       let few_states : nat_le (length g.states) most_states ≡ true = le-leb (length g.states) most_states keeps.few_states in
-      (c, both_true _ _ (both_true _ _ (both_true _ _ few (both_true _ _ keeps.scope_first few_rows)) few_states) each, refl)
+      (c, both_true _ _ (both_true _ _ (both_true _ _ few (both_true _ _ (both_true _ _ keeps.scope_first few_tables) few_rows)) few_states) each, refl)
 
   -- one line more of such lines leads to the next place
   step_on : (line : TextLine) (next : CertificatePlace) → next_place (in_body (body_of g)) line ≡ Some next → ComesBefore next (head_lines g ++ line ∷ [])
@@ -236,22 +241,23 @@ module _ (g : Beginning) (keeps : Keeps g) where
       let (holds, same) = only_where (atom_follows b && nat_lt b.format.atoms most_atoms && is_line b.format (atom a)) (in_body (atom_more b)) next leads in
       let (counts, is) = and_parts (atom_follows b && nat_lt b.format.atoms most_atoms) (is_line b.format (atom a)) holds in
       let (follows, below) = and_parts (atom_follows b) (nat_lt b.format.atoms most_atoms) counts in
-      let (first, empty) = and_parts (not b.in_tables) (b.states == 0) follows in
+      let (first, empty) = and_parts (b.tables == 0) (b.states == 0) follows in
       subst (λ q. ComesBefore q (head_lines g ++ atom a ∷ [])) same
-      (with_atom a (no_tables g.tables (not_true (has_begun g.tables) first)) (no_states g.states (eqb-true b.states 0 empty)) (ltb-true b.format.atoms most_atoms below) is)
+      (with_atom a (no_tables g.tables keeps.scope_first (eqb-true b.tables 0 first)) (no_states g.states (eqb-true b.states 0 empty)) (ltb-true b.format.atoms most_atoms below) is)
   step_on (tabled (scope s)) next leads =
       let b : Body = body_of g in
-      let (holds, same) = only_where ((b.states == 0) && is_line b.format (tabled (scope s))) (in_body (scope_more b)) next leads in
-      let (empty, is) = and_parts (b.states == 0) (is_line b.format (tabled (scope s))) holds in
-      subst (λ q. ComesBefore q (head_lines g ++ tabled (scope s) ∷ [])) same (with_scope s (no_states g.states (eqb-true b.states 0 empty)) is)
+      let (holds, same) = only_where ((b.states == 0) && nat_lt b.tables most_tables && is_line b.format (tabled (scope s))) (in_body (scope_more b)) next leads in
+      let (counts, is) = and_parts ((b.states == 0) && nat_lt b.tables most_tables) (is_line b.format (tabled (scope s))) holds in
+      let (empty, below) = and_parts (b.states == 0) (nat_lt b.tables most_tables) counts in
+      subst (λ q. ComesBefore q (head_lines g ++ tabled (scope s) ∷ [])) same (with_scope s (no_states g.states (eqb-true b.states 0 empty)) (ltb-true b.tables most_tables below) is)
   step_on (tabled (row r)) next leads =
       let b : Body = body_of g in
       let (holds, same) = only_where (row_follows b && nat_lt b.rows most_rows && is_line b.format (tabled (row r))) (in_body (row_more b)) next leads in
       let (counts, is) = and_parts (row_follows b && nat_lt b.rows most_rows) (is_line b.format (tabled (row r))) holds in
       let (follows, below) = and_parts (row_follows b) (nat_lt b.rows most_rows) counts in
-      let (begun, empty) = and_parts b.in_tables (b.states == 0) follows in
+      let (begun, empty) = and_parts (nat_lt 0 b.tables) (b.states == 0) follows in
       subst (λ q. ComesBefore q (head_lines g ++ tabled (row r) ∷ [])) same
-      (with_row r begun (no_states g.states (eqb-true b.states 0 empty)) (ltb-true b.rows most_rows below) is)
+      (with_row r (ltb-true 0 b.tables begun) (no_states g.states (eqb-true b.states 0 empty)) (ltb-true b.rows most_rows below) is)
   step_on (listed l) next leads =
       let b : Body = body_of g in
       let (holds, same) = only_where (nat_lt b.states most_states && is_line b.format (listed l)) (in_body (state_more b)) next leads in
@@ -296,6 +302,7 @@ step (at_constant v) (constant k) next lines occurs leads =
         states_are = refl;
         scope_first = refl;
         few_atoms = omega arith;
+        few_tables = omega arith;
         few_rows = omega arith;
         few_states = omega arith;
       };
@@ -394,56 +401,62 @@ module _ (v : Version) (weights : ℕ) where
   abbrev format : ℕ → Format
   format n = record { version = v; weights = weights; atoms = n }
 
-  abbrev body : ℕ → Bool → ℕ → ℕ → CertificatePlace
-  body n begun r m = in_body (record { format = format n; in_tables = begun; rows = r; states = m })
+  abbrev body : (n tables rows states : ℕ) → CertificatePlace
+  body n t r m = in_body (record { format = format n; tables = t; rows = r; states = m })
 
   atoms_read : (atoms : List WeightedAtom) (n : ℕ) (more : List TextLine) → list_all (λ a. is_line (format n) (atom a)) atoms ≡ true → n + length atoms ≤ most_atoms
-      → place_from (body n false 0 0) (map atom atoms ++ more) ≡ place_from (body (n + length atoms) false 0 0) more
-  atoms_read [] n more all few = ap (λ k. place_from (body k false 0 0) more) (zero_more n)
+      → place_from (body n 0 0 0) (map atom atoms ++ more) ≡ place_from (body (n + length atoms) 0 0 0) more
+  atoms_read [] n more all few = ap (λ k. place_from (body k 0 0 0) more) (zero_more n)
   atoms_read (a ∷ atoms) n more all few =
       let (here, rest) = and_parts (is_line (format n) (atom a)) (list_all (λ a. is_line (format n) (atom a)) atoms) all in
       let below : nat_lt n most_atoms ≡ true = lt-ltb n most_atoms (omega (arith, few)) in
-      ap (λ b. option_and_then (λ next. place_from next (map atom atoms ++ more)) (only_if b (body (n + 1) false 0 0)))
+      ap (λ b. option_and_then (λ next. place_from next (map atom atoms ++ more)) (only_if b (body (n + 1) 0 0 0)))
       (both_true (true && nat_lt n most_atoms) (is_line (format n) (atom a)) below here)
       ∙ atoms_read atoms (n + 1) more rest (omega (arith, few))
-      ∙ ap (λ k. place_from (body k false 0 0) more) (one_more_counted n (length atoms))
+      ∙ ap (λ k. place_from (body k 0 0 0) more) (one_more_counted n (length atoms))
 
   module _ (n : ℕ) where
-    rows_read : (tables : List TableLine) (r : ℕ) (more : List TextLine) → list_all (λ t. is_line (format n) (tabled t)) tables ≡ true → r + row_count tables ≤ most_rows
-        → place_from (body n true r 0) (map tabled tables ++ more) ≡ place_from (body n true (r + row_count tables) 0) more
-    rows_read [] r more all few = ap (λ k. place_from (body n true k 0) more) (zero_more r)
-    rows_read (scope s ∷ tables) r more all few =
+    tables_read : (tables : List TableLine) (t r : ℕ) (more : List TextLine) → list_all (λ t. is_line (format n) (tabled t)) tables ≡ true → 0 < t
+        → t + scope_count tables ≤ most_tables → r + row_count tables ≤ most_rows
+        → place_from (body n t r 0) (map tabled tables ++ more) ≡ place_from (body n (t + scope_count tables) (r + row_count tables) 0) more
+    tables_read [] t r more all begun few few_rows = λ i. place_from (body n (zero_more t i) (zero_more r i) 0) more
+    tables_read (scope s ∷ tables) t r more all begun few few_rows =
         let (here, rest) = and_parts (is_line (format n) (tabled (scope s))) (list_all (λ t. is_line (format n) (tabled t)) tables) all in
-        ap (λ b. option_and_then (λ next. place_from next (map tabled tables ++ more)) (only_if b (body n true r 0))) here
-        ∙ rows_read tables r more rest few
-    rows_read (row q ∷ tables) r more all few =
+        let below : nat_lt t most_tables ≡ true = lt-ltb t most_tables (omega (arith, few)) in
+        ap (λ b. option_and_then (λ next. place_from next (map tabled tables ++ more)) (only_if b (body n (t + 1) r 0)))
+        (both_true (true && nat_lt t most_tables) (is_line (format n) (tabled (scope s))) below here)
+        ∙ tables_read tables (t + 1) r more rest (omega arith) (omega (arith, few)) few_rows
+        ∙ ap (λ k. place_from (body n k (r + row_count tables) 0) more) (one_row_counted t (scope_count tables))
+    tables_read (row q ∷ tables) t r more all begun few few_rows =
         let (here, rest) = and_parts (is_line (format n) (tabled (row q))) (list_all (λ t. is_line (format n) (tabled t)) tables) all in
-        let below : nat_lt r most_rows ≡ true = lt-ltb r most_rows (omega (arith, few)) in
-        ap (λ b. option_and_then (λ next. place_from next (map tabled tables ++ more)) (only_if b (body n true (r + 1) 0)))
-        (both_true (true && nat_lt r most_rows) (is_line (format n) (tabled (row q))) below here)
-        ∙ rows_read tables (r + 1) more rest (omega (arith, few))
-        ∙ ap (λ k. place_from (body n true k 0) more) (one_row_counted r (row_count tables))
+        let some : nat_lt 0 t && true ≡ true = both_true (nat_lt 0 t) true (lt-ltb 0 t begun) refl in
+        let below : nat_lt r most_rows ≡ true = lt-ltb r most_rows (omega (arith, few_rows)) in
+        ap (λ b. option_and_then (λ next. place_from next (map tabled tables ++ more)) (only_if b (body n t (r + 1) 0)))
+        (both_true (nat_lt 0 t && true && nat_lt r most_rows) (is_line (format n) (tabled (row q))) (both_true (nat_lt 0 t && true) (nat_lt r most_rows) some below) here)
+        ∙ tables_read tables t (r + 1) more rest begun few (omega (arith, few_rows))
+        ∙ ap (λ k. place_from (body n (t + scope_count tables) k 0) more) (one_row_counted r (row_count tables))
 
-    tables_read : (tables : List TableLine) (more : List TextLine) → list_all (λ t. is_line (format n) (tabled t)) tables ≡ true → IsTrue (begin_with_scope tables) → row_count tables ≤ most_rows
-        → place_from (body n false 0 0) (map tabled tables ++ more) ≡ place_from (body n (has_begun tables) (row_count tables) 0) more
-    tables_read [] more all first few = refl
-    tables_read (row r ∷ tables) more all first few = absurd (cc first)
-    tables_read (scope s ∷ tables) more all first few =
+    all_tables_read : (tables : List TableLine) (more : List TextLine) → list_all (λ t. is_line (format n) (tabled t)) tables ≡ true → IsTrue (begin_with_scope tables)
+        → scope_count tables ≤ most_tables → row_count tables ≤ most_rows
+        → place_from (body n 0 0 0) (map tabled tables ++ more) ≡ place_from (body n (scope_count tables) (row_count tables) 0) more
+    all_tables_read [] more all first few few_rows = refl
+    all_tables_read (row r ∷ tables) more all first few few_rows = absurd (cc first)
+    all_tables_read (scope s ∷ tables) more all first few few_rows =
         let (here, rest) = and_parts (is_line (format n) (tabled (scope s))) (list_all (λ t. is_line (format n) (tabled t)) tables) all in
-        ap (λ b. option_and_then (λ next. place_from next (map tabled tables ++ more)) (only_if b (body n true 0 0))) here
-        ∙ rows_read tables 0 more rest (omega (arith, few))
-        ∙ ap (λ k. place_from (body n true k 0) more) (from_zero (row_count tables))
+        ap (λ b. option_and_then (λ next. place_from next (map tabled tables ++ more)) (only_if b (body n 1 0 0))) here
+        ∙ tables_read tables 1 0 more rest (omega arith) (omega (arith, few)) (omega (arith, few_rows))
+        ∙ ap (λ k. place_from (body n (1 + scope_count tables) k 0) more) (from_zero (row_count tables))
 
-    states_read : (begun : Bool) (r : ℕ) (states : List StateLine) (m : ℕ) (more : List TextLine) → list_all (λ l. is_line (format n) (listed l)) states ≡ true → m + length states ≤ most_states
-        → place_from (body n begun r m) (map listed states ++ more) ≡ place_from (body n begun r (m + length states)) more
-    states_read begun r [] m more all few = ap (λ k. place_from (body n begun r k) more) (zero_more m)
-    states_read begun r (l ∷ states) m more all few =
+    states_read : (t r : ℕ) (states : List StateLine) (m : ℕ) (more : List TextLine) → list_all (λ l. is_line (format n) (listed l)) states ≡ true → m + length states ≤ most_states
+        → place_from (body n t r m) (map listed states ++ more) ≡ place_from (body n t r (m + length states)) more
+    states_read t r [] m more all few = ap (λ k. place_from (body n t r k) more) (zero_more m)
+    states_read t r (l ∷ states) m more all few =
         let (here, rest) = and_parts (is_line (format n) (listed l)) (list_all (λ l. is_line (format n) (listed l)) states) all in
         let below : nat_lt m most_states ≡ true = lt-ltb m most_states (omega (arith, few)) in
-        ap (λ b. option_and_then (λ next. place_from next (map listed states ++ more)) (only_if b (body n begun r (m + 1))))
+        ap (λ b. option_and_then (λ next. place_from next (map listed states ++ more)) (only_if b (body n t r (m + 1))))
         (both_true (nat_lt m most_states) (is_line (format n) (listed l)) below here)
-        ∙ states_read begun r states (m + 1) more rest (omega (arith, few))
-        ∙ ap (λ k. place_from (body n begun r k) more) (one_more_counted m (length states))
+        ∙ states_read t r states (m + 1) more rest (omega (arith, few))
+        ∙ ap (λ k. place_from (body n t r k) more) (one_more_counted m (length states))
 
 same_count : (m k : ℕ) → k ≡ m → (k == m) ≡ true
 same_count m k same = grind (arith, nat_tests, same)
@@ -459,7 +472,8 @@ lines_read c keeps =
     let (counts, each) = and_parts _ (list_all test (text_lines c)) keeps in
     let (bodies, few_states) = and_parts _ (nat_le (length c.lines) most_states) counts in
     let (few, rows) = and_parts (nat_le k most_atoms) _ bodies in
-    let (first, few_rows) = and_parts (begin_with_scope c.tables) (nat_le (row_count c.tables) most_rows) rows in
+    let (scopes, few_rows) = and_parts (begin_with_scope c.tables && nat_le (scope_count c.tables) most_tables) (nat_le (row_count c.tables) most_rows) rows in
+    let (first, few_tables) = and_parts (begin_with_scope c.tables) (nat_le (scope_count c.tables) most_tables) scopes in
     let atom_lines : List TextLine = map atom c.atoms in
     let table_lines : List TextLine = map tabled c.tables in
     let state_lines : List TextLine = map listed c.lines in
@@ -474,20 +488,21 @@ lines_read c keeps =
     let tables_are : list_all (λ t. test (tabled t)) c.tables ≡ true = sym (list_all-map test tabled c.tables) ∙ tables in
     let states_are : list_all (λ l. test (listed l)) c.lines ≡ true = sym (list_all-map test listed c.lines) ∙ states in
     let atoms_within : k ≤ most_atoms = leb-true k most_atoms few in
+    let tables_within : scope_count c.tables ≤ most_tables = leb-true (scope_count c.tables) most_tables few_tables in
     let rows_within : row_count c.tables ≤ most_rows = leb-true (row_count c.tables) most_rows few_rows in
     let states_within : length c.lines ≤ most_states = leb-true (length c.lines) most_states few_states in
     let w : ℕ = length c.constants in
-    let begun : Bool = has_begun c.tables in
+    let t : ℕ = scope_count c.tables in
     let r : ℕ = row_count c.tables in
     ap (λ b. option_and_then (λ next. place_from next (constant c.constants ∷ all_lines)) (only_if b (at_constant v))) claim
     ∙ ap (λ b. option_and_then (λ next. place_from next all_lines) (only_if b (in_body (no_body v w)))) constant_is
     ∙ ap (place_from (in_body (no_body v w))) (append_assoc (atom_lines ++ table_lines) state_lines end ∙ append_assoc atom_lines table_lines (state_lines ++ end))
     ∙ atoms_read v w c.atoms 0 (table_lines ++ (state_lines ++ end)) atoms_are (omega (arith, atoms_within))
-    ∙ ap (λ n. place_from (body v w n false 0 0) (table_lines ++ (state_lines ++ end))) (from_zero k)
-    ∙ tables_read v w k c.tables (state_lines ++ end) tables_are first rows_within
-    ∙ states_read v w k begun r c.lines 0 end states_are (omega (arith, states_within))
-    ∙ ap (λ m. place_from (body v w k begun r m) end) (from_zero (length c.lines))
-    ∙ last_read (record { format = format v w k; in_tables = begun; rows = r; states = length c.lines })
+    ∙ ap (λ n. place_from (body v w n 0 0 0) (table_lines ++ (state_lines ++ end))) (from_zero k)
+    ∙ all_tables_read v w k c.tables (state_lines ++ end) tables_are first tables_within rows_within
+    ∙ states_read v w k t r c.lines 0 end states_are (omega (arith, states_within))
+    ∙ ap (λ m. place_from (body v w k t r m) end) (from_zero (length c.lines))
+    ∙ last_read (record { format = format v w k; tables = t; rows = r; states = length c.lines })
 
 pub end_of_whole : (lines : List TextLine) → AreWhole lines → place_after lines ≡ Some ended
 end_of_whole lines (c, keeps, are) = subst (λ lines. place_after lines ≡ Some ended) are (lines_read c keeps)

@@ -1,17 +1,18 @@
 -- What is one line too many, by the place where it is.
-use Rattle.std.proofs.Common.{◌≡◌, ℕ, true, false, List, [], ◌∷◌, length, refl, sym, ap, ◌∙◌, subst, Some}
+use Rattle.std.proofs.Common.{◌≡◌, ℕ, ◌<◌, List, [], ◌∷◌, length, refl, sym, ap, ◌∙◌, subst, Some, arith}
 use Rattle.std.specs.Prelude.{◌≢◌, IsTrue}
 use Rattle.table_functions.specs.TableFunctions.{Row}
 use Rattle.certificate_definitions.specs.Certificates.{StateLine}
-use Rattle.certificate_definitions.specs.CertificateText.{WeightedAtom, TableLine, row, TextLine, atom, tabled, listed, is_line, line_text, most_atoms, most_rows, most_states, IsOneTooMany, atoms, rows, states, Beginning, head_lines}
+use Rattle.certificate_definitions.specs.CertificateText.{WeightedAtom, TableLine, scope, row, TextLine, atom, tabled, listed, is_line, line_text, scope_count, begin_with_scope, most_atoms, most_tables, most_rows, most_states, IsOneTooMany, atoms, scopes, rows, states, Beginning, head_lines}
 use Rattle.certificate_definitions.specs.CertificateMachine.{Body, CertificatePlace, at_version, at_claim, at_constant, in_body, ended, place_after}
 use Rattle.certificate_definitions.proofs.Beginnings.{no_beginning_is_whole, one_beginning}
-use Rattle.certificate_definitions.proofs.Machine.{ComesBefore, body_of, has_begun, no_states, no_tables, occurs}
+use Rattle.certificate_definitions.proofs.Machine.{ComesBefore, Keeps, body_of, no_states, no_tables, occurs}
 
 -- The bytes are a line that may not occur in this body for the limit alone.
 pub data IsOverIn (b : Body) (bytes : List ℕ) : Type 0 where
-  an_atom : (a : WeightedAtom) → b.in_tables ≡ false → b.states ≡ 0 → b.format.atoms ≡ most_atoms → IsTrue (is_line b.format (atom a)) → bytes ≡ line_text (atom a) → IsOverIn b bytes
-  a_row : (r : Row) → b.in_tables ≡ true → b.states ≡ 0 → b.rows ≡ most_rows → IsTrue (is_line b.format (tabled (row r))) → bytes ≡ line_text (tabled (row r)) → IsOverIn b bytes
+  an_atom : (a : WeightedAtom) → b.tables ≡ 0 → b.states ≡ 0 → b.format.atoms ≡ most_atoms → IsTrue (is_line b.format (atom a)) → bytes ≡ line_text (atom a) → IsOverIn b bytes
+  a_scope : (s : List ℕ) → b.states ≡ 0 → b.tables ≡ most_tables → IsTrue (is_line b.format (tabled (scope s))) → bytes ≡ line_text (tabled (scope s)) → IsOverIn b bytes
+  a_row : (r : Row) → 0 < b.tables → b.states ≡ 0 → b.rows ≡ most_rows → IsTrue (is_line b.format (tabled (row r))) → bytes ≡ line_text (tabled (row r)) → IsOverIn b bytes
   a_state : (l : StateLine) → b.states ≡ most_states → IsTrue (is_line b.format (listed l)) → bytes ≡ line_text (listed l) → IsOverIn b bytes
 
 abbrev pub IsTooManyAt : CertificatePlace → List ℕ → Type 0
@@ -29,32 +30,43 @@ place_past g (at_constant w) (other, is, are) = absurd (cc are)
 place_past g (in_body b) body = ap in_body (sym body.body_is ∙ ap body_of (sym (one_beginning g body.beginning body.lines_are)))
 place_past g ended (c, keeps, are) = absurd (no_beginning_is_whole c g are)
 
-begun_where : (tables : List TableLine) → tables ≢ [] → has_begun tables ≡ true
-begun_where [] some = absurd (some refl)
-begun_where (t ∷ tables) some = refl
+begun_where : (tables : List TableLine) → IsTrue (begin_with_scope tables) → tables ≢ [] → 0 < scope_count tables
+begun_where [] first some = absurd (some refl)
+begun_where (scope s ∷ tables) first some = omega arith
+begun_where (row r ∷ tables) first some = absurd (cc first)
 
-some_where : (tables : List TableLine) → has_begun tables ≡ true → tables ≢ []
-some_where [] begun = absurd (cc begun)
+some_where : (tables : List TableLine) → 0 < scope_count tables → tables ≢ []
+some_where [] begun = absurd (omega (arith, begun))
 some_where (t ∷ tables) begun = λ same. absurd (cc same)
 
 -- ---- the limit, by the place
 
-over_in : (bytes : List ℕ) (before : List TextLine) → (over : IsOneTooMany before bytes) → (g : Beginning) × (before ≡ head_lines g) × IsOverIn (body_of g) bytes
-over_in bytes before (atoms g a are none_yet no_state full is same) = (g, are, an_atom a (ap has_begun none_yet) (ap length no_state) full is same)
-over_in bytes before (rows g r are some no_state full is same) = (g, are, a_row r (begun_where g.tables some) (ap length no_state) full is same)
-over_in bytes before (states g l are full is same) = (g, are, a_state l full is same)
+over_in : (bytes : List ℕ) (before : List TextLine) → (over : IsOneTooMany before bytes) → (g : Beginning) × (before ≡ head_lines g) × (Keeps g → IsOverIn (body_of g) bytes)
+over_in bytes before (atoms g a are none_yet no_state full is same) = (g, are, λ keeps. an_atom a (ap scope_count none_yet) (ap length no_state) full is same)
+over_in bytes before (scopes g s are no_state full is same) = (g, are, λ keeps. a_scope s (ap length no_state) full is same)
+over_in bytes before (rows g r are some no_state full is same) = (g, are, λ keeps. a_row r (begun_where g.tables keeps.scope_first some) (ap length no_state) full is same)
+over_in bytes before (states g l are full is same) = (g, are, λ keeps. a_state l full is same)
+
+-- the first lines that come before a place keep the limits
+kept : (g : Beginning) (place : CertificatePlace) → ComesBefore place (head_lines g) → Keeps g
+kept g at_version occurs = absurd (cc occurs)
+kept g (at_claim w) occurs = absurd (cc occurs)
+kept g (at_constant w) (other, is, are) = absurd (cc are)
+kept g (in_body b) body = subst Keeps (sym (one_beginning g body.beginning body.lines_are)) body.keeps
+kept g ended (c, keeps, are) = absurd (no_beginning_is_whole c g are)
 
 module _ (before : List TextLine) (place : CertificatePlace) (leads : place_after before ≡ Some place) (bytes : List ℕ) where
   pub too_many_at : IsOneTooMany before bytes → IsTooManyAt place bytes
   too_many_at over =
       let (g, are, is) = over_in bytes before over in
-      let here : place ≡ in_body (body_of g) = place_past g place (subst (ComesBefore place) are (occurs before place leads)) in
-      subst (λ place. IsTooManyAt place bytes) (sym here) is
+      let comes : ComesBefore place (head_lines g) = subst (ComesBefore place) are (occurs before place leads) in
+      subst (λ place. IsTooManyAt place bytes) (sym (place_past g place comes)) (is (kept g place comes))
 
-of_over : (g : Beginning) (before : List TextLine) (bytes : List ℕ) → before ≡ head_lines g → IsOverIn (body_of g) bytes → IsOneTooMany before bytes
-of_over g before bytes are (an_atom a none_yet no_state full is same) = atoms g a are (no_tables g.tables none_yet) (no_states g.states no_state) full is same
-of_over g before bytes are (a_row r begun no_state full is same) = rows g r are (some_where g.tables begun) (no_states g.states no_state) full is same
-of_over g before bytes are (a_state l full is same) = states g l are full is same
+of_over : (g : Beginning) → Keeps g → (before : List TextLine) (bytes : List ℕ) → before ≡ head_lines g → IsOverIn (body_of g) bytes → IsOneTooMany before bytes
+of_over g keeps before bytes are (an_atom a none_yet no_state full is same) = atoms g a are (no_tables g.tables keeps.scope_first none_yet) (no_states g.states no_state) full is same
+of_over g keeps before bytes are (a_scope s no_state full is same) = scopes g s are (no_states g.states no_state) full is same
+of_over g keeps before bytes are (a_row r begun no_state full is same) = rows g r are (some_where g.tables begun) (no_states g.states no_state) full is same
+of_over g keeps before bytes are (a_state l full is same) = states g l are full is same
 
 pub too_many_of : (before : List TextLine) (bytes : List ℕ) (place : CertificatePlace) → ComesBefore place before → IsTooManyAt place bytes → IsOneTooMany before bytes
 too_many_of before bytes at_version occurs over = absurd over
@@ -62,4 +74,4 @@ too_many_of before bytes (at_claim v) occurs over = absurd over
 too_many_of before bytes (at_constant v) occurs over = absurd over
 too_many_of before bytes ended occurs over = absurd over
 too_many_of before bytes (in_body b) body over =
-    of_over body.beginning before bytes body.lines_are (subst (λ b. IsOverIn b bytes) (sym body.body_is) over)
+    of_over body.beginning body.keeps before bytes body.lines_are (subst (λ b. IsOverIn b bytes) (sym body.body_is) over)

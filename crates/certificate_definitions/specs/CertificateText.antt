@@ -97,6 +97,10 @@ text_lines c = version c.version ∷ claims c.claim ∷ constant c.constants ∷
 abbrev pub most_atoms : ℕ
 most_atoms = 1048576
 
+-- the most tables
+abbrev pub most_tables : ℕ
+most_tables = 4194304
+
 -- the most rows of all tables together
 abbrev pub most_rows : ℕ
 most_rows = 4194304
@@ -137,7 +141,13 @@ is_line f (tabled t) = has_tables f.version && is_table_line f t
 is_line f (listed l) = is_state_line f.version f.atoms l
 is_line f (last count) = is_number count
 
--- how many of the lines are rows
+-- how many of the lines begin a table
+abbrev pub scope_count : List TableLine → ℕ
+scope_count [] = 0
+scope_count (scope atoms ∷ lines) = 1 + scope_count lines
+scope_count (row r ∷ lines) = scope_count lines
+
+-- and how many are rows
 abbrev pub row_count : List TableLine → ℕ
 row_count [] = 0
 row_count (scope atoms ∷ lines) = row_count lines
@@ -155,7 +165,7 @@ format_of c = record { version = c.version; weights = length c.constants; atoms 
 -- the certificate keeps all limits
 abbrev pub keeps_text_limits : NamedCertificate → Bool
 keeps_text_limits c =
-    nat_le (length c.atoms) most_atoms && (begin_with_scope c.tables && nat_le (row_count c.tables) most_rows) && nat_le (length c.lines) most_states
+    nat_le (length c.atoms) most_atoms && (begin_with_scope c.tables && nat_le (scope_count c.tables) most_tables && nat_le (row_count c.tables) most_rows) && nat_le (length c.lines) most_states
     && list_all (is_line (format_of c)) (text_lines c)
 
 -- The text is this certificate.
@@ -196,10 +206,12 @@ head_lines b = version b.version ∷ claims b.claim ∷ constant b.constants ∷
 abbrev pub format_in : Beginning → Format
 format_in b = record { version = b.version; weights = length b.constants; atoms = length b.atoms }
 
--- they are a line of an atom, a row or a state that may occur there but for the limit, which the lines before have used up
+-- they are a line of an atom, a table, a row or a state that may occur there but for the limit, which the lines before have used up
 pub data IsOneTooMany (before : List TextLine) (bytes : List ℕ) : Type 0 where
   atoms : (b : Beginning) (a : WeightedAtom) → before ≡ head_lines b → b.tables ≡ [] → b.states ≡ [] → length b.atoms ≡ most_atoms
       → IsTrue (is_line (format_in b) (atom a)) → bytes ≡ line_text (atom a) → IsOneTooMany before bytes
+  scopes : (b : Beginning) (s : List ℕ) → before ≡ head_lines b → b.states ≡ [] → scope_count b.tables ≡ most_tables
+      → IsTrue (is_line (format_in b) (tabled (scope s))) → bytes ≡ line_text (tabled (scope s)) → IsOneTooMany before bytes
   rows : (b : Beginning) (r : Row) → before ≡ head_lines b → b.tables ≢ [] → b.states ≡ [] → row_count b.tables ≡ most_rows
       → IsTrue (is_line (format_in b) (tabled (row r))) → bytes ≡ line_text (tabled (row r)) → IsOneTooMany before bytes
   states : (b : Beginning) (l : StateLine) → before ≡ head_lines b → length b.states ≡ most_states
@@ -226,7 +238,7 @@ pub data IsFaultAfter (before : List TextLine) (bytes : List ℕ) : ℕ → Type
   trailing : AreWhole before → bytes ≢ [] → IsFaultAfter before bytes 40
   -- the text ends before the last line does
   cut_short : ¬ AreWhole before → IsInOneLine bytes → length bytes ≤ longest_line → IsFaultAfter before bytes 42
-  -- an atom, a row or a state too many
+  -- an atom, a table, a row or a state too many
   too_many : (line : List ℕ) → HasLine bytes line → IsOneTooMany before line → IsFaultAfter before bytes 55
 
 -- The number is reported for this line, counted from 1, which is the first at fault: the lines before it begin a certificate.

@@ -126,7 +126,7 @@ keeps_limits c =
     is_claim c.claim && nat_le (length c.atoms) 1048576 && nat_le (length c.lines) 16777216 && list_all (is_state_line c.version (length c.atoms)) c.lines
     && is_value_count c.version (length c.values) && list_all (are_potentials is_weight (length c.atoms)) c.values
     && are_potentials (is_dead_end_weight c.version) (length c.atoms) c.dead_ends
-    && are_tables c.version (length c.atoms) (length c.values + 1) c.tables && nat_le (length (rows_of c.tables)) 4194304
+    && are_tables c.version (length c.atoms) (length c.values + 1) c.tables && nat_le (length c.tables) 4194304 && nat_le (length (rows_of c.tables)) 4194304
 
 -- ---- listings
 

@@ -3,8 +3,8 @@ use Rattle.std.proofs.Common.{◌≡◌, ◌≢◌, ℕ, ◌+◌, ◌<◌, true,
 use Rattle.std.specs.Prelude.{◌&&◌, ◌==◌, nat_le, nat_lt, Err, Ok}
 use Rattle.std.proofs.lemmas.Bool.{and_parts, le-leb, leb-true, ltb-true}
 use Rattle.std.proofs.lemmas.List.{length-map}
-use Rattle.certificate_definitions.specs.CertificateText.{TextLine, version, claims, constant, atom, listed, last, is_line, most_atoms, most_states, AreWhole, IsFaultAfter, trailing}
-use Rattle.certificate_definitions.specs.CertificateMachine.{CertificatePlace, at_version, at_claim, at_constant, in_body, ended, next_place}
+use Rattle.certificate_definitions.specs.CertificateText.{scope, row, TextLine, version, claims, constant, atom, tabled, listed, last, is_line, most_atoms, most_rows, most_states, AreWhole, IsFaultAfter, trailing}
+use Rattle.certificate_definitions.specs.CertificateMachine.{CertificatePlace, at_version, at_claim, at_constant, in_body, ended, no_format, no_body, atom_more, scope_more, row_more, state_more, atom_follows, row_follows, next_place}
 use Rattle.certificate_definitions.proofs.Machine.{ComesBefore, begins, never, only_where, place_same}
 use Rattle.certificate_reader.specs.declared.line.CertLine.{CertLine}
 use Rattle.certificate_reader.specs.Lines.{text_line_of}
@@ -21,40 +21,59 @@ use Rattle.certificate_reader.specs.Reader.{HasRead, HaveBegun, IsAdvance, IsAns
 
 -- one line more leads to a place within the limits
 pub leads_within : (place : CertificatePlace) → IsWithin place → (line : TextLine) (next : CertificatePlace) → next_place place line ≡ Some next → IsWithin next
-leads_within at_version within (version v) next leads = subst IsWithin (place_same (at_claim v) next leads) refl
+leads_within at_version within (version w) next leads = subst IsWithin (place_same (at_claim w) next leads) refl
 leads_within at_version within (claims claim) next leads = never next leads
 leads_within at_version within (constant k) next leads = never next leads
 leads_within at_version within (atom a) next leads = never next leads
+leads_within at_version within (tabled (scope s)) next leads = never next leads
+leads_within at_version within (tabled (row r)) next leads = never next leads
 leads_within at_version within (listed l) next leads = never next leads
 leads_within at_version within (last count) next leads = never next leads
 leads_within (at_claim v) within (version w) next leads = never next leads
-leads_within (at_claim v) within (claims claim) next leads = subst IsWithin (only_where (is_line v 0 (claims claim)) (at_constant v) next leads).1 refl
+leads_within (at_claim v) within (claims claim) next leads = subst IsWithin (only_where (is_line (no_format v) (claims claim)) (at_constant v) next leads).1 refl
 leads_within (at_claim v) within (constant k) next leads = never next leads
 leads_within (at_claim v) within (atom a) next leads = never next leads
+leads_within (at_claim v) within (tabled (scope s)) next leads = never next leads
+leads_within (at_claim v) within (tabled (row r)) next leads = never next leads
 leads_within (at_claim v) within (listed l) next leads = never next leads
 leads_within (at_claim v) within (last count) next leads = never next leads
 leads_within (at_constant v) within (version w) next leads = never next leads
 leads_within (at_constant v) within (claims claim) next leads = never next leads
-leads_within (at_constant v) within (constant k) next leads = subst IsWithin (only_where (is_line v 0 (constant k)) (in_body v 0 0) next leads).1 refl
+leads_within (at_constant v) within (constant k) next leads = subst IsWithin (only_where (is_line (no_format v) (constant k)) (in_body (no_body v (length k))) next leads).1 refl
 leads_within (at_constant v) within (atom a) next leads = never next leads
+leads_within (at_constant v) within (tabled (scope s)) next leads = never next leads
+leads_within (at_constant v) within (tabled (row r)) next leads = never next leads
 leads_within (at_constant v) within (listed l) next leads = never next leads
 leads_within (at_constant v) within (last count) next leads = never next leads
-leads_within (in_body v n m) within (version w) next leads = never next leads
-leads_within (in_body v n m) within (claims claim) next leads = never next leads
-leads_within (in_body v n m) within (constant k) next leads = never next leads
-leads_within (in_body v n m) within (atom a) next leads =
-    let (holds, same) = only_where ((m == 0) && nat_lt n most_atoms && is_line v n (atom a)) (in_body v (n + 1) m) next leads in
-    let below : n < most_atoms = ltb-true n most_atoms (and_parts (m == 0) (nat_lt n most_atoms) (and_parts ((m == 0) && nat_lt n most_atoms) (is_line v n (atom a)) holds).0).1 in
-    subst IsWithin same (λ i. le-leb (n + 1) most_atoms (omega (arith, below)) i && (and_parts (nat_le n most_atoms) (nat_le m most_states) within).1 i)
-leads_within (in_body v n m) within (listed l) next leads =
-    let (holds, same) = only_where (nat_lt m most_states && is_line v n (listed l)) (in_body v n (m + 1)) next leads in
-    let below : m < most_states = ltb-true m most_states (and_parts (nat_lt m most_states) (is_line v n (listed l)) holds).0 in
-    subst IsWithin same (λ i. (and_parts (nat_le n most_atoms) (nat_le m most_states) within).0 i && le-leb (m + 1) most_states (omega (arith, below)) i)
-leads_within (in_body v n m) within (last count) next leads = subst IsWithin (only_where (count == m) ended next leads).1 refl
+leads_within (in_body b) within (version w) next leads = never next leads
+leads_within (in_body b) within (claims claim) next leads = never next leads
+leads_within (in_body b) within (constant k) next leads = never next leads
+leads_within (in_body b) within (atom a) next leads = 
+    let (holds, same) = only_where (atom_follows b && nat_lt b.format.atoms most_atoms && is_line b.format (atom a)) (in_body (atom_more b)) next leads in
+    let below : b.format.atoms < most_atoms = ltb-true b.format.atoms most_atoms (and_parts (atom_follows b) (nat_lt b.format.atoms most_atoms) (and_parts (atom_follows b && nat_lt b.format.atoms most_atoms) (is_line b.format (atom a)) holds).0).1 in
+    let more = and_parts (nat_le b.format.atoms most_atoms && nat_le b.rows most_rows) (nat_le b.states most_states) within in
+    let rest = and_parts (nat_le b.format.atoms most_atoms) (nat_le b.rows most_rows) more.0 in
+    subst IsWithin same (λ i. le-leb (b.format.atoms + 1) most_atoms (omega (arith, below)) i && rest.1 i && more.1 i)
+leads_within (in_body b) within (tabled (scope s)) next leads = subst IsWithin (only_where ((b.states == 0) && is_line b.format (tabled (scope s))) (in_body (scope_more b)) next leads).1 within
+leads_within (in_body b) within (tabled (row r)) next leads = 
+    let (holds, same) = only_where (row_follows b && nat_lt b.rows most_rows && is_line b.format (tabled (row r))) (in_body (row_more b)) next leads in
+    let below : b.rows < most_rows = ltb-true b.rows most_rows (and_parts (row_follows b) (nat_lt b.rows most_rows) (and_parts (row_follows b && nat_lt b.rows most_rows) (is_line b.format (tabled (row r))) holds).0).1 in
+    let more = and_parts (nat_le b.format.atoms most_atoms && nat_le b.rows most_rows) (nat_le b.states most_states) within in
+    let rest = and_parts (nat_le b.format.atoms most_atoms) (nat_le b.rows most_rows) more.0 in
+    subst IsWithin same (λ i. rest.0 i && le-leb (b.rows + 1) most_rows (omega (arith, below)) i && more.1 i)
+leads_within (in_body b) within (listed l) next leads = 
+    let (holds, same) = only_where (nat_lt b.states most_states && is_line b.format (listed l)) (in_body (state_more b)) next leads in
+    let below : b.states < most_states = ltb-true b.states most_states (and_parts (nat_lt b.states most_states) (is_line b.format (listed l)) holds).0 in
+    let more = and_parts (nat_le b.format.atoms most_atoms && nat_le b.rows most_rows) (nat_le b.states most_states) within in
+    let rest = and_parts (nat_le b.format.atoms most_atoms) (nat_le b.rows most_rows) more.0 in
+    subst IsWithin same (λ i. rest.0 i && rest.1 i && le-leb (b.states + 1) most_states (omega (arith, below)) i)
+leads_within (in_body b) within (last count) next leads = subst IsWithin (only_where (count == b.states) ended next leads).1 refl
 leads_within ended within (version w) next leads = never next leads
 leads_within ended within (claims claim) next leads = never next leads
 leads_within ended within (constant k) next leads = never next leads
 leads_within ended within (atom a) next leads = never next leads
+leads_within ended within (tabled (scope s)) next leads = never next leads
+leads_within ended within (tabled (row r)) next leads = never next leads
 leads_within ended within (listed l) next leads = never next leads
 leads_within ended within (last count) next leads = never next leads
 
