@@ -20,9 +20,9 @@ pub data CertificatePlace : Type 0 where
   in_body : Body → CertificatePlace
   ended : CertificatePlace
 
--- a text of this version before its constants
+-- a text of this version before its constants, of which there will be one at least
 abbrev pub no_format : Version → Format
-no_format v = record { version = v; weights = 0; atoms = 0 }
+no_format v = record { version = v; weights = 1; atoms = 0 }
 
 -- what is known of the text's format; where none is reported yet, or none matters any more, any will do
 abbrev pub format_at : CertificatePlace → Format

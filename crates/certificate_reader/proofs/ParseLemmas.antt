@@ -1,22 +1,24 @@
 -- A line is read by its first word and what comes after it.
-use Rattle.std.proofs.Common.{◌≡◌, ℕ, true, false, List, codes, Option, None, Some, refl, sym, ap, ◌∙◌, subst}
-use Rattle.std.specs.Prelude.{◌≢◌, Result, Ok, Err, IsTrue}
+use Rattle.std.proofs.Common.{◌≡◌, ℕ, true, false, List, [], ◌∷◌, codes, arith, Option, None, Some, refl, sym, ap, ◌∙◌, subst}
+use Rattle.std.specs.Prelude.{◌≢◌, ◌&&◌, ◌==◌, ◌≤◌, ℤ, length, nat_le, is_some, Result, Ok, Err, IsTrue}
+use Rattle.std.specs.List.{list_all}
+use Rattle.std.proofs.lemmas.Bool.{and_parts, eqb-true, leb-true}
 use Rattle.std.specs.Borrow.{Bor}
 use Rattle.std.specs.Fmt.{decimal}
 use Rattle.std.specs.Str.{bytes_eq}
 use Rattle.std.proofs.lemmas.Slice.Eq.{bytes_eq-Decides}
-use Rattle.certificate_definitions.specs.Certificates.{Version, one, two, three, is_number, is_mark}
+use Rattle.certificate_definitions.specs.Certificates.{Version, one, two, three, is_number, is_mark, is_weight, are_weights, has_tables, rise}
 use Rattle.model.specs.Claims.{dead}
 use Rattle.certificate_reader.specs.declared.line.CertLine.{CertLine}
 use Rattle.certificate_reader.specs.declared.line.Version as code
 use Rattle.certificate_reader.specs.declared.line.Version.TheVariants.{One, Two, Three}
 use Rattle.certificate_reader.specs.Lines.{text_line_of, version_of}
-use Rattle.certificate_definitions.specs.CertificateText.{WeightedAtom, scope, row, Format, TextLine, version, claims, constant, atom, tabled, listed, last, version_number}
+use Rattle.certificate_definitions.specs.CertificateText.{WeightedAtom, scope, row, Format, TextLine, version, claims, constant, atom, tabled, listed, last, is_weight_count, is_line, version_number}
 use Rattle.certificate_reader.specs.declared.fault.NextFault.{NextFault}
 use Rattle.certificate_reader.specs.declared.fault.NextFault.TheVariants.{Text, NoMemory}
 use Rattle.certificate_reader.specs.declared.fault.TextFault.TheVariants as fault
 use Rattle.certificate_reader.specs.Parsing.{IsParsed, IsParsedAfter}
-use Rattle.certificate_reader.specs.Words.{IsFirstWord, IsReadAs, line_head, line_rest, text_in, with_rest}
+use Rattle.certificate_reader.specs.Words.{IsFirstWord, IsReadAs, atom_rest, then_numbers, then_weights, line_head, line_rest, text_in, with_rest}
 use Rattle.certificate_reader.proofs.WordLemmas.{one_first}
 use Rattle.certificate_reader.proofs.LineLemmas.{head_is_word, line_splits, some_same}
 use Rattle.certificate_reader.proofs.LinesRead.{is_no_mark, no_atom, unlike}
@@ -56,6 +58,11 @@ pub malformed : (word rest : List ℕ) (f : Format) → bytes_eq word (codes "pd
     → ((line : TextLine) → IsReadAs word rest f line → ⊥) → IsParsedAfter word rest f (Err (Text fault.Form))
 malformed word rest f other never = (never, λ same n is reported. unlike word (codes "pddl-cert") other same)
 
+-- something comes after
+pub goes_on : (following : Option (Bor (List ℕ))) → is_some following ≡ true → (bytes : List ℕ) × (text_in following ≡ Some bytes)
+goes_on None some = absurd (cc some)
+goes_on (Some bytes) some = (bytes.now, refl)
+
 -- ---- the line of an atom
 
 pub malformed_atom : (rest : List ℕ) (f : Format) → ((a : WeightedAtom) → IsReadAs (codes "atom") rest f (atom a) → ⊥) → IsParsedAfter (codes "atom") rest f (Err (Text fault.Form))
@@ -89,3 +96,47 @@ pub parsed_whole : (bytes word : List ℕ) (following : Option (Bor (List ℕ)))
     → IsFirstWord bytes word (text_in following) → following ≡ Some rest → IsParsedAfter word rest.now f r → IsParsed bytes f r
 parsed_whole bytes word following rest f r first is reported =
     whole bytes word rest.now f (subst (λ following. IsFirstWord bytes word (text_in following)) is first) r reported
+
+-- ---- a word alone
+
+weights_then : (weights : List ℤ) (rest : List ℕ) → then_weights weights (Some rest) ≡ None → ⊥
+weights_then [] rest none = absurd (cc none)
+weights_then (w ∷ weights) rest none = absurd (cc none)
+
+some_weights : (weights : List ℤ) (others : Option (List ℕ)) → 1 ≤ length weights → then_weights weights others ≡ None → ⊥
+some_weights [] others some none = absurd (omega (arith, some))
+some_weights (w ∷ weights) others some none = absurd (cc none)
+
+some_numbers : (numbers : List ℕ) → 1 ≤ length numbers → then_numbers numbers ≡ None → ⊥
+some_numbers [] some none = absurd (omega (arith, some))
+some_numbers (n ∷ numbers) some none = absurd (cc none)
+
+constants_count : (v : Version) (n : ℕ) → is_weight_count v n ≡ true → 1 ≤ n
+constants_count one n is = omega (arith, eqb-true n 1 is)
+constants_count two n is = omega (arith, eqb-true n 2 is)
+constants_count three n is = omega (arith, leb-true 2 n (and_parts (nat_le 2 n) (nat_le n 33) is).0)
+
+-- each line has another word after its first one
+has_rest : (f : Format) → 1 ≤ f.weights → (line : TextLine) → IsTrue (is_line f line) → line_rest line ≡ None → ⊥
+has_rest f some (version v) is none = absurd (cc none)
+has_rest f some (claims claim) is none = absurd (cc none)
+has_rest f some (constant k) is none =
+    some_weights k None (constants_count f.version (length k) (and_parts (is_weight_count f.version (length k)) (list_all is_weight k) is).0) none
+has_rest f some (atom a) is none = weights_then a.weights (atom_rest a.atom) none
+has_rest f some (tabled (scope s)) is none =
+    some_numbers s (leb-true 1 (length s) (and_parts (rise f.atoms 0 s) (nat_le 1 (length s)) (and_parts (has_tables f.version) (rise f.atoms 0 s && nat_le 1 (length s)) is).1).1) none
+has_rest f some (tabled (row r)) is none =
+    let weights = (and_parts (are_weights f.weights r.weights) (rise f.atoms 0 r.atoms) (and_parts (has_tables f.version) (are_weights f.weights r.weights && rise f.atoms 0 r.atoms) is).1).0 in
+    let count = eqb-true (length r.weights) f.weights (and_parts (length r.weights == f.weights) (list_all is_weight r.weights) weights).0 in
+    some_weights r.weights (then_numbers r.atoms) (omega (arith, some, count)) none
+has_rest f some (listed l) is none = absurd (cc none)
+has_rest f some (last n) is none = absurd (cc none)
+
+pub no_line_of_a_word : (bytes word : List ℕ) (following : Option (List ℕ)) (f : Format) → 1 ≤ f.weights → IsFirstWord bytes word following → following ≡ None
+    → IsParsed bytes f (Err (Text fault.Form))
+no_line_of_a_word bytes word following f some first alone = (
+  λ line is same.
+      has_rest f some line is
+      ((one_first (line_head line) word (line_rest line) following (head_is_word line) first.is_word (sym (line_splits line) ∙ same ∙ first.splits)).1 ∙ alone),
+  λ n is same. absurd (cc ((one_first (codes "pddl-cert") word (Some (decimal n)) following refl first.is_word (same ∙ first.splits)).1 ∙ alone)),
+)

@@ -1,10 +1,10 @@
 -- A line that is read at a place, and what is reported for one that cannot occur there.
-use Rattle.std.proofs.Common.{◌≡◌, ◌≢◌, ℕ, ◌+◌, ◌≤◌, List, ◌++◌, codes, Option, Some, refl, sym, ap, ◌∙◌, subst, arith}
+use Rattle.std.proofs.Common.{◌≡◌, ◌≢◌, ℕ, ◌≤◌, List, ◌++◌, codes, Some, refl, sym, ap, ◌∙◌, subst, arith}
 use Rattle.std.specs.Prelude.{length, ◌&&◌, ◌==◌, Err, IsTrue, nat_le, nat_lt}
 use Rattle.std.specs.Fmt.{decimal}
 use Rattle.std.proofs.lemmas.Bool.{and_parts, eqb-true, leb-true, lt-ltb}
 use Rattle.certificate_definitions.specs.Certificates.{Version, one, two, three, is_number}
-use Rattle.certificate_definitions.specs.CertificateText.{scope, row, Format, TextLine, version, claims, constant, atom, tabled, listed, last, is_line, line_text, most_atoms, most_rows, most_states, version_number}
+use Rattle.certificate_definitions.specs.CertificateText.{scope, row, Format, TextLine, version, claims, constant, atom, tabled, listed, last, is_line, line_text, most_atoms, most_tables, most_rows, most_states, version_number}
 use Rattle.certificate_definitions.specs.CertificateMachine.{CertificatePlace, at_version, at_claim, at_constant, in_body, ended, no_format, no_body, format_at, atom_more, scope_more, row_more, state_more, atom_follows, row_follows, next_place}
 use Rattle.certificate_definitions.proofs.Machine.{never, only_where}
 use Rattle.certificate_reader.specs.Stages.{IsOver, IsReadAt, IsStep, IsWithin}
@@ -20,14 +20,22 @@ use Rattle.certificate_reader.proofs.LineLemmas.{head_is_word, line_splits, some
 use Rattle.certificate_reader.proofs.LinesRead.{is_no_mark, unlike}
 use Rattle.certificate_reader.proofs.OneLine.{one_line}
 
-few_atoms : (place : CertificatePlace) → IsWithin place → (format_at place).atoms ≤ most_atoms
+pub few_atoms : (place : CertificatePlace) → IsWithin place → (format_at place).atoms ≤ most_atoms
 few_atoms at_version within = omega arith
 few_atoms (at_claim v) within = omega arith
 few_atoms (at_constant v) within = omega arith
 few_atoms (in_body b) within =
-    leb-true b.format.atoms most_atoms
-    (and_parts (nat_le b.format.atoms most_atoms) (nat_le b.rows most_rows) (and_parts (nat_le b.format.atoms most_atoms && nat_le b.rows most_rows) (nat_le b.states most_states) within).0).0
+    let bodies = (and_parts (nat_le b.format.atoms most_atoms && nat_le b.tables most_tables && nat_le b.rows most_rows) (nat_le b.states most_states) (and_parts (nat_le 1 b.format.weights) _ within).1).0 in
+    let tables = (and_parts (nat_le b.format.atoms most_atoms && nat_le b.tables most_tables) (nat_le b.rows most_rows) bodies).0 in
+    leb-true b.format.atoms most_atoms (and_parts (nat_le b.format.atoms most_atoms) (nat_le b.tables most_tables) tables).0
 few_atoms ended within = omega arith
+
+pub some_weights : (place : CertificatePlace) → IsWithin place → 1 ≤ (format_at place).weights
+some_weights at_version within = omega arith
+some_weights (at_claim v) within = omega arith
+some_weights (at_constant v) within = omega arith
+some_weights (in_body b) within = leb-true 1 b.format.weights (and_parts (nat_le 1 b.format.weights) _ within).0
+some_weights ended within = omega arith
 
 -- a line that leads on keeps the limits there
 pub leads_line : (place : CertificatePlace) → IsWithin place → (line : TextLine) (next : CertificatePlace) → next_place place line ≡ Some next → IsTrue (is_line (format_at place) line)
@@ -59,11 +67,11 @@ leads_line (in_body b) within (version w) next leads = never next leads
 leads_line (in_body b) within (claims claim) next leads = never next leads
 leads_line (in_body b) within (constant k) next leads = never next leads
 leads_line (in_body b) within (atom a) next leads = (and_parts (atom_follows b && nat_lt b.format.atoms most_atoms) (is_line b.format (atom a)) (only_where (atom_follows b && nat_lt b.format.atoms most_atoms && is_line b.format (atom a)) (in_body (atom_more b)) next leads).0).1
-leads_line (in_body b) within (tabled (scope s)) next leads = (and_parts ((b.states == 0)) (is_line b.format (tabled (scope s))) (only_where ((b.states == 0) && is_line b.format (tabled (scope s))) (in_body (scope_more b)) next leads).0).1
+leads_line (in_body b) within (tabled (scope s)) next leads = (and_parts ((b.states == 0) && nat_lt b.tables most_tables) (is_line b.format (tabled (scope s))) (only_where ((b.states == 0) && nat_lt b.tables most_tables && is_line b.format (tabled (scope s))) (in_body (scope_more b)) next leads).0).1
 leads_line (in_body b) within (tabled (row r)) next leads = (and_parts (row_follows b && nat_lt b.rows most_rows) (is_line b.format (tabled (row r))) (only_where (row_follows b && nat_lt b.rows most_rows && is_line b.format (tabled (row r))) (in_body (row_more b)) next leads).0).1
 leads_line (in_body b) within (listed l) next leads = (and_parts (nat_lt b.states most_states) (is_line b.format (listed l)) (only_where (nat_lt b.states most_states && is_line b.format (listed l)) (in_body (state_more b)) next leads).0).1
-leads_line (in_body b) within (last count) next leads = 
-    lt-ltb count 1152921504606846976 (omega (arith, eqb-true count b.states (only_where (count == b.states) ended next leads).0, leb-true b.states most_states (and_parts _ (nat_le b.states most_states) within).1))
+leads_line (in_body b) within (last count) next leads =
+    lt-ltb count 1152921504606846976 (omega (arith, eqb-true count b.states (only_where (count == b.states) ended next leads).0, leb-true b.states most_states (and_parts _ (nat_le b.states most_states) (and_parts (nat_le 1 b.format.weights) _ within).1).1))
 leads_line ended within (version w) next leads = never next leads
 leads_line ended within (claims claim) next leads = never next leads
 leads_line ended within (constant k) next leads = never next leads

@@ -3,6 +3,9 @@
 /// The most atoms that a certificate may have.
 pub const MAX_ATOMS: usize = 1_048_576;
 
+/// The most tables that a certificate may have.
+pub const MAX_TABLES: usize = 4_194_304;
+
 /// The most rows that the tables of a certificate may have together.
 pub const MAX_ROWS: usize = 4_194_304;
 

@@ -24,6 +24,7 @@ use std::alloc::{AllocError, Global};
 /// [`TextFault::Version`] for `pddl-cert N` where N is none of 1, 2 and 3; [`TextFault::Form`] for all else that is no line;
 /// [`NextFault::NoMemory`] where memory is refused.
 pub(crate) fn parse(alloc: Global, bytes: &[u8], format: Format) -> Result<CertLine, NextFault>
+    requires some { 1 ≤ format.weights }
     requires few { format.atoms ≤ most_atoms }
     requires short { length bytes.now ≤ longest_line }
     ensures { IsParsed bytes.now (format_of format) result }

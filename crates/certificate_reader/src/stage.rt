@@ -9,7 +9,7 @@ ghost use Rattle.certificate_reader.specs.Stages.{IsReadAt, IsStep, IsWithin, bo
 
 use crate::fault::{NextFault, TextFault};
 use crate::format::Format;
-use crate::line::{CertLine, MAX_ATOMS, MAX_ROWS, MAX_STATE_LINES, Version};
+use crate::line::{CertLine, MAX_ATOMS, MAX_ROWS, MAX_STATE_LINES, MAX_TABLES, Version};
 use crate::parsing::parse;
 use std::alloc::Global;
 
@@ -33,8 +33,8 @@ pub(crate) enum Stage {
 pub(crate) struct Body {
     /// What was said of the form of lines.
     pub(crate) format: Format,
-    /// Whether a table began.
-    pub(crate) in_tables: bool,
+    /// How many tables began.
+    pub(crate) tables: usize,
     /// How many rows there were.
     pub(crate) rows: usize,
     /// How many states there were.
@@ -79,13 +79,13 @@ impl Stage {
     }
 }
 
-/// The format before the constants.
+/// The format before the constants, of which there will be one at least.
 fn no_format(version: Version) -> Format
     ensures { format_of result ≡ no_format (version_of version) }
 {
     Format {
         version,
-        weights: 0,
+        weights: 1,
         atoms: 0,
     }
 }
@@ -100,7 +100,7 @@ fn no_body(version: Version, weights: usize) -> Body
             weights,
             atoms: 0,
         },
-        in_tables: false,
+        tables: 0,
         rows: 0,
         states: 0,
     }
@@ -134,7 +134,7 @@ impl Body {
         requires within { IsWithin (in_body (body_of self)) }
         ensures { (a : WeightedAtom) → IsTrue (is_line (format_of self.format) (atom a)) → IsStep (in_body (body_of self)) (atom a) result }
     {
-        if self.in_tables || self.states > 0 {
+        if self.tables > 0 || self.states > 0 {
             return Err(TextFault::Form);
         }
         if self.format.atoms >= MAX_ATOMS {
@@ -146,7 +146,7 @@ impl Body {
                 weights: self.format.weights,
                 atoms: self.format.atoms + 1,
             },
-            in_tables: self.in_tables,
+            tables: self.tables,
             rows: self.rows,
             states: self.states,
         }))
@@ -154,14 +154,18 @@ impl Body {
 
     /// The stage after the first line of a table, or its fault.
     fn after_table(self) -> Result<Stage, TextFault>
+        requires within { IsWithin (in_body (body_of self)) }
         ensures { (atoms : List ℕ) → IsTrue (is_line (format_of self.format) (tabled (scope atoms))) → IsStep (in_body (body_of self)) (tabled (scope atoms)) result }
     {
         if self.states > 0 {
             return Err(TextFault::Form);
         }
+        if self.tables >= MAX_TABLES {
+            return Err(TextFault::Limit);
+        }
         Ok(Stage::Body(Body {
             format: self.format,
-            in_tables: true,
+            tables: self.tables + 1,
             rows: self.rows,
             states: self.states,
         }))
@@ -172,7 +176,7 @@ impl Body {
         requires within { IsWithin (in_body (body_of self)) }
         ensures { (r : Row) → IsTrue (is_line (format_of self.format) (tabled (row r))) → IsStep (in_body (body_of self)) (tabled (row r)) result }
     {
-        if !self.in_tables || self.states > 0 {
+        if self.tables == 0 || self.states > 0 {
             return Err(TextFault::Form);
         }
         if self.rows >= MAX_ROWS {
@@ -180,7 +184,7 @@ impl Body {
         }
         Ok(Stage::Body(Body {
             format: self.format,
-            in_tables: self.in_tables,
+            tables: self.tables,
             rows: self.rows + 1,
             states: self.states,
         }))
@@ -196,7 +200,7 @@ impl Body {
         }
         Ok(Stage::Body(Body {
             format: self.format,
-            in_tables: self.in_tables,
+            tables: self.tables,
             rows: self.rows,
             states: self.states + 1,
         }))
