@@ -13,9 +13,7 @@ ghost use Rattle.cert_checker.specs.Reading.{CountsRefusal, IsBegun, IsFresh, Is
 
 use crate::named_atoms::fluent_atom_named;
 use crate::refusal::{Refusal, RefusalCode};
-use certificate::{
-    Bounds, CertLine, CertReader, Claim, Header, NamedAtom, Potential, Version,
-};
+use certificate::{Bounds, CertLine, CertReader, Claim, Header, NamedAtom, Potential, Version};
 use devices::Source;
 use formulas::FluentPredicates;
 use indexmap::IndexSet;
@@ -136,11 +134,7 @@ fn add_atom(
         });
     }
     header.bounds.values.weights.push(weight_at(weights, 0))?;
-    header
-        .bounds
-        .dead_ends
-        .weights
-        .push(weight_at(weights, 1))?;
+    header.bounds.dead_ends.weights.push(weight_at(weights, 1))?;
     Ok(())
 }
 

@@ -1,6 +1,6 @@
 -- The numbers of sets, and what they say of a cert.
 use Rattle.std.proofs.Common.{◌≡◌, ℕ, zero, suc, ◌+◌, ◌<◌, ◌≤◌, Bool, true, false, List, [], ◌∷◌, get_or, inl, inr, map, length, refl, sym, ap, ◌∙◌, subst, arith}
-use Rattle.std.specs.Prelude.{◌&&◌, ◌==◌, ℤ, pos, negsuc, All, Contains, Err, Ok, OnOk, Result, Some, nat_le, slice_get}
+use Rattle.std.specs.Prelude.{◌&&◌, ◌==◌, ℤ, pos, negsuc, All, Contains, Err, Ok, OnOk, Result, Some, slice_get}
 use Rattle.std.specs.List.{list_all, list_any, range_with_len}
 use Rattle.std.specs.Cmp.{both_ways}
 use Rattle.std.specs.Option.{option_map}

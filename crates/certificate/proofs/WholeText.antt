@@ -10,7 +10,7 @@ use Rattle.model.specs.Task.{Atom, Task}
 use Rattle.model.specs.Claims.{Claim}
 use Rattle.certificate_definitions.specs.Certificates.{Version, Certificate, potentials_of}
 use Rattle.potential_functions.specs.PotentialFunctions.{PotentialFunction}
-use Rattle.certificate_definitions.specs.CertificateText.{WeightedAtom, TableLine, TextLine, tabled, atom, claims, constant, last, listed, version, whole_line}
+use Rattle.certificate_definitions.specs.CertificateText.{TableLine, TextLine, tabled, atom, claims, constant, last, listed, version, whole_line}
 use Rattle.certificate_definitions.specs.CertificateNames.{certificate_text, named, named_atom, table_lines, weighted_atoms, weights_in}
 use Rattle.certificate.specs.Gathering.{IsPassedOn, atom_line, atoms_weighed, state_line, weighted_atom}
 use Rattle.certificate.proofs.GatheringLemmas.{passed_nothing, passed_held, passed_then, passed_partly, passed_beginning, passed_all}

@@ -1,7 +1,5 @@
 //! The lines of certificates' texts, over devices that give bytes one by one, that fail, and that never end.
-use certificate::{
-    CertFault, CertLine, CertReader, Claim, Mark, StateLine, TextFault, Version,
-};
+use certificate::{CertFault, CertLine, CertReader, Claim, Mark, StateLine, TextFault, Version};
 use devices::{Memory, Source};
 use std::alloc::{AllocError, Global};
 use std::test::Fail;
@@ -55,10 +53,12 @@ fn weights(
     of_value: i64,
     of_dead_end: i64,
 ) -> Result<Vec<i64>, AllocError> {
-    match version {
-        Version::One => vec![in alloc; of_value],
-        Version::Two | Version::Three => vec![in alloc; of_value, of_dead_end],
+    let mut weights = Vec::new(alloc);
+    weights.push(of_value)?;
+    if version != Version::One {
+        weights.push(of_dead_end)?;
     }
+    Ok(weights)
 }
 
 /// An atom of one object, with these weights.
