@@ -1,11 +1,15 @@
 //! The program `optplan`: `planner_main` over the machine's files and streams.
 #![tactic(auto)]
 
-use devices::Device;
-use planner_main::{SystemFiles, report_no_memory, run};
+use devices::{Device, Sink, write_all};
+use file_looks::{look_at, look_line};
+use planner_main::{Order, SystemFiles, read_words, report_no_memory, run};
 use std::alloc::AllocError;
 use std::process::ExitCode;
 use std::{env, io};
+
+/// The status of an I/O error.
+const DEVICE: u8 = 21;
 
 fn main(rt: HostRuntime) -> ExitCode {
     let arguments = arguments(&rt);
@@ -20,7 +24,13 @@ fn main(rt: HostRuntime) -> ExitCode {
     let mut out = Device::new(rt.stdout());
     let mut err = Device::new(rt.stderr());
     let status = match words {
-        Ok(words) => run(rt.alloc(), &words, &mut files, &mut out, &mut err),
+        Ok(words) => {
+            let status = run(rt.alloc(), &words, &mut files, &mut out, &mut err);
+            if status == DEVICE {
+                report_files(&rt, &words, &mut err);
+            }
+            status
+        }
         Err(AllocError) => report_no_memory(&mut err),
     };
     ExitCode::from(status)
@@ -33,4 +43,33 @@ fn arguments(rt: &HostRuntime) -> Result<Vec<String>, AllocError> {
         Err(error) if error.kind() == io::ErrorKind::OutOfMemory => Err(AllocError),
         Err(_) => Ok(Vec::new(rt.alloc())),
     }
+}
+
+/// After an I/O error of `explain`: what is the matter with the first of its files that cannot be read.
+fn report_files<E: Sink>(rt: &HostRuntime, words: &[&str], err: &mut E) {
+    if let Ok(
+        Order::Explain {
+            domain,
+            problem,
+            plan,
+            ..
+        },
+    ) = read_words(rt.alloc(), words)
+    {
+        let plan = plan.unwrap_or(problem);
+        let _ = report_file(rt, domain, err)
+            || report_file(rt, problem, err)
+            || report_file(rt, plan, err);
+    }
+}
+
+/// Says what is the matter with the file of this name, as far as a look shows: whether there was anything to say.
+fn report_file<E: Sink>(rt: &HostRuntime, name: &str, err: &mut E) -> bool {
+    let Some(found) = look_at(rt, name) else {
+        return false;
+    };
+    if let Ok(line) = look_line(rt.alloc(), name, found) {
+        let _ = write_all(err, line.as_bytes());
+    }
+    true
 }

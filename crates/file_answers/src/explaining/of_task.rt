@@ -9,8 +9,16 @@ use faults::{NoMemory, Refused};
 use grounding_kept::{GroundLimit, Numbering};
 use std::alloc::{AllocError, Global};
 use task::Task;
+use task_notes::{GroundNotes, TaskNotes};
 
-/// What the task holds, and what grounding makes of it, where at most so many instances may be kept.
+/// What grounding makes of a task, and what it shows to be wrong, a line each.
+#[derive(Drop)]
+struct Grounding {
+    grounded: Grounded,
+    notes: Vec<String>,
+}
+
+/// What the task holds, what grounding makes of it, where at most so many instances may be kept, and what is quietly wrong with it.
 pub(super) fn explain_task(
     alloc: Global,
     task: &Task,
@@ -18,27 +26,59 @@ pub(super) fn explain_task(
 ) -> Result<Explanation, NoMemory>
     ensures { IfOk result (λ e. IsOfGrounded (task_of task.now) max_instances e.subject) }
 {
-    let grounded = ground(alloc, task, max_instances)?;
-    let mut text = Summary::of(task).text(alloc)?;
-    let line = grounded_line(alloc, grounded)?;
-    text.push_str(line.as_str())?;
-    let subject = Subject::Task(grounded);
+    let grounding = ground(alloc, task, max_instances)?;
+    let text = text_of(alloc, task, &grounding)?;
+    let subject = Subject::Task(grounding.grounded);
     Ok(Explanation { subject, text })
 }
 
+/// The lines that say it.
+fn text_of(alloc: Global, task: &Task, grounding: &Grounding) -> Result<String, NoMemory> {
+    let mut text = Summary::of(task).text(alloc)?;
+    let line = grounded_line(alloc, grounding.grounded)?;
+    text.push_str(line.as_str())?;
+    add_lines(&grounding.notes, &mut text)?;
+    let mut notes = Vec::new(alloc);
+    TaskNotes::of(alloc, task)?.add_lines(alloc, task, &mut notes)?;
+    add_lines(&notes, &mut text)?;
+    Ok(text)
+}
+
+/// Adds the lines, each with LF.
+fn add_lines(lines: &[String], text: &mut String) -> Result<(), NoMemory> {
+    for line in lines {
+        text.push_str(line.as_str())?;
+        text.push_str("\n")?;
+    }
+    Ok(())
+}
+
 /// How many instances are kept and atoms numbered, or the limit that is exceeded.
-fn ground(alloc: Global, task: &Task, max_instances: u32) -> Result<Grounded, NoMemory>
-    ensures { IfOk result (IsGrounded (task_of task.now) max_instances) }
+fn ground(alloc: Global, task: &Task, max_instances: u32) -> Result<Grounding, NoMemory>
+    ensures { IfOk result (λ g. IsGrounded (task_of task.now) max_instances g.grounded) }
 {
     match Numbering::new(alloc, task, &[], max_instances) {
         Ok(numbering) => {
             let instances = numbering.instances().len();
             let atoms = numbering.width();
-            Ok(Grounded::Within { instances, atoms })
+            let notes = notes_of(alloc, &numbering, max_instances)?;
+            let grounded = Grounded::Within { instances, atoms };
+            Ok(Grounding { grounded, notes })
         }
-        Err(Refused::At(limit)) => Ok(Grounded::Beyond(limit)),
+        Err(Refused::At(limit)) => Ok(Grounding {
+            grounded: Grounded::Beyond(limit),
+            notes: Vec::new(alloc),
+        }),
         Err(Refused::NoMemory) => Err(NoMemory),
     }
+}
+
+/// What the instances show to be wrong, where of an action at most so many are looked at for a value that it lacks.
+fn notes_of(alloc: Global, numbering: &Numbering<'_>, most: u32) -> Result<Vec<String>, NoMemory> {
+    let notes = GroundNotes::of(alloc, numbering, most)?;
+    let mut lines = Vec::new(alloc);
+    notes.add_lines(alloc, numbering.task(), most, &mut lines)?;
+    Ok(lines)
 }
 
 /// The line of what grounding makes of a task.

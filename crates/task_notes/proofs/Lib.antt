@@ -1,0 +1,6 @@
+pub mod MentionLemmas
+pub mod TableLemmas
+pub mod CostLemmas
+pub mod FoldLemmas
+pub mod CountLemmas
+pub mod LackingLemmas

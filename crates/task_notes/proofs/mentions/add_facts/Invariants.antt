@@ -1,0 +1,10 @@
+use Rattle.std.proofs.Common.{take}
+use Rattle.std.specs.List.{flat_map}
+use Rattle.task.specs.TaskParts.{atom_of}
+use Rattle.task_notes.specs.Mentions.{fact_mentions}
+use Rattle.task_notes.specs.Views.{Come}
+use Rattle.task_notes.proofs.mentions.add_facts.Given as goal
+
+-- those of the facts so far are added
+abbrev pub invariant-loop-fact : goal.invariant-loop-fact
+invariant-loop-fact l = Come (flat_map (λ fact. fact_mentions (atom_of fact)) (take l.fact-index l.facts)) l.initial.found.items l.found.items

@@ -1,0 +1,44 @@
+-- Atoms that the goal asks for and that are never true.
+use Rattle.std.specs.Prelude.{ℕ, Bool, false, not, ◌&&◌, nat_lt, List, [], ◌∷◌, ◌++◌, length, take, filter, if◌then◌else◌}
+use Rattle.std.specs.Ordering.{eq_by_cmp}
+use Rattle.std.specs.FinSet.{contains}
+use Rattle.std.specs.List.{list_any, flat_map, fold}
+use Rattle.model.specs.Task.{Task, Atom, Instance}
+use Rattle.model.specs.Meaning.{atom_cmp, Change, GroundLiteral, adds, deletes, changes_of_instance, initial_state}
+use Rattle.model.specs.SureLiterals.{Literal, is_true, is_false, are_same, are_different, sure}
+use Rattle.model.specs.StaticallyFalse.{kept_instances}
+
+abbrev pub makes_true : Atom → GroundLiteral → Bool
+makes_true a (adds b) = eq_by_cmp atom_cmp b a
+makes_true a (deletes b) = false
+
+abbrev pub change_makes_true : Atom → Change → Bool
+change_makes_true a c = makes_true a c.literal
+
+-- a change of the instance, under whatever condition, adds the atom
+abbrev pub is_added_by : Task → Atom → Instance → Bool
+is_added_by t a i = list_any (change_makes_true a) (changes_of_instance t i)
+
+-- The atom is false at the start, and no kept instance adds it: so it is false in every reachable state.
+abbrev pub is_never_true : Task → Atom → Bool
+is_never_true t a = not (contains (initial_state t) a) && not (list_any (is_added_by t a) (kept_instances t))
+
+abbrev pub atom_asked_for : Literal → List Atom
+atom_asked_for (is_true a) = a ∷ []
+atom_asked_for _ = []
+
+abbrev pub atoms_asked_for : List Literal → List Atom
+atoms_asked_for = flat_map atom_asked_for
+
+-- the atoms that the goal asks for outright: under nothing but `and` and `forall`
+abbrev pub goal_atoms : Task → List Atom
+goal_atoms t = atoms_asked_for (sure t t.goal [])
+
+-- the first of them that are never true
+abbrev pub first_missing : Task → (limit : ℕ) → List Atom
+first_missing t limit = take limit (filter (is_never_true t) (goal_atoms t))
+
+-- ---- on the way
+
+abbrev pub with_missing : Task → (limit : ℕ) → List Atom → Atom → List Atom
+with_missing t limit found a = if nat_lt (length found) limit && is_never_true t a then found ++ a ∷ [] else found

@@ -1,0 +1,6 @@
+pub mod Mentions
+pub mod Views
+pub mod Unused
+pub mod Costs
+pub mod Goals
+pub mod Notes

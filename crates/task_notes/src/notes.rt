@@ -1,0 +1,66 @@
+//! What is quietly wrong with a task, as its files show.
+ghost use Rattle.std.specs.Prelude.{◌≡◌, map, IfOk};
+ghost use Rattle.task.specs.Task.{task_of};
+ghost use Rattle.task_notes.specs.Mentions.{task_mentions};
+ghost use Rattle.task_notes.specs.Notes.{AreNotesOf};
+ghost use Rattle.task_notes.specs.Unused as unused;
+ghost use Rattle.task_notes.specs.Views.{mention_of};
+
+use crate::costs::ignores_costs;
+use crate::mentions::{Mention, mentions_of};
+use crate::tables::{asked_table, named_table, unmarked};
+use faults::NoMemory;
+use std::alloc::Global;
+use task::Task;
+
+/// What is quietly wrong with a task, as its files show.
+#[derive(Drop)]
+pub struct TaskNotes {
+    /// Whether some action increases the total cost, which is not to be least: each step costs 1.
+    pub ignores_costs: bool,
+    /// The predicates, by their numbers, that no precondition, no condition of an effect and no goal asks for.
+    pub unasked_predicates: Vec<usize>,
+    /// The objects, by their numbers, that no fact, no action and no goal names.
+    pub unnamed_objects: Vec<usize>,
+}
+
+impl TaskNotes {
+    /// What is wrong with this task.
+    ///
+    /// # Errors
+    /// Memory was refused, which says nothing of the task.
+    pub fn of(alloc: Global, task: &Task) -> Result<TaskNotes, NoMemory>
+        ensures { IfOk result (AreNotesOf (task_of task.now)) }
+    {
+        let mentions = mentions_of(alloc, task)?;
+        let unasked_predicates = unasked_predicates(alloc, task, &mentions)?;
+        let unnamed_objects = unnamed_objects(alloc, task, &mentions)?;
+        Ok(TaskNotes {
+            ignores_costs: ignores_costs(task),
+            unasked_predicates,
+            unnamed_objects,
+        })
+    }
+}
+
+/// The predicates that are not asked for, where these are all mentions.
+fn unasked_predicates(
+    alloc: Global,
+    task: &Task,
+    mentions: &[Mention],
+) -> Result<Vec<usize>, NoMemory>
+    requires { map mention_of mentions.now ≡ task_mentions (task_of task.now) }
+    ensures { IfOk result (λ found. found.items ≡ unused.unasked_predicates (task_of task.now)) }
+{
+    let asked = asked_table(alloc, mentions)?;
+    unmarked(alloc, &asked, task.predicate_count())
+}
+
+/// The objects that are not named, where these are all mentions.
+fn unnamed_objects(alloc: Global, task: &Task, mentions: &[Mention]) -> Result<Vec<usize>, NoMemory>
+    requires { map mention_of mentions.now ≡ task_mentions (task_of task.now) }
+    ensures { IfOk result (λ found. found.items ≡ unused.unnamed_objects (task_of task.now)) }
+{
+    let named = named_table(alloc, mentions)?;
+    unmarked(alloc, &named, task.object_count())
+}

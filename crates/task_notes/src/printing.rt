@@ -1,0 +1,258 @@
+//! Notes as lines of text, each without an LF.
+use crate::ground_notes::{GroundNotes, MOST_TOLD};
+use crate::lacking::named_by;
+use crate::notes::TaskNotes;
+use faults::NoMemory;
+use formulas::{Atom, Binding, Instance};
+use std::alloc::Global;
+use task::{Increase, LiftedAtom, ObjectId, PredicateId, SchemaId, Task};
+
+impl TaskNotes {
+    /// Adds a line for each note.
+    ///
+    /// # Errors
+    /// Memory was refused.
+    ///
+    /// # Examples
+    /// ```text
+    /// Actions increase the total cost, but the problem has no `:metric`, so each step costs 1.
+    /// Predicates that no precondition, no condition and no goal asks for: dirty.
+    /// Objects that no atom of `:init`, no action and no goal names: truck3, truck4.
+    /// ```
+    pub fn add_lines(
+        &self,
+        alloc: Global,
+        task: &Task,
+        lines: &mut Vec<String>,
+    ) -> Result<(), NoMemory> {
+        if self.ignores_costs {
+            let line =
+                "Actions increase the total cost, but the problem has no `:metric`, so each step costs 1.";
+            lines.push(String::from_str(alloc, line)?)?;
+        }
+        let opening = "Predicates that no precondition, no condition and no goal asks for: ";
+        add_names(
+            alloc,
+            task,
+            opening,
+            Kind::Predicate,
+            &self.unasked_predicates,
+            lines,
+        )?;
+        let opening = "Objects that no atom of `:init`, no action and no goal names: ";
+        add_names(
+            alloc,
+            task,
+            opening,
+            Kind::Object,
+            &self.unnamed_objects,
+            lines,
+        )
+    }
+}
+
+impl GroundNotes {
+    /// Adds a line for each note.
+    ///
+    /// # Errors
+    /// Memory was refused.
+    ///
+    /// # Examples
+    /// ```text
+    /// (len home depot) has no value, so (drive truck home depot) can never be applied.
+    /// The goal asks for (at truck mars), which is false at the start, and which no action can make true.
+    /// Actions that can never be applied: fly.
+    /// ```
+    pub fn add_lines(
+        &self,
+        alloc: Global,
+        task: &Task,
+        most: u32,
+        lines: &mut Vec<String>,
+    ) -> Result<(), NoMemory> {
+        add_lacking(alloc, task, &self.lacking, lines)?;
+        add_passed_over(alloc, task, &self.passed_over, most, lines)?;
+        add_missing_goals(alloc, task, &self.missing_goals, lines)?;
+        let opening = "Actions that can never be applied: ";
+        add_names(
+            alloc,
+            task,
+            opening,
+            Kind::Action,
+            &self.idle_actions,
+            lines,
+        )
+    }
+}
+
+/// Adds a line for each instance that lacks a value.
+fn add_lacking(
+    alloc: Global,
+    task: &Task,
+    lacking: &[Instance],
+    lines: &mut Vec<String>,
+) -> Result<(), NoMemory> {
+    for instance in lacking.iter().take(MOST_TOLD) {
+        add_lacking_line(alloc, task, instance, lines)?;
+    }
+    if lacking.len() > MOST_TOLD {
+        let line = "More values that actions increase the total cost by are missing.";
+        lines.push(String::from_str(alloc, line)?)?;
+    }
+    Ok(())
+}
+
+/// Adds the line of an instance that lacks a value.
+fn add_lacking_line(
+    alloc: Global,
+    task: &Task,
+    instance: &Instance,
+    lines: &mut Vec<String>,
+) -> Result<(), NoMemory> {
+    let Some(schema) = task.schema(instance.schema) else {
+        return Ok(());
+    };
+    if let Increase::Function(function) = &schema.increase {
+        let mut line = String::new(alloc);
+        add_function(task, function, &instance.objects, &mut line)?;
+        line.push_str(" has no value, so ")?;
+        let name = task.schema_name(instance.schema).unwrap_or(b"");
+        add_form(task, name, instance.objects.as_slice(), &mut line)?;
+        line.push_str(" can never be applied.")?;
+        lines.push(line)?;
+    }
+    Ok(())
+}
+
+/// Adds a line for each action whose instances were not looked at.
+fn add_passed_over(
+    alloc: Global,
+    task: &Task,
+    passed_over: &[usize],
+    most: u32,
+    lines: &mut Vec<String>,
+) -> Result<(), NoMemory> {
+    for number in passed_over {
+        let mut line = String::from_str(alloc, "Whether costs of `")?;
+        add_name(task, Kind::Action, *number, &mut line)?;
+        line.push_str("` have no value was not looked at, as it has more than ")?;
+        write!(line, "{most} instances.")?;
+        lines.push(line)?;
+    }
+    Ok(())
+}
+
+/// Adds a line for each atom that the goal asks for in vain.
+fn add_missing_goals(
+    alloc: Global,
+    task: &Task,
+    atoms: &[Atom],
+    lines: &mut Vec<String>,
+) -> Result<(), NoMemory> {
+    for atom in atoms.iter().take(MOST_TOLD) {
+        let mut line = String::from_str(alloc, "The goal asks for ")?;
+        let name = task.predicate_name(atom.predicate).unwrap_or(b"");
+        add_form(task, name, atom.objects.as_slice(), &mut line)?;
+        line.push_str(", which is false at the start, and which no action can make true.")?;
+        lines.push(line)?;
+    }
+    if atoms.len() > MOST_TOLD {
+        let line = "The goal asks for more atoms that are never true.";
+        lines.push(String::from_str(alloc, line)?)?;
+    }
+    Ok(())
+}
+
+/// What has a name.
+#[derive(Clone, Copy)]
+enum Kind {
+    Predicate,
+    Object,
+    Action,
+}
+
+/// Adds a line with the names of these numbers, if there are any: the first, and how many more there are.
+fn add_names(
+    alloc: Global,
+    task: &Task,
+    opening: &str,
+    kind: Kind,
+    numbers: &[usize],
+    lines: &mut Vec<String>,
+) -> Result<(), NoMemory> {
+    let Some((first, rest)) = numbers.split_first() else {
+        return Ok(());
+    };
+    let mut line = String::from_str(alloc, opening)?;
+    add_name(task, kind, *first, &mut line)?;
+    for number in rest.iter().take(MOST_TOLD - 1) {
+        line.push_str(", ")?;
+        add_name(task, kind, *number, &mut line)?;
+    }
+    let others = numbers.len().saturating_sub(MOST_TOLD);
+    if others > 0 {
+        write!(line, " and {others} more")?;
+    }
+    line.push_str(".")?;
+    lines.push(line)?;
+    Ok(())
+}
+
+/// Adds the name of this number.
+fn add_name(task: &Task, kind: Kind, number: usize, line: &mut String) -> Result<(), NoMemory> {
+    let name = match kind {
+        Kind::Predicate => task.predicate_name(PredicateId(number)),
+        Kind::Object => match u32::try_from(number) {
+            Ok(number) => task.object_name(ObjectId(number)),
+            Err(_) => None,
+        },
+        Kind::Action => task.schema_name(SchemaId(number)),
+    };
+    add_bytes(name.unwrap_or(b""), line)
+}
+
+/// Adds the function of the objects that its terms name.
+fn add_function(
+    task: &Task,
+    function: &LiftedAtom,
+    binding: &Binding,
+    line: &mut String,
+) -> Result<(), NoMemory> {
+    line.push_str("(")?;
+    add_bytes(task.function_name(function.predicate).unwrap_or(b""), line)?;
+    for term in &function.terms {
+        add_object(task, named_by(term, binding), line)?;
+    }
+    line.push_str(")")?;
+    Ok(())
+}
+
+/// Adds this name with these objects in parentheses.
+fn add_form(
+    task: &Task,
+    name: &[u8],
+    objects: &[ObjectId],
+    line: &mut String,
+) -> Result<(), NoMemory> {
+    line.push_str("(")?;
+    add_bytes(name, line)?;
+    for object in objects {
+        add_object(task, *object, line)?;
+    }
+    line.push_str(")")?;
+    Ok(())
+}
+
+/// Adds a blank and the object's name.
+fn add_object(task: &Task, object: ObjectId, line: &mut String) -> Result<(), NoMemory> {
+    line.push_str(" ")?;
+    add_bytes(task.object_name(object).unwrap_or(b""), line)
+}
+
+/// Adds bytes that are all ASCII, as names are.
+fn add_bytes(bytes: &[u8], line: &mut String) -> Result<(), NoMemory> {
+    for byte in bytes {
+        line.push(char::from(*byte))?;
+    }
+    Ok(())
+}
