@@ -1,6 +1,6 @@
 -- Instances that lack values, one after another: what is gathered is true, and up to the limit it is all.
 use Rattle.std.proofs.Common.{◌≡◌, ◌∙◌, ℕ, ◌+◌, ◌<◌, ◌≤◌, Bool, true, false, not, ◌&&◌, ◌||◌, ◌⊎◌, inl, inr, cond, List, [], ◌∷◌, ◌++◌, length, None, Some, refl, sym, ap, subst, arith}
-use Rattle.std.specs.Prelude.{Contains, nat_lt, slice_get, ◌==◌}
+use Rattle.std.specs.Prelude.{Contains, nat_lt, slice_get}
 use Rattle.std.specs.Cmp.{nat_eq_equiv}
 use Rattle.std.specs.List.{fold, list_all, list_any}
 use Rattle.std.specs.Option.{option_map_or}

@@ -13,7 +13,7 @@ use Rattle.task.specs.declared.schemas.Effect.{Effect}
 use Rattle.task.specs.declared.schemas.Effect as effect
 use Rattle.task.specs.TaskParts.{effect_of, formula_of}
 use Rattle.formulas.proofs.Trees.{effects_in, effect_of-And, formulas_in, formula_of-And, formula_of-Or}
-use Rattle.task_notes.specs.Mentions.{Mention, all_mentions, effect_mentions, effects_mentions, mentions}
+use Rattle.task_notes.specs.Mentions.{all_mentions, effect_mentions, effects_mentions, mentions}
 
 -- ---- the parts of a formula or an effect
 

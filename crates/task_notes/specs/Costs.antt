@@ -1,5 +1,5 @@
 -- Costs that are ignored, and costs that have no value.
-use Rattle.std.specs.Prelude.{◌≡◌, ℕ, Bool, true, false, not, ◌&&◌, ◌==◌, ◌<◌, nat_lt, List, [], ◌∷◌, ◌++◌, length, filter, slice_get, if◌then◌else◌, Contains, Option, Some, None}
+use Rattle.std.specs.Prelude.{◌≡◌, ℕ, Bool, true, false, not, ◌&&◌, ◌==◌, ◌<◌, nat_lt, List, [], ◌∷◌, ◌++◌, length, slice_get, if◌then◌else◌, Contains, Option, Some, None}
 use Rattle.std.specs.List.{fold, list_all, list_any, flat_map, range_with_len}
 use Rattle.std.specs.Option.{option_and_then, option_map_or}
 use Rattle.model.specs.Task.{Task, Term, Increase, by_number, by_function, Schema, Instance}

@@ -2,10 +2,10 @@
 use Rattle.std.specs.Prelude.{ℕ, Bool, false, not, ◌&&◌, nat_lt, List, [], ◌∷◌, ◌++◌, length, take, filter, if◌then◌else◌}
 use Rattle.std.specs.Ordering.{eq_by_cmp}
 use Rattle.std.specs.FinSet.{contains}
-use Rattle.std.specs.List.{list_any, flat_map, fold}
+use Rattle.std.specs.List.{list_any, flat_map}
 use Rattle.model.specs.Task.{Task, Atom, Instance}
 use Rattle.model.specs.Meaning.{atom_cmp, Change, GroundLiteral, adds, deletes, changes_of_instance, initial_state}
-use Rattle.model.specs.SureLiterals.{Literal, is_true, is_false, are_same, are_different, sure}
+use Rattle.model.specs.SureLiterals.{Literal, is_true, sure}
 use Rattle.model.specs.StaticallyFalse.{kept_instances}
 
 abbrev pub makes_true : Atom → GroundLiteral → Bool

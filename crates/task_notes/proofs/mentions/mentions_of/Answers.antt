@@ -1,8 +1,8 @@
-use Rattle.std.proofs.Common.{◌≡◌, ◌∙◌, ◌++◌, [], List, ap, sym, map}
+use Rattle.std.proofs.Common.{◌≡◌, ◌∙◌, ◌++◌, ap, sym, map}
 use Rattle.std.specs.List.{flat_map}
 use Rattle.task.specs.Task.{task_of}
 use Rattle.task.specs.TaskParts.{atom_of}
-use Rattle.task_notes.specs.Mentions.{Mention, fact_mentions, mentions, schema_mentions}
+use Rattle.task_notes.specs.Mentions.{fact_mentions, mentions, schema_mentions}
 use Rattle.task_notes.specs.Views.{mention_of}
 use Rattle.task_notes.proofs.MentionLemmas.{flat_map_map}
 use Rattle.task_notes.proofs.mentions.mentions_of.Goals as goal

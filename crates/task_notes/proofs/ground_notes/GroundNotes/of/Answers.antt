@@ -1,5 +1,4 @@
-use Rattle.std.proofs.Common.{◌∙◌, ap, map, subst, sym}
-use Rattle.formulas.specs.State.{instance_of}
+use Rattle.std.proofs.Common.{◌∙◌, ap, subst, sym}
 use Rattle.grounding_kept.specs.Numbering.{task_in}
 use Rattle.task_notes.specs.Costs.{AreLacking, all_looked_at, passed_over}
 use Rattle.task_notes.proofs.LackingLemmas.{are_lacking}

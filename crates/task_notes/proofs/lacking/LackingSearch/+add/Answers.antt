@@ -21,7 +21,8 @@ loop-object-preserved t c =
     let one = c.in-Some-object.object in
     let now = map instance_of c.loop-object.found.items in
     let gives : ℕ → List Instance = λ n. begun c.args.schema.0 (map object_of objects ++ n ∷ []) ranges in
-    folded_left (with_lacking task limit) gives (objects_left c.loop-object.object-iterator) (objects_left c.next.new.self) one.0 now (map instance_of c.add.new.found.items) _ c.in-Some-object.ensures.steps
+    folded_left (with_lacking task limit) gives (objects_left c.loop-object.object-iterator) (objects_left c.next.new.self) one.0 now (map instance_of c.add.new.found.items)
+    (lacking_among task limit (map instance_of c.args.found.now.items) (flat_map gives (objects_left c.into_iter-object-iterator.result))) c.in-Some-object.ensures.steps
     (c.in_ok-add.ensures ∙ ap (λ os. lacking_among task limit now (begun c.args.schema.0 os ranges)) (one_more objects c.with_object.result.items one objects refl c.with_object.ensures))
     c.loop-object.invariant
 
