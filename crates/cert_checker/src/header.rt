@@ -3,8 +3,8 @@ ghost use Rattle.std.specs.Prelude.{◌≡◌, pos, ◌+◌, ◌++◌, ◌∷◌
 ghost use Rattle.task.specs.Task.{task_of};
 ghost use Rattle.formulas.specs.FluentTable.{AreFluentsOf};
 ghost use Rattle.model.specs.Task as model;
-ghost use Rattle.certificate_reader.specs.Lines.{named_atom_of, text_line_of, weights_of};
-ghost use Rattle.certificate_definitions.specs.CertificateNames.{of_dead_end_or_zero};
+ghost use Rattle.certificate_reader.specs.Lines.{named_atom_of, text_line_of};
+ghost use Rattle.certificate_definitions.specs.CertificateNames.{weight_said};
 ghost use Rattle.certificate_definitions.specs.CertificateText.{TextLine, BeginCertificate, atom};
 ghost use Rattle.cert_checker.specs.Taking.{HasTaken, IsTaken, IsWrongNow};
 ghost use Rattle.certificate_reader.specs.Reader.{source_of};
@@ -13,9 +13,7 @@ ghost use Rattle.cert_checker.specs.Reading.{CountsRefusal, IsBegun, IsFresh, Is
 
 use crate::named_atoms::fluent_atom_named;
 use crate::refusal::{Refusal, RefusalCode};
-use certificate::{
-    Bounds, CertLine, CertReader, Claim, Header, NamedAtom, Potential, Version, Weights,
-};
+use certificate::{Bounds, CertLine, CertReader, Claim, Header, NamedAtom, Potential, Version};
 use devices::Source;
 use formulas::FluentPredicates;
 use indexmap::IndexSet;
@@ -47,12 +45,12 @@ fn zero_potential(alloc: Global) -> Potential
     }
 }
 
-/// The weight by which dead ends are reported, which is 0 where the text has none.
-fn dead_end_weight(weights: Weights) -> i64
-    ensures { result ≡ of_dead_end_or_zero (weights_of weights) }
+/// The weight at this place, which is 0 where the text has none.
+fn weight_at(weights: &[i64], place: usize) -> i64
+    ensures { result ≡ weight_said place weights.now }
 {
-    match weights.of_dead_end {
-        Some(weight) => weight,
+    match weights.get(place) {
+        Some(weight) => *weight,
         None => 0,
     }
 }
@@ -72,6 +70,11 @@ fn take(
         → HasTaken (task_of task.now) before header.old → IsWrongNow (task_of task.now) before (text_line_of line) refusal) }
 {
     match line {
+        // That a certificate of version 3 is closed is not tested yet.
+        CertLine::Head(Version::Three) => Err(Refusal::Line {
+            code: RefusalCode::CertVersion,
+            line: number,
+        }),
         CertLine::Head(version) => {
             header.version = version;
             Ok(None)
@@ -81,8 +84,8 @@ fn take(
             Ok(None)
         }
         CertLine::Constant(constants) => {
-            header.bounds.values.constant = constants.of_value;
-            header.bounds.dead_ends.constant = dead_end_weight(constants);
+            header.bounds.values.constant = weight_at(&constants, 0);
+            header.bounds.dead_ends.constant = weight_at(&constants, 1);
             Ok(None)
         }
         CertLine::Weight {
@@ -91,9 +94,14 @@ fn take(
             objects,
         } => {
             let atom = NamedAtom { predicate, objects };
-            add_atom(header, task, fluents, &atom, weights, number)?;
+            add_atom(header, task, fluents, &atom, &weights, number)?;
             Ok(None)
         }
+        // No text of version 1 or 2 has a table.
+        CertLine::Table { .. } | CertLine::Row { .. } => Err(Refusal::Line {
+            code: RefusalCode::CertVersion,
+            line: number,
+        }),
         CertLine::Listed(_) | CertLine::Last { .. } => Ok(Some(line)),
     }
 }
@@ -104,14 +112,14 @@ fn add_atom(
     task: &Task,
     fluents: &FluentPredicates,
     name: &NamedAtom,
-    weights: Weights,
+    weights: &[i64],
     number: u64,
 ) -> Result<(), Refusal>
     requires { AreFluentsOf (task_of task.now) fluents.now }
     ensures reported { OnOk result ((before : List TextLine) → HasTaken (task_of task.now) before header.old
-        → HasTaken (task_of task.now) (before ++ atom (record { weights = weights_of weights; atom = named_atom_of name.now }) ∷ []) header.new) }
+        → HasTaken (task_of task.now) (before ++ atom (record { weights = weights.now; atom = named_atom_of name.now }) ∷ []) header.new) }
     ensures wrong { IfErr result (λ refusal. (before : List TextLine) → number ≡ length before + 1 → HasTaken (task_of task.now) before header.old
-        → IsWrongNow (task_of task.now) before (atom (record { weights = weights_of weights; atom = named_atom_of name.now })) refusal) }
+        → IsWrongNow (task_of task.now) before (atom (record { weights = weights.now; atom = named_atom_of name.now })) refusal) }
 {
     let Some(atom) = fluent_atom_named(task, fluents, name) else {
         return Err(Refusal::Line {
@@ -125,12 +133,8 @@ fn add_atom(
             line: number,
         });
     }
-    header.bounds.values.weights.push(weights.of_value)?;
-    header
-        .bounds
-        .dead_ends
-        .weights
-        .push(dead_end_weight(weights))?;
+    header.bounds.values.weights.push(weight_at(weights, 0))?;
+    header.bounds.dead_ends.weights.push(weight_at(weights, 1))?;
     Ok(())
 }
 

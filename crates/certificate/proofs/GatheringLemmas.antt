@@ -1,5 +1,5 @@
 -- A text that goes to a sink in large pieces.
-use Rattle.std.proofs.Common.{◌≡◌, ℕ, ◌+◌, ◌<◌, ◌≤◌, List, [], ◌++◌, length, map, take, get_or, Option, sym, ap, ◌∙◌, subst, append_assoc, append-nil, arith}
+use Rattle.std.proofs.Common.{◌≡◌, ℕ, ◌+◌, ◌<◌, ◌≤◌, List, [], ◌∷◌, ◌++◌, length, map, take, get_or, Option, sym, ap, ◌∙◌, subst, append_assoc, append-nil, arith}
 use Rattle.std.specs.Io.KnownBytes.{Appends}
 use Rattle.std.specs.List.{flat_map}
 use Rattle.std.proofs.KnownBytes.{Appends-nil, Appends-trans}
@@ -11,8 +11,7 @@ use Rattle.std.proofs.lemmas.Slice.Zip.{get_or-zip, length-zip}
 use Rattle.model.specs.Task.{Atom, Task}
 use Rattle.model.proofs.Pieces.{parts_more, parts_all}
 use Rattle.devices.specs.Devices.{AppendsBeginning}
-use Rattle.certificate_definitions.specs.Certificates.{Certificate}
-use Rattle.certificate_definitions.specs.CertificateText.{Weights}
+use Rattle.certificate_definitions.specs.Certificates.{Certificate, potentials_of}
 use Rattle.certificate_definitions.specs.CertificateNames.{weights_in}
 use Rattle.certificate.specs.Gathering.{IsPassedOn, atom_line, atoms_weighed, line_of_atom}
 
@@ -76,18 +75,18 @@ module _ {X : Type 0} (task : Task) (c : Certificate) (v : X → Atom) (atoms : 
   count : length atoms ≡ length c.atoms
   count = sym (length-map atoms v) ∙ ap length are
 
-  pub atom_more : (a : X) (weights : Weights) → i < length atoms → length c.potentials.weights ≡ length c.atoms → length c.dead_ends.weights ≡ length c.atoms → get_or atoms i a ≡ a
-      → weights ≡ weights_in c.version (get_or c.potentials.weights i (pos 0)) (get_or c.dead_ends.weights i (pos 0))
+  pub atom_more : (a : X) (weights : List ℤ) → i < length atoms → length (potentials_of c).weights ≡ length c.atoms → length c.dead_ends.weights ≡ length c.atoms → get_or atoms i a ≡ a
+      → weights ≡ weights_in c.version (get_or (potentials_of c).weights i (pos 0) ∷ []) (get_or c.dead_ends.weights i (pos 0))
       → lines (take (i + 1) (atoms_weighed c)) ≡ lines (take i (atoms_weighed c)) ++ line_of_atom task weights (v a)
   atom_more a weights within ws ds at is =
-      let both = zip c.potentials.weights c.dead_ends.weights in
-      let many : length both ≡ length c.atoms = omega (arith, length-zip c.potentials.weights c.dead_ends.weights, ws, ds) in
+      let both = zip (potentials_of c).weights c.dead_ends.weights in
+      let many : length both ≡ length c.atoms = omega (arith, length-zip (potentials_of c).weights c.dead_ends.weights, ws, ds) in
       let atom : get_or c.atoms i (v a) ≡ v a = ap (λ xs. get_or xs i (v a)) (sym are) ∙ get_or-map v atoms i a ∙ ap v at in
-      let two = get_or-zip c.potentials.weights c.dead_ends.weights i (pos 0, pos 0) (omega (arith, within, count, ws)) (omega (arith, within, count, ds)) in
+      let two = get_or-zip (potentials_of c).weights c.dead_ends.weights i (pos 0, pos 0) (omega (arith, within, count, ws)) (omega (arith, within, count, ds)) in
       let all = get_or-zip c.atoms both i (v a, (pos 0, pos 0)) (omega (arith, within, count)) (omega (arith, within, count, many)) ∙ (λ j. (atom j, two j)) in
-      line_more (atom_line task c.version) (atoms_weighed c) i (v a, (get_or c.potentials.weights i (pos 0), get_or c.dead_ends.weights i (pos 0)))
+      line_more (atom_line task c.version) (atoms_weighed c) i (v a, (get_or (potentials_of c).weights i (pos 0), get_or c.dead_ends.weights i (pos 0)))
       (slice_get-get_or (atoms_weighed c) i (v a, (pos 0, pos 0)) (omega (arith, length-zip c.atoms both, many, within, count)) ∙ ap (λ x. Some x) all)
       ∙ ap (λ weights. lines (take i (atoms_weighed c)) ++ line_of_atom task weights (v a)) (sym is)
 
   pub atoms_all : length atoms ≤ i → lines (take i (atoms_weighed c)) ≡ lines (atoms_weighed c)
-  atoms_all past = parts_all (atom_line task c.version) (atoms_weighed c) i (omega (arith, length-zip c.atoms (zip c.potentials.weights c.dead_ends.weights), count, past))
+  atoms_all past = parts_all (atom_line task c.version) (atoms_weighed c) i (omega (arith, length-zip c.atoms (zip (potentials_of c).weights c.dead_ends.weights), count, past))

@@ -2,14 +2,14 @@
 use Rattle.std.proofs.Common.{◌≡◌, ℕ, ◌+◌, ◌<◌, ◌≤◌, Bool, true, false, List, [], ◌∷◌, ◌++◌, get_or, map, take, length, Some, refl, sym, ap, ◌∙◌, subst, arith}
 use Rattle.std.specs.Prelude.{IsTrue, All, Contains, slice_get}
 use Rattle.std.specs.Option.{option_map}
-use Rattle.std.proofs.lemmas.List.{get_or-take, length-map, length-take-le, map-append, take_all, take_more}
+use Rattle.std.proofs.lemmas.List.{get_or-take, length-take-le, map-append, take_all, take_more}
 use Rattle.std.proofs.lemmas.List.Elements.{All-contains, All-tail, All-take}
-use Rattle.std.proofs.lemmas.Option.{get_or_from_slice_get, slice_get-get_or, slice_get-map, slice_get_within}
+use Rattle.std.proofs.lemmas.Option.{get_or_from_slice_get, slice_get-get_or, slice_get-map}
 use Rattle.packed_state.specs.Sets.{set_of}
 use Rattle.packed_state.specs.Store.{AreDistinct, IsPlaced}
 use Rattle.certificate_definitions.specs.Certificates.{StateLine, rise}
 use Rattle.model.proofs.ListLemmas.{Contains-got, Contains-here, map-Contains}
-use Rattle.certificate.specs.ListedSets.{Marked, lines_with, marked}
+use Rattle.certificate.specs.ListedSets.{lines_with, marked}
 use Rattle.certificate.specs.Listing.{ListOnce}
 use Rattle.certificate.proofs.SetsLemmas.{numbers_back, one_set}
 

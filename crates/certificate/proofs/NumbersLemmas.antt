@@ -1,10 +1,10 @@
 -- The numbers of sets, and what they say of a cert.
-use Rattle.std.proofs.Common.{◌≡◌, ℕ, zero, suc, ◌<◌, ◌≤◌, Bool, true, false, List, [], ◌∷◌, get_or, inl, inr, map, length, refl, sym, ap, ◌∙◌, subst, arith}
-use Rattle.std.specs.Prelude.{◌&&◌, ◌==◌, ℤ, pos, negsuc, All, Contains, Err, Ok, OnOk, Result, Some, nat_le, slice_get}
+use Rattle.std.proofs.Common.{◌≡◌, ℕ, zero, suc, ◌+◌, ◌<◌, ◌≤◌, Bool, true, false, List, [], ◌∷◌, get_or, inl, inr, map, length, refl, sym, ap, ◌∙◌, subst, arith}
+use Rattle.std.specs.Prelude.{◌&&◌, ◌==◌, ℤ, pos, negsuc, All, Contains, Err, Ok, OnOk, Result, Some, slice_get}
 use Rattle.std.specs.List.{list_all, list_any, range_with_len}
 use Rattle.std.specs.Cmp.{both_ways}
 use Rattle.std.specs.Option.{option_map}
-use Rattle.std.proofs.lemmas.Bool.{and_parts, eq-eqb, eqb-true, leb-true, or_cases, or_left, or_right}
+use Rattle.std.proofs.lemmas.Bool.{and_parts, eq-eqb, eqb-true, le-leb, leb-true, lt-ltb, or_cases, or_left, or_right}
 use Rattle.std.proofs.lemmas.List.{ext_get_or, length-map}
 use Rattle.std.proofs.lemmas.Option.{slice_get-map}
 use Rattle.std.proofs.lemmas.List.Elements.{All-cons, All-nil, All-contains, All-map, All-tail}
@@ -16,9 +16,9 @@ use Rattle.packed_state.specs.Store.{sets_in}
 use Rattle.packed_state.specs.Words.{bits_in}
 use Rattle.packed_state.proofs.PackedLemmas.{length-bits}
 use Rattle.potential_functions.specs.PotentialFunctions.{PotentialFunction}
-use Rattle.certificate_definitions.specs.Certificates.{Version, one, two, StateLine, are_potentials, is_dead_end_weight, is_mark, is_number, is_state_line, is_weight, rise}
+use Rattle.certificate_definitions.specs.Certificates.{Version, one, two, three, StateLine, are_potentials, is_dead_end_weight, is_mark, is_number, is_state_line, is_weight, rise}
 use Rattle.model.proofs.ListLemmas.{Contains-cases, Contains-filter, Contains-here, Contains-none, Contains-range, Contains-there, filter-Contains}
-use Rattle.certificate_reader.proofs.OneText.{rise_more}
+use Rattle.certificate_reader.proofs.NumbersRead.{rise_parts}
 use Rattle.certificate.specs.ListedSets.{Marked, line_with, lines_with, marked, numbers_of}
 use Rattle.certificate.specs.declared.cert.Cert.{Cert}
 use Rattle.certificate.specs.CertificateParts.{listed_of}
@@ -27,8 +27,18 @@ use Rattle.certificate.specs.declared.states.States.{States}
 use Rattle.certificate.specs.CertificateParts.{certificate_with, potential_of}
 use Rattle.certificate.specs.Certificate.{certificate_of, store_in}
 use Rattle.certificate.proofs.LimitsLemmas.{Limits, limits_of}
+use Rattle.certificate.proofs.WholeText.{IsPlain}
 use Rattle.certificate.proofs.SetsLemmas.{numbers_back, rise_below}
 use Rattle.certificate.proofs.WideningLemmas.{IsBelow, has-at_width, length-at_width}
+
+-- ---- numbers that rise
+
+-- they rise where more are allowed too
+rise_more : (count more least : ℕ) (numbers : List ℕ) → count ≤ more → rise count least numbers ≡ true → rise more least numbers ≡ true
+rise_more count more least [] few all = refl
+rise_more count more least (n ∷ numbers) few all =
+    let (above, below, rest) = rise_parts count least n numbers all in
+    λ i. le-leb least n above i && lt-ltb n more (omega (arith, below, few)) i && rise_more count more (n + 1) numbers few rest i
 
 -- ---- the numbers of a set
 
@@ -164,6 +174,7 @@ dead_end_weight one (pos zero) is = refl
 dead_end_weight one (pos (suc n)) is = absurd (cc)
 dead_end_weight one (negsuc n) is = absurd (cc)
 dead_end_weight two w is = is
+dead_end_weight three w is = is
 
 dead_end_weights_are : (version : Version) (weights : List ℤ) → list_all (is_dead_end_weight version) weights ≡ true → list_all is_weight weights ≡ true
 dead_end_weights_are version [] are = refl
@@ -193,11 +204,14 @@ module _ (cert : Cert) where
   rises : All (Rises count) sets
   rises = all_rise version count marks sets as_many limits.lines
 
+  first_value : are_potentials is_weight count (potential_of cert.header.bounds.values) ≡ true
+  first_value = (and_parts (are_potentials is_weight count (potential_of cert.header.bounds.values)) true limits.values).0
+
   pub constant_within : is_weight cert.header.bounds.values.constant ≡ true
-  constant_within = (potential_parts is_weight count (potential_of cert.header.bounds.values) limits.potentials).0
+  constant_within = (potential_parts is_weight count (potential_of cert.header.bounds.values) first_value).0
 
   pub weights_within : (length cert.header.bounds.values.weights.items ≡ count) × (list_all is_weight cert.header.bounds.values.weights.items ≡ true)
-  weights_within = let (_, many, weights) = potential_parts is_weight count (potential_of cert.header.bounds.values) limits.potentials in (many, weights)
+  weights_within = let (_, many, weights) = potential_parts is_weight count (potential_of cert.header.bounds.values) first_value in (many, weights)
 
   pub dead_end_constant_within : is_weight cert.header.bounds.dead_ends.constant ≡ true
   dead_end_constant_within =
@@ -207,6 +221,9 @@ module _ (cert : Cert) where
   dead_end_weights_within =
       let (_, many, weights) = potential_parts (is_dead_end_weight version) count (potential_of cert.header.bounds.dead_ends) limits.dead_ends in
       (many, dead_end_weights_are version cert.header.bounds.dead_ends.weights.items weights)
+
+  pub is_plain : IsPlain (certificate_of cert)
+  is_plain = record { one_value = refl; no_tables = refl; weights = weights_within.0; dead_end_weights = dead_end_weights_within.0 }
 
   pub marks_are : map listed_of cert.states.marks.items ≡ map marked (certificate_of cert).lines
   marks_are = sym (marked_back marks sets as_many)
@@ -241,4 +258,4 @@ module _ (cert : Cert) where
     same_certificate states same are =
         let lines = (λ i. lines_with (map listed_of (same i)) (are i)) ∙ lines_wide count wide marks sets enough as_many rises in
         let c = certificate_of cert in
-        λ i. record { version = c.version; claim = c.claim; atoms = c.atoms; potentials = c.potentials; dead_ends = c.dead_ends; lines = lines i }
+        λ i. record { version = c.version; claim = c.claim; atoms = c.atoms; values = c.values; dead_ends = c.dead_ends; tables = c.tables; lines = lines i }

@@ -1,5 +1,5 @@
 -- The parts of the code's certificates, in the model's terms.
-use Rattle.std.specs.Prelude.{List, map}
+use Rattle.std.specs.Prelude.{List, [], ◌∷◌, map}
 use Rattle.task.specs.TaskParts.{atom_of}
 use Rattle.packed_state.specs.PooledView.{pooled_states}
 use Rattle.potential_functions.specs.PotentialFunctions.{PotentialFunction}
@@ -23,8 +23,9 @@ certificate_with_lines header lines = record {
   version = version_of header.version;
   claim = claim_of header.claim;
   atoms = map atom_of header.atoms.keys;
-  potentials = potential_of header.bounds.values;
+  values = potential_of header.bounds.values ∷ [];
   dead_ends = potential_of header.bounds.dead_ends;
+  tables = [];
   lines = lines;
 }
 

@@ -1,3 +1,4 @@
+pub mod Weights
 pub mod CertificateParts
 pub mod Certificate
 pub mod Gathering

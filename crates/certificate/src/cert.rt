@@ -31,7 +31,7 @@ impl Cert {
     ghost use Rattle.task.specs.TaskParts.{atom_of};
     ghost use Rattle.packed_state.specs.Packed.{bits_of};
     ghost use Rattle.packed_state.specs.PooledView.{pooled_width};
-    ghost use Rattle.certificate_definitions.specs.Certificates.{is_weight};
+    ghost use Rattle.certificate_definitions.specs.Certificates.{is_weight, potentials_of};
     ghost use Rattle.certificate_reader.specs.Lines.{claim_of, line_of, version_of};
     ghost use Rattle.certificate_reader.specs.declared.line.TheConstants.{MAX_ATOMS, MAX_STATE_LINES};
     ghost use Rattle.certificate.specs.CertificateParts.{certificate_with_lines, listed_of};
@@ -82,9 +82,9 @@ impl Cert {
         self.header.claim
     }
 
-    /// The constant of its potential function.
+    /// The constant of its first value.
     pub fn constant(&self) -> i64
-        ensures constant { result ≡ (certificate_of self.now).potentials.constant }
+        ensures constant { result ≡ (potentials_of (certificate_of self.now)).constant }
         ensures within_limits { IsTrue (is_weight result) }
     {
         self.header.bounds.values.constant
@@ -92,7 +92,7 @@ impl Cert {
 
     /// The weights of its atoms, in their order.
     pub fn weights(&self) -> &[i64]
-        ensures weights { result.now ≡ (certificate_of self.now).potentials.weights }
+        ensures weights { result.now ≡ (potentials_of (certificate_of self.now)).weights }
         ensures one_for_each { length result.now ≡ length (certificate_of self.now).atoms }
         ensures within_limits { IsTrue (list_all is_weight result.now) }
     {

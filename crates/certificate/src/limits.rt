@@ -87,7 +87,7 @@ fn is_dead_end_weight(version: Version, number: i64) -> bool
 {
     match version {
         Version::One => number == 0,
-        Version::Two => is_weight(number),
+        Version::Two | Version::Three => is_weight(number),
     }
 }
 
@@ -117,7 +117,7 @@ fn is_mark(version: Version, mark: Mark) -> bool
     match mark {
         Mark::Open => true,
         Mark::Cut { rest } => is_number(rest),
-        Mark::Dead => version == Version::Two,
+        Mark::Dead => version != Version::One,
     }
 }
 

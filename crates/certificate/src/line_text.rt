@@ -1,17 +1,19 @@
 //! The lines of a certificate's text, each added to the bytes of those before it.
-ghost use Rattle.std.specs.Prelude.{◌≡◌, ◌++◌, map, OnOk};
+ghost use Rattle.std.specs.Prelude.{◌≡◌, ◌++◌, codes, map, OnOk};
 ghost use Rattle.std.specs.List.{flat_map};
 ghost use Rattle.std.specs.Fmt.{decimal, signed_decimal};
 ghost use Rattle.task.specs.Task.{task_of};
 ghost use Rattle.task.specs.TaskParts.{atom_of, object_of};
 ghost use Rattle.model.specs.PlanWriting.{object_name, object_text};
-ghost use Rattle.certificate_reader.specs.Lines.{claim_of, line_of, mark_of, version_of, weights_of};
+ghost use Rattle.certificate_reader.specs.Lines.{claim_of, line_of, mark_of, version_of};
+ghost use Rattle.certificate.specs.Weights.{weights_of};
 ghost use Rattle.certificate_definitions.specs.CertificateText as line;
 ghost use Rattle.certificate_definitions.specs.CertificateText.{claims, last, line_text, mark_text, weights_text, whole_line};
-ghost use Rattle.certificate_definitions.specs.CertificateNames.{predicate_name, weights_in};
+ghost use Rattle.certificate_definitions.specs.CertificateNames.{predicate_name};
 ghost use Rattle.certificate.specs.Gathering.{line_of_atom, number_text, state_line};
 
-use certificate_reader::{Claim, Mark, StateLine, Version, Weights};
+use crate::weights::Weights;
+use certificate_reader::{Claim, Mark, StateLine, Version};
 use itoa::Buffer;
 use std::alloc::AllocError;
 use task::{Atom, ObjectId, PredicateId, Task};
@@ -27,7 +29,7 @@ pub(crate) fn add_head(
 {
     text.extend_from_slice(version_line(version))?;
     add_claim(claim, text)?;
-    add_weights(b"\nconstant ", constants, text)?;
+    add_weights(b"\nconstant", constants, text)?;
     text.extend_from_slice(b"\n")
 }
 
@@ -38,6 +40,7 @@ fn version_line(version: Version) -> &'static [u8]
     match version {
         Version::One => b"pddl-cert 1\n",
         Version::Two => b"pddl-cert 2\n",
+        Version::Three => b"pddl-cert 3\n",
     }
 }
 
@@ -60,7 +63,7 @@ pub(crate) fn add_atom(
 ) -> Result<(), AllocError>
     ensures { OnOk result (text.new.items ≡ text.old.items ++ line_of_atom (task_of task.now) (weights_of weights) (atom_of atom.now)) }
 {
-    add_weights(b"atom ", weights, text)?;
+    add_weights(b"atom", weights, text)?;
     text.extend_from_slice(b" (")?;
     text.extend_from_slice(predicate_name(task, atom.predicate))?;
     add_names(task, atom.objects.as_slice(), text)?;
@@ -127,38 +130,23 @@ fn add_number(before: &[u8], number: u64, text: &mut Vec<u8>) -> Result<(), Allo
     text.extend_from_slice(Buffer::new().format(number).as_bytes())
 }
 
-/// A constant or a weight of values, and that of dead ends, as they are written in this version.
-pub(crate) fn weights_in(version: Version, of_value: i64, of_dead_end: i64) -> Weights
-    ensures { weights_of result ≡ weights_in (version_of version) of_value of_dead_end }
-{
-    match version {
-        Version::One => Weights {
-            of_value,
-            of_dead_end: None,
-        },
-        Version::Two => Weights {
-            of_value,
-            of_dead_end: Some(of_dead_end),
-        },
-    }
-}
-
-/// Adds these bytes, and then constants or weights, with a blank between two.
+/// Adds these bytes, and then constants or weights, with a blank before each.
 fn add_weights(before: &[u8], weights: Weights, text: &mut Vec<u8>) -> Result<(), AllocError>
     ensures { OnOk result (text.new.items ≡ text.old.items ++ (before.now ++ weights_text (weights_of weights))) }
 {
-    add_weight(before, weights.of_value, text)?;
+    text.extend_from_slice(before)?;
+    add_weight(weights.of_value, text)?;
     match weights.of_dead_end {
         None => Ok(()),
-        Some(of_dead_end) => add_weight(b" ", of_dead_end, text),
+        Some(of_dead_end) => add_weight(of_dead_end, text),
     }
 }
 
-/// Adds these bytes, and then a constant or a weight in decimal digits, a `-` before it where it is negative.
-fn add_weight(before: &[u8], weight: i64, text: &mut Vec<u8>) -> Result<(), AllocError>
-    ensures { OnOk result (text.new.items ≡ text.old.items ++ (before.now ++ signed_decimal weight)) }
+/// Adds a blank, and then a constant or a weight in decimal digits, a `-` before it where it is negative.
+fn add_weight(weight: i64, text: &mut Vec<u8>) -> Result<(), AllocError>
+    ensures { OnOk result (text.new.items ≡ text.old.items ++ (codes " " ++ signed_decimal weight)) }
 {
-    text.extend_from_slice(before)?;
+    text.extend_from_slice(b" ")?;
     text.extend_from_slice(Buffer::new().format(weight).as_bytes())
 }
 

@@ -9,7 +9,8 @@ ghost use Rattle.certificate_definitions.specs.CertificateNames.{certificate_tex
 ghost use Rattle.certificate.specs.Gathering.{IsPassedOn, atom_line, atoms_weighed, state_line};
 
 use crate::cert::Cert;
-use crate::line_text::{add_atom, add_head, add_last, add_state, weights_in};
+use crate::line_text::{add_atom, add_head, add_last, add_state};
+use crate::weights::weights_in;
 use certificate_reader::{Mark, StateLine};
 use devices::{IoFault, Sink, write_all};
 use packed_state::{Packed, StateStore};

@@ -1,4 +1,4 @@
--- Of a closed certificate nothing is wrong.
+-- Of a certificate of version 1 or 2 that is closed nothing is wrong.
 use Rattle.std.proofs.Common.{◌≡◌, ℕ, ◌+◌, ◌<◌, ◌&&◌, List, get_or, Option, None, Some, inl, inr, true≢false, refl, sym, ◌∙◌, subst, arith}
 use Rattle.std.specs.Prelude.{◌≢◌, IsTrue, AllPairs, slice_get}
 use Rattle.std.proofs.lemmas.Option.{slice_get_within, get_or_from_slice_get}
@@ -11,7 +11,7 @@ use Rattle.model.specs.StaticallyFalse.{kept_instances}
 use Rattle.model.specs.NumberedAtoms.{numbered_atoms}
 use Rattle.model.specs.Claims.{Claim, bound, none, Allows, Line}
 use Rattle.model.specs.Fluents.{is_fluent}
-use Rattle.certificate_definitions.specs.Certificates.{Certificate, lines_of, IsClosedFor}
+use Rattle.certificate_definitions.specs.Certificates.{Certificate, potentials_of, lines_of, IsClosedByPotentials}
 use Rattle.certificate_definitions.specs.CertificateRefusals.{Reason, not_fluent, repeated, no_initial, unfair, unfair_goal, goal_open, successor_missing, successor_dearer, cut_weak, cut_not_allowed, plan_invalid, plan_dearer, limit, dead_unfair, dead_unfair_goal, not_dead, IsWrongLine, IsWrong, IsPlanWithin}
 use Rattle.potential_functions.specs.Fair.{IsFairAt}
 use Rattle.model.proofs.ListLemmas.{Contains-got}
@@ -30,7 +30,7 @@ plan_solves task none p within = absurd within
 
 -- ---- a closed certificate's lines
 
-module _ (task : Task) (c : Certificate) (closed : IsClosedFor task c) where
+module _ (task : Task) (c : Certificate) (closed : IsClosedByPotentials task c) where
   abbrev listed : List (Line State)
   listed = lines_of task c
 
@@ -74,7 +74,7 @@ module _ (task : Task) (c : Certificate) (closed : IsClosedFor task c) where
   pub right : (plan : Option (List Instance)) (most : ℕ) (reason : Reason) → IsPlanWithin task c.claim plan → IsWrong task c plan most reason → reason ≡ limit
   right plan most no_initial within wrong = absurd (wrong closed.listing_is_closed.initial_listed)
   right plan most unfair within (i, kept, wrong) =
-      absurd (wrong (All-contains (λ (i : Instance). IsFairAt (cost_of task i) task (numbered_atoms task c.atoms) c.potentials.weights i) (kept_instances task) i closed.potentials_are_fair.instances kept))
+      absurd (wrong (All-contains (λ (i : Instance). IsFairAt (cost_of task i) task (numbered_atoms task c.atoms) (potentials_of c).weights i) (kept_instances task) i closed.potentials_are_fair.instances kept))
   right plan most unfair_goal within wrong = absurd (wrong closed.potentials_are_fair.goals)
   right plan most dead_unfair within (i, kept, wrong) =
       absurd (wrong (All-contains (λ (i : Instance). IsFairAt 0 task (numbered_atoms task c.atoms) c.dead_ends.weights i) (kept_instances task) i closed.dead_ends_are_fair.instances kept))

@@ -1,4 +1,6 @@
 pub mod CertificateRefusalsLemmas
 pub mod CertificateExampleProofs
+pub mod CertificateTextExampleProofs
+pub mod Beginnings
 pub mod Machine
 pub mod TooMany

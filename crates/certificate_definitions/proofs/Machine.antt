@@ -1,6 +1,6 @@
 -- The place of a reader after some lines says just what they are.
 use Rattle.std.proofs.Common.{◌≡◌, ℕ, suc, ◌+◌, ◌<◌, ◌≤◌, Bool, true, false, List, [], ◌∷◌, ◌++◌, map, length, Option, None, Some, refl, sym, ap, ◌∙◌, subst, append_assoc, append-nil, length-append, arith}
-use Rattle.std.specs.Prelude.{◌&&◌, ◌==◌, nat_le, nat_lt, pos, IsTrue}
+use Rattle.std.specs.Prelude.{◌&&◌, ◌==◌, nat_le, nat_lt, ℤ, pos, IsTrue}
 use Rattle.std.specs.List.{list_all}
 use Rattle.std.specs.Option.{option_and_then}
 use Rattle.std.proofs.lemmas.Bool.{and_parts, eqb-true, leb-true, le-leb, ltb-true, lt-ltb}
@@ -8,33 +8,41 @@ use Rattle.std.proofs.lemmas.Bool.Decides.{nat_tests}
 use Rattle.std.proofs.lemmas.List.{map-append}
 use Rattle.std.proofs.lemmas.List.Folds.{list_all-append, list_all-map}
 use Rattle.model.specs.Claims.{Claim, none}
-use Rattle.certificate_definitions.specs.Certificates.{Version, one, two, StateLine, is_number, is_claim, is_state_line}
-use Rattle.certificate_definitions.specs.CertificateText.{Weights, WeightedAtom, NamedCertificate, TextLine, version, claims, constant, atom, listed, last, are_weights, is_line, most_atoms, most_states, text_lines, keeps_text_limits, AreWhole, BeginCertificate, head_lines}
-use Rattle.certificate_definitions.specs.CertificateNames.{weights_in}
-use Rattle.certificate_definitions.specs.CertificateMachine.{CertificatePlace, at_version, at_claim, at_constant, in_body, ended, only_if, next_place, place_from, place_after}
+use Rattle.certificate_definitions.specs.Certificates.{Version, one, two, three, StateLine, is_number, is_claim}
+use Rattle.table_functions.specs.TableFunctions.{Row}
+use Rattle.certificate_definitions.specs.CertificateText.{WeightedAtom, TableLine, scope, row, NamedCertificate, TextLine, version, claims, constant, atom, tabled, listed, last, Format, is_line, row_count, scope_count, begin_with_scope, format_of, most_atoms, most_tables, most_rows, most_states, text_lines, keeps_text_limits, AreWhole, BeginCertificate, Beginning, head_lines, format_in}
+use Rattle.certificate_definitions.specs.CertificateMachine.{Body, CertificatePlace, at_version, at_claim, at_constant, in_body, ended, no_format, no_body, atom_more, scope_more, row_more, state_more, atom_follows, row_follows, only_if, next_place, place_from, place_after}
+use Rattle.certificate_definitions.proofs.Beginnings.{body_lines}
 
 -- ---- what comes before a place
 
-pub record IsBody (v : Version) (atom_count state_count : ℕ) (lines : List TextLine) : Type 0 where
-  pub claim : Claim
-  pub constant : Weights
-  pub atoms : List WeightedAtom
-  pub states : List StateLine
-  pub claim_is : IsTrue (is_claim claim)
-  pub constant_is : IsTrue (are_weights v constant)
-  pub atoms_are : IsTrue (list_all (λ a. is_line v atom_count (atom a)) atoms)
-  pub states_are : IsTrue (list_all (is_state_line v atom_count) states)
-  pub atom_count_is : length atoms ≡ atom_count
-  pub state_count_is : length states ≡ state_count
-  pub few_atoms : atom_count ≤ most_atoms
-  pub few_states : state_count ≤ most_states
-  pub lines_are : lines ≡ head_lines v claim constant atoms states
+abbrev pub body_of : Beginning → Body
+body_of g = record { format = format_in g; tables = scope_count g.tables; rows = row_count g.tables; states = length g.states }
+
+-- the first lines keep the limits
+pub record Keeps (g : Beginning) : Type 0 where
+  pub claim_is : IsTrue (is_claim g.claim)
+  pub constants_are : IsTrue (is_line (format_in g) (constant g.constants))
+  pub atoms_are : IsTrue (list_all (λ a. is_line (format_in g) (atom a)) g.atoms)
+  pub tables_are : IsTrue (list_all (λ t. is_line (format_in g) (tabled t)) g.tables)
+  pub states_are : IsTrue (list_all (λ l. is_line (format_in g) (listed l)) g.states)
+  pub scope_first : IsTrue (begin_with_scope g.tables)
+  pub few_atoms : length g.atoms ≤ most_atoms
+  pub few_tables : scope_count g.tables ≤ most_tables
+  pub few_rows : row_count g.tables ≤ most_rows
+  pub few_states : length g.states ≤ most_states
+
+pub record IsBody (b : Body) (lines : List TextLine) : Type 0 where
+  pub beginning : Beginning
+  pub keeps : Keeps beginning
+  pub body_is : body_of beginning ≡ b
+  pub lines_are : lines ≡ head_lines beginning
 
 abbrev pub ComesBefore : CertificatePlace → List TextLine → Type 0
 ComesBefore at_version lines = lines ≡ []
 ComesBefore (at_claim v) lines = lines ≡ version v ∷ []
 ComesBefore (at_constant v) lines = (claim : Claim) × IsTrue (is_claim claim) × (lines ≡ version v ∷ claims claim ∷ [])
-ComesBefore (in_body v atoms states) lines = IsBody v atoms states lines
+ComesBefore (in_body b) lines = IsBody b lines
 ComesBefore ended lines = AreWhole lines
 
 -- ---- one line more
@@ -55,85 +63,210 @@ all_more test (y ∷ xs) x all is =
     let (here, more) = and_parts (test y) (list_all test xs) all in
     ap (λ b. b && list_all test (xs ++ x ∷ [])) here ∙ all_more test xs x more is
 
--- atoms keep the limits whatever their count
-other_count : (v : Version) (a b : ℕ) (atoms : List WeightedAtom) → list_all (λ n. is_line v a (atom n)) atoms ≡ list_all (λ n. is_line v b (atom n)) atoms
-other_count v a b atoms = refl
+one_longer : {X : Type 0} (xs : List X) (x : X) → length (xs ++ x ∷ []) ≡ length xs + 1
+one_longer xs x = omega (arith, length-append xs (x ∷ []))
 
-more_length : {X : Type 0} (xs : List X) (x : X) (n : ℕ) → length xs ≡ n → length (xs ++ x ∷ []) ≡ n + 1
-more_length xs x n same = omega (arith, length-append xs (x ∷ []), same)
+pub no_states : (states : List StateLine) → length states ≡ 0 → states ≡ []
+no_states [] empty = refl
+no_states (l ∷ states) empty = absurd (omega (arith, empty))
 
-body_with_atom : (v : Version) (atoms_so_far states_so_far : ℕ) (a : WeightedAtom) (lines : List TextLine) → IsBody v atoms_so_far states_so_far lines
-    → states_so_far ≡ 0 → atoms_so_far < most_atoms → is_line v atoms_so_far (atom a) ≡ true → IsBody v (atoms_so_far + 1) states_so_far (lines ++ atom a ∷ [])
-body_with_atom v n m a lines body none_yet below is = by_states body.states (body.state_count_is ∙ none_yet) body.lines_are
-  where
-    by_states : (states : List StateLine) → length states ≡ 0 → lines ≡ head_lines v body.claim body.constant body.atoms states → IsBody v (n + 1) m (lines ++ atom a ∷ [])
-    by_states [] empty are = record {
-      claim = body.claim;
-      constant = body.constant;
-      atoms = body.atoms ++ a ∷ [];
-      states = [];
-      claim_is = body.claim_is;
-      constant_is = body.constant_is;
-      atoms_are = all_more (λ a. is_line v (n + 1) (atom a)) body.atoms a body.atoms_are is;
-      states_are = refl;
-      atom_count_is = more_length body.atoms a n body.atom_count_is;
-      state_count_is = sym none_yet;
-      few_atoms = omega (arith, below);
-      few_states = body.few_states;
-      lines_are =
-          ap (λ lines. lines ++ atom a ∷ []) are
-          ∙ ap (λ atoms. version v ∷ claims body.claim ∷ constant body.constant ∷ atoms ++ atom a ∷ []) (append-nil (map (λ a. atom a) body.atoms))
-          ∙ ap (λ atoms. version v ∷ claims body.claim ∷ constant body.constant ∷ atoms) (sym (map-append (λ a. atom a) body.atoms (a ∷ [])) ∙ sym (append-nil (map (λ a. atom a) (body.atoms ++ a ∷ []))));
-    }
-    by_states (l ∷ states) empty are = absurd (omega (arith, empty))
-
-body_with_state : (v : Version) (n m : ℕ) (l : StateLine) (lines : List TextLine) → IsBody v n m lines
-    → m < most_states → is_line v n (listed l) ≡ true → IsBody v n (m + 1) (lines ++ listed l ∷ [])
-body_with_state v n m l lines body below is = record {
-  claim = body.claim;
-  constant = body.constant;
-  atoms = body.atoms;
-  states = body.states ++ l ∷ [];
-  claim_is = body.claim_is;
-  constant_is = body.constant_is;
-  atoms_are = body.atoms_are;
-  states_are = all_more (is_state_line v n) body.states l body.states_are is;
-  atom_count_is = body.atom_count_is;
-  state_count_is = more_length body.states l m body.state_count_is;
-  few_atoms = body.few_atoms;
-  few_states = omega (arith, below);
-  lines_are =
-      ap (λ lines. lines ++ listed l ∷ []) body.lines_are
-      ∙ ap (λ rest. version v ∷ claims body.claim ∷ constant body.constant ∷ rest)
-      (append_assoc (map (λ a. atom a) body.atoms) (map (λ l. listed l) body.states) (listed l ∷ [])
-      ∙ ap (λ states. map (λ a. atom a) body.atoms ++ states) (sym (map-append (λ l. listed l) body.states (l ∷ []))));
-}
+pub no_tables : (tables : List TableLine) → IsTrue (begin_with_scope tables) → scope_count tables ≡ 0 → tables ≡ []
+no_tables [] first none_yet = refl
+no_tables (scope s ∷ tables) first none_yet = absurd (omega (arith, none_yet))
+no_tables (row r ∷ tables) first none_yet = absurd (cc first)
 
 both_true : (a b : Bool) → a ≡ true → b ≡ true → a && b ≡ true
 both_true a b x y = λ i. x i && y i
 
--- the lines before the last one, and it, are a certificate
-whole_body : (v : Version) (n m : ℕ) (lines : List TextLine) → IsBody v n m lines → AreWhole (lines ++ last m ∷ [])
-whole_body v n m lines body =
-    let c : NamedCertificate = record { version = v; claim = body.claim; constants = body.constant; atoms = body.atoms; lines = body.states } in
-    let keeps : ℕ → TextLine → Bool = λ count line. is_line v count line in
-    let count_is : keeps n ≡ keeps (length body.atoms) = ap keeps (sym body.atom_count_is) in
-    let atoms : list_all (keeps n) (map (λ a. atom a) body.atoms) ≡ true = list_all-map (keeps n) (λ a. atom a) body.atoms ∙ body.atoms_are in
-    let states : list_all (keeps n) (map (λ l. listed l) body.states) ≡ true = list_all-map (keeps n) (λ l. listed l) body.states ∙ body.states_are in
-    let number : is_number (length body.states) ≡ true =
-    lt-ltb (length body.states) 1152921504606846976 (omega (arith, body.state_count_is, body.few_states)) in
-    let all_body : list_all (keeps n) (map (λ a. atom a) body.atoms ++ map (λ l. listed l) body.states) ≡ true =
-    list_all-append (keeps n) (map (λ a. atom a) body.atoms) (map (λ l. listed l) body.states) ∙ both_true _ _ atoms states in
-    let following : list_all (keeps n) ((map (λ a. atom a) body.atoms ++ map (λ l. listed l) body.states) ++ last (length body.states) ∷ []) ≡ true =
-    list_all-append (keeps n) (map (λ a. atom a) body.atoms ++ map (λ l. listed l) body.states) (last (length body.states) ∷ [])
-    ∙ both_true _ _ all_body (both_true (is_number (length body.states)) true number refl) in
-    let each : list_all (keeps n) (text_lines c) ≡ true = both_true (is_claim body.claim) _ body.claim_is (both_true (are_weights v body.constant) _ body.constant_is following) in
-    let few : nat_le (length body.atoms) most_atoms ≡ true = le-leb (length body.atoms) most_atoms (omega (arith, body.atom_count_is, body.few_atoms)) in
-    let few_states : nat_le (length body.states) most_states ≡ true = le-leb (length body.states) most_states (omega (arith, body.state_count_is, body.few_states)) in (
-      c,
-      both_true (nat_le (length body.atoms) most_atoms && nat_le (length body.states) most_states) _ (both_true _ _ few few_states) (ap (λ (k : TextLine → Bool). list_all k (text_lines c)) (sym count_is) ∙ each),
-      ap (λ count. head_lines v body.claim body.constant body.atoms body.states ++ last count ∷ []) body.state_count_is ∙ ap (λ lines. lines ++ last m ∷ []) (sym body.lines_are),
-    )
+scopes_and_scope : (tables : List TableLine) (atoms : List ℕ) → scope_count (tables ++ scope atoms ∷ []) ≡ scope_count tables + 1
+scopes_and_scope [] atoms = refl
+scopes_and_scope (scope s ∷ tables) atoms = omega (arith, scopes_and_scope tables atoms)
+scopes_and_scope (row r ∷ tables) atoms = scopes_and_scope tables atoms
+
+scopes_and_row : (tables : List TableLine) (r : Row) → scope_count (tables ++ row r ∷ []) ≡ scope_count tables
+scopes_and_row [] r = refl
+scopes_and_row (scope s ∷ tables) r = ap (λ n. 1 + n) (scopes_and_row tables r)
+scopes_and_row (row q ∷ tables) r = scopes_and_row tables r
+
+rows_and_scope : (tables : List TableLine) (atoms : List ℕ) → row_count (tables ++ scope atoms ∷ []) ≡ row_count tables
+rows_and_scope [] atoms = refl
+rows_and_scope (scope s ∷ tables) atoms = rows_and_scope tables atoms
+rows_and_scope (row r ∷ tables) atoms = ap (λ n. 1 + n) (rows_and_scope tables atoms)
+
+rows_and_row : (tables : List TableLine) (r : Row) → row_count (tables ++ row r ∷ []) ≡ row_count tables + 1
+rows_and_row [] r = refl
+rows_and_row (scope s ∷ tables) r = rows_and_row tables r
+rows_and_row (row q ∷ tables) r = omega (arith, rows_and_row tables r)
+
+scope_stays_first : (tables : List TableLine) (t : TableLine) → 0 < scope_count tables → IsTrue (begin_with_scope tables) → IsTrue (begin_with_scope (tables ++ t ∷ []))
+scope_stays_first [] t begun first = absurd (omega (arith, begun))
+scope_stays_first (s ∷ tables) t begun first = by_first s first
+  where
+    by_first : (s : TableLine) → IsTrue (begin_with_scope (s ∷ tables)) → IsTrue (begin_with_scope (s ∷ (tables ++ t ∷ [])))
+    by_first (scope atoms) first = refl
+    by_first (row r) first = absurd (cc first)
+
+scope_after : (tables : List TableLine) (atoms : List ℕ) → IsTrue (begin_with_scope tables) → IsTrue (begin_with_scope (tables ++ scope atoms ∷ []))
+scope_after [] atoms first = refl
+scope_after (scope s ∷ tables) atoms first = refl
+scope_after (row r ∷ tables) atoms first = absurd (cc first)
+
+-- ---- one line more of a body
+
+module _ (g : Beginning) (keeps : Keeps g) where
+  -- the beginning with other atoms, tables or states
+  abbrev with_parts : List WeightedAtom → List TableLine → List StateLine → Beginning
+  with_parts atoms tables states = record { version = g.version; claim = g.claim; constants = g.constants; atoms = atoms; tables = tables; states = states }
+
+  abbrev first_three : List TextLine → List TextLine
+  first_three lines = version g.version ∷ claims g.claim ∷ constant g.constants ∷ lines
+
+  with_atom : (a : WeightedAtom) → g.tables ≡ [] → g.states ≡ [] → length g.atoms < most_atoms → is_line (format_in g) (atom a) ≡ true
+      → IsBody (atom_more (body_of g)) (head_lines g ++ atom a ∷ [])
+  with_atom a no_tables no_states below is =
+      let atoms : List WeightedAtom = g.atoms ++ a ∷ [] in
+      let format : Format = format_in (with_parts atoms [] []) in
+      record {
+        beginning = with_parts atoms g.tables g.states;
+        keeps = record {
+          claim_is = keeps.claim_is;
+          constants_are = keeps.constants_are;
+          atoms_are = all_more (λ a. is_line (format_in g) (atom a)) g.atoms a keeps.atoms_are is;
+          tables_are = ap (list_all (λ t. is_line format (tabled t))) no_tables;
+          states_are = ap (list_all (λ l. is_line format (listed l))) no_states;
+          scope_first = keeps.scope_first;
+          few_atoms = omega (arith, below, one_longer g.atoms a);
+          few_tables = keeps.few_tables;
+          few_rows = keeps.few_rows;
+          few_states = keeps.few_states;
+        };
+        body_is = (λ i. record { format = record { version = g.version; weights = length g.constants; atoms = one_longer g.atoms a i }; tables = scope_count g.tables; rows = row_count g.tables; states = length g.states });
+        lines_are =
+            (λ i. first_three (body_lines g.atoms (no_tables i) (no_states i) ++ atom a ∷ []))
+            ∙ ap (λ lines. first_three (lines ++ atom a ∷ [])) (append-nil (map atom g.atoms ++ []) ∙ append-nil (map atom g.atoms))
+            ∙ ap first_three (sym (map-append atom g.atoms (a ∷ [])) ∙ sym (append-nil (map atom atoms)) ∙ sym (append-nil (map atom atoms ++ [])))
+            ∙ (λ i. first_three (body_lines atoms (sym no_tables i) (sym no_states i)));
+      }
+
+  with_table_line : (t : TableLine) (b : Body) → g.states ≡ [] → is_line (format_in g) (tabled t) ≡ true → IsTrue (begin_with_scope (g.tables ++ t ∷ []))
+      → scope_count (g.tables ++ t ∷ []) ≤ most_tables → row_count (g.tables ++ t ∷ []) ≤ most_rows → body_of (with_parts g.atoms (g.tables ++ t ∷ []) g.states) ≡ b → IsBody b (head_lines g ++ tabled t ∷ [])
+  with_table_line t b no_states is first few_tables few same = record {
+    beginning = with_parts g.atoms (g.tables ++ t ∷ []) g.states;
+    keeps = record {
+      claim_is = keeps.claim_is;
+      constants_are = keeps.constants_are;
+      atoms_are = keeps.atoms_are;
+      tables_are = all_more (λ t. is_line (format_in g) (tabled t)) g.tables t keeps.tables_are is;
+      states_are = keeps.states_are;
+      scope_first = first;
+      few_atoms = keeps.few_atoms;
+      few_tables = few_tables;
+      few_rows = few;
+      few_states = keeps.few_states;
+    };
+    body_is = same;
+    lines_are =
+        (λ i. first_three (body_lines g.atoms g.tables (no_states i) ++ tabled t ∷ []))
+        ∙ ap (λ lines. first_three (lines ++ tabled t ∷ [])) (append-nil (map atom g.atoms ++ map tabled g.tables))
+        ∙ ap first_three (append_assoc (map atom g.atoms) (map tabled g.tables) (tabled t ∷ [])
+        ∙ ap (λ lines. map atom g.atoms ++ lines) (sym (map-append tabled g.tables (t ∷ [])))
+        ∙ sym (append-nil (map atom g.atoms ++ map tabled (g.tables ++ t ∷ []))))
+        ∙ (λ i. first_three (body_lines g.atoms (g.tables ++ t ∷ []) (sym no_states i)));
+  }
+
+  with_scope : (s : List ℕ) → g.states ≡ [] → scope_count g.tables < most_tables → is_line (format_in g) (tabled (scope s)) ≡ true → IsBody (scope_more (body_of g)) (head_lines g ++ tabled (scope s) ∷ [])
+  with_scope s no_states below is =
+      with_table_line (scope s) (scope_more (body_of g)) no_states is (scope_after g.tables s keeps.scope_first)
+      (omega (arith, scopes_and_scope g.tables s, below))
+      (omega (arith, rows_and_scope g.tables s, keeps.few_rows))
+      (λ i. record { format = format_in g; tables = scopes_and_scope g.tables s i; rows = rows_and_scope g.tables s i; states = length g.states })
+
+  with_row : (r : Row) → 0 < scope_count g.tables → g.states ≡ [] → row_count g.tables < most_rows → is_line (format_in g) (tabled (row r)) ≡ true
+      → IsBody (row_more (body_of g)) (head_lines g ++ tabled (row r) ∷ [])
+  with_row r begun no_states below is =
+      with_table_line (row r) (row_more (body_of g)) no_states is (scope_stays_first g.tables (row r) begun keeps.scope_first)
+      (omega (arith, scopes_and_row g.tables r, keeps.few_tables))
+      (omega (arith, rows_and_row g.tables r, below))
+      (λ i. record { format = format_in g; tables = scopes_and_row g.tables r i; rows = rows_and_row g.tables r i; states = length g.states })
+
+  with_state : (l : StateLine) → length g.states < most_states → is_line (format_in g) (listed l) ≡ true → IsBody (state_more (body_of g)) (head_lines g ++ listed l ∷ [])
+  with_state l below is = record {
+    beginning = with_parts g.atoms g.tables (g.states ++ l ∷ []);
+    keeps = record {
+      claim_is = keeps.claim_is;
+      constants_are = keeps.constants_are;
+      atoms_are = keeps.atoms_are;
+      tables_are = keeps.tables_are;
+      states_are = all_more (λ l. is_line (format_in g) (listed l)) g.states l keeps.states_are is;
+      scope_first = keeps.scope_first;
+      few_atoms = keeps.few_atoms;
+      few_tables = keeps.few_tables;
+      few_rows = keeps.few_rows;
+      few_states = omega (arith, below, one_longer g.states l);
+    };
+    body_is = (λ i. record { format = format_in g; tables = scope_count g.tables; rows = row_count g.tables; states = one_longer g.states l i });
+    lines_are =
+        ap first_three (append_assoc (map atom g.atoms ++ map tabled g.tables) (map listed g.states) (listed l ∷ [])
+        ∙ ap (λ lines. (map atom g.atoms ++ map tabled g.tables) ++ lines) (sym (map-append listed g.states (l ∷ []))));
+  }
+
+  -- the lines before the last one, and it, are a certificate
+  whole : AreWhole (head_lines g ++ last (length g.states) ∷ [])
+  whole =
+      let c : NamedCertificate = record { version = g.version; claim = g.claim; constants = g.constants; atoms = g.atoms; tables = g.tables; lines = g.states } in
+      let test : TextLine → Bool = is_line (format_in g) in
+      let atoms : list_all test (map atom g.atoms) ≡ true = list_all-map test atom g.atoms ∙ keeps.atoms_are in
+      let tables : list_all test (map tabled g.tables) ≡ true = list_all-map test tabled g.tables ∙ keeps.tables_are in
+      let states : list_all test (map listed g.states) ≡ true = list_all-map test listed g.states ∙ keeps.states_are in
+      let number : is_number (length g.states) ≡ true = lt-ltb (length g.states) 1152921504606846976 (omega (arith, keeps.few_states)) in
+      let body : list_all test (body_lines g.atoms g.tables g.states) ≡ true =
+      list_all-append test (map atom g.atoms ++ map tabled g.tables) (map listed g.states)
+      ∙ both_true _ _ (list_all-append test (map atom g.atoms) (map tabled g.tables) ∙ both_true _ _ atoms tables) states in
+      let following : list_all test (body_lines g.atoms g.tables g.states ++ last (length g.states) ∷ []) ≡ true =
+      list_all-append test (body_lines g.atoms g.tables g.states) (last (length g.states) ∷ []) ∙ both_true _ _ body (both_true (is_number (length g.states)) true number refl) in
+      let each : list_all test (text_lines c) ≡ true = both_true (is_claim g.claim) _ keeps.claim_is (both_true (test (constant g.constants)) _ keeps.constants_are following) in
+      let few : nat_le (length g.atoms) most_atoms ≡ true = le-leb (length g.atoms) most_atoms keeps.few_atoms in
+      let few_tables : nat_le (scope_count g.tables) most_tables ≡ true = le-leb (scope_count g.tables) most_tables keeps.few_tables in
+      let few_rows : nat_le (row_count g.tables) most_rows ≡ true = le-leb (row_count g.tables) most_rows keeps.few_rows in
+      let few_states : nat_le (length g.states) most_states ≡ true = le-leb (length g.states) most_states keeps.few_states in
+      (c, both_true _ _ (both_true _ _ (both_true _ _ few (both_true _ _ (both_true _ _ keeps.scope_first few_tables) few_rows)) few_states) each, refl)
+
+  -- one line more of such lines leads to the next place
+  step_on : (line : TextLine) (next : CertificatePlace) → next_place (in_body (body_of g)) line ≡ Some next → ComesBefore next (head_lines g ++ line ∷ [])
+  step_on (version w) next leads = never next leads
+  step_on (claims claim) next leads = never next leads
+  step_on (constant k) next leads = never next leads
+  step_on (atom a) next leads =
+      let b : Body = body_of g in
+      let (holds, same) = only_where (atom_follows b && nat_lt b.format.atoms most_atoms && is_line b.format (atom a)) (in_body (atom_more b)) next leads in
+      let (counts, is) = and_parts (atom_follows b && nat_lt b.format.atoms most_atoms) (is_line b.format (atom a)) holds in
+      let (follows, below) = and_parts (atom_follows b) (nat_lt b.format.atoms most_atoms) counts in
+      let (first, empty) = and_parts (b.tables == 0) (b.states == 0) follows in
+      subst (λ q. ComesBefore q (head_lines g ++ atom a ∷ [])) same
+      (with_atom a (no_tables g.tables keeps.scope_first (eqb-true b.tables 0 first)) (no_states g.states (eqb-true b.states 0 empty)) (ltb-true b.format.atoms most_atoms below) is)
+  step_on (tabled (scope s)) next leads =
+      let b : Body = body_of g in
+      let (holds, same) = only_where ((b.states == 0) && nat_lt b.tables most_tables && is_line b.format (tabled (scope s))) (in_body (scope_more b)) next leads in
+      let (counts, is) = and_parts ((b.states == 0) && nat_lt b.tables most_tables) (is_line b.format (tabled (scope s))) holds in
+      let (empty, below) = and_parts (b.states == 0) (nat_lt b.tables most_tables) counts in
+      subst (λ q. ComesBefore q (head_lines g ++ tabled (scope s) ∷ [])) same (with_scope s (no_states g.states (eqb-true b.states 0 empty)) (ltb-true b.tables most_tables below) is)
+  step_on (tabled (row r)) next leads =
+      let b : Body = body_of g in
+      let (holds, same) = only_where (row_follows b && nat_lt b.rows most_rows && is_line b.format (tabled (row r))) (in_body (row_more b)) next leads in
+      let (counts, is) = and_parts (row_follows b && nat_lt b.rows most_rows) (is_line b.format (tabled (row r))) holds in
+      let (follows, below) = and_parts (row_follows b) (nat_lt b.rows most_rows) counts in
+      let (begun, empty) = and_parts (nat_lt 0 b.tables) (b.states == 0) follows in
+      subst (λ q. ComesBefore q (head_lines g ++ tabled (row r) ∷ [])) same
+      (with_row r (ltb-true 0 b.tables begun) (no_states g.states (eqb-true b.states 0 empty)) (ltb-true b.rows most_rows below) is)
+  step_on (listed l) next leads =
+      let b : Body = body_of g in
+      let (holds, same) = only_where (nat_lt b.states most_states && is_line b.format (listed l)) (in_body (state_more b)) next leads in
+      let (below, is) = and_parts (nat_lt b.states most_states) (is_line b.format (listed l)) holds in
+      subst (λ q. ComesBefore q (head_lines g ++ listed l ∷ [])) same (with_state l (ltb-true b.states most_states below) is)
+  step_on (last count) next leads =
+      let (holds, same) = only_where (count == length g.states) ended next leads in
+      subst (λ q. ComesBefore q (head_lines g ++ last count ∷ [])) same
+      (subst (λ k. AreWhole (head_lines g ++ last k ∷ [])) (sym (eqb-true count (length g.states) holds)) whole)
 
 -- one line more leads to the next place
 step : (place : CertificatePlace) (line : TextLine) (next : CertificatePlace) (lines : List TextLine) → ComesBefore place lines → next_place place line ≡ Some next
@@ -142,60 +275,52 @@ step at_version (version v) next lines occurs leads = subst (λ q. ComesBefore q
 step at_version (claims claim) next lines occurs leads = never next leads
 step at_version (constant k) next lines occurs leads = never next leads
 step at_version (atom a) next lines occurs leads = never next leads
+step at_version (tabled t) next lines occurs leads = never next leads
 step at_version (listed l) next lines occurs leads = never next leads
 step at_version (last count) next lines occurs leads = never next leads
 step (at_claim v) (version w) next lines occurs leads = never next leads
 step (at_claim v) (claims claim) next lines occurs leads =
-    let (is, same) = only_where (is_line v 0 (claims claim)) (at_constant v) next leads in
+    let (is, same) = only_where (is_line (no_format v) (claims claim)) (at_constant v) next leads in
     subst (λ q. ComesBefore q (lines ++ claims claim ∷ [])) same (claim, is, ap (λ lines. lines ++ claims claim ∷ []) occurs)
 step (at_claim v) (constant k) next lines occurs leads = never next leads
 step (at_claim v) (atom a) next lines occurs leads = never next leads
+step (at_claim v) (tabled t) next lines occurs leads = never next leads
 step (at_claim v) (listed l) next lines occurs leads = never next leads
 step (at_claim v) (last count) next lines occurs leads = never next leads
 step (at_constant v) (version w) next lines occurs leads = never next leads
 step (at_constant v) (claims claim) next lines occurs leads = never next leads
 step (at_constant v) (constant k) next lines occurs leads =
     let (claim, is, are) = occurs in
-    let (holds, same) = only_where (is_line v 0 (constant k)) (in_body v 0 0) next leads in
+    let (holds, same) = only_where (is_line (no_format v) (constant k)) (in_body (no_body v (length k))) next leads in
     subst (λ q. ComesBefore q (lines ++ constant k ∷ [])) same (record {
-      claim = claim;
-      constant = k;
-      atoms = [];
-      states = [];
-      claim_is = is;
-      constant_is = holds;
-      atoms_are = refl;
-      states_are = refl;
-      atom_count_is = refl;
-      state_count_is = refl;
-      few_atoms = omega arith;
-      few_states = omega arith;
+      beginning = record { version = v; claim = claim; constants = k; atoms = []; tables = []; states = [] };
+      keeps = record {
+        claim_is = is;
+        constants_are = holds;
+        atoms_are = refl;
+        tables_are = refl;
+        states_are = refl;
+        scope_first = refl;
+        few_atoms = omega arith;
+        few_tables = omega arith;
+        few_rows = omega arith;
+        few_states = omega arith;
+      };
+      body_is = refl;
       lines_are = ap (λ lines. lines ++ constant k ∷ []) are;
     })
 step (at_constant v) (atom a) next lines occurs leads = never next leads
+step (at_constant v) (tabled t) next lines occurs leads = never next leads
 step (at_constant v) (listed l) next lines occurs leads = never next leads
 step (at_constant v) (last count) next lines occurs leads = never next leads
-step (in_body v n m) (version w) next lines occurs leads = never next leads
-step (in_body v n m) (claims claim) next lines occurs leads = never next leads
-step (in_body v n m) (constant k) next lines occurs leads = never next leads
-step (in_body v n m) (atom a) next lines occurs leads =
-    let (holds, same) = only_where ((m == 0) && nat_lt n most_atoms && is_line v n (atom a)) (in_body v (n + 1) m) next leads in
-    let parts = and_parts ((m == 0) && nat_lt n most_atoms) (is_line v n (atom a)) holds in
-    let counts = and_parts (m == 0) (nat_lt n most_atoms) parts.0 in
-    subst (λ q. ComesBefore q (lines ++ atom a ∷ [])) same
-    (body_with_atom v n m a lines occurs (eqb-true m 0 counts.0) (ltb-true n most_atoms counts.1) parts.1)
-step (in_body v n m) (listed l) next lines occurs leads =
-    let (holds, same) = only_where (nat_lt m most_states && is_line v n (listed l)) (in_body v n (m + 1)) next leads in
-    let parts = and_parts (nat_lt m most_states) (is_line v n (listed l)) holds in
-    subst (λ q. ComesBefore q (lines ++ listed l ∷ [])) same (body_with_state v n m l lines occurs (ltb-true m most_states parts.0) parts.1)
-step (in_body v n m) (last count) next lines occurs leads =
-    let (holds, same) = only_where (count == m) ended next leads in
-    subst (λ q. ComesBefore q (lines ++ last count ∷ [])) same
-    (subst (λ k. AreWhole (lines ++ last k ∷ [])) (sym (eqb-true count m holds)) (whole_body v n m lines occurs))
+step (in_body b) line next lines body leads =
+    subst (λ lines. ComesBefore next (lines ++ line ∷ [])) (sym body.lines_are)
+    (step_on body.beginning body.keeps line next (subst (λ b. next_place (in_body b) line ≡ Some next) (sym body.body_is) leads))
 step ended (version w) next lines occurs leads = never next leads
 step ended (claims claim) next lines occurs leads = never next leads
 step ended (constant k) next lines occurs leads = never next leads
 step ended (atom a) next lines occurs leads = never next leads
+step ended (tabled t) next lines occurs leads = never next leads
 step ended (listed l) next lines occurs leads = never next leads
 step ended (last count) next lines occurs leads = never next leads
 
@@ -218,18 +343,24 @@ comes_after (line ∷ lines) done place after occurs leads =
 begins_before : (lines : List TextLine) (line : TextLine) → BeginCertificate (lines ++ line ∷ []) → BeginCertificate lines
 begins_before lines line (rest, whole) = (line ∷ rest, subst AreWhole (append_assoc lines (line ∷ []) rest) whole)
 
-zero_weights : (v : Version) → are_weights v (weights_in v (pos 0) (pos 0)) ≡ true
-zero_weights one = refl
-zero_weights two = refl
+abbrev zeros : Version → List ℤ
+zeros one = pos 0 ∷ []
+zeros two = pos 0 ∷ pos 0 ∷ []
+zeros three = pos 0 ∷ pos 0 ∷ []
+
+zeros_are : (v : Version) → is_line (no_format v) (constant (zeros v)) ≡ true
+zeros_are one = refl
+zeros_are two = refl
+zeros_are three = refl
+
+begin_body : (b : Body) (lines : List TextLine) → IsBody b lines → BeginCertificate lines
+begin_body b lines body = (last (length body.beginning.states) ∷ [], subst (λ lines. AreWhole (lines ++ last (length body.beginning.states) ∷ [])) (sym body.lines_are) (whole body.beginning body.keeps))
 
 begin_constant : (v : Version) (lines : List TextLine) → ComesBefore (at_constant v) lines → BeginCertificate lines
 begin_constant v lines occurs =
-    let k : Weights = weights_in v (pos 0) (pos 0) in
-    begins_before lines (constant k) (
-      last 0 ∷ [],
-      whole_body v 0 0 (lines ++ constant k ∷ [])
-          (step (at_constant v) (constant k) (in_body v 0 0) lines occurs (ap (λ b. only_if b (in_body v 0 0)) (zero_weights v))),
-    )
+    let b : Body = no_body v (length (zeros v)) in
+    begins_before lines (constant (zeros v))
+    (begin_body b (lines ++ constant (zeros v) ∷ []) (step (at_constant v) (constant (zeros v)) (in_body b) lines occurs (ap (λ holds. only_if holds (in_body b)) (zeros_are v))))
 
 begin_claim : (v : Version) (lines : List TextLine) → ComesBefore (at_claim v) lines → BeginCertificate lines
 begin_claim v lines occurs = begins_before lines (claims none) (begin_constant v (lines ++ claims none ∷ []) (step (at_claim v) (claims none) (at_constant v) lines occurs refl))
@@ -238,7 +369,7 @@ begin : (place : CertificatePlace) (lines : List TextLine) → ComesBefore place
 begin at_version lines occurs = begins_before lines (version one) (begin_claim one (lines ++ version one ∷ []) (step at_version (version one) (at_claim one) lines occurs refl))
 begin (at_claim v) lines occurs = begin_claim v lines occurs
 begin (at_constant v) lines occurs = begin_constant v lines occurs
-begin (in_body v n m) lines occurs = (last m ∷ [], whole_body v n m lines occurs)
+begin (in_body b) lines occurs = begin_body b lines occurs
 begin ended lines occurs = ([], subst AreWhole (sym (append-nil lines)) occurs)
 
 -- where a place comes after lines, they begin a certificate, and are one after its end
@@ -263,59 +394,115 @@ from_zero n = omega arith
 one_more_counted : (n k : ℕ) → (n + 1) + k ≡ n + suc k
 one_more_counted n k = omega arith
 
-atoms_read : (v : Version) (atoms : List WeightedAtom) (n : ℕ) (more : List TextLine) → list_all (λ a. is_line v n (atom a)) atoms ≡ true → n + length atoms ≤ most_atoms
-    → place_from (in_body v n 0) (map (λ a. atom a) atoms ++ more) ≡ place_from (in_body v (n + length atoms) 0) more
-atoms_read v [] n more all few = ap (λ k. place_from (in_body v k 0) more) (zero_more n)
-atoms_read v (a ∷ atoms) n more all few =
-    let (here, rest) = and_parts (is_line v n (atom a)) (list_all (λ a. is_line v n (atom a)) atoms) all in
-    let below : nat_lt n most_atoms ≡ true = lt-ltb n most_atoms (omega (arith, few)) in
-    ap (λ b. option_and_then (λ next. place_from next (map (λ a. atom a) atoms ++ more)) (only_if b (in_body v (n + 1) 0)))
-    (both_true (true && nat_lt n most_atoms) (is_line v n (atom a)) below here)
-    ∙ atoms_read v atoms (n + 1) more rest (omega (arith, few))
-    ∙ ap (λ k. place_from (in_body v k 0) more) (one_more_counted n (length atoms))
+one_row_counted : (n k : ℕ) → (n + 1) + k ≡ n + (1 + k)
+one_row_counted n k = omega arith
 
-states_read : (v : Version) (states : List StateLine) (n m : ℕ) (more : List TextLine) → list_all (λ l. is_line v n (listed l)) states ≡ true → m + length states ≤ most_states
-    → place_from (in_body v n m) (map (λ l. listed l) states ++ more) ≡ place_from (in_body v n (m + length states)) more
-states_read v [] n m more all few = ap (λ k. place_from (in_body v n k) more) (zero_more m)
-states_read v (l ∷ states) n m more all few =
-    let (here, rest) = and_parts (is_line v n (listed l)) (list_all (λ l. is_line v n (listed l)) states) all in
-    let below : nat_lt m most_states ≡ true = lt-ltb m most_states (omega (arith, few)) in
-    ap (λ b. option_and_then (λ next. place_from next (map (λ l. listed l) states ++ more)) (only_if b (in_body v n (m + 1))))
-    (both_true (nat_lt m most_states) (is_line v n (listed l)) below here)
-    ∙ states_read v states n (m + 1) more rest (omega (arith, few))
-    ∙ ap (λ k. place_from (in_body v n k) more) (one_more_counted m (length states))
+module _ (v : Version) (weights : ℕ) where
+  abbrev format : ℕ → Format
+  format n = record { version = v; weights = weights; atoms = n }
+
+  abbrev body : (n tables rows states : ℕ) → CertificatePlace
+  body n t r m = in_body (record { format = format n; tables = t; rows = r; states = m })
+
+  atoms_read : (atoms : List WeightedAtom) (n : ℕ) (more : List TextLine) → list_all (λ a. is_line (format n) (atom a)) atoms ≡ true → n + length atoms ≤ most_atoms
+      → place_from (body n 0 0 0) (map atom atoms ++ more) ≡ place_from (body (n + length atoms) 0 0 0) more
+  atoms_read [] n more all few = ap (λ k. place_from (body k 0 0 0) more) (zero_more n)
+  atoms_read (a ∷ atoms) n more all few =
+      let (here, rest) = and_parts (is_line (format n) (atom a)) (list_all (λ a. is_line (format n) (atom a)) atoms) all in
+      let below : nat_lt n most_atoms ≡ true = lt-ltb n most_atoms (omega (arith, few)) in
+      ap (λ b. option_and_then (λ next. place_from next (map atom atoms ++ more)) (only_if b (body (n + 1) 0 0 0)))
+      (both_true (true && nat_lt n most_atoms) (is_line (format n) (atom a)) below here)
+      ∙ atoms_read atoms (n + 1) more rest (omega (arith, few))
+      ∙ ap (λ k. place_from (body k 0 0 0) more) (one_more_counted n (length atoms))
+
+  module _ (n : ℕ) where
+    tables_read : (tables : List TableLine) (t r : ℕ) (more : List TextLine) → list_all (λ t. is_line (format n) (tabled t)) tables ≡ true → 0 < t
+        → t + scope_count tables ≤ most_tables → r + row_count tables ≤ most_rows
+        → place_from (body n t r 0) (map tabled tables ++ more) ≡ place_from (body n (t + scope_count tables) (r + row_count tables) 0) more
+    tables_read [] t r more all begun few few_rows = λ i. place_from (body n (zero_more t i) (zero_more r i) 0) more
+    tables_read (scope s ∷ tables) t r more all begun few few_rows =
+        let (here, rest) = and_parts (is_line (format n) (tabled (scope s))) (list_all (λ t. is_line (format n) (tabled t)) tables) all in
+        let below : nat_lt t most_tables ≡ true = lt-ltb t most_tables (omega (arith, few)) in
+        ap (λ b. option_and_then (λ next. place_from next (map tabled tables ++ more)) (only_if b (body n (t + 1) r 0)))
+        (both_true (true && nat_lt t most_tables) (is_line (format n) (tabled (scope s))) below here)
+        ∙ tables_read tables (t + 1) r more rest (omega arith) (omega (arith, few)) few_rows
+        ∙ ap (λ k. place_from (body n k (r + row_count tables) 0) more) (one_row_counted t (scope_count tables))
+    tables_read (row q ∷ tables) t r more all begun few few_rows =
+        let (here, rest) = and_parts (is_line (format n) (tabled (row q))) (list_all (λ t. is_line (format n) (tabled t)) tables) all in
+        let some : nat_lt 0 t && true ≡ true = both_true (nat_lt 0 t) true (lt-ltb 0 t begun) refl in
+        let below : nat_lt r most_rows ≡ true = lt-ltb r most_rows (omega (arith, few_rows)) in
+        ap (λ b. option_and_then (λ next. place_from next (map tabled tables ++ more)) (only_if b (body n t (r + 1) 0)))
+        (both_true (nat_lt 0 t && true && nat_lt r most_rows) (is_line (format n) (tabled (row q))) (both_true (nat_lt 0 t && true) (nat_lt r most_rows) some below) here)
+        ∙ tables_read tables t (r + 1) more rest begun few (omega (arith, few_rows))
+        ∙ ap (λ k. place_from (body n (t + scope_count tables) k 0) more) (one_row_counted r (row_count tables))
+
+    all_tables_read : (tables : List TableLine) (more : List TextLine) → list_all (λ t. is_line (format n) (tabled t)) tables ≡ true → IsTrue (begin_with_scope tables)
+        → scope_count tables ≤ most_tables → row_count tables ≤ most_rows
+        → place_from (body n 0 0 0) (map tabled tables ++ more) ≡ place_from (body n (scope_count tables) (row_count tables) 0) more
+    all_tables_read [] more all first few few_rows = refl
+    all_tables_read (row r ∷ tables) more all first few few_rows = absurd (cc first)
+    all_tables_read (scope s ∷ tables) more all first few few_rows =
+        let (here, rest) = and_parts (is_line (format n) (tabled (scope s))) (list_all (λ t. is_line (format n) (tabled t)) tables) all in
+        ap (λ b. option_and_then (λ next. place_from next (map tabled tables ++ more)) (only_if b (body n 1 0 0))) here
+        ∙ tables_read tables 1 0 more rest (omega arith) (omega (arith, few)) (omega (arith, few_rows))
+        ∙ ap (λ k. place_from (body n (1 + scope_count tables) k 0) more) (from_zero (row_count tables))
+
+    states_read : (t r : ℕ) (states : List StateLine) (m : ℕ) (more : List TextLine) → list_all (λ l. is_line (format n) (listed l)) states ≡ true → m + length states ≤ most_states
+        → place_from (body n t r m) (map listed states ++ more) ≡ place_from (body n t r (m + length states)) more
+    states_read t r [] m more all few = ap (λ k. place_from (body n t r k) more) (zero_more m)
+    states_read t r (l ∷ states) m more all few =
+        let (here, rest) = and_parts (is_line (format n) (listed l)) (list_all (λ l. is_line (format n) (listed l)) states) all in
+        let below : nat_lt m most_states ≡ true = lt-ltb m most_states (omega (arith, few)) in
+        ap (λ b. option_and_then (λ next. place_from next (map listed states ++ more)) (only_if b (body n t r (m + 1))))
+        (both_true (nat_lt m most_states) (is_line (format n) (listed l)) below here)
+        ∙ states_read t r states (m + 1) more rest (omega (arith, few))
+        ∙ ap (λ k. place_from (body n t r k) more) (one_more_counted m (length states))
 
 same_count : (m k : ℕ) → k ≡ m → (k == m) ≡ true
 same_count m k same = grind (arith, nat_tests, same)
 
-last_read : (v : Version) (n m k : ℕ) → k ≡ m → place_from (in_body v n m) (last k ∷ []) ≡ Some ended
-last_read v n m k same = ap (λ b. option_and_then (λ next. place_from next []) (only_if b ended)) (same_count m k same)
+last_read : (b : Body) → place_from (in_body b) (last b.states ∷ []) ≡ Some ended
+last_read b = ap (λ holds. option_and_then (λ next. place_from next []) (only_if holds ended)) (same_count b.states b.states refl)
 
 lines_read : (c : NamedCertificate) → IsTrue (keeps_text_limits c) → place_after (text_lines c) ≡ Some ended
 lines_read c keeps =
     let v : Version = c.version in
     let k : ℕ = length c.atoms in
-    let (counts, each) = and_parts (nat_le k most_atoms && nat_le (length c.lines) most_states) (list_all (is_line v k) (text_lines c)) keeps in
-    let (few, few_states) = and_parts (nat_le k most_atoms) (nat_le (length c.lines) most_states) counts in
-    let atom_lines : List TextLine = map (λ a. atom a) c.atoms in
-    let state_lines : List TextLine = map (λ l. listed l) c.lines in
+    let test : TextLine → Bool = is_line (format_of c) in
+    let (counts, each) = and_parts _ (list_all test (text_lines c)) keeps in
+    let (bodies, few_states) = and_parts _ (nat_le (length c.lines) most_states) counts in
+    let (few, rows) = and_parts (nat_le k most_atoms) _ bodies in
+    let (scopes, few_rows) = and_parts (begin_with_scope c.tables && nat_le (scope_count c.tables) most_tables) (nat_le (row_count c.tables) most_rows) rows in
+    let (first, few_tables) = and_parts (begin_with_scope c.tables) (nat_le (scope_count c.tables) most_tables) scopes in
+    let atom_lines : List TextLine = map atom c.atoms in
+    let table_lines : List TextLine = map tabled c.tables in
+    let state_lines : List TextLine = map listed c.lines in
     let end : List TextLine = last (length c.lines) ∷ [] in
-    let (claim, other) = and_parts (is_claim c.claim) (list_all (is_line v k) (constant c.constants ∷ (atom_lines ++ state_lines) ++ end)) each in
-    let (constant_is, following) = and_parts (are_weights v c.constants) (list_all (is_line v k) ((atom_lines ++ state_lines) ++ end)) other in
-    let (body, _) = and_parts (list_all (is_line v k) (atom_lines ++ state_lines)) (list_all (is_line v k) end) (sym (list_all-append (is_line v k) (atom_lines ++ state_lines) end) ∙ following) in
-    let (atoms, states) = and_parts (list_all (is_line v k) atom_lines) (list_all (is_line v k) state_lines) (sym (list_all-append (is_line v k) atom_lines state_lines) ∙ body) in
-    let atoms_are : list_all (λ a. is_line v k (atom a)) c.atoms ≡ true = sym (list_all-map (is_line v k) (λ a. atom a) c.atoms) ∙ atoms in
+    let all_lines : List TextLine = ((atom_lines ++ table_lines) ++ state_lines) ++ end in
+    let (claim, other) = and_parts (is_claim c.claim) (list_all test (constant c.constants ∷ all_lines)) each in
+    let (constant_is, following) = and_parts (test (constant c.constants)) (list_all test all_lines) other in
+    let (body_is, _) = and_parts (list_all test ((atom_lines ++ table_lines) ++ state_lines)) (list_all test end) (sym (list_all-append test ((atom_lines ++ table_lines) ++ state_lines) end) ∙ following) in
+    let (fronts, states) = and_parts (list_all test (atom_lines ++ table_lines)) (list_all test state_lines) (sym (list_all-append test (atom_lines ++ table_lines) state_lines) ∙ body_is) in
+    let (atoms, tables) = and_parts (list_all test atom_lines) (list_all test table_lines) (sym (list_all-append test atom_lines table_lines) ∙ fronts) in
+    let atoms_are : list_all (λ a. test (atom a)) c.atoms ≡ true = sym (list_all-map test atom c.atoms) ∙ atoms in
+    let tables_are : list_all (λ t. test (tabled t)) c.tables ≡ true = sym (list_all-map test tabled c.tables) ∙ tables in
+    let states_are : list_all (λ l. test (listed l)) c.lines ≡ true = sym (list_all-map test listed c.lines) ∙ states in
     let atoms_within : k ≤ most_atoms = leb-true k most_atoms few in
+    let tables_within : scope_count c.tables ≤ most_tables = leb-true (scope_count c.tables) most_tables few_tables in
+    let rows_within : row_count c.tables ≤ most_rows = leb-true (row_count c.tables) most_rows few_rows in
     let states_within : length c.lines ≤ most_states = leb-true (length c.lines) most_states few_states in
-    let states_are : list_all (λ l. is_line v k (listed l)) c.lines ≡ true = sym (list_all-map (is_line v k) (λ l. listed l) c.lines) ∙ states in
-    ap (λ b. option_and_then (λ next. place_from next (constant c.constants ∷ (atom_lines ++ state_lines) ++ end)) (only_if b (at_constant v))) claim
-    ∙ ap (λ b. option_and_then (λ next. place_from next ((atom_lines ++ state_lines) ++ end)) (only_if b (in_body v 0 0))) constant_is
-    ∙ ap (place_from (in_body v 0 0)) (append_assoc atom_lines state_lines end)
-    ∙ atoms_read v c.atoms 0 (state_lines ++ end) atoms_are (omega (arith, atoms_within))
-    ∙ ap (λ n. place_from (in_body v n 0) (state_lines ++ end)) (from_zero k)
-    ∙ states_read v c.lines k 0 end states_are (omega (arith, states_within))
-    ∙ ap (λ m. place_from (in_body v k m) end) (from_zero (length c.lines))
-    ∙ last_read v k (length c.lines) (length c.lines) refl
+    let w : ℕ = length c.constants in
+    let t : ℕ = scope_count c.tables in
+    let r : ℕ = row_count c.tables in
+    ap (λ b. option_and_then (λ next. place_from next (constant c.constants ∷ all_lines)) (only_if b (at_constant v))) claim
+    ∙ ap (λ b. option_and_then (λ next. place_from next all_lines) (only_if b (in_body (no_body v w)))) constant_is
+    ∙ ap (place_from (in_body (no_body v w))) (append_assoc (atom_lines ++ table_lines) state_lines end ∙ append_assoc atom_lines table_lines (state_lines ++ end))
+    ∙ atoms_read v w c.atoms 0 (table_lines ++ (state_lines ++ end)) atoms_are (omega (arith, atoms_within))
+    ∙ ap (λ n. place_from (body v w n 0 0 0) (table_lines ++ (state_lines ++ end))) (from_zero k)
+    ∙ all_tables_read v w k c.tables (state_lines ++ end) tables_are first tables_within rows_within
+    ∙ states_read v w k t r c.lines 0 end states_are (omega (arith, states_within))
+    ∙ ap (λ m. place_from (body v w k t r m) end) (from_zero (length c.lines))
+    ∙ last_read (record { format = format v w k; tables = t; rows = r; states = length c.lines })
 
 pub end_of_whole : (lines : List TextLine) → AreWhole lines → place_after lines ≡ Some ended
 end_of_whole lines (c, keeps, are) = subst (λ lines. place_after lines ≡ Some ended) are (lines_read c keeps)

@@ -25,7 +25,7 @@ zeros atoms = potentials (pos 0) (map (λ (a : Atom). pos 0) atoms)
 
 -- a certificate of version 1, which says no dead ends
 abbrev pub first_version : Claim → List Atom → PotentialFunction → List StateLine → Certificate
-first_version claim atoms p lines = record { version = one; claim = claim; atoms = atoms; potentials = p; dead_ends = zeros atoms; lines = lines }
+first_version claim atoms p lines = record { version = one; claim = claim; atoms = atoms; values = p ∷ []; dead_ends = zeros atoms; tables = []; lines = lines }
 
 -- In the task `tie` an atom of the static predicate `link` is true at the start; the one instance makes `tied` true, which
 -- is the goal.
@@ -55,8 +55,9 @@ token_reported version claim constant of_y = record {
   version = version;
   claim = claim;
   atoms = token_atoms;
-  potentials = zeros token_atoms;
+  values = zeros token_atoms ∷ [];
   dead_ends = potentials constant (minus 1 ∷ of_y ∷ []);
+  tables = [];
   lines = dead_at 0 (0 ∷ []) ∷ [];
 }
 

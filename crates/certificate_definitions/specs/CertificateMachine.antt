@@ -1,18 +1,65 @@
 -- Where a reader of a certificate's lines is, and what may come next. The theorem does not cite it: it says the same as
 -- `BeginCertificate` and `AreWhole` of `CertificateText`, a line at a time.
-use Rattle.std.specs.Prelude.{ℕ, ◌+◌, Bool, ◌&&◌, ◌==◌, nat_lt, if◌then◌else◌, List, [], ◌∷◌, Option, None, Some}
+use Rattle.std.specs.Prelude.{ℕ, ◌+◌, Bool, ◌&&◌, ◌==◌, nat_lt, if◌then◌else◌, List, [], ◌∷◌, length, Option, None, Some}
 use Rattle.std.specs.Option.{option_and_then}
-use Rattle.certificate_definitions.specs.Certificates.{Version}
-use Rattle.certificate_definitions.specs.CertificateText.{TextLine, version, claims, constant, atom, listed, last, is_line, most_atoms, most_states}
+use Rattle.certificate_definitions.specs.Certificates.{Version, one}
+use Rattle.certificate_definitions.specs.CertificateText.{Format, scope, row, TextLine, version, claims, constant, atom, tabled, listed, last, is_line, most_atoms, most_tables, most_rows, most_states}
+
+-- what came after the constants: atoms, which the format counts, tables, their rows, and states
+pub record Body : Type 0 where
+  pub format : Format
+  pub tables : ℕ
+  pub rows : ℕ
+  pub states : ℕ
 
 pub data CertificatePlace : Type 0 where
   at_version : CertificatePlace
   -- from here on in a text of this version
   at_claim : Version → CertificatePlace
   at_constant : Version → CertificatePlace
-  -- after so many atoms, and so many states
-  in_body : Version → ℕ → ℕ → CertificatePlace
+  in_body : Body → CertificatePlace
   ended : CertificatePlace
+
+-- a text of this version before its constants, of which there will be one at least
+abbrev pub no_format : Version → Format
+no_format v = record { version = v; weights = 1; atoms = 0 }
+
+-- what is known of the text's format; where none is reported yet, or none matters any more, any will do
+abbrev pub format_at : CertificatePlace → Format
+format_at at_version = no_format one
+format_at (at_claim v) = no_format v
+format_at (at_constant v) = no_format v
+format_at (in_body b) = b.format
+format_at ended = no_format one
+
+-- the body of a text with so many constants
+abbrev pub no_body : Version → ℕ → Body
+no_body v weights = record { format = record { version = v; weights = weights; atoms = 0 }; tables = 0; rows = 0; states = 0 }
+
+-- one more of each
+abbrev pub atom_more : Body → Body
+atom_more b = record {
+  format = record { version = b.format.version; weights = b.format.weights; atoms = b.format.atoms + 1 };
+  tables = b.tables;
+  rows = b.rows;
+  states = b.states;
+}
+
+abbrev pub scope_more : Body → Body
+scope_more b = record { format = b.format; tables = b.tables + 1; rows = b.rows; states = b.states }
+
+abbrev pub row_more : Body → Body
+row_more b = record { format = b.format; tables = b.tables; rows = b.rows + 1; states = b.states }
+
+abbrev pub state_more : Body → Body
+state_more b = record { format = b.format; tables = b.tables; rows = b.rows; states = b.states + 1 }
+
+-- whether one more may follow: atoms come before tables, these before states, and a row after a scope
+abbrev pub atom_follows : Body → Bool
+atom_follows b = (b.tables == 0) && (b.states == 0)
+
+abbrev pub row_follows : Body → Bool
+row_follows b = nat_lt 0 b.tables && (b.states == 0)
 
 -- the place, where this is so
 abbrev pub only_if : Bool → CertificatePlace → Option CertificatePlace
@@ -21,11 +68,13 @@ only_if holds place = if holds then Some place else None
 -- the place after one line more, and None where it may not occur there
 abbrev pub next_place : CertificatePlace → TextLine → Option CertificatePlace
 next_place at_version (version v) = Some (at_claim v)
-next_place (at_claim v) (claims claim) = only_if (is_line v 0 (claims claim)) (at_constant v)
-next_place (at_constant v) (constant k) = only_if (is_line v 0 (constant k)) (in_body v 0 0)
-next_place (in_body v atoms states) (atom a) = only_if (states == 0 && nat_lt atoms most_atoms && is_line v atoms (atom a)) (in_body v (atoms + 1) states)
-next_place (in_body v atoms states) (listed l) = only_if (nat_lt states most_states && is_line v atoms (listed l)) (in_body v atoms (states + 1))
-next_place (in_body v atoms states) (last count) = only_if (count == states) ended
+next_place (at_claim v) (claims claim) = only_if (is_line (no_format v) (claims claim)) (at_constant v)
+next_place (at_constant v) (constant k) = only_if (is_line (no_format v) (constant k)) (in_body (no_body v (length k)))
+next_place (in_body b) (atom a) = only_if (atom_follows b && nat_lt b.format.atoms most_atoms && is_line b.format (atom a)) (in_body (atom_more b))
+next_place (in_body b) (tabled (scope s)) = only_if ((b.states == 0) && nat_lt b.tables most_tables && is_line b.format (tabled (scope s))) (in_body (scope_more b))
+next_place (in_body b) (tabled (row r)) = only_if (row_follows b && nat_lt b.rows most_rows && is_line b.format (tabled (row r))) (in_body (row_more b))
+next_place (in_body b) (listed l) = only_if (nat_lt b.states most_states && is_line b.format (listed l)) (in_body (state_more b))
+next_place (in_body b) (last count) = only_if (count == b.states) ended
 next_place _ _ = None
 
 -- the place after these lines, from this one on

@@ -1,15 +1,16 @@
 -- The names of a certificate's atoms, and the certificates of a task that a text says.
-use Rattle.std.specs.Prelude.{◌≡◌, ℕ, ℤ, pos, Bool, ◌&&◌, List, [], ◌∷◌, map, position, slice_get, zip, None, Some}
-use Rattle.std.specs.List.{list_all}
+use Rattle.std.specs.Prelude.{◌≡◌, ℕ, suc, ◌-◌, ℤ, pos, Bool, ◌&&◌, List, [], ◌∷◌, ◌++◌, length, map, get_or, position, slice_get, Some}
+use Rattle.std.specs.List.{flat_map, list_all, range_with_len}
 use Rattle.std.specs.Option.{option_map_or}
 use Rattle.model.specs.Task.{Name, Atom, Predicate, Task}
 use Rattle.model.specs.WellTyped.{is_atom}
 use Rattle.model.specs.Resolution.{is_same}
 use Rattle.model.specs.PlanText.{object_names}
 use Rattle.model.specs.PlanWriting.{object_name, are_lower_names}
-use Rattle.certificate_definitions.specs.Certificates.{Version, one, two, Certificate}
+use Rattle.certificate_definitions.specs.Certificates.{Version, one, two, three, Certificate}
+use Rattle.table_functions.specs.TableFunctions.{Table}
 use Rattle.potential_functions.specs.PotentialFunctions.{PotentialFunction}
-use Rattle.certificate_definitions.specs.CertificateText.{NamedAtom, Weights, WeightedAtom, NamedCertificate, IsCertificateText, text_lines, text_of}
+use Rattle.certificate_definitions.specs.CertificateText.{NamedAtom, WeightedAtom, TableLine, scope, row, NamedCertificate, IsCertificateText, text_lines, text_of}
 
 abbrev pub predicate_names : Task → List Name
 predicate_names task = map (λ (p : Predicate). p.name) task.predicates
@@ -22,22 +23,37 @@ predicate_name task number = option_map_or (λ (p : Predicate). p.name) (slice_g
 abbrev pub named_atom : Task → Atom → NamedAtom
 named_atom task a = record { predicate = predicate_name task a.predicate; objects = map (object_name task) a.objects }
 
--- a constant, or a weight, of values and of dead ends, as it is written in this version
-abbrev pub weights_in : Version → ℤ → ℤ → Weights
-weights_in one of_value of_dead_end = record { of_value = of_value; of_dead_end = None }
-weights_in two of_value of_dead_end = record { of_value = of_value; of_dead_end = Some of_dead_end }
+-- the constants, or the weights of an atom, of values and of dead ends, as they are written in this version
+abbrev pub weights_in : Version → List ℤ → ℤ → List ℤ
+weights_in one of_values of_dead_end = of_values
+weights_in two of_values of_dead_end = of_values ++ of_dead_end ∷ []
+weights_in three of_values of_dead_end = of_values ++ of_dead_end ∷ []
 
--- atoms by their names, each with its weights
-abbrev pub weighted_atom : Task → Version → Atom × (ℤ × ℤ) → WeightedAtom
-weighted_atom task version (a, (of_value, of_dead_end)) = record { weights = weights_in version of_value of_dead_end; atom = named_atom task a }
+abbrev pub constants_of : Certificate → List ℤ
+constants_of c = weights_in c.version (map (λ (p : PotentialFunction). p.constant) c.values) c.dead_ends.constant
+
+-- the weights of the atom at this place, from 0
+abbrev pub weights_of_atom : Certificate → ℕ → List ℤ
+weights_of_atom c place =
+    weights_in c.version (map (λ (p : PotentialFunction). get_or p.weights place (pos 0)) c.values) (get_or c.dead_ends.weights place (pos 0))
+
+-- atoms by their names, each with its weights; the first is at this place
+abbrev pub weighted_atoms : Task → Certificate → ℕ → List Atom → List WeightedAtom
+weighted_atoms task c place [] = []
+weighted_atoms task c place (a ∷ atoms) = record { weights = weights_of_atom c place; atom = named_atom task a } ∷ weighted_atoms task c (suc place) atoms
+
+-- the lines of a table
+abbrev pub table_lines : Table → List TableLine
+table_lines t = scope t.scope ∷ map row t.rows
 
 -- a certificate by its atoms' names
 abbrev pub named : Task → Certificate → NamedCertificate
 named task c = record {
   version = c.version;
   claim = c.claim;
-  constants = weights_in c.version c.potentials.constant c.dead_ends.constant;
-  atoms = map (weighted_atom task c.version) (zip c.atoms (zip c.potentials.weights c.dead_ends.weights));
+  constants = constants_of c;
+  atoms = weighted_atoms task c 0 c.atoms;
+  tables = flat_map table_lines c.tables;
   lines = c.lines;
 }
 
@@ -66,16 +82,26 @@ AllName task [] (a ∷ atoms) = ⊥
 AllName task (name ∷ names) [] = ⊥
 AllName task (name ∷ names) (a ∷ atoms) = Names task name a × AllName task names atoms
 
--- what a text says of values
-abbrev pub potentials_said : NamedCertificate → PotentialFunction
-potentials_said said = record { constant = said.constants.of_value; weights = map (λ (a : WeightedAtom). a.weights.of_value) said.atoms }
+-- the weight at this place, 0 where none is written
+abbrev pub weight_said : ℕ → List ℤ → ℤ
+weight_said place weights = get_or weights place (pos 0)
 
--- and of dead ends, where 0 stands for what version 1 does not write
-abbrev pub of_dead_end_or_zero : Weights → ℤ
-of_dead_end_or_zero w = option_map_or (λ (n : ℤ). n) w.of_dead_end (pos 0)
+-- what a text says of the value at this place, from 0
+abbrev pub value_said : NamedCertificate → ℕ → PotentialFunction
+value_said said place = record { constant = weight_said place said.constants; weights = map (λ (a : WeightedAtom). weight_said place a.weights) said.atoms }
+
+-- of so many constants so many are of values: version 1 writes none of dead ends
+abbrev pub value_count : Version → ℕ → ℕ
+value_count one count = count
+value_count two count = count - 1
+value_count three count = count - 1
+
+-- what it says of all values, and of dead ends, where 0 stands for what version 1 does not write
+abbrev pub values_said : NamedCertificate → List PotentialFunction
+values_said said = map (value_said said) (range_with_len 0 (value_count said.version (length said.constants)))
 
 abbrev pub dead_ends_said : NamedCertificate → PotentialFunction
-dead_ends_said said = record { constant = of_dead_end_or_zero said.constants; weights = map (λ (a : WeightedAtom). of_dead_end_or_zero a.weights) said.atoms }
+dead_ends_said said = value_said said (value_count said.version (length said.constants))
 
 -- The text is this certificate of the task.
 pub record IsTextOf (task : Task) (bytes : List ℕ) (c : Certificate) : Type 0 where
@@ -84,8 +110,9 @@ pub record IsTextOf (task : Task) (bytes : List ℕ) (c : Certificate) : Type 0 
   pub version : said.version ≡ c.version
   pub claim : said.claim ≡ c.claim
   pub atoms : AllName task (map (λ (a : WeightedAtom). a.atom) said.atoms) c.atoms
-  pub potentials : c.potentials ≡ potentials_said said
+  pub values : c.values ≡ values_said said
   pub dead_ends : c.dead_ends ≡ dead_ends_said said
+  pub tables : said.tables ≡ flat_map table_lines c.tables
   pub lines : said.lines ≡ c.lines
 
 -- ---- what can be written

@@ -1,4 +1,4 @@
--- What is wrong with a certificate, or with the plan that was given with it, where the checker refuses it.
+-- What is wrong with a certificate of version 1 or 2, or with the plan that was given with it, where the checker refuses it.
 use Rattle.std.specs.Prelude.{◌≡◌, ℕ, ◌+◌, ◌<◌, ◌≤◌, ◌⊎◌, ◌&&◌, false, IsTrue, List, length, Contains, slice_get, Option, None, Some, IsSome, MatchOption}
 use Rattle.model.specs.Task.{Atom, Task, Instance}
 use Rattle.model.specs.WellTyped.{is_atom}
@@ -11,7 +11,7 @@ use Rattle.model.specs.Grounding.{exceeded_limit}
 use Rattle.model.specs.Claims.{Claim, bound, none, Allows, opened, cut, dead, Line, IsListedWithin}
 use Rattle.potential_functions.specs.Fair.{IsFairAt, IsFairAtGoals}
 use Rattle.model.specs.Fluents.{is_fluent}
-use Rattle.certificate_definitions.specs.Certificates.{Certificate, lines_of, value_of, is_dead_end_of}
+use Rattle.certificate_definitions.specs.Certificates.{Certificate, potentials_of, lines_of, value_of, is_dead_end_of}
 
 -- the reasons, each with the number that is reported
 pub data Reason : Type 0 where
@@ -100,9 +100,9 @@ IsWrong task c plan most plan_dearer =
     MatchOption plan ⊥ (λ p. (least : ℕ) × (c.claim ≡ bound least) × Solves (system_of task) p × (least < cost_of_all (system_of task) p))
 -- a kept instance may lose more than it costs
 IsWrong task c plan most unfair =
-    (i : Instance) × Contains (kept_instances task) i × ¬ IsFairAt (cost_of task i) task (numbered_atoms task c.atoms) c.potentials.weights i
+    (i : Instance) × Contains (kept_instances task) i × ¬ IsFairAt (cost_of task i) task (numbered_atoms task c.atoms) (potentials_of c).weights i
 -- more than 0 may be left at a goal
-IsWrong task c plan most unfair_goal = ¬ IsFairAtGoals task (numbered_atoms task c.atoms) c.potentials
+IsWrong task c plan most unfair_goal = ¬ IsFairAtGoals task (numbered_atoms task c.atoms) (potentials_of c)
 -- a kept instance may make the second sum of weights fall
 IsWrong task c plan most dead_unfair =
     (i : Instance) × Contains (kept_instances task) i × ¬ IsFairAt 0 task (numbered_atoms task c.atoms) c.dead_ends.weights i

@@ -1,11 +1,11 @@
--- The text of a certificate, version 1 or 2, and the first line at which a text that is none is at fault. The format is this
+-- The text of a certificate, version 1, 2 or 3, and the first line at which a text that is none is at fault. The format is this
 -- repository's own; docs/certificates.md shows it. Every certificate has one text, and a text is at most one certificate.
-use Rattle.std.specs.Prelude.{◌≡◌, ◌≢◌, ℕ, ◌+◌, ◌<◌, ◌≤◌, Bool, true, false, ◌&&◌, nat_le, ℤ, IsTrue, List, [], ◌∷◌, ◌++◌, codes, length, map, Contains, Option}
+use Rattle.std.specs.Prelude.{◌≡◌, ◌≢◌, ℕ, ◌+◌, ◌<◌, ◌≤◌, ◌==◌, Bool, true, false, ◌&&◌, nat_le, ℤ, IsTrue, List, [], ◌∷◌, ◌++◌, codes, length, map, Contains}
 use Rattle.std.specs.Fmt.{decimal, signed_decimal}
 use Rattle.std.specs.List.{flat_map, list_all}
-use Rattle.std.specs.Option.{option_map_or}
 use Rattle.model.specs.Claims.{Claim, bound, none, Mark, opened, cut, dead}
-use Rattle.certificate_definitions.specs.Certificates.{Version, one, two, StateLine, is_number, is_weight, is_claim, is_state_line}
+use Rattle.certificate_definitions.specs.Certificates.{Version, one, two, three, StateLine, is_number, is_weight, is_claim, is_state_line, rise, are_weights, has_tables}
+use Rattle.table_functions.specs.TableFunctions.{Row}
 use Rattle.model.specs.PlanWriting.{is_lower_name}
 
 -- ---- what is in a text
@@ -15,30 +15,33 @@ pub record NamedAtom : Type 0 where
   pub predicate : List ℕ
   pub objects : List (List ℕ)
 
--- two constants, or the two weights of an atom: that of the values, and that of dead ends, which version 2 alone writes
-pub record Weights : Type 0 where
-  pub of_value : ℤ
-  pub of_dead_end : Option ℤ
-
--- an atom and its weights
+-- an atom and its weights: one for each value and, last, one for dead ends, which version 1 does not write
 pub record WeightedAtom : Type 0 where
-  pub weights : Weights
+  pub weights : List ℤ
   pub atom : NamedAtom
 
--- what a text says: a claim, two potential functions, and a listing of states, each by the numbers of its atoms, from 0 on
+-- a line of a table, which begins with its scope: a row belongs to the last scope before it
+pub data TableLine : Type 0 where
+  scope : List ℕ → TableLine
+  row : Row → TableLine
+
+-- what a text says: a claim, values, and a listing of states; atoms are named by their numbers, from 0 on
 pub record NamedCertificate : Type 0 where
   pub version : Version
   pub claim : Claim
-  pub constants : Weights
+  pub constants : List ℤ
   pub atoms : List WeightedAtom
+  pub tables : List TableLine
   pub lines : List StateLine
 
 -- a line of a text
 pub data TextLine : Type 0 where
   version : Version → TextLine
   claims : Claim → TextLine
-  constant : Weights → TextLine
+  -- constants, as many as an atom has weights
+  constant : List ℤ → TextLine
   atom : WeightedAtom → TextLine
+  tabled : TableLine → TextLine
   listed : StateLine → TextLine
   -- the last line, with the count of those that list states
   last : ℕ → TextLine
@@ -50,10 +53,14 @@ after_blank word = codes " " ++ word
 abbrev pub version_number : Version → ℕ
 version_number one = 1
 version_number two = 2
+version_number three = 3
 
--- one number, or two with a blank between them
-abbrev pub weights_text : Weights → List ℕ
-weights_text w = option_map_or (λ (of_dead_end : ℤ). signed_decimal w.of_value ++ after_blank (signed_decimal of_dead_end)) w.of_dead_end (signed_decimal w.of_value)
+-- constants, weights or numbers, with a blank before each
+abbrev pub weights_text : List ℤ → List ℕ
+weights_text = flat_map (λ (w : ℤ). after_blank (signed_decimal w))
+
+abbrev pub numbers_text : List ℕ → List ℕ
+numbers_text = flat_map (λ (number : ℕ). after_blank (decimal number))
 
 -- a state's mark and its cost, and of a cut what follows at least
 abbrev pub mark_text : Mark → ℕ → List ℕ
@@ -66,9 +73,11 @@ abbrev pub line_text : TextLine → List ℕ
 line_text (version v) = codes "pddl-cert " ++ decimal (version_number v)
 line_text (claims (bound least)) = codes "claim bound " ++ decimal least
 line_text (claims none) = codes "claim none"
-line_text (constant k) = codes "constant " ++ weights_text k
-line_text (atom a) = codes "atom " ++ weights_text a.weights ++ codes " (" ++ a.atom.predicate ++ flat_map after_blank a.atom.objects ++ codes ")"
-line_text (listed l) = mark_text l.mark l.cost ++ flat_map (λ (number : ℕ). after_blank (decimal number)) l.atoms
+line_text (constant k) = codes "constant" ++ weights_text k
+line_text (tabled (scope atoms)) = codes "table" ++ numbers_text atoms
+line_text (tabled (row r)) = codes "row" ++ weights_text r.weights ++ numbers_text r.atoms
+line_text (atom a) = codes "atom" ++ weights_text a.weights ++ codes " (" ++ a.atom.predicate ++ flat_map after_blank a.atom.objects ++ codes ")"
+line_text (listed l) = mark_text l.mark l.cost ++ numbers_text l.atoms
 line_text (last count) = codes "end " ++ decimal count
 
 -- a line with its LF
@@ -79,14 +88,22 @@ whole_line line = line_text line ++ codes "\n"
 abbrev pub text_of : List TextLine → List ℕ
 text_of lines = flat_map whole_line lines
 
--- the certificate's lines: its atoms come before its states
+-- the certificate's lines: its atoms come before its tables, and these before its states
 abbrev pub text_lines : NamedCertificate → List TextLine
-text_lines c = version c.version ∷ claims c.claim ∷ constant c.constants ∷ map atom c.atoms ++ map listed c.lines ++ last (length c.lines) ∷ []
+text_lines c = version c.version ∷ claims c.claim ∷ constant c.constants ∷ map atom c.atoms ++ map tabled c.tables ++ map listed c.lines ++ last (length c.lines) ∷ []
 
 -- ---- limits
 
 abbrev pub most_atoms : ℕ
 most_atoms = 1048576
+
+-- the most tables
+abbrev pub most_tables : ℕ
+most_tables = 4194304
+
+-- the most rows of all tables together
+abbrev pub most_rows : ℕ
+most_rows = 4194304
 
 abbrev pub most_states : ℕ
 most_states = 16777216
@@ -95,26 +112,61 @@ most_states = 16777216
 abbrev pub longest_line : ℕ
 longest_line = 16777216
 
--- a constant or a weight, with a second one in version 2 alone
-abbrev pub are_weights : Version → Weights → Bool
-are_weights one w = is_weight w.of_value && option_map_or (λ _. false) w.of_dead_end true
-are_weights two w = is_weight w.of_value && option_map_or is_weight w.of_dead_end false
+-- What the lines of a text have in common: its version, how many weights an atom has, and how many atoms there are.
+pub record Format : Type 0 where
+  pub version : Version
+  pub weights : ℕ
+  pub atoms : ℕ
 
--- The line keeps the limits by itself, in a text of this version and of so many atoms: numbers are below 2 to the power 60, the constant and
--- weights are at most 2147483647 either way, names are names of a domain file in lower case (PDDL 1.2 manual, "Domains") of
--- at most 255 bytes, the numbers of a state's atoms rise and are those of atoms, and the line is not too long.
-abbrev pub is_line : Version → ℕ → TextLine → Bool
-is_line v atom_count (version w) = true
-is_line v atom_count (claims claim) = is_claim claim
-is_line v atom_count (constant k) = are_weights v k
-is_line v atom_count (atom a) = are_weights v a.weights && list_all is_lower_name (a.atom.predicate ∷ a.atom.objects) && nat_le (length (line_text (atom a))) longest_line
-is_line v atom_count (listed l) = is_state_line v atom_count l
-is_line v atom_count (last count) = is_number count
+-- how many constants there may be: in version 1 one, in version 2 two, in version 3 from 2 to 33
+abbrev pub is_weight_count : Version → ℕ → Bool
+is_weight_count one count = count == 1
+is_weight_count two count = count == 2
+is_weight_count three count = nat_le 2 count && nat_le count 33
+
+-- a scope has an atom at least, and a row's atoms may be none
+abbrev pub is_table_line : Format → TableLine → Bool
+is_table_line f (scope atoms) = rise f.atoms 0 atoms && nat_le 1 (length atoms)
+is_table_line f (row r) = are_weights f.weights r.weights && rise f.atoms 0 r.atoms
+
+-- The line keeps the limits by itself, in a text of this format: numbers are below 2 to the power 60, constants and weights are
+-- at most 2147483647 either way, names are names of a domain file in lower case (PDDL 1.2 manual, "Domains") of at most 255
+-- bytes, the numbers of a state's atoms, of a scope and of a row rise and are those of atoms, and the line is not too long.
+abbrev pub is_line : Format → TextLine → Bool
+is_line f (version w) = true
+is_line f (claims claim) = is_claim claim
+is_line f (constant k) = is_weight_count f.version (length k) && list_all is_weight k
+is_line f (atom a) = are_weights f.weights a.weights && list_all is_lower_name (a.atom.predicate ∷ a.atom.objects) && nat_le (length (line_text (atom a))) longest_line
+is_line f (tabled t) = has_tables f.version && is_table_line f t
+is_line f (listed l) = is_state_line f.version f.atoms l
+is_line f (last count) = is_number count
+
+-- how many of the lines begin a table
+abbrev pub scope_count : List TableLine → ℕ
+scope_count [] = 0
+scope_count (scope atoms ∷ lines) = 1 + scope_count lines
+scope_count (row r ∷ lines) = scope_count lines
+
+-- and how many are rows
+abbrev pub row_count : List TableLine → ℕ
+row_count [] = 0
+row_count (scope atoms ∷ lines) = row_count lines
+row_count (row r ∷ lines) = 1 + row_count lines
+
+-- no row comes before a scope
+abbrev pub begin_with_scope : List TableLine → Bool
+begin_with_scope [] = true
+begin_with_scope (scope atoms ∷ lines) = true
+begin_with_scope (row r ∷ lines) = false
+
+abbrev pub format_of : NamedCertificate → Format
+format_of c = record { version = c.version; weights = length c.constants; atoms = length c.atoms }
 
 -- the certificate keeps all limits
 abbrev pub keeps_text_limits : NamedCertificate → Bool
 keeps_text_limits c =
-    nat_le (length c.atoms) most_atoms && nat_le (length c.lines) most_states && list_all (is_line c.version (length c.atoms)) (text_lines c)
+    nat_le (length c.atoms) most_atoms && (begin_with_scope c.tables && nat_le (scope_count c.tables) most_tables && nat_le (row_count c.tables) most_rows) && nat_le (length c.lines) most_states
+    && list_all (is_line (format_of c)) (text_lines c)
 
 -- The text is this certificate.
 pub record IsCertificateText (text : List ℕ) (c : NamedCertificate) : Type 0 where
@@ -137,18 +189,33 @@ MayFollow before bytes = (line : TextLine) × BeginCertificate (before ++ line �
 
 -- they are the first line of another version
 abbrev pub IsOtherVersion : List TextLine → List ℕ → Type 0
-IsOtherVersion before bytes = (before ≡ []) × (number : ℕ) × IsTrue (is_number number) × (number ≢ 1) × (number ≢ 2) × (bytes ≡ codes "pddl-cert " ++ decimal number)
+IsOtherVersion before bytes = (before ≡ []) × (number : ℕ) × IsTrue (is_number number) × (number ≢ 1) × (number ≢ 2) × (number ≢ 3) × (bytes ≡ codes "pddl-cert " ++ decimal number)
 
--- the lines are the first ones, and then so many of these atoms and these states
-abbrev pub head_lines : Version → Claim → Weights → List WeightedAtom → List StateLine → List TextLine
-head_lines v claim k atoms lines = version v ∷ claims claim ∷ constant k ∷ map atom atoms ++ map listed lines
+-- the first lines of a text: all but some of the last atoms, tables and states, and the last line
+pub record Beginning : Type 0 where
+  pub version : Version
+  pub claim : Claim
+  pub constants : List ℤ
+  pub atoms : List WeightedAtom
+  pub tables : List TableLine
+  pub states : List StateLine
 
--- they are a line of an atom, or of a state, that may occur there but for the limit, which the lines before have used up
+abbrev pub head_lines : Beginning → List TextLine
+head_lines b = version b.version ∷ claims b.claim ∷ constant b.constants ∷ map atom b.atoms ++ map tabled b.tables ++ map listed b.states
+
+abbrev pub format_in : Beginning → Format
+format_in b = record { version = b.version; weights = length b.constants; atoms = length b.atoms }
+
+-- they are a line of an atom, a table, a row or a state that may occur there but for the limit, which the lines before have used up
 pub data IsOneTooMany (before : List TextLine) (bytes : List ℕ) : Type 0 where
-  atoms : (v : Version) (claim : Claim) (k : Weights) (all : List WeightedAtom) (a : WeightedAtom) → before ≡ head_lines v claim k all [] → length all ≡ most_atoms
-      → IsTrue (is_line v most_atoms (atom a)) → bytes ≡ line_text (atom a) → IsOneTooMany before bytes
-  states : (v : Version) (claim : Claim) (k : Weights) (all : List WeightedAtom) (lines : List StateLine) (l : StateLine) → before ≡ head_lines v claim k all lines
-      → length lines ≡ most_states → IsTrue (is_line v (length all) (listed l)) → bytes ≡ line_text (listed l) → IsOneTooMany before bytes
+  atoms : (b : Beginning) (a : WeightedAtom) → before ≡ head_lines b → b.tables ≡ [] → b.states ≡ [] → length b.atoms ≡ most_atoms
+      → IsTrue (is_line (format_in b) (atom a)) → bytes ≡ line_text (atom a) → IsOneTooMany before bytes
+  scopes : (b : Beginning) (s : List ℕ) → before ≡ head_lines b → b.states ≡ [] → scope_count b.tables ≡ most_tables
+      → IsTrue (is_line (format_in b) (tabled (scope s))) → bytes ≡ line_text (tabled (scope s)) → IsOneTooMany before bytes
+  rows : (b : Beginning) (r : Row) → before ≡ head_lines b → b.tables ≢ [] → b.states ≡ [] → row_count b.tables ≡ most_rows
+      → IsTrue (is_line (format_in b) (tabled (row r))) → bytes ≡ line_text (tabled (row r)) → IsOneTooMany before bytes
+  states : (b : Beginning) (l : StateLine) → before ≡ head_lines b → length b.states ≡ most_states
+      → IsTrue (is_line (format_in b) (listed l)) → bytes ≡ line_text (listed l) → IsOneTooMany before bytes
 
 -- no LF is in these bytes
 abbrev pub IsInOneLine : List ℕ → Type 0
@@ -171,7 +238,7 @@ pub data IsFaultAfter (before : List TextLine) (bytes : List ℕ) : ℕ → Type
   trailing : AreWhole before → bytes ≢ [] → IsFaultAfter before bytes 40
   -- the text ends before the last line does
   cut_short : ¬ AreWhole before → IsInOneLine bytes → length bytes ≤ longest_line → IsFaultAfter before bytes 42
-  -- an atom, or a state, too many
+  -- an atom, a table, a row or a state too many
   too_many : (line : List ℕ) → HasLine bytes line → IsOneTooMany before line → IsFaultAfter before bytes 55
 
 -- The number is reported for this line, counted from 1, which is the first at fault: the lines before it begin a certificate.

@@ -1,6 +1,6 @@
 -- Certificates, and when one is closed for a task.
-use Rattle.std.specs.Prelude.{◌≡◌, ◌≢◌, ℕ, zero, ◌+◌, ◌==◌, Bool, true, false, ◌&&◌, nat_lt, nat_le, ℤ, pos, negsuc, IsTrue, List, [], ◌∷◌, ◌++◌, map, length, All, AllPairs, slice_get}
-use Rattle.std.specs.List.{list_all, filter_map}
+use Rattle.std.specs.Prelude.{◌≡◌, ◌≢◌, ℕ, zero, ◌+◌, ◌==◌, Bool, true, false, ◌&&◌, nat_lt, nat_le, ℤ, pos, negsuc, IsTrue, List, [], ◌∷◌, ◌++◌, map, length, get_or, All, AllPairs, slice_get}
+use Rattle.std.specs.List.{list_all, filter_map, flat_map}
 use Rattle.std.specs.FinSet.{from_list}
 use Rattle.model.specs.Task.{Atom, Task}
 use Rattle.model.specs.WellTyped.{is_atom}
@@ -10,11 +10,16 @@ use Rattle.model.specs.NumberedAtoms.{numbered_atoms}
 use Rattle.model.specs.Claims.{Claim, bound, none, Mark, opened, cut, dead, Line, IsClosed}
 use Rattle.potential_functions.specs.PotentialFunctions.{PotentialFunction, value_of_state, is_dead_state}
 use Rattle.potential_functions.specs.Fair.{AreFair, AreDeadFair}
+use Rattle.table_functions.specs.TableFunctions as tables
+use Rattle.table_functions.specs.TableFunctions.{Row, Table, SeveralValues, functions_of, dead_ends_of, greatest_of_state, is_among}
+use Rattle.table_functions.specs.FairTables as fair_tables
 
--- The versions of a certificate's text. In version 2 a state may be listed as a dead end.
+-- The versions of a certificate's text. From version 2 on a state may be listed as a dead end. In version 3 a state may have
+-- several values, and these may look at tables.
 pub data Version : Type 0 where
   one : Version
   two : Version
+  three : Version
 
 -- A line that lists a state: its cost, its mark, and the atoms by their numbers, which are the places, from 0, of the
 -- certificate's atoms.
@@ -23,15 +28,26 @@ pub record StateLine : Type 0 where
   pub mark : Mark
   pub atoms : List ℕ
 
--- A claim, with what shows it: a potential function whose values are lower bounds, one by whose values states are dead ends,
--- and a listing of states. The weights of both are those of the atoms, one for one.
+-- A claim, with what shows it: values that are lower bounds, of which the greatest counts, one by which states are dead ends,
+-- and a listing of states. The weights of each are those of the atoms, one for one, and a row of a table has one for each value
+-- and, last, one for dead ends. Versions 1 and 2 have one value and no tables: potential functions.
 pub record Certificate : Type 0 where
   pub version : Version
   pub claim : Claim
   pub atoms : List Atom
-  pub potentials : PotentialFunction
+  pub values : List PotentialFunction
   pub dead_ends : PotentialFunction
+  pub tables : List Table
   pub lines : List StateLine
+
+-- the first value, which is the only one of versions 1 and 2; 0 where there is none
+abbrev pub potentials_of : Certificate → PotentialFunction
+potentials_of certificate = get_or certificate.values 0 (record { constant = pos 0; weights = [] })
+
+abbrev pub several_of : Certificate → SeveralValues
+several_of certificate = record { values = certificate.values; dead_ends = certificate.dead_ends; tables = certificate.tables }
+
+-- ---- limits
 
 -- a number that a certificate's text may have: below 2 to the power 60
 abbrev pub is_number : ℕ → Bool
@@ -57,6 +73,7 @@ is_mark version opened = true
 is_mark version (cut rest) = is_number rest
 is_mark one dead = false
 is_mark two dead = true
+is_mark three dead = true
 
 abbrev pub is_state_line : Version → ℕ → StateLine → Bool
 is_state_line version atom_count line = is_number line.cost && is_mark version line.mark && rise atom_count 0 line.atoms
@@ -66,16 +83,52 @@ abbrev pub is_dead_end_weight : Version → ℤ → Bool
 is_dead_end_weight one (pos zero) = true
 is_dead_end_weight one _ = false
 is_dead_end_weight two w = is_weight w
+is_dead_end_weight three w = is_weight w
 
 -- a constant, and a weight for each of so many atoms, of which this is true
 abbrev pub are_potentials : (ℤ → Bool) → ℕ → PotentialFunction → Bool
 are_potentials is_in_range atom_count p = is_in_range p.constant && (length p.weights == atom_count) && list_all is_in_range p.weights
 
+-- versions 1 and 2 have one value, version 3 up to 32
+abbrev pub is_value_count : Version → ℕ → Bool
+is_value_count one count = count == 1
+is_value_count two count = count == 1
+is_value_count three count = nat_le 1 count && nat_le count 32
+
+-- so many constants or weights, each within its limits
+abbrev pub are_weights : ℕ → List ℤ → Bool
+are_weights count weights = (length weights == count) && list_all is_weight weights
+
+-- a row of a table of this scope: its atoms are of the scope
+abbrev pub is_row : (atom_count weight_count : ℕ) → List ℕ → Row → Bool
+is_row atom_count weight_count scope r = are_weights weight_count r.weights && rise atom_count 0 r.atoms && list_all (is_among scope) r.atoms
+
+-- the scope has an atom at least, and a table may have any rows
+abbrev pub is_table : (atom_count weight_count : ℕ) → Table → Bool
+is_table atom_count weight_count t = rise atom_count 0 t.scope && nat_le 1 (length t.scope) && list_all (is_row atom_count weight_count t.scope) t.rows
+
+-- versions 1 and 2 know no tables
+abbrev pub has_tables : Version → Bool
+has_tables one = false
+has_tables two = false
+has_tables three = true
+
+abbrev pub are_tables : Version → (atom_count weight_count : ℕ) → List Table → Bool
+are_tables version atom_count weight_count = list_all (λ t. has_tables version && is_table atom_count weight_count t)
+
+-- all rows, of whichever table
+abbrev pub rows_of : List Table → List Row
+rows_of = flat_map (λ (t : Table). t.rows)
+
 -- the certificate keeps the limits of a certificate's text, and lists each state by its atoms in their order
 abbrev pub keeps_limits : Certificate → Bool
 keeps_limits c =
     is_claim c.claim && nat_le (length c.atoms) 1048576 && nat_le (length c.lines) 16777216 && list_all (is_state_line c.version (length c.atoms)) c.lines
-    && are_potentials is_weight (length c.atoms) c.potentials && are_potentials (is_dead_end_weight c.version) (length c.atoms) c.dead_ends
+    && is_value_count c.version (length c.values) && list_all (are_potentials is_weight (length c.atoms)) c.values
+    && are_potentials (is_dead_end_weight c.version) (length c.atoms) c.dead_ends
+    && are_tables c.version (length c.atoms) (length c.values + 1) c.tables && nat_le (length c.tables) 4194304 && nat_le (length (rows_of c.tables)) 4194304
+
+-- ---- listings
 
 -- the state that a line lists: its atoms with the initial static ones
 abbrev pub state_of_line : Task → Certificate → StateLine → State
@@ -86,22 +139,58 @@ abbrev pub lines_of : Task → Certificate → List (Line State)
 lines_of task certificate =
     map (λ (l : StateLine). record { state = state_of_line task certificate l; cost = l.cost; mark = l.mark }) certificate.lines
 
+-- ---- versions 1 and 2
+
 -- the value that the certificate's potential function gives to a state
 abbrev pub value_of : Certificate → State → ℕ
-value_of certificate state = value_of_state certificate.atoms certificate.potentials state
+value_of certificate state = value_of_state certificate.atoms (potentials_of certificate) state
 
 -- the certificate says that the state is a dead end
 abbrev pub is_dead_end_of : Certificate → State → Bool
 is_dead_end_of certificate state = is_dead_state certificate.atoms certificate.dead_ends state
 
--- The certificate is closed for the task: its potential functions, which have a weight for each of its atoms, are fair and
--- dead-fair for the ground task in which they have the first numbers, and its listing is closed by what they say of states.
-pub record IsClosedFor (task : Task) (certificate : Certificate) : Type 0 where
-  pub one_weight_an_atom : length certificate.potentials.weights ≡ length certificate.atoms
+-- Its potential functions, which have a weight for each of its atoms, are fair and dead-fair for the ground task in which they
+-- have the first numbers, and its listing is closed by what they say of states.
+pub record IsClosedByPotentials (task : Task) (certificate : Certificate) : Type 0 where
+  pub one_weight_an_atom : length (potentials_of certificate).weights ≡ length certificate.atoms
   pub one_dead_end_weight_an_atom : length certificate.dead_ends.weights ≡ length certificate.atoms
-  pub potentials_are_fair : AreFair task (numbered_atoms task certificate.atoms) certificate.potentials
+  pub potentials_are_fair : AreFair task (numbered_atoms task certificate.atoms) (potentials_of certificate)
   pub dead_ends_are_fair : AreDeadFair task (numbered_atoms task certificate.atoms) certificate.dead_ends
   pub atoms_are_fluent : All (λ (a : Atom). IsTrue (is_atom task a && is_fluent task a.predicate)) certificate.atoms
   pub atoms_are_distinct : AllPairs (λ (a b : Atom). a ≢ b) certificate.atoms
   pub states_are_distinct : AllPairs (λ (k l : Line State). k.state ≢ l.state) (lines_of task certificate)
   pub listing_is_closed : IsClosed (system_of task) (value_of certificate) (is_dead_end_of certificate) certificate.claim (lines_of task certificate)
+
+-- ---- version 3
+
+-- the greatest of the values that the certificate gives to a state
+abbrev pub greatest_of : Task → Certificate → State → ℕ
+greatest_of task certificate = greatest_of_state task (numbered_atoms task certificate.atoms) (functions_of (several_of certificate))
+
+-- by the last weights of its tables the certificate says that the state is a dead end
+abbrev pub is_dead_by_tables : Task → Certificate → State → Bool
+is_dead_by_tables task certificate = tables.is_dead_state task (numbered_atoms task certificate.atoms) (dead_ends_of (several_of certificate))
+
+-- Its values, which have a weight for each of its atoms, are fair, and that of dead ends is dead-fair, for the ground task in
+-- which its atoms have the first numbers, and its listing is closed by what they say of states.
+pub record IsClosedByTables (task : Task) (certificate : Certificate) : Type 0 where
+  pub one_weight_an_atom : All (λ (p : PotentialFunction). length p.weights ≡ length certificate.atoms) certificate.values
+  pub one_dead_end_weight_an_atom : length certificate.dead_ends.weights ≡ length certificate.atoms
+  pub tables_are_over_atoms : IsTrue (list_all (is_table (length certificate.atoms) (length certificate.values + 1)) certificate.tables)
+  pub values_are_fair : fair_tables.AreFair task (numbered_atoms task certificate.atoms) (several_of certificate)
+  pub atoms_are_fluent : All (λ (a : Atom). IsTrue (is_atom task a && is_fluent task a.predicate)) certificate.atoms
+  pub atoms_are_distinct : AllPairs (λ (a b : Atom). a ≢ b) certificate.atoms
+  pub rows_are_distinct : All (λ (t : Table). AllPairs (λ (q r : Row). q.atoms ≢ r.atoms) t.rows) certificate.tables
+  pub states_are_distinct : AllPairs (λ (k l : Line State). k.state ≢ l.state) (lines_of task certificate)
+  pub listing_is_closed : IsClosed (system_of task) (greatest_of task certificate) (is_dead_by_tables task certificate) certificate.claim (lines_of task certificate)
+
+-- ---- all versions
+
+abbrev pub IsClosedIn : Version → Task → Certificate → Type 0
+IsClosedIn one = IsClosedByPotentials
+IsClosedIn two = IsClosedByPotentials
+IsClosedIn three = IsClosedByTables
+
+-- the certificate is closed for the task
+abbrev pub IsClosedFor : Task → Certificate → Type 0
+IsClosedFor task certificate = IsClosedIn certificate.version task certificate

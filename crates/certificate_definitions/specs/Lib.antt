@@ -6,3 +6,4 @@ pub mod CertificateText
 pub mod CertificateMachine
 pub mod CertificateNames
 pub mod CertificateChecking
+pub mod CertificateTextExamples

@@ -1,32 +1,36 @@
 -- What is reported for a whole line at a place is the fault of the text there.
-use Rattle.std.proofs.Common.{◌≡◌, ◌≢◌, ℕ, inl, inr, List, [], ◌∷◌, ◌++◌, codes, Option, None, Some, sym, ap, ◌∙◌, subst}
+use Rattle.std.proofs.Common.{◌≡◌, ◌≢◌, ℕ, List, [], ◌∷◌, ◌++◌, codes, Option, None, Some, sym, ap, ◌∙◌, subst}
 use Rattle.std.specs.Prelude.{IsTrue}
 use Rattle.std.specs.Option.{option_and_then}
 use Rattle.std.specs.Fmt.{decimal}
 use Rattle.certificate_definitions.specs.Certificates.{is_number}
-use Rattle.certificate_definitions.specs.CertificateText.{TextLine, version, claims, constant, atom, listed, last, is_line, line_text, MayFollow, IsOtherVersion, IsOneTooMany, HasLine, IsFaultAfter, other_version, malformed, too_many}
-use Rattle.certificate_definitions.specs.CertificateMachine.{CertificatePlace, at_version, at_claim, at_constant, in_body, ended, next_place, place_from, place_after}
+use Rattle.certificate_definitions.specs.CertificateText.{scope, row, TextLine, version, claims, constant, atom, tabled, listed, last, is_line, line_text, MayFollow, IsOtherVersion, IsOneTooMany, HasLine, IsFaultAfter, other_version, malformed, too_many}
+use Rattle.certificate_definitions.specs.CertificateMachine.{CertificatePlace, at_version, at_claim, at_constant, in_body, ended, format_at, next_place, place_from, place_after}
 use Rattle.certificate_definitions.proofs.Machine.{ComesBefore, occurs, followed, place_same}
-use Rattle.certificate_definitions.proofs.TooMany.{IsTooManyAt, too_many_at, too_many_of}
-use Rattle.certificate_reader.specs.Stages.{IsOver, atoms_at, version_at}
+use Rattle.certificate_definitions.proofs.TooMany.{IsTooManyAt, an_atom, a_scope, a_row, a_state, too_many_at, too_many_of}
+use Rattle.certificate_reader.specs.Stages.{IsOver}
 
 -- ---- limits, in both words
 
-over_is : (place : CertificatePlace) (line : TextLine) (bytes : List ℕ) → IsTrue (is_line (version_at place) (atoms_at place) line) → IsOver place line → line_text line ≡ bytes → IsTooManyAt place bytes
-over_is (in_body v n m) (atom a) bytes is (empty, full) same = inl (empty, full, (a, is, sym same))
-over_is (in_body v n m) (listed l) bytes is full same = inr (full, (l, is, sym same))
-over_is (in_body v n m) (version w) bytes is over same = absurd over
-over_is (in_body v n m) (claims claim) bytes is over same = absurd over
-over_is (in_body v n m) (constant k) bytes is over same = absurd over
-over_is (in_body v n m) (last count) bytes is over same = absurd over
+over_is : (place : CertificatePlace) (line : TextLine) (bytes : List ℕ) → IsTrue (is_line (format_at place) line) → IsOver place line → line_text line ≡ bytes → IsTooManyAt place bytes
+over_is (in_body b) (atom a) bytes is (none_yet, empty, full) same = an_atom a none_yet empty full is (sym same)
+over_is (in_body b) (tabled (row r)) bytes is (begun, empty, full) same = a_row r begun empty full is (sym same)
+over_is (in_body b) (listed l) bytes is full same = a_state l full is (sym same)
+over_is (in_body b) (tabled (scope s)) bytes is (empty, full) same = a_scope s empty full is (sym same)
+over_is (in_body b) (version w) bytes is over same = absurd over
+over_is (in_body b) (claims claim) bytes is over same = absurd over
+over_is (in_body b) (constant k) bytes is over same = absurd over
+over_is (in_body b) (last count) bytes is over same = absurd over
 over_is at_version line bytes is over same = absurd over
 over_is (at_claim v) line bytes is over same = absurd over
 over_is (at_constant v) line bytes is over same = absurd over
 over_is ended line bytes is over same = absurd over
 
-over_of : (place : CertificatePlace) (bytes : List ℕ) → IsTooManyAt place bytes → (line : TextLine) × IsTrue (is_line (version_at place) (atoms_at place) line) × IsOver place line × (line_text line ≡ bytes)
-over_of (in_body v n m) bytes (inl (empty, full, (a, is, same))) = (atom a, is, (empty, full), sym same)
-over_of (in_body v n m) bytes (inr (full, (l, is, same))) = (listed l, is, full, sym same)
+over_of : (place : CertificatePlace) (bytes : List ℕ) → IsTooManyAt place bytes → (line : TextLine) × IsTrue (is_line (format_at place) line) × IsOver place line × (line_text line ≡ bytes)
+over_of (in_body b) bytes (an_atom a none_yet empty full is same) = (atom a, is, (none_yet, empty, full), sym same)
+over_of (in_body b) bytes (a_scope s empty full is same) = (tabled (scope s), is, (empty, full), sym same)
+over_of (in_body b) bytes (a_row r begun empty full is same) = (tabled (row r), is, (begun, empty, full), sym same)
+over_of (in_body b) bytes (a_state l full is same) = (listed l, is, full, sym same)
 over_of at_version bytes over = absurd over
 over_of (at_claim v) bytes over = absurd over
 over_of (at_constant v) bytes over = absurd over
@@ -38,16 +42,16 @@ module _ (before : List TextLine) (place : CertificatePlace) (leads : place_afte
   nothing_before : place ≡ at_version → before ≡ []
   nothing_before at = subst (λ place. ComesBefore place before) at (occurs before place leads)
 
-  pub reported_other_version : place ≡ at_version → (number : ℕ) × IsTrue (is_number number) × (number ≢ 1) × (number ≢ 2) × (codes "pddl-cert " ++ decimal number ≡ line)
+  pub reported_other_version : place ≡ at_version → (number : ℕ) × IsTrue (is_number number) × (number ≢ 1) × (number ≢ 2) × (number ≢ 3) × (codes "pddl-cert " ++ decimal number ≡ line)
       → IsFaultAfter before text 41
-  reported_other_version at (number, is, not_one, not_two, same) = other_version line has (nothing_before at, number, is, not_one, not_two, sym same)
+  reported_other_version at (number, is, not_one, not_two, not_three, same) = other_version line has (nothing_before at, number, is, not_one, not_two, not_three, sym same)
 
-  pub reported_too_many : (over : TextLine) → IsTrue (is_line (version_at place) (atoms_at place) over) → IsOver place over → line_text over ≡ line → IsFaultAfter before text 55
+  pub reported_too_many : (over : TextLine) → IsTrue (is_line (format_at place) over) → IsOver place over → line_text over ≡ line → IsFaultAfter before text 55
   reported_too_many over is limit same = too_many line has (too_many_of before line place (occurs before place leads) (over_is place over line is limit same))
 
   pub reported_malformed : ((other : TextLine) (next : CertificatePlace) → next_place place other ≡ Some next → line_text other ≢ line)
-      → ((other : TextLine) → IsTrue (is_line (version_at place) (atoms_at place) other) → IsOver place other → line_text other ≢ line)
-      → (place ≡ at_version → (number : ℕ) → IsTrue (is_number number) → number ≢ 1 → number ≢ 2 → codes "pddl-cert " ++ decimal number ≢ line)
+      → ((other : TextLine) → IsTrue (is_line (format_at place) other) → IsOver place other → line_text other ≢ line)
+      → (place ≡ at_version → (number : ℕ) → IsTrue (is_number number) → number ≢ 1 → number ≢ 2 → number ≢ 3 → codes "pddl-cert " ++ decimal number ≢ line)
       → IsFaultAfter before text 40
   reported_malformed nowhere within other = malformed line has no_line no_version not_over
     where
@@ -55,8 +59,8 @@ module _ (before : List TextLine) (place : CertificatePlace) (leads : place_afte
       no_line (l, begun, same) = let (next, is) = followed before place leads l begun in nowhere l next is same
 
       no_version : IsOtherVersion before line → ⊥
-      no_version (empty, number, is, not_one, not_two, same) =
-          other (place_same place at_version (sym leads ∙ ap place_after empty)) number is not_one not_two (sym same)
+      no_version (empty, number, is, not_one, not_two, not_three, same) =
+          other (place_same place at_version (sym leads ∙ ap place_after empty)) number is not_one not_two not_three (sym same)
 
       not_over : IsOneTooMany before line → ⊥
       not_over over = let (l, is, limit, same) = over_of place line (too_many_at before place leads line over) in within l is limit same

@@ -12,8 +12,8 @@ use Rattle.model.specs.Words.{is_name, is_name_byte}
 use Rattle.model.specs.PlanWriting.{is_lower_name}
 use Rattle.model.specs.Claims.{bound, none, Mark, opened, cut, dead}
 use Rattle.certificate_definitions.specs.Certificates.{is_number, is_weight}
-use Rattle.certificate_definitions.specs.CertificateText.{TextLine, version, claims, constant, atom, listed, last, after_blank, line_text, weights_text}
-use Rattle.certificate_reader.specs.Words.{is_blank, is_word, line_head, line_rest, mark_head, then_words, with_rest, with_weights}
+use Rattle.certificate_definitions.specs.CertificateText.{scope, row, TextLine, version, claims, constant, atom, tabled, listed, last, after_blank, line_text, weights_text, numbers_text}
+use Rattle.certificate_reader.specs.Words.{is_blank, is_word, atom_rest, line_head, line_rest, mark_head, then_numbers, then_words, with_rest}
 use Rattle.certificate_reader.proofs.NumberLemmas.{is_below}
 use Rattle.certificate_reader.proofs.WordLemmas.{one_first}
 
@@ -58,45 +58,57 @@ lower_name_is_word name is = name_is_word name (and_parts _ _ (and_parts _ _ is)
 
 -- ---- a line by its first word and the rest
 
+-- the bytes of some words: a blank before each, and before what comes after them
+abbrev pub bytes_of : Option (List ℕ) → List ℕ
+bytes_of None = []
+bytes_of (Some rest) = after_blank rest
+
 listed_splits : (cost : ℕ) (mark : Mark) (atoms : List ℕ)
     → line_text (listed (record { cost = cost; mark = mark; atoms = atoms }))
-    ≡ with_rest (mark_head mark) (Some (line_rest (listed (record { cost = cost; mark = mark; atoms = atoms }))))
+    ≡ mark_head mark ++ bytes_of (line_rest (listed (record { cost = cost; mark = mark; atoms = atoms })))
 listed_splits cost opened atoms = refl
 listed_splits cost (cut rest) atoms = refl
 listed_splits cost dead atoms = refl
 
-second_weight_split : (s t r : List ℕ) → (s ++ codes " ") ++ ((t ++ codes " ") ++ r) ≡ ((s ++ (codes " " ++ t)) ++ codes " ") ++ r
-second_weight_split s t r = simp append_assoc
+with_bytes : (word : List ℕ) (rest : Option (List ℕ)) → with_rest word rest ≡ word ++ bytes_of rest
+with_bytes word None = sym (append-nil word)
+with_bytes word (Some rest) = append_assoc word (codes " ") rest
 
--- what comes after weights comes after their text, alone or with a blank before it
-weights_alone : (of_value : ℤ) (of_dead_end : Option ℤ)
-    → with_weights (record { of_value = of_value; of_dead_end = of_dead_end }) None ≡ weights_text (record { of_value = of_value; of_dead_end = of_dead_end })
-weights_alone of_value None = refl
-weights_alone of_value (Some n) = append_assoc (signed_decimal of_value) (codes " ") (signed_decimal n)
+pub words_bytes : {X : Type 0} (text : X → List ℕ) (parts : List X) (rest : Option (List ℕ))
+    → bytes_of (then_words (map text parts) rest) ≡ flat_map (λ (part : X). after_blank (text part)) parts ++ bytes_of rest
+words_bytes text [] rest = refl
+words_bytes text (part ∷ parts) rest =
+    ap (λ bytes. codes " " ++ bytes) (with_bytes (text part) (then_words (map text parts) rest))
+    ∙ sym (append_assoc (codes " ") (text part) (bytes_of (then_words (map text parts) rest)))
+    ∙ ap (λ bytes. after_blank (text part) ++ bytes) (words_bytes text parts rest)
+    ∙ sym (append_assoc (after_blank (text part)) (flat_map (λ part. after_blank (text part)) parts) (bytes_of rest))
 
-weights_after : (of_value : ℤ) (of_dead_end : Option ℤ) (rest : List ℕ)
-    → with_weights (record { of_value = of_value; of_dead_end = of_dead_end }) (Some rest) ≡ weights_text (record { of_value = of_value; of_dead_end = of_dead_end }) ++ codes " " ++ rest
-weights_after of_value None rest = refl
-weights_after of_value (Some n) rest = second_weight_split (signed_decimal of_value) (signed_decimal n) rest
+atom_parts : (c w p f : List ℕ) → (((c ++ w) ++ codes " (") ++ p) ++ f ++ codes ")" ≡ c ++ (w ++ (codes " " ++ ((codes "(" ++ p) ++ f ++ codes ")")))
+atom_parts c w p f = simp append_assoc
 
-parts_split : (c s b o p f e : List ℕ) → ((((c ++ s) ++ (b ++ o)) ++ p) ++ f) ++ e ≡ c ++ ((s ++ b) ++ (((o ++ p) ++ f) ++ e))
-parts_split c s b o p f e = simp append_assoc
+alone : (head word : List ℕ) → head ++ codes " " ++ word ≡ head ++ after_blank word
+alone head word = append_assoc head (codes " ") word
 
--- the line of an atom, by its weight, its predicate and what comes after that
-atom_splits : (s p f : List ℕ)
-    → ((((codes "atom " ++ s) ++ codes " (") ++ p) ++ f) ++ codes ")" ≡ codes "atom " ++ with_rest s (Some (((codes "(" ++ p) ++ f) ++ codes ")"))
-atom_splits s p f = parts_split (codes "atom ") s (codes " ") (codes "(") p f (codes ")")
+-- the bytes of a line: its first word, and the others
+pub line_bytes : (line : TextLine) → line_text line ≡ line_head line ++ bytes_of (line_rest line)
+line_bytes (version v) = refl
+line_bytes (claims (bound least)) = refl
+line_bytes (claims none) = refl
+line_bytes (constant k) = ap (λ bytes. codes "constant" ++ bytes) (sym (append-nil (weights_text k)) ∙ sym (words_bytes signed_decimal k None))
+line_bytes (atom a) =
+    atom_parts (codes "atom") (weights_text a.weights) a.atom.predicate (flat_map after_blank a.atom.objects)
+    ∙ ap (λ bytes. codes "atom" ++ bytes) (sym (words_bytes signed_decimal a.weights (Some (atom_rest a.atom))))
+line_bytes (tabled (scope atoms)) = ap (λ bytes. codes "table" ++ bytes) (sym (append-nil (numbers_text atoms)) ∙ sym (words_bytes decimal atoms None))
+line_bytes (tabled (row r)) =
+    append_assoc (codes "row") (weights_text r.weights) (numbers_text r.atoms)
+    ∙ ap (λ bytes. codes "row" ++ bytes)
+    (ap (λ bytes. weights_text r.weights ++ bytes) (sym (append-nil (numbers_text r.atoms)) ∙ sym (words_bytes decimal r.atoms None))
+    ∙ sym (words_bytes signed_decimal r.weights (then_numbers r.atoms)))
+line_bytes (listed l) = listed_splits l.cost l.mark l.atoms
+line_bytes (last count) = refl
 
-pub line_splits : (line : TextLine) → line_text line ≡ with_rest (line_head line) (Some (line_rest line))
-line_splits (version v) = refl
-line_splits (claims (bound least)) = refl
-line_splits (claims none) = refl
-line_splits (constant k) = ap (λ rest. codes "constant " ++ rest) (sym (weights_alone k.of_value k.of_dead_end))
-line_splits (atom a) =
-    atom_splits (weights_text a.weights) a.atom.predicate (flat_map after_blank a.atom.objects)
-    ∙ ap (λ rest. codes "atom " ++ rest) (sym (weights_after a.weights.of_value a.weights.of_dead_end (((codes "(" ++ a.atom.predicate) ++ flat_map after_blank a.atom.objects) ++ codes ")")))
-line_splits (listed l) = listed_splits l.cost l.mark l.atoms
-line_splits (last count) = refl
+pub line_splits : (line : TextLine) → line_text line ≡ with_rest (line_head line) (line_rest line)
+line_splits line = line_bytes line ∙ sym (with_bytes (line_head line) (line_rest line))
 
 mark_is_word : (mark : Mark) → IsTrue (is_word (mark_head mark))
 mark_is_word opened = refl
@@ -108,6 +120,8 @@ head_is_word (version v) = refl
 head_is_word (claims claim) = refl
 head_is_word (constant k) = refl
 head_is_word (atom a) = refl
+head_is_word (tabled (scope atoms)) = refl
+head_is_word (tabled (row r)) = refl
 head_is_word (listed l) = mark_is_word l.mark
 head_is_word (last count) = refl
 
@@ -125,7 +139,7 @@ pub record IsNext (words done : List (List ℕ)) (bytes : List ℕ) : Type 0 whe
   pub are : words ≡ done ++ word ∷ more
   pub splits : bytes ≡ with_rest word (then_words more None)
 
-some_same : (a b : List ℕ) → ◌≡◌ {A = Option (List ℕ)} (Some a) (Some b) → a ≡ b
+pub some_same : (a b : List ℕ) → ◌≡◌ {A = Option (List ℕ)} (Some a) (Some b) → a ≡ b
 some_same a b same = cc
 
 pub next_word : (done words : List (List ℕ)) (bytes : List ℕ) → IsTrue (list_all is_word done) → IsTrue (list_all is_word words)

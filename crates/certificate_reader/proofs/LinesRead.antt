@@ -1,20 +1,22 @@
 -- The lines of states and atoms, by what comes after their first word.
-use Rattle.std.proofs.Common.{◌≡◌, ℕ, Bool, true, false, List, [], ◌∷◌, ◌++◌, codes, map, Option, None, Some, refl, sym, ap, ◌∙◌, subst, append_assoc, append-nil}
-use Rattle.std.specs.Prelude.{◌&&◌, ◌≤◌, IsTrue, length, nat_le}
+use Rattle.std.proofs.Common.{◌≡◌, ℕ, Bool, true, false, List, [], ◌∷◌, ◌++◌, codes, map, Option, None, Some, refl, sym, ap, ◌∙◌, subst, append_assoc, append-nil, arith}
+use Rattle.std.specs.Prelude.{◌&&◌, ◌<◌, ◌≤◌, ◌==◌, ℤ, IsTrue, length, nat_le, nat_lt}
 use Rattle.std.specs.Fmt.{decimal}
 use Rattle.std.specs.List.{flat_map, list_all}
 use Rattle.std.specs.Str.{bytes_eq}
 use Rattle.std.proofs.lemmas.Slice.Eq.{bytes_eq-Decides}
-use Rattle.std.proofs.lemmas.Bool.{and_parts, le-leb}
+use Rattle.std.proofs.lemmas.Bool.{and_parts, eqb-true, leb-true, le-leb, ltb-true, ltb-false}
+use Rattle.std.proofs.lemmas.Bool.Decides.{nat_tests}
 use Rattle.std.proofs.lemmas.List.{append_cancel_left, append_cancel_right}
 use Rattle.model.specs.PlanWriting.{is_lower_name}
 use Rattle.model.specs.Claims.{Mark, opened, cut, dead}
-use Rattle.certificate_definitions.specs.Certificates.{Version, two, is_number, is_mark, rise}
-use Rattle.certificate_definitions.specs.CertificateText.{NamedAtom, Weights, WeightedAtom, TextLine, version, claims, constant, atom, listed, last, after_blank, are_weights, is_line, line_text, longest_line}
-use Rattle.certificate_reader.specs.Words.{IsFirstWord, IsNumbered, IsReadAs, are_lower, atom_rest, mark_head, then_words, with_rest, with_weights}
+use Rattle.certificate_definitions.specs.Certificates.{Version, one, two, three, is_number, is_mark, is_weight, are_weights, has_tables, rise}
+use Rattle.table_functions.specs.TableFunctions.{Row}
+use Rattle.certificate_definitions.specs.CertificateText.{NamedAtom, WeightedAtom, scope, row, Format, TextLine, version, claims, constant, atom, tabled, listed, last, after_blank, is_weight_count, is_line, line_text, longest_line}
+use Rattle.certificate_reader.specs.Words.{IsFirstWord, IsLeading, IsNumbered, IsReadAs, are_lower, atom_rest, line_rest, mark_head, then_numbers, then_weights, then_words, with_rest}
 use Rattle.certificate_reader.proofs.WordLemmas.{one_first}
-use Rattle.certificate_reader.proofs.LineLemmas.{line_splits, lower_name_is_word, number_is_word, words_after}
-use Rattle.certificate_reader.proofs.WeightsRead.{one_weights}
+use Rattle.certificate_reader.proofs.LineLemmas.{line_splits, lower_name_is_word, number_is_word, some_same, words_after}
+use Rattle.certificate_reader.proofs.WeightsRead.{leading, leading_alone, one_leading}
 
 -- ---- a number and numbers after it
 
@@ -56,64 +58,67 @@ and_all a b c x y z = λ i. x i && y i && z i
 -- a line that begins with the word of a state's mark lists a state
 module _ (word : List ℕ) (no_version : bytes_eq (codes "pddl-cert") word ≡ false) (no_claim : bytes_eq (codes "claim") word ≡ false)
     (no_constant : bytes_eq (codes "constant") word ≡ false) (no_atom : bytes_eq (codes "atom") word ≡ false) (no_end : bytes_eq (codes "end") word ≡ false)
-    (rest : List ℕ) (v : Version) (count : ℕ) where
-  only_listed : ((cost : ℕ) (mark : Mark) (atoms : List ℕ) → IsReadAs word rest v count (listed (record { cost = cost; mark = mark; atoms = atoms })) → ⊥)
-      → (line : TextLine) → IsReadAs word rest v count line → ⊥
+    (no_scope : bytes_eq (codes "table") word ≡ false) (no_row : bytes_eq (codes "row") word ≡ false)
+    (rest : List ℕ) (f : Format) where
+  only_listed : ((cost : ℕ) (mark : Mark) (atoms : List ℕ) → IsReadAs word rest f (listed (record { cost = cost; mark = mark; atoms = atoms })) → ⊥)
+      → (line : TextLine) → IsReadAs word rest f line → ⊥
   only_listed never (version w) read = unlike (codes "pddl-cert") word no_version read.head
   only_listed never (claims claim) read = unlike (codes "claim") word no_claim read.head
   only_listed never (constant k) read = unlike (codes "constant") word no_constant read.head
   only_listed never (atom a) read = unlike (codes "atom") word no_atom read.head
+  only_listed never (tabled (scope s)) read = unlike (codes "table") word no_scope read.head
+  only_listed never (tabled (row r)) read = unlike (codes "row") word no_row read.head
   only_listed never (listed l) read = never l.cost l.mark l.atoms read
   only_listed never (last n) read = unlike (codes "end") word no_end read.head
 
 -- ---- open states and dead ends: a number, and numbers after it
 
-module _ (rest : List ℕ) (count : ℕ) where
-  pub open_is_read : (cost : ℕ) (atoms : List ℕ) → IsNumbered rest count cost atoms
-      → (v : Version) → IsReadAs (codes "open") rest v count (listed (record { cost = cost; mark = opened; atoms = atoms }))
-  open_is_read cost atoms is v = record {
+module _ (rest : List ℕ) (f : Format) where
+  pub open_is_read : (cost : ℕ) (atoms : List ℕ) → IsNumbered rest f.atoms cost atoms
+      → IsReadAs (codes "open") rest f (listed (record { cost = cost; mark = opened; atoms = atoms }))
+  open_is_read cost atoms is = record {
     head = refl;
-    following = sym (words_after decimal (decimal cost) atoms) ∙ sym is.splits;
-    within = and_all (is_number cost) true (rise count 0 atoms) is.is_number refl is.rising;
+    following = ap Some (sym (words_after decimal (decimal cost) atoms) ∙ sym is.splits);
+    within = and_all (is_number cost) true (rise f.atoms 0 atoms) is.is_number refl is.rising;
   }
 
-  pub open_parts : (v : Version) (cost : ℕ) (mark : Mark) (atoms : List ℕ) → IsReadAs (codes "open") rest v count (listed (record { cost = cost; mark = mark; atoms = atoms }))
-      → IsNumbered rest count cost atoms
-  open_parts v cost opened atoms read =
-      let parts = and_parts (is_number cost && true) (rise count 0 atoms) read.within in
+  pub open_parts : (cost : ℕ) (mark : Mark) (atoms : List ℕ) → IsReadAs (codes "open") rest f (listed (record { cost = cost; mark = mark; atoms = atoms }))
+      → IsNumbered rest f.atoms cost atoms
+  open_parts cost opened atoms read =
+      let parts = and_parts (is_number cost && true) (rise f.atoms 0 atoms) read.within in
       record {
         is_number = (and_parts (is_number cost) true parts.0).0;
         rising = parts.1;
-        splits = sym read.following ∙ sym (words_after decimal (decimal cost) atoms);
+        splits = sym (some_same _ _ read.following) ∙ sym (words_after decimal (decimal cost) atoms);
       }
-  open_parts v cost (cut least) atoms read = absurd (unlike (codes "cut") (codes "open") refl read.head)
-  open_parts v cost dead atoms read = absurd (unlike (codes "dead") (codes "open") refl read.head)
+  open_parts cost (cut least) atoms read = absurd (unlike (codes "cut") (codes "open") refl read.head)
+  open_parts cost dead atoms read = absurd (unlike (codes "dead") (codes "open") refl read.head)
 
-  pub no_open : ((n : ℕ) (atoms : List ℕ) → IsNumbered rest count n atoms → ⊥) → (v : Version) (line : TextLine) → IsReadAs (codes "open") rest v count line → ⊥
-  no_open never v = only_listed (codes "open") refl refl refl refl refl rest v count (λ cost mark atoms read. never cost atoms (open_parts v cost mark atoms read))
+  pub no_open : ((n : ℕ) (atoms : List ℕ) → IsNumbered rest f.atoms n atoms → ⊥) → (line : TextLine) → IsReadAs (codes "open") rest f line → ⊥
+  no_open never = only_listed (codes "open") refl refl refl refl refl refl refl rest f (λ cost mark atoms read. never cost atoms (open_parts cost mark atoms read))
 
-  pub dead_is_read : (cost : ℕ) (atoms : List ℕ) → IsNumbered rest count cost atoms
-      → IsReadAs (codes "dead") rest two count (listed (record { cost = cost; mark = dead; atoms = atoms }))
-  dead_is_read cost atoms is = record {
+  pub dead_is_read : IsTrue (is_mark f.version dead) → (cost : ℕ) (atoms : List ℕ) → IsNumbered rest f.atoms cost atoms
+      → IsReadAs (codes "dead") rest f (listed (record { cost = cost; mark = dead; atoms = atoms }))
+  dead_is_read allowed cost atoms is = record {
     head = refl;
-    following = sym (words_after decimal (decimal cost) atoms) ∙ sym is.splits;
-    within = and_all (is_number cost) true (rise count 0 atoms) is.is_number refl is.rising;
+    following = ap Some (sym (words_after decimal (decimal cost) atoms) ∙ sym is.splits);
+    within = and_all (is_number cost) (is_mark f.version dead) (rise f.atoms 0 atoms) is.is_number allowed is.rising;
   }
 
-  pub dead_parts : (v : Version) (cost : ℕ) (mark : Mark) (atoms : List ℕ) → IsReadAs (codes "dead") rest v count (listed (record { cost = cost; mark = mark; atoms = atoms }))
-      → IsNumbered rest count cost atoms
-  dead_parts v cost dead atoms read =
-      let parts = and_parts (is_number cost && is_mark v dead) (rise count 0 atoms) read.within in
+  pub dead_parts : (cost : ℕ) (mark : Mark) (atoms : List ℕ) → IsReadAs (codes "dead") rest f (listed (record { cost = cost; mark = mark; atoms = atoms }))
+      → IsNumbered rest f.atoms cost atoms
+  dead_parts cost dead atoms read =
+      let parts = and_parts (is_number cost && is_mark f.version dead) (rise f.atoms 0 atoms) read.within in
       record {
-        is_number = (and_parts (is_number cost) (is_mark v dead) parts.0).0;
+        is_number = (and_parts (is_number cost) (is_mark f.version dead) parts.0).0;
         rising = parts.1;
-        splits = sym read.following ∙ sym (words_after decimal (decimal cost) atoms);
+        splits = sym (some_same _ _ read.following) ∙ sym (words_after decimal (decimal cost) atoms);
       }
-  dead_parts v cost (cut least) atoms read = absurd (unlike (codes "cut") (codes "dead") refl read.head)
-  dead_parts v cost opened atoms read = absurd (unlike (codes "open") (codes "dead") refl read.head)
+  dead_parts cost (cut least) atoms read = absurd (unlike (codes "cut") (codes "dead") refl read.head)
+  dead_parts cost opened atoms read = absurd (unlike (codes "open") (codes "dead") refl read.head)
 
-  pub no_dead : ((n : ℕ) (atoms : List ℕ) → IsNumbered rest count n atoms → ⊥) → (v : Version) (line : TextLine) → IsReadAs (codes "dead") rest v count line → ⊥
-  no_dead never v = only_listed (codes "dead") refl refl refl refl refl rest v count (λ cost mark atoms read. never cost atoms (dead_parts v cost mark atoms read))
+  pub no_dead : ((n : ℕ) (atoms : List ℕ) → IsNumbered rest f.atoms n atoms → ⊥) → (line : TextLine) → IsReadAs (codes "dead") rest f line → ⊥
+  no_dead never = only_listed (codes "dead") refl refl refl refl refl refl refl rest f (λ cost mark atoms read. never cost atoms (dead_parts cost mark atoms read))
 
 -- ---- cuts
 
@@ -132,56 +137,56 @@ cut_text cost least atoms =
     ∙ append_assoc (decimal cost) (codes " ") (decimal least ++ flat_map (λ (number : ℕ). after_blank (decimal number)) atoms)
     ∙ sym (append_assoc (decimal cost) (codes " " ++ decimal least) (flat_map (λ (number : ℕ). after_blank (decimal number)) atoms))
 
-module _ (rest : List ℕ) (count : ℕ) where
-  pub cut_is_read : (cost least : ℕ) (atoms : List ℕ) → IsCut rest count cost least atoms
-      → (v : Version) → IsReadAs (codes "cut") rest v count (listed (record { cost = cost; mark = cut least; atoms = atoms }))
-  cut_is_read cost least atoms is v = record {
+module _ (rest : List ℕ) (f : Format) where
+  pub cut_is_read : (cost least : ℕ) (atoms : List ℕ) → IsCut rest f.atoms cost least atoms
+      → IsReadAs (codes "cut") rest f (listed (record { cost = cost; mark = cut least; atoms = atoms }))
+  cut_is_read cost least atoms is = record {
     head = refl;
-    following = sym (cut_text cost least atoms) ∙ ap (λ bytes. with_rest (decimal cost) (Some bytes)) (sym is.numbered.splits) ∙ sym is.splits;
-    within = and_all (is_number cost) (is_number least) (rise count 0 atoms) is.is_number is.numbered.is_number is.numbered.rising;
+    following = ap Some (sym (cut_text cost least atoms) ∙ ap (λ bytes. with_rest (decimal cost) (Some bytes)) (sym is.numbered.splits) ∙ sym is.splits);
+    within = and_all (is_number cost) (is_number least) (rise f.atoms 0 atoms) is.is_number is.numbered.is_number is.numbered.rising;
   }
 
-  pub cut_of : (v : Version) (cost least : ℕ) (atoms : List ℕ) → IsReadAs (codes "cut") rest v count (listed (record { cost = cost; mark = cut least; atoms = atoms }))
-      → IsCut rest count cost least atoms
-  cut_of v cost least atoms read =
-      let parts = and_parts (is_number cost && is_number least) (rise count 0 atoms) read.within in
+  pub cut_of : (cost least : ℕ) (atoms : List ℕ) → IsReadAs (codes "cut") rest f (listed (record { cost = cost; mark = cut least; atoms = atoms }))
+      → IsCut rest f.atoms cost least atoms
+  cut_of cost least atoms read =
+      let parts = and_parts (is_number cost && is_number least) (rise f.atoms 0 atoms) read.within in
       let numbers = and_parts (is_number cost) (is_number least) parts.0 in
       record {
         is_number = numbers.0;
         bytes = with_rest (decimal least) (then_words (map decimal atoms) None);
         numbered = record { is_number = numbers.1; rising = parts.1; splits = refl };
-        splits = sym read.following ∙ sym (cut_text cost least atoms);
+        splits = sym (some_same _ _ read.following) ∙ sym (cut_text cost least atoms);
       }
 
-  cut_parts : (v : Version) (cost : ℕ) (mark : Mark) (atoms : List ℕ) → IsReadAs (codes "cut") rest v count (listed (record { cost = cost; mark = mark; atoms = atoms }))
-      → (least : ℕ) × IsCut rest count cost least atoms
-  cut_parts v cost opened atoms read = absurd (unlike (codes "open") (codes "cut") refl read.head)
-  cut_parts v cost dead atoms read = absurd (unlike (codes "dead") (codes "cut") refl read.head)
-  cut_parts v cost (cut least) atoms read = (least, cut_of v cost least atoms read)
+  cut_parts : (cost : ℕ) (mark : Mark) (atoms : List ℕ) → IsReadAs (codes "cut") rest f (listed (record { cost = cost; mark = mark; atoms = atoms }))
+      → (least : ℕ) × IsCut rest f.atoms cost least atoms
+  cut_parts cost opened atoms read = absurd (unlike (codes "open") (codes "cut") refl read.head)
+  cut_parts cost dead atoms read = absurd (unlike (codes "dead") (codes "cut") refl read.head)
+  cut_parts cost (cut least) atoms read = (least, cut_of cost least atoms read)
 
-  pub no_cut : ((cost least : ℕ) (atoms : List ℕ) → IsCut rest count cost least atoms → ⊥) → (v : Version) (line : TextLine) → IsReadAs (codes "cut") rest v count line → ⊥
-  no_cut never v = only_listed (codes "cut") refl refl refl refl refl rest v count
-      (λ cost mark atoms read. let (least, is) = cut_parts v cost mark atoms read in never cost least atoms is)
+  pub no_cut : ((cost least : ℕ) (atoms : List ℕ) → IsCut rest f.atoms cost least atoms → ⊥) → (line : TextLine) → IsReadAs (codes "cut") rest f line → ⊥
+  no_cut never = only_listed (codes "cut") refl refl refl refl refl refl refl rest f
+      (λ cost mark atoms read. let (least, is) = cut_parts cost mark atoms read in never cost least atoms is)
 
   module _ (word : List ℕ) (following : Option (List ℕ)) (first : IsFirstWord rest word following) where
-    cut_first : (cost least : ℕ) (atoms : List ℕ) (is : IsCut rest count cost least atoms) → (word ≡ decimal cost) × (following ≡ Some is.bytes)
+    cut_first : (cost least : ℕ) (atoms : List ℕ) (is : IsCut rest f.atoms cost least atoms) → (word ≡ decimal cost) × (following ≡ Some is.bytes)
     cut_first cost least atoms is =
         one_first word (decimal cost) following (Some is.bytes) first.is_word (number_is_word cost is.is_number) (sym first.splits ∙ is.splits)
 
-    pub no_cut_cost : ((n : ℕ) → IsTrue (is_number n) → decimal n ≡ word → ⊥) → (v : Version) (line : TextLine) → IsReadAs (codes "cut") rest v count line → ⊥
+    pub no_cut_cost : ((n : ℕ) → IsTrue (is_number n) → decimal n ≡ word → ⊥) → (line : TextLine) → IsReadAs (codes "cut") rest f line → ⊥
     no_cut_cost never = no_cut (λ cost least atoms is. never cost is.is_number (sym (cut_first cost least atoms is).0))
 
-    pub no_cut_alone : following ≡ None → (v : Version) (line : TextLine) → IsReadAs (codes "cut") rest v count line → ⊥
+    pub no_cut_alone : following ≡ None → (line : TextLine) → IsReadAs (codes "cut") rest f line → ⊥
     no_cut_alone alone = no_cut (λ cost least atoms is. absurd (cc (sym alone ∙ (cut_first cost least atoms is).1)))
 
-    pub no_cut_after : (bytes : List ℕ) → following ≡ Some bytes → ((n : ℕ) (atoms : List ℕ) → IsNumbered bytes count n atoms → ⊥)
-        → (v : Version) (line : TextLine) → IsReadAs (codes "cut") rest v count line → ⊥
+    pub no_cut_after : (bytes : List ℕ) → following ≡ Some bytes → ((n : ℕ) (atoms : List ℕ) → IsNumbered bytes f.atoms n atoms → ⊥)
+        → (line : TextLine) → IsReadAs (codes "cut") rest f line → ⊥
     no_cut_after bytes at never = no_cut (λ cost least atoms is.
         let same : is.bytes ≡ bytes = cc (sym (cut_first cost least atoms is).1 ∙ at) in
-        never least atoms (subst (λ bytes. IsNumbered bytes count least atoms) same is.numbered))
+        never least atoms (subst (λ bytes. IsNumbered bytes f.atoms least atoms) same is.numbered))
 
     pub is_cut : (bytes : List ℕ) → following ≡ Some bytes → (cost least : ℕ) (atoms : List ℕ) → IsTrue (is_number cost) → decimal cost ≡ word
-        → IsNumbered bytes count least atoms → IsCut rest count cost least atoms
+        → IsNumbered bytes f.atoms least atoms → IsCut rest f.atoms cost least atoms
     is_cut bytes at cost least atoms is same numbered = record {
       is_number = is;
       bytes = bytes;
@@ -189,53 +194,197 @@ module _ (rest : List ℕ) (count : ℕ) where
       splits = first.splits ∙ (λ i. with_rest (sym same i) (at i));
     }
 
+-- ---- weights, where there is one for each value and one for dead ends
+
+eqb_same : (a b : ℕ) → a ≡ b → (a == b) ≡ true
+eqb_same a b same = grind (arith, nat_tests, same)
+
+-- as many weights are those of the format
+weights_within : (words : Option (List ℕ)) (count : ℕ) (weights : List ℤ) (others : Option (List ℕ)) → IsLeading words count weights others → (length weights < count → ⊥)
+    → IsTrue (are_weights count weights)
+weights_within words count weights others is whole =
+    λ i. eqb_same (length weights) count (omega_cases (length weights) count is.few whole) i && is.are i
+  where
+    omega_cases : (n m : ℕ) → n ≤ m → (n < m → ⊥) → n ≡ m
+    omega_cases n m few not_fewer = by_test (nat_lt n m) refl
+      where
+        by_test : (b : Bool) → nat_lt n m ≡ b → n ≡ m
+        by_test true fewer = absurd (not_fewer (ltb-true n m fewer))
+        by_test false other = omega (arith, few, ltb-false n m other)
+
+-- and the other way
+weights_lead : (words : Option (List ℕ)) (count : ℕ) (weights : List ℤ) (others : Option (List ℕ)) → IsTrue (are_weights count weights) → then_weights weights others ≡ words
+    → IsLeading words count weights others
+weights_lead words count weights others are splits =
+    let (long, all) = and_parts (length weights == count) (list_all is_weight weights) are in
+    leading words count weights others all (eqb-true (length weights) count long) splits
+
+-- words are weights of this count in one way
+pub same_weights : (count : ℕ) (a b : List ℤ) (r s : Option (List ℕ)) → IsTrue (are_weights count a) → IsTrue (are_weights count b) → then_weights a r ≡ then_weights b s → (a ≡ b) × (r ≡ s)
+same_weights count a b r s a_are b_are same = one_leading (then_weights b s) count a b r s (weights_lead (then_weights b s) count a r a_are same) (weights_lead (then_weights b s) count b s b_are refl)
+
+-- ---- the constants
+
+pub few_constants : (v : Version) (n : ℕ) → is_weight_count v n ≡ true → n ≤ 33
+few_constants one n is = omega (arith, eqb-true n 1 is)
+few_constants two n is = omega (arith, eqb-true n 2 is)
+few_constants three n is = leb-true n 33 (and_parts (nat_le 2 n) (nat_le n 33) is).1
+
+module _ (rest : List ℕ) (f : Format) where
+  pub constant_leads : (k : List ℤ) → IsReadAs (codes "constant") rest f (constant k) → IsLeading (Some rest) 33 k None
+  constant_leads k read =
+      let (count, all) = and_parts (is_weight_count f.version (length k)) (list_all is_weight k) read.within in
+      leading_alone (Some rest) 33 k all (few_constants f.version (length k) count) read.following
+
+  pub only_constant : ((k : List ℤ) → IsReadAs (codes "constant") rest f (constant k) → ⊥) → (line : TextLine) → IsReadAs (codes "constant") rest f line → ⊥
+  only_constant never (version w) read = unlike (codes "pddl-cert") (codes "constant") refl read.head
+  only_constant never (claims claim) read = unlike (codes "claim") (codes "constant") refl read.head
+  only_constant never (constant k) read = never k read
+  only_constant never (atom a) read = unlike (codes "atom") (codes "constant") refl read.head
+  only_constant never (tabled (scope s)) read = unlike (codes "table") (codes "constant") refl read.head
+  only_constant never (tabled (row r)) read = unlike (codes "row") (codes "constant") refl read.head
+  only_constant never (listed l) read = is_no_mark (codes "constant") refl refl refl l.mark read.head
+  only_constant never (last n) read = unlike (codes "end") (codes "constant") refl read.head
+
+  module _ (w : List ℤ) (following : Option (List ℕ)) (is : IsLeading (Some rest) 33 w following) where
+    constant_is : (k : List ℤ) → IsReadAs (codes "constant") rest f (constant k) → (w ≡ k) × (following ≡ None)
+    constant_is k read = one_leading (Some rest) 33 w k following None is (constant_leads k read)
+
+    pub constant_goes_on : (bytes : List ℕ) → following ≡ Some bytes → (line : TextLine) → IsReadAs (codes "constant") rest f line → ⊥
+    constant_goes_on bytes at = only_constant (λ k read. absurd (cc (sym (constant_is k read).1 ∙ at)))
+
+    pub other_count : is_weight_count f.version (length w) ≡ false → (line : TextLine) → IsReadAs (codes "constant") rest f line → ⊥
+    other_count other = only_constant (λ k read.
+        absurd (cc (sym other ∙ ap (λ k. is_weight_count f.version (length k)) (constant_is k read).0 ∙ (and_parts (is_weight_count f.version (length k)) (list_all is_weight k) read.within).0)))
+
+    pub constant_is_read : following ≡ None → is_weight_count f.version (length w) ≡ true → IsReadAs (codes "constant") rest f (constant w)
+    constant_is_read alone count = record {
+      head = refl;
+      following = ap (then_weights w) (sym alone) ∙ is.splits;
+      within = (λ i. count i && is.are i);
+    }
+
 -- ---- atoms
 
 -- the bytes are weights and, after them, an atom
-module _ (rest : List ℕ) (v : Version) (count : ℕ) where
-  atom_within : (a : WeightedAtom) → IsTrue (is_line v count (atom a)) → IsTrue (are_weights v a.weights) × IsTrue (are_lower a.atom)
+module _ (rest : List ℕ) (f : Format) where
+  atom_within : (a : WeightedAtom) → IsTrue (is_line f (atom a)) → IsTrue (are_weights f.weights a.weights) × IsTrue (are_lower a.atom)
   atom_within a within =
-      and_parts (are_weights v a.weights) (are_lower a.atom)
-      (and_parts (are_weights v a.weights && are_lower a.atom) (nat_le (length (line_text (atom a))) longest_line) within).0
+      and_parts (are_weights f.weights a.weights) (are_lower a.atom)
+      (and_parts (are_weights f.weights a.weights && are_lower a.atom) (nat_le (length (line_text (atom a))) longest_line) within).0
 
-  pub no_weights_first : ((w : Weights) (following : Option (List ℕ)) → IsTrue (are_weights v w) → with_weights w following ≡ rest → ⊥)
-      → (a : WeightedAtom) → IsReadAs (codes "atom") rest v count (atom a) → ⊥
-  no_weights_first never a read = never a.weights (Some (atom_rest a.atom)) (atom_within a read.within).0 read.following
+  atom_leads : (a : WeightedAtom) → IsReadAs (codes "atom") rest f (atom a) → IsLeading (Some rest) f.weights a.weights (Some (atom_rest a.atom))
+  atom_leads a read = weights_lead (Some rest) f.weights a.weights (Some (atom_rest a.atom)) (atom_within a read.within).0 read.following
 
-  module _ (w : Weights) (following : Option (List ℕ)) (is : IsTrue (are_weights v w)) (first : with_weights w following ≡ rest) where
-    after_is : (a : WeightedAtom) → IsReadAs (codes "atom") rest v count (atom a) → following ≡ Some (atom_rest a.atom)
-    after_is a read = (one_weights v w a.weights following (Some (atom_rest a.atom)) is (atom_within a read.within).0 (first ∙ sym read.following)).1
+  pub no_weights_first : ((w : List ℤ) (following : Option (List ℕ)) → IsLeading (Some rest) f.weights w following → ⊥)
+      → (a : WeightedAtom) → IsReadAs (codes "atom") rest f (atom a) → ⊥
+  no_weights_first never a read = never a.weights (Some (atom_rest a.atom)) (atom_leads a read)
 
-    pub nothing_after : following ≡ None → (a : WeightedAtom) → IsReadAs (codes "atom") rest v count (atom a) → ⊥
+  module _ (w : List ℤ) (following : Option (List ℕ)) (is : IsLeading (Some rest) f.weights w following) where
+    after_is : (a : WeightedAtom) → IsReadAs (codes "atom") rest f (atom a) → following ≡ Some (atom_rest a.atom)
+    after_is a read = (one_leading (Some rest) f.weights w a.weights following (Some (atom_rest a.atom)) is (atom_leads a read)).1
+
+    pub nothing_after : following ≡ None → (a : WeightedAtom) → IsReadAs (codes "atom") rest f (atom a) → ⊥
     nothing_after alone a read = absurd (cc (sym alone ∙ after_is a read))
 
     pub no_atom_after : (bytes : List ℕ) → following ≡ Some bytes → ((a : NamedAtom) → IsTrue (are_lower a) → atom_rest a ≡ bytes → ⊥)
-        → (a : WeightedAtom) → IsReadAs (codes "atom") rest v count (atom a) → ⊥
+        → (a : WeightedAtom) → IsReadAs (codes "atom") rest f (atom a) → ⊥
     no_atom_after bytes at never a read =
-        never a.atom (atom_within a read.within).1 (some_bytes (atom_rest a.atom) bytes (sym (after_is a read) ∙ at))
-      where
-        some_bytes : (a b : List ℕ) → ◌≡◌ {A = Option (List ℕ)} (Some a) (Some b) → a ≡ b
-        some_bytes a b same = cc
+        never a.atom (atom_within a read.within).1 (some_same (atom_rest a.atom) bytes (sym (after_is a read) ∙ at))
 
-pub atom_is_read : (rest : List ℕ) (v : Version) (count : ℕ) (a : WeightedAtom) → IsTrue (are_weights v a.weights) → IsTrue (are_lower a.atom)
-    → with_weights a.weights (Some (atom_rest a.atom)) ≡ rest → length (with_rest (codes "atom") (Some rest)) ≤ longest_line → IsReadAs (codes "atom") rest v count (atom a)
-atom_is_read rest v count a weights lower same short = record {
-  head = refl;
-  following = same;
-  within =
-      let text : line_text (atom a) ≡ with_rest (codes "atom") (Some rest) = line_splits (atom a) ∙ ap (λ rest. with_rest (codes "atom") (Some rest)) same in
-      let fits : nat_le (length (line_text (atom a))) longest_line ≡ true = le-leb (length (line_text (atom a))) longest_line (subst (λ text. length text ≤ longest_line) (sym text) short) in
-      and_all (are_weights v a.weights) (are_lower a.atom) (nat_le (length (line_text (atom a))) longest_line) weights lower fits;
-}
+    pub atom_is_read : (bytes : List ℕ) → following ≡ Some bytes → (a : NamedAtom) → IsTrue (are_lower a) → atom_rest a ≡ bytes
+        → length (with_rest (codes "atom") (Some rest)) ≤ longest_line → IsReadAs (codes "atom") rest f (atom (record { weights = w; atom = a }))
+    atom_is_read bytes at a lower same short =
+        let line : TextLine = atom (record { weights = w; atom = a }) in
+        let splits : line_rest line ≡ Some rest = ap (λ bytes. then_weights w (Some bytes)) same ∙ ap (then_weights w) (sym at) ∙ is.splits in
+        let text : line_text line ≡ with_rest (codes "atom") (Some rest) = line_splits line ∙ ap (with_rest (codes "atom")) splits in
+        let fits : nat_le (length (line_text line)) longest_line ≡ true = le-leb (length (line_text line)) longest_line (subst (λ text. length text ≤ longest_line) (sym text) short) in
+        record {
+          head = refl;
+          following = splits;
+          within = and_all (are_weights f.weights w) (are_lower a) (nat_le (length (line_text line)) longest_line)
+              (weights_within (Some rest) f.weights w following is (λ fewer. absurd (cc (sym (is.stops fewer) ∙ at)))) lower fits;
+        }
 
-pub no_atom : (rest : List ℕ) (v : Version) (count : ℕ) → ((a : WeightedAtom) → IsReadAs (codes "atom") rest v count (atom a) → ⊥)
-    → (line : TextLine) → IsReadAs (codes "atom") rest v count line → ⊥
-no_atom rest v count never (version w) read = unlike (codes "pddl-cert") (codes "atom") refl read.head
-no_atom rest v count never (claims claim) read = unlike (codes "claim") (codes "atom") refl read.head
-no_atom rest v count never (constant k) read = unlike (codes "constant") (codes "atom") refl read.head
-no_atom rest v count never (atom a) read = never a read
-no_atom rest v count never (listed l) read = is_no_mark (codes "atom") refl refl refl l.mark read.head
-no_atom rest v count never (last n) read = unlike (codes "end") (codes "atom") refl read.head
+  pub no_atom : ((a : WeightedAtom) → IsReadAs (codes "atom") rest f (atom a) → ⊥) → (line : TextLine) → IsReadAs (codes "atom") rest f line → ⊥
+  no_atom never (version w) read = unlike (codes "pddl-cert") (codes "atom") refl read.head
+  no_atom never (claims claim) read = unlike (codes "claim") (codes "atom") refl read.head
+  no_atom never (constant k) read = unlike (codes "constant") (codes "atom") refl read.head
+  no_atom never (atom a) read = never a read
+  no_atom never (tabled (scope s)) read = unlike (codes "table") (codes "atom") refl read.head
+  no_atom never (tabled (row r)) read = unlike (codes "row") (codes "atom") refl read.head
+  no_atom never (listed l) read = is_no_mark (codes "atom") refl refl refl l.mark read.head
+  no_atom never (last n) read = unlike (codes "end") (codes "atom") refl read.head
+
+-- ---- tables
+
+module _ (rest : List ℕ) (f : Format) where
+  only_scope : ((s : List ℕ) → IsReadAs (codes "table") rest f (tabled (scope s)) → ⊥) → (line : TextLine) → IsReadAs (codes "table") rest f line → ⊥
+  only_scope never (version w) read = unlike (codes "pddl-cert") (codes "table") refl read.head
+  only_scope never (claims claim) read = unlike (codes "claim") (codes "table") refl read.head
+  only_scope never (constant k) read = unlike (codes "constant") (codes "table") refl read.head
+  only_scope never (atom a) read = unlike (codes "atom") (codes "table") refl read.head
+  only_scope never (tabled (scope s)) read = never s read
+  only_scope never (tabled (row r)) read = unlike (codes "row") (codes "table") refl read.head
+  only_scope never (listed l) read = is_no_mark (codes "table") refl refl refl l.mark read.head
+  only_scope never (last n) read = unlike (codes "end") (codes "table") refl read.head
+
+  only_row : ((r : Row) → IsReadAs (codes "row") rest f (tabled (row r)) → ⊥) → (line : TextLine) → IsReadAs (codes "row") rest f line → ⊥
+  only_row never (version w) read = unlike (codes "pddl-cert") (codes "row") refl read.head
+  only_row never (claims claim) read = unlike (codes "claim") (codes "row") refl read.head
+  only_row never (constant k) read = unlike (codes "constant") (codes "row") refl read.head
+  only_row never (atom a) read = unlike (codes "atom") (codes "row") refl read.head
+  only_row never (tabled (scope s)) read = unlike (codes "table") (codes "row") refl read.head
+  only_row never (tabled (row r)) read = never r read
+  only_row never (listed l) read = is_no_mark (codes "row") refl refl refl l.mark read.head
+  only_row never (last n) read = unlike (codes "end") (codes "row") refl read.head
+
+  -- a version without tables has neither line
+  pub no_scopes : has_tables f.version ≡ false → (line : TextLine) → IsReadAs (codes "table") rest f line → ⊥
+  no_scopes none = only_scope (λ s read. absurd (cc (sym none ∙ (and_parts (has_tables f.version) _ read.within).0)))
+
+  pub no_rows : has_tables f.version ≡ false → (line : TextLine) → IsReadAs (codes "row") rest f line → ⊥
+  no_rows none = only_row (λ r read. absurd (cc (sym none ∙ (and_parts (has_tables f.version) _ read.within).0)))
+
+  pub no_scope : ((atoms : List ℕ) → IsTrue (rise f.atoms 0 atoms) → then_numbers atoms ≡ Some rest → ⊥) → (line : TextLine) → IsReadAs (codes "table") rest f line → ⊥
+  no_scope never = only_scope (λ s read.
+      never s (and_parts (rise f.atoms 0 s) (nat_le 1 (length s)) (and_parts (has_tables f.version) (rise f.atoms 0 s && nat_le 1 (length s)) read.within).1).0 read.following)
+
+  pub scope_is_read : has_tables f.version ≡ true → (atoms : List ℕ) → IsTrue (rise f.atoms 0 atoms) → then_numbers atoms ≡ Some rest → IsReadAs (codes "table") rest f (tabled (scope atoms))
+  scope_is_read has [] rising splits = absurd (cc splits)
+  scope_is_read has (n ∷ atoms) rising splits =
+      let some : nat_le 1 (length (n ∷ atoms)) ≡ true = le-leb 1 (length (n ∷ atoms)) (omega arith) in
+      record { head = refl; following = splits; within = (λ i. has i && (rising i && some i)) }
+
+  row_parts : (r : Row) → IsReadAs (codes "row") rest f (tabled (row r)) → IsTrue (are_weights f.weights r.weights) × IsTrue (rise f.atoms 0 r.atoms)
+  row_parts r read =
+      and_parts (are_weights f.weights r.weights) (rise f.atoms 0 r.atoms) (and_parts (has_tables f.version) (are_weights f.weights r.weights && rise f.atoms 0 r.atoms) read.within).1
+
+  row_leads : (r : Row) → IsReadAs (codes "row") rest f (tabled (row r)) → IsLeading (Some rest) f.weights r.weights (then_numbers r.atoms)
+  row_leads r read = weights_lead (Some rest) f.weights r.weights (then_numbers r.atoms) (row_parts r read).0 read.following
+
+  pub no_weights_in_row : ((w : List ℤ) (following : Option (List ℕ)) → IsLeading (Some rest) f.weights w following → ⊥) → (line : TextLine) → IsReadAs (codes "row") rest f line → ⊥
+  no_weights_in_row never = only_row (λ r read. never r.weights (then_numbers r.atoms) (row_leads r read))
+
+  module _ (w : List ℤ) (following : Option (List ℕ)) (is : IsLeading (Some rest) f.weights w following) where
+    row_is : (r : Row) → IsReadAs (codes "row") rest f (tabled (row r)) → (w ≡ r.weights) × (following ≡ then_numbers r.atoms)
+    row_is r read = one_leading (Some rest) f.weights w r.weights following (then_numbers r.atoms) is (row_leads r read)
+
+    pub too_few_weights : length w < f.weights → (line : TextLine) → IsReadAs (codes "row") rest f line → ⊥
+    too_few_weights fewer = only_row (λ r read.
+        let long = eqb-true (length r.weights) f.weights (and_parts (length r.weights == f.weights) (list_all is_weight r.weights) (row_parts r read).0).0 in
+        absurd (omega (arith, fewer, ap length (row_is r read).0, long)))
+
+    pub no_numbers_in_row : ((atoms : List ℕ) → IsTrue (rise f.atoms 0 atoms) → then_numbers atoms ≡ following → ⊥) → (line : TextLine) → IsReadAs (codes "row") rest f line → ⊥
+    no_numbers_in_row never = only_row (λ r read. never r.atoms (row_parts r read).1 (sym (row_is r read).1))
+
+    pub row_is_read : has_tables f.version ≡ true → (length w < f.weights → ⊥) → (atoms : List ℕ) → IsTrue (rise f.atoms 0 atoms) → then_numbers atoms ≡ following
+        → IsReadAs (codes "row") rest f (tabled (row (record { weights = w; atoms = atoms })))
+    row_is_read has whole atoms rising splits = record {
+      head = refl;
+      following = ap (then_weights w) splits ∙ is.splits;
+      within = (λ i. has i && (weights_within (Some rest) f.weights w following is whole i && rising i));
+    }
 
 names_after : (word : List ℕ) (words : List (List ℕ)) → with_rest word (then_words words None) ≡ word ++ flat_map after_blank words
 names_after word [] = sym (append-nil word)

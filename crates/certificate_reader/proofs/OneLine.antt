@@ -1,21 +1,22 @@
 -- A line of a text is one line.
-use Rattle.std.proofs.Common.{◌≡◌, ℕ, ◌≤◌, List, [], ◌∷◌, codes, map, Option, None, Some, refl, sym, ap, ◌∙◌, subst, arith}
-use Rattle.std.specs.Prelude.{◌&&◌, IsTrue, nat_le}
+use Rattle.std.proofs.Common.{◌≡◌, ℕ, ◌≤◌, List, [], ◌∷◌, ◌++◌, codes, map, Option, None, Some, refl, sym, ap, ◌∙◌, subst, arith}
+use Rattle.std.specs.Prelude.{◌&&◌, ℤ, IsTrue, length, nat_le}
 use Rattle.std.specs.Fmt.{decimal}
 use Rattle.std.specs.List.{list_all}
 use Rattle.std.proofs.lemmas.Bool.{and_parts}
 use Rattle.std.proofs.lemmas.List.{append_cancel_left}
 use Rattle.model.specs.Claims.{Claim, bound, none, Mark, opened, cut, dead}
 use Rattle.model.specs.PlanWriting.{is_lower_name}
-use Rattle.certificate_definitions.specs.Certificates.{Version, one, two, is_claim, is_number}
-use Rattle.certificate_definitions.specs.CertificateText.{NamedAtom, WeightedAtom, TextLine, version, claims, constant, atom, listed, last, are_weights, is_line, line_text, longest_line, most_atoms, version_number}
-use Rattle.certificate_reader.specs.Words.{IsNumbered, IsReadAs, are_lower, atom_rest, claim_rest, is_word, line_head, line_rest, mark_head, then_words}
+use Rattle.certificate_definitions.specs.Certificates.{Version, one, two, three, StateLine, is_claim, is_number, is_weight, are_weights, has_tables, rise}
+use Rattle.table_functions.specs.TableFunctions.{Row}
+use Rattle.certificate_definitions.specs.CertificateText.{NamedAtom, WeightedAtom, scope, row, Format, TextLine, version, claims, constant, atom, tabled, listed, last, is_weight_count, is_line, line_text, numbers_text, longest_line, most_atoms, version_number}
+use Rattle.certificate_reader.specs.Words.{IsLeading, IsNumbered, IsReadAs, are_lower, atom_rest, claim_rest, is_word, line_head, line_rest, mark_head, mark_rest, then_numbers, then_weights, then_words}
 use Rattle.certificate_reader.proofs.WordLemmas.{one_first}
-use Rattle.certificate_reader.proofs.LineLemmas.{all_words, head_is_word, line_splits, lower_name_is_word, number_is_word}
-use Rattle.certificate_reader.proofs.WeightsRead.{one_weights}
+use Rattle.certificate_reader.proofs.LineLemmas.{all_words, head_is_word, line_splits, lower_name_is_word, number_is_word, some_same}
+use Rattle.certificate_reader.proofs.WeightsRead.{leading_alone, one_leading}
 use Rattle.certificate_reader.proofs.NumbersRead.{same_number, rising_are_numbers}
 use Rattle.certificate_reader.proofs.NamesRead.{names_are_words}
-use Rattle.certificate_reader.proofs.LinesRead.{IsCut, cut_of, dead_parts, open_parts, atom_text, inner_of, is_no_mark, same_inner, unlike}
+use Rattle.certificate_reader.proofs.LinesRead.{IsCut, cut_of, few_constants, same_weights, dead_parts, open_parts, atom_text, inner_of, is_no_mark, same_inner, unlike}
 
 -- ---- claims
 
@@ -26,9 +27,6 @@ one_claim none (bound b) c_is d_is same = absurd (unlike (codes "none") (codes "
 one_claim none none c_is d_is same = refl
 
 -- ---- numbers
-
-some_same : (a b : List ℕ) → ◌≡◌ {A = Option (List ℕ)} (Some a) (Some b) → a ≡ b
-some_same a b same = cc
 
 numbers_are_words : (numbers : List ℕ) → IsTrue (list_all is_number numbers) → IsTrue (list_all is_word (map decimal numbers))
 numbers_are_words [] all = refl
@@ -81,23 +79,23 @@ one_cut rest count few c d k l a b h g =
       one_numbered g.bytes count few k l a b (subst (λ bytes. IsNumbered bytes count k a) bytes h.numbered) g.numbered,
     )
 
-module _ (v : Version) (count : ℕ) (few : count ≤ most_atoms) (rest : List ℕ) where
+module _ (f : Format) (few : f.atoms ≤ most_atoms) (rest : List ℕ) where
   -- a line of a state that begins with this word
   abbrev IsState : List ℕ → ℕ → Mark → List ℕ → Type 0
-  IsState head cost mark atoms = IsReadAs head rest v count (listed (record { cost = cost; mark = mark; atoms = atoms }))
+  IsState head cost mark atoms = IsReadAs head rest f (listed (record { cost = cost; mark = mark; atoms = atoms }))
 
   by_marks : (head : List ℕ) (c d : ℕ) (k l : Mark) (a b : List ℕ) → IsState head c k a → IsState head d l b → mark_head k ≡ head → mark_head l ≡ head
       → ◌≡◌ {A = TextLine} (listed (record { cost = c; mark = k; atoms = a })) (listed (record { cost = d; mark = l; atoms = b }))
   by_marks head c d opened opened a b h g k_is l_is =
-      marked_same opened c d a b (one_numbered rest count few c d a b
-      (open_parts rest count v c opened a (subst (λ head. IsState head c opened a) (sym k_is) h)) (open_parts rest count v d opened b (subst (λ head. IsState head d opened b) (sym l_is) g)))
+      marked_same opened c d a b (one_numbered rest f.atoms few c d a b
+      (open_parts rest f c opened a (subst (λ head. IsState head c opened a) (sym k_is) h)) (open_parts rest f d opened b (subst (λ head. IsState head d opened b) (sym l_is) g)))
   by_marks head c d dead dead a b h g k_is l_is =
-      marked_same dead c d a b (one_numbered rest count few c d a b
-      (dead_parts rest count v c dead a (subst (λ head. IsState head c dead a) (sym k_is) h)) (dead_parts rest count v d dead b (subst (λ head. IsState head d dead b) (sym l_is) g)))
+      marked_same dead c d a b (one_numbered rest f.atoms few c d a b
+      (dead_parts rest f c dead a (subst (λ head. IsState head c dead a) (sym k_is) h)) (dead_parts rest f d dead b (subst (λ head. IsState head d dead b) (sym l_is) g)))
   by_marks head c d (cut k) (cut l) a b h g k_is l_is =
-      let first = cut_of rest count v c k a (subst (λ head. IsState head c (cut k) a) (sym k_is) h) in
-      let second = cut_of rest count v d l b (subst (λ head. IsState head d (cut l) b) (sym l_is) g) in
-      let (costs, others) = one_cut rest count few c d k l a b first second in
+      let first = cut_of rest f c k a (subst (λ head. IsState head c (cut k) a) (sym k_is) h) in
+      let second = cut_of rest f d l b (subst (λ head. IsState head d (cut l) b) (sym l_is) g) in
+      let (costs, others) = one_cut rest f.atoms few c d k l a b first second in
       cut_same c d k l a b costs others
   by_marks head c d opened dead a b h g k_is l_is = absurd (unlike (codes "open") (codes "dead") refl (k_is ∙ sym l_is))
   by_marks head c d opened (cut l) a b h g k_is l_is = absurd (unlike (codes "open") (codes "cut") refl (k_is ∙ sym l_is))
@@ -119,64 +117,140 @@ one_name a b a_are b_are same =
     let objects : a.objects ≡ b.objects = all_words a.objects b.objects (names_are_words a.objects a_objects) (names_are_words b.objects b_objects) both.1 in
     λ i. record { predicate = both.0 i; objects = objects i }
 
-one_atom : (v : Version) (a b : WeightedAtom) → IsTrue (are_weights v a.weights && are_lower a.atom) → IsTrue (are_weights v b.weights && are_lower b.atom)
-    → line_rest (atom a) ≡ line_rest (atom b) → atom a ≡ atom b
-one_atom v a b a_are b_are same =
-    let (a_weights, a_lower) = and_parts (are_weights v a.weights) (are_lower a.atom) a_are in
-    let (b_weights, b_lower) = and_parts (are_weights v b.weights) (are_lower b.atom) b_are in
-    let both = one_weights v a.weights b.weights (Some (atom_rest a.atom)) (Some (atom_rest b.atom)) a_weights b_weights same in
+-- ---- atoms and tables
+
+one_atom : (f : Format) (a b : WeightedAtom) → IsTrue (is_line f (atom a)) → IsTrue (is_line f (atom b)) → line_rest (atom a) ≡ line_rest (atom b) → atom a ≡ atom b
+one_atom f a b a_are b_are same =
+    let (a_weights, a_lower) = atom_within a a_are in
+    let (b_weights, b_lower) = atom_within b b_are in
+    let both = same_weights f.weights a.weights b.weights (Some (atom_rest a.atom)) (Some (atom_rest b.atom)) a_weights b_weights same in
     let names : a.atom ≡ b.atom = one_name a.atom b.atom a_lower b_lower (some_same (atom_rest a.atom) (atom_rest b.atom) both.1) in
     λ i. atom (record { weights = both.0 i; atom = names i })
+  where
+    atom_within : (a : WeightedAtom) → IsTrue (is_line f (atom a)) → IsTrue (are_weights f.weights a.weights) × IsTrue (are_lower a.atom)
+    atom_within a within =
+        and_parts (are_weights f.weights a.weights) (are_lower a.atom)
+        (and_parts (are_weights f.weights a.weights && are_lower a.atom) (nat_le (length (line_text (atom a))) longest_line) within).0
+
+one_then_numbers : (f : Format) → f.atoms ≤ most_atoms → (a b : List ℕ) → IsTrue (rise f.atoms 0 a) → IsTrue (rise f.atoms 0 b) → then_numbers a ≡ then_numbers b → a ≡ b
+one_then_numbers f few a b a_rise b_rise same =
+    let a_are = rising_are_numbers f.atoms 0 a few a_rise in
+    let b_are = rising_are_numbers f.atoms 0 b few b_rise in
+    same_numbers a b a_are b_are (all_words (map decimal a) (map decimal b) (numbers_are_words a a_are) (numbers_are_words b b_are) same)
+
+one_scope : (f : Format) → f.atoms ≤ most_atoms → (a b : List ℕ) → IsTrue (is_line f (tabled (scope a))) → IsTrue (is_line f (tabled (scope b))) → then_numbers a ≡ then_numbers b
+    → tabled (scope a) ≡ tabled (scope b)
+one_scope f few a b a_is b_is same = ap (λ atoms. tabled (scope atoms)) (one_then_numbers f few a b (rises a a_is) (rises b b_is) same)
+  where
+    rises : (s : List ℕ) → IsTrue (is_line f (tabled (scope s))) → IsTrue (rise f.atoms 0 s)
+    rises s is = (and_parts (rise f.atoms 0 s) (nat_le 1 (length s)) (and_parts (has_tables f.version) (rise f.atoms 0 s && nat_le 1 (length s)) is).1).0
+
+one_row : (f : Format) → f.atoms ≤ most_atoms → (q r : Row) → IsTrue (is_line f (tabled (row q))) → IsTrue (is_line f (tabled (row r))) → line_rest (tabled (row q)) ≡ line_rest (tabled (row r))
+    → tabled (row q) ≡ tabled (row r)
+one_row f few q r q_is r_is same =
+    let (q_weights, q_rises) = parts q q_is in
+    let (r_weights, r_rises) = parts r r_is in
+    let both = same_weights f.weights q.weights r.weights (then_numbers q.atoms) (then_numbers r.atoms) q_weights r_weights same in
+    let atoms : q.atoms ≡ r.atoms = one_then_numbers f few q.atoms r.atoms q_rises r_rises both.1 in
+    λ i. tabled (row (record { atoms = atoms i; weights = both.0 i }))
+  where
+    parts : (r : Row) → IsTrue (is_line f (tabled (row r))) → IsTrue (are_weights f.weights r.weights) × IsTrue (rise f.atoms 0 r.atoms)
+    parts r is = and_parts (are_weights f.weights r.weights) (rise f.atoms 0 r.atoms) (and_parts (has_tables f.version) (are_weights f.weights r.weights && rise f.atoms 0 r.atoms) is).1
 
 -- ---- any line
 
 one_version : (v w : Version) → decimal (version_number v) ≡ decimal (version_number w) → version v ≡ version w
 one_version one one same = refl
 one_version two two same = refl
+one_version three three same = refl
 one_version one two same = absurd (omega (arith, same_number 1 2 refl refl same))
+one_version one three same = absurd (omega (arith, same_number 1 3 refl refl same))
 one_version two one same = absurd (omega (arith, same_number 2 1 refl refl same))
+one_version two three same = absurd (omega (arith, same_number 2 3 refl refl same))
+one_version three one same = absurd (omega (arith, same_number 3 1 refl refl same))
+one_version three two same = absurd (omega (arith, same_number 3 2 refl refl same))
 
-module _ (v : Version) (count : ℕ) (few : count ≤ most_atoms) where
-  by_parts : (l m : TextLine) → IsTrue (is_line v count l) → IsTrue (is_line v count m) → line_head l ≡ line_head m → line_rest l ≡ line_rest m → l ≡ m
-  by_parts (version u) (version w) h g heads rests = one_version u w rests
+constants_same : (f : Format) (k j : List ℤ) → IsTrue (is_line f (constant k)) → IsTrue (is_line f (constant j)) → then_weights k None ≡ then_weights j None → k ≡ j
+constants_same f k j k_is j_is same =
+    (one_leading (then_weights j None) 33 k j None None
+    (constant_leads f k k_is same) (constant_leads f j j_is refl)).0
+  where
+    constant_leads : (f : Format) (k : List ℤ) → IsTrue (is_line f (constant k)) → {words : Option (List ℕ)} → then_weights k None ≡ words → IsLeading words 33 k None
+    constant_leads f k is {words} splits =
+        let (count, all) = and_parts (is_weight_count f.version (length k)) (list_all is_weight k) is in
+        leading_alone words 33 k all (few_constants f.version (length k) count) splits
+
+module _ (f : Format) (few : f.atoms ≤ most_atoms) where
+  by_parts : (l m : TextLine) → IsTrue (is_line f l) → IsTrue (is_line f m) → line_head l ≡ line_head m → line_rest l ≡ line_rest m → l ≡ m
+  by_parts (version u) (version w) h g heads rests = one_version u w (some_same (decimal (version_number u)) (decimal (version_number w)) rests)
   by_parts (version u) (claims d) h g heads rests = absurd (unlike (codes "pddl-cert") (codes "claim") refl heads)
-  by_parts (version u) (constant k) h g heads rests = absurd (unlike (codes "pddl-cert") (codes "constant") refl heads)
+  by_parts (version u) (constant j) h g heads rests = absurd (unlike (codes "pddl-cert") (codes "constant") refl heads)
   by_parts (version u) (atom b) h g heads rests = absurd (unlike (codes "pddl-cert") (codes "atom") refl heads)
-  by_parts (version u) (listed s) h g heads rests = absurd (is_no_mark (codes "pddl-cert") refl refl refl s.mark (sym heads))
+  by_parts (version u) (tabled (scope t)) h g heads rests = absurd (unlike (codes "pddl-cert") (codes "table") refl heads)
+  by_parts (version u) (tabled (row r)) h g heads rests = absurd (unlike (codes "pddl-cert") (codes "row") refl heads)
+  by_parts (version u) (listed o) h g heads rests = absurd (is_no_mark (codes "pddl-cert") refl refl refl o.mark (sym heads))
   by_parts (version u) (last n) h g heads rests = absurd (unlike (codes "pddl-cert") (codes "end") refl heads)
   by_parts (claims c) (version w) h g heads rests = absurd (unlike (codes "claim") (codes "pddl-cert") refl heads)
-  by_parts (claims c) (claims d) h g heads rests = ap (λ claim. claims claim) (one_claim c d h g rests)
-  by_parts (claims c) (constant k) h g heads rests = absurd (unlike (codes "claim") (codes "constant") refl heads)
+  by_parts (claims c) (claims d) h g heads rests = ap (λ claim. claims claim) (one_claim c d h g (some_same (claim_rest c) (claim_rest d) rests))
+  by_parts (claims c) (constant j) h g heads rests = absurd (unlike (codes "claim") (codes "constant") refl heads)
   by_parts (claims c) (atom b) h g heads rests = absurd (unlike (codes "claim") (codes "atom") refl heads)
-  by_parts (claims c) (listed s) h g heads rests = absurd (is_no_mark (codes "claim") refl refl refl s.mark (sym heads))
+  by_parts (claims c) (tabled (scope t)) h g heads rests = absurd (unlike (codes "claim") (codes "table") refl heads)
+  by_parts (claims c) (tabled (row r)) h g heads rests = absurd (unlike (codes "claim") (codes "row") refl heads)
+  by_parts (claims c) (listed o) h g heads rests = absurd (is_no_mark (codes "claim") refl refl refl o.mark (sym heads))
   by_parts (claims c) (last n) h g heads rests = absurd (unlike (codes "claim") (codes "end") refl heads)
   by_parts (constant k) (version w) h g heads rests = absurd (unlike (codes "constant") (codes "pddl-cert") refl heads)
   by_parts (constant k) (claims d) h g heads rests = absurd (unlike (codes "constant") (codes "claim") refl heads)
-  by_parts (constant k) (constant j) h g heads rests = ap (λ k. constant k) (one_weights v k j None None h g rests).0
+  by_parts (constant k) (constant j) h g heads rests = ap (λ k. constant k) (constants_same f k j h g rests)
   by_parts (constant k) (atom b) h g heads rests = absurd (unlike (codes "constant") (codes "atom") refl heads)
-  by_parts (constant k) (listed s) h g heads rests = absurd (is_no_mark (codes "constant") refl refl refl s.mark (sym heads))
+  by_parts (constant k) (tabled (scope t)) h g heads rests = absurd (unlike (codes "constant") (codes "table") refl heads)
+  by_parts (constant k) (tabled (row r)) h g heads rests = absurd (unlike (codes "constant") (codes "row") refl heads)
+  by_parts (constant k) (listed o) h g heads rests = absurd (is_no_mark (codes "constant") refl refl refl o.mark (sym heads))
   by_parts (constant k) (last n) h g heads rests = absurd (unlike (codes "constant") (codes "end") refl heads)
   by_parts (atom a) (version w) h g heads rests = absurd (unlike (codes "atom") (codes "pddl-cert") refl heads)
   by_parts (atom a) (claims d) h g heads rests = absurd (unlike (codes "atom") (codes "claim") refl heads)
-  by_parts (atom a) (constant k) h g heads rests = absurd (unlike (codes "atom") (codes "constant") refl heads)
-  by_parts (atom a) (atom b) h g heads rests = one_atom v a b (and_parts (are_weights v a.weights && are_lower a.atom) (nat_le _ longest_line) h).0 (and_parts (are_weights v b.weights && are_lower b.atom) (nat_le _ longest_line) g).0 rests
-  by_parts (atom a) (listed s) h g heads rests = absurd (is_no_mark (codes "atom") refl refl refl s.mark (sym heads))
+  by_parts (atom a) (constant j) h g heads rests = absurd (unlike (codes "atom") (codes "constant") refl heads)
+  by_parts (atom a) (atom b) h g heads rests = one_atom f a b h g rests
+  by_parts (atom a) (tabled (scope t)) h g heads rests = absurd (unlike (codes "atom") (codes "table") refl heads)
+  by_parts (atom a) (tabled (row r)) h g heads rests = absurd (unlike (codes "atom") (codes "row") refl heads)
+  by_parts (atom a) (listed o) h g heads rests = absurd (is_no_mark (codes "atom") refl refl refl o.mark (sym heads))
   by_parts (atom a) (last n) h g heads rests = absurd (unlike (codes "atom") (codes "end") refl heads)
-  by_parts (listed r) (version w) h g heads rests = absurd (is_no_mark (codes "pddl-cert") refl refl refl r.mark heads)
-  by_parts (listed r) (claims d) h g heads rests = absurd (is_no_mark (codes "claim") refl refl refl r.mark heads)
-  by_parts (listed r) (constant k) h g heads rests = absurd (is_no_mark (codes "constant") refl refl refl r.mark heads)
-  by_parts (listed r) (atom b) h g heads rests = absurd (is_no_mark (codes "atom") refl refl refl r.mark heads)
-  by_parts (listed r) (listed s) h g heads rests = one_state v count few (line_rest (listed s)) (line_head (listed s)) r.cost s.cost r.mark s.mark r.atoms s.atoms
+  by_parts (tabled (scope s)) (version w) h g heads rests = absurd (unlike (codes "table") (codes "pddl-cert") refl heads)
+  by_parts (tabled (scope s)) (claims d) h g heads rests = absurd (unlike (codes "table") (codes "claim") refl heads)
+  by_parts (tabled (scope s)) (constant j) h g heads rests = absurd (unlike (codes "table") (codes "constant") refl heads)
+  by_parts (tabled (scope s)) (atom b) h g heads rests = absurd (unlike (codes "table") (codes "atom") refl heads)
+  by_parts (tabled (scope s)) (tabled (scope t)) h g heads rests = one_scope f few s t h g rests
+  by_parts (tabled (scope s)) (tabled (row r)) h g heads rests = absurd (unlike (codes "table") (codes "row") refl heads)
+  by_parts (tabled (scope s)) (listed o) h g heads rests = absurd (is_no_mark (codes "table") refl refl refl o.mark (sym heads))
+  by_parts (tabled (scope s)) (last n) h g heads rests = absurd (unlike (codes "table") (codes "end") refl heads)
+  by_parts (tabled (row q)) (version w) h g heads rests = absurd (unlike (codes "row") (codes "pddl-cert") refl heads)
+  by_parts (tabled (row q)) (claims d) h g heads rests = absurd (unlike (codes "row") (codes "claim") refl heads)
+  by_parts (tabled (row q)) (constant j) h g heads rests = absurd (unlike (codes "row") (codes "constant") refl heads)
+  by_parts (tabled (row q)) (atom b) h g heads rests = absurd (unlike (codes "row") (codes "atom") refl heads)
+  by_parts (tabled (row q)) (tabled (scope t)) h g heads rests = absurd (unlike (codes "row") (codes "table") refl heads)
+  by_parts (tabled (row q)) (tabled (row r)) h g heads rests = one_row f few q r h g rests
+  by_parts (tabled (row q)) (listed o) h g heads rests = absurd (is_no_mark (codes "row") refl refl refl o.mark (sym heads))
+  by_parts (tabled (row q)) (last n) h g heads rests = absurd (unlike (codes "row") (codes "end") refl heads)
+  by_parts (listed l) (version w) h g heads rests = absurd (is_no_mark (codes "pddl-cert") refl refl refl l.mark heads)
+  by_parts (listed l) (claims d) h g heads rests = absurd (is_no_mark (codes "claim") refl refl refl l.mark heads)
+  by_parts (listed l) (constant j) h g heads rests = absurd (is_no_mark (codes "constant") refl refl refl l.mark heads)
+  by_parts (listed l) (atom b) h g heads rests = absurd (is_no_mark (codes "atom") refl refl refl l.mark heads)
+  by_parts (listed l) (tabled (scope t)) h g heads rests = absurd (is_no_mark (codes "table") refl refl refl l.mark heads)
+  by_parts (listed l) (tabled (row r)) h g heads rests = absurd (is_no_mark (codes "row") refl refl refl l.mark heads)
+  by_parts (listed l) (listed o) h g heads rests =
+      let rest_of : StateLine → List ℕ = λ l. mark_rest l.mark l.cost ++ numbers_text l.atoms in
+      one_state f few (rest_of o) (line_head (listed o)) l.cost o.cost l.mark o.mark l.atoms o.atoms
       (record { head = heads; following = rests; within = h }) (record { head = refl; following = refl; within = g })
-  by_parts (listed r) (last n) h g heads rests = absurd (is_no_mark (codes "end") refl refl refl r.mark heads)
+  by_parts (listed l) (last n) h g heads rests = absurd (is_no_mark (codes "end") refl refl refl l.mark heads)
   by_parts (last m) (version w) h g heads rests = absurd (unlike (codes "end") (codes "pddl-cert") refl heads)
   by_parts (last m) (claims d) h g heads rests = absurd (unlike (codes "end") (codes "claim") refl heads)
-  by_parts (last m) (constant k) h g heads rests = absurd (unlike (codes "end") (codes "constant") refl heads)
+  by_parts (last m) (constant j) h g heads rests = absurd (unlike (codes "end") (codes "constant") refl heads)
   by_parts (last m) (atom b) h g heads rests = absurd (unlike (codes "end") (codes "atom") refl heads)
-  by_parts (last m) (listed s) h g heads rests = absurd (is_no_mark (codes "end") refl refl refl s.mark (sym heads))
-  by_parts (last m) (last n) h g heads rests = ap (λ n. last n) (same_number m n h g rests)
+  by_parts (last m) (tabled (scope t)) h g heads rests = absurd (unlike (codes "end") (codes "table") refl heads)
+  by_parts (last m) (tabled (row r)) h g heads rests = absurd (unlike (codes "end") (codes "row") refl heads)
+  by_parts (last m) (listed o) h g heads rests = absurd (is_no_mark (codes "end") refl refl refl o.mark (sym heads))
+  by_parts (last m) (last n) h g heads rests = ap (λ n. last n) (same_number m n h g (some_same (decimal m) (decimal n) rests))
 
-  pub one_line : (l m : TextLine) → IsTrue (is_line v count l) → IsTrue (is_line v count m) → line_text l ≡ line_text m → l ≡ m
+  pub one_line : (l m : TextLine) → IsTrue (is_line f l) → IsTrue (is_line f m) → line_text l ≡ line_text m → l ≡ m
   one_line l m h g same =
-      let both = one_first (line_head l) (line_head m) (Some (line_rest l)) (Some (line_rest m)) (head_is_word l) (head_is_word m) (sym (line_splits l) ∙ same ∙ line_splits m) in
-      by_parts l m h g both.0 (some_same (line_rest l) (line_rest m) both.1)
+      let both = one_first (line_head l) (line_head m) (line_rest l) (line_rest m) (head_is_word l) (head_is_word m) (sym (line_splits l) ∙ same ∙ line_splits m) in
+      by_parts l m h g both.0 both.1

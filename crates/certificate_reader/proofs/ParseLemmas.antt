@@ -1,112 +1,142 @@
 -- A line is read by its first word and what comes after it.
-use Rattle.std.proofs.Common.{◌≡◌, ℕ, true, false, List, codes, Option, None, Some, refl, sym, ap, ◌∙◌, subst}
-use Rattle.std.specs.Prelude.{◌≢◌, Result, Ok, Err, IsTrue}
+use Rattle.std.proofs.Common.{◌≡◌, ℕ, true, false, List, [], ◌∷◌, codes, arith, Option, None, Some, refl, sym, ap, ◌∙◌, subst}
+use Rattle.std.specs.Prelude.{◌≢◌, ◌&&◌, ◌==◌, ◌≤◌, ℤ, length, nat_le, is_some, Result, Ok, Err, IsTrue}
+use Rattle.std.specs.List.{list_all}
+use Rattle.std.proofs.lemmas.Bool.{and_parts, eqb-true, leb-true}
 use Rattle.std.specs.Borrow.{Bor}
 use Rattle.std.specs.Fmt.{decimal}
 use Rattle.std.specs.Str.{bytes_eq}
 use Rattle.std.proofs.lemmas.Slice.Eq.{bytes_eq-Decides}
-use Rattle.certificate_definitions.specs.Certificates.{Version, one, two, is_number}
+use Rattle.certificate_definitions.specs.Certificates.{Version, one, two, three, is_number, is_mark, is_weight, are_weights, has_tables, rise}
+use Rattle.model.specs.Claims.{dead}
 use Rattle.certificate_reader.specs.declared.line.CertLine.{CertLine}
 use Rattle.certificate_reader.specs.declared.line.Version as code
-use Rattle.certificate_reader.specs.declared.line.Version.TheVariants.{One, Two}
+use Rattle.certificate_reader.specs.declared.line.Version.TheVariants.{One, Two, Three}
 use Rattle.certificate_reader.specs.Lines.{text_line_of, version_of}
-use Rattle.certificate_definitions.specs.CertificateText.{Weights, WeightedAtom, TextLine, version, claims, constant, atom, listed, last, are_weights, version_number}
+use Rattle.certificate_definitions.specs.CertificateText.{WeightedAtom, scope, row, Format, TextLine, version, claims, constant, atom, tabled, listed, last, is_weight_count, is_line, version_number}
 use Rattle.certificate_reader.specs.declared.fault.NextFault.{NextFault}
 use Rattle.certificate_reader.specs.declared.fault.NextFault.TheVariants.{Text, NoMemory}
 use Rattle.certificate_reader.specs.declared.fault.TextFault.TheVariants as fault
 use Rattle.certificate_reader.specs.Parsing.{IsParsed, IsParsedAfter}
-use Rattle.certificate_reader.specs.Words.{IsFirstWord, IsReadAs, line_head, line_rest, text_in, with_rest, with_weights}
+use Rattle.certificate_reader.specs.Words.{IsFirstWord, IsReadAs, atom_rest, then_numbers, then_weights, line_head, line_rest, text_in, with_rest}
 use Rattle.certificate_reader.proofs.WordLemmas.{one_first}
-use Rattle.certificate_reader.proofs.LineLemmas.{head_is_word, line_splits}
+use Rattle.certificate_reader.proofs.LineLemmas.{head_is_word, line_splits, some_same}
 use Rattle.certificate_reader.proofs.LinesRead.{is_no_mark, no_atom, unlike}
-use Rattle.certificate_reader.proofs.WeightsRead.{one_weights}
 
 -- ---- the first line
 
 pub is_version : (rest : List ℕ) (number : ℕ) (w : Version) → number ≡ version_number w → decimal number ≡ rest
-    → (v : Version) (count : ℕ) → IsReadAs (codes "pddl-cert") rest v count (version w)
-is_version rest number w is same v count = record { head = refl; following = ap decimal (sym is) ∙ same; within = refl }
+    → (f : Format) → IsReadAs (codes "pddl-cert") rest f (version w)
+is_version rest number w is same f = record { head = refl; following = ap (λ n. Some (decimal n)) (sym is) ∙ ap Some same; within = refl }
 
 version_is_number : (v : Version) → IsTrue (is_number (version_number v))
 version_is_number one = refl
 version_is_number two = refl
+version_is_number three = refl
 
 pub no_version : (rest : List ℕ) → ((n : ℕ) → IsTrue (is_number n) → decimal n ≡ rest → ⊥)
-    → (v : Version) (count : ℕ) (line : TextLine) → IsReadAs (codes "pddl-cert") rest v count line → ⊥
-no_version rest never v count (version w) read = never (version_number w) (version_is_number w) read.following
-no_version rest never v count (claims claim) read = unlike (codes "claim") (codes "pddl-cert") refl read.head
-no_version rest never v count (constant k) read = unlike (codes "constant") (codes "pddl-cert") refl read.head
-no_version rest never v count (atom a) read = unlike (codes "atom") (codes "pddl-cert") refl read.head
-no_version rest never v count (listed l) read = is_no_mark (codes "pddl-cert") refl refl refl l.mark read.head
-no_version rest never v count (last n) read = unlike (codes "end") (codes "pddl-cert") refl read.head
+    → (f : Format) (line : TextLine) → IsReadAs (codes "pddl-cert") rest f line → ⊥
+no_version rest never f (version w) read = never (version_number w) (version_is_number w) (some_same (decimal (version_number w)) rest read.following)
+no_version rest never f (claims claim) read = unlike (codes "claim") (codes "pddl-cert") refl read.head
+no_version rest never f (constant k) read = unlike (codes "constant") (codes "pddl-cert") refl read.head
+no_version rest never f (atom a) read = unlike (codes "atom") (codes "pddl-cert") refl read.head
+no_version rest never f (tabled (scope s)) read = unlike (codes "table") (codes "pddl-cert") refl read.head
+no_version rest never f (tabled (row r)) read = unlike (codes "row") (codes "pddl-cert") refl read.head
+no_version rest never f (listed l) read = is_no_mark (codes "pddl-cert") refl refl refl l.mark read.head
+no_version rest never f (last n) read = unlike (codes "end") (codes "pddl-cert") refl read.head
 
--- a version that is not 1 is 2
-pub is_two : (version : code.Version) → version ≢ One → version_of version ≡ two
-is_two One other = absurd (other refl)
-is_two Two other = refl
+-- a version that is not 1 has dead ends
+pub has_dead_ends : (version : code.Version) → version ≢ One → IsTrue (is_mark (version_of version) dead)
+has_dead_ends One other = absurd (other refl)
+has_dead_ends Two other = refl
+has_dead_ends Three other = refl
 
 -- ---- no line
 
 -- what comes after a word is no line, and the word is not that of the first line
-pub malformed : (word rest : List ℕ) (v : Version) (count : ℕ) → bytes_eq word (codes "pddl-cert") ≡ false
-    → ((line : TextLine) → IsReadAs word rest v count line → ⊥) → IsParsedAfter word rest v count (Err (Text fault.Form))
-malformed word rest v count other never = (never, λ same n is reported. unlike word (codes "pddl-cert") other same)
+pub malformed : (word rest : List ℕ) (f : Format) → bytes_eq word (codes "pddl-cert") ≡ false
+    → ((line : TextLine) → IsReadAs word rest f line → ⊥) → IsParsedAfter word rest f (Err (Text fault.Form))
+malformed word rest f other never = (never, λ same n is reported. unlike word (codes "pddl-cert") other same)
 
--- ---- the line of the constants
-
-pub malformed_constant : (rest : List ℕ) (v : Version) → ((k : Weights) → IsTrue (are_weights v k) → with_weights k None ≡ rest → ⊥) → (count : ℕ)
-    → IsParsedAfter (codes "constant") rest v count (Err (Text fault.Form))
-malformed_constant rest v never count = malformed (codes "constant") rest v count refl no_line
-  where
-    no_line : (line : TextLine) → IsReadAs (codes "constant") rest v count line → ⊥
-    no_line (version w) read = unlike (codes "pddl-cert") (codes "constant") refl read.head
-    no_line (claims claim) read = unlike (codes "claim") (codes "constant") refl read.head
-    no_line (constant k) read = never k read.within read.following
-    no_line (atom a) read = unlike (codes "atom") (codes "constant") refl read.head
-    no_line (listed l) read = is_no_mark (codes "constant") refl refl refl l.mark read.head
-    no_line (last n) read = unlike (codes "end") (codes "constant") refl read.head
-
--- something comes after the constants
-pub constant_goes_on : (rest : List ℕ) (v : Version) (w : Weights) (following : Option (Bor (List ℕ))) (more : Bor (List ℕ)) → IsTrue (are_weights v w)
-    → with_weights w (text_in following) ≡ rest → following ≡ Some more → (k : Weights) → IsTrue (are_weights v k) → with_weights k None ≡ rest → ⊥
-constant_goes_on rest v w following more is same at k k_is k_same =
-    let both = one_weights v k w None (text_in following) k_is is (k_same ∙ sym same) in
-    absurd (cc (both.1 ∙ ap text_in at))
+-- something comes after
+pub goes_on : (following : Option (Bor (List ℕ))) → is_some following ≡ true → (bytes : List ℕ) × (text_in following ≡ Some bytes)
+goes_on None some = absurd (cc some)
+goes_on (Some bytes) some = (bytes.now, refl)
 
 -- ---- the line of an atom
 
-pub malformed_atom : (rest : List ℕ) (v : Version) → ((count : ℕ) (a : WeightedAtom) → IsReadAs (codes "atom") rest v count (atom a) → ⊥) → (count : ℕ)
-    → IsParsedAfter (codes "atom") rest v count (Err (Text fault.Form))
-malformed_atom rest v never count = malformed (codes "atom") rest v count refl (no_atom rest v count (never count))
+pub malformed_atom : (rest : List ℕ) (f : Format) → ((a : WeightedAtom) → IsReadAs (codes "atom") rest f (atom a) → ⊥) → IsParsedAfter (codes "atom") rest f (Err (Text fault.Form))
+malformed_atom rest f never = malformed (codes "atom") rest f refl (no_atom rest f never)
 
 -- ---- any line
 
 -- what is reported after a word is reported after bytes that are it
-pub parsed_as : (word own rest : List ℕ) (v : Version) (count : ℕ) (r : Result CertLine NextFault) → bytes_eq word own ≡ true
-    → IsParsedAfter own rest v count r → IsParsedAfter word rest v count r
-parsed_as word own rest v count r is reported = subst (λ word. IsParsedAfter word rest v count r) (sym ((bytes_eq-Decides word own).0 is)) reported
-
-some_same : (a b : List ℕ) → ◌≡◌ {A = Option (List ℕ)} (Some a) (Some b) → a ≡ b
-some_same a b same = cc
+pub parsed_as : (word own rest : List ℕ) (f : Format) (r : Result CertLine NextFault) → bytes_eq word own ≡ true
+    → IsParsedAfter own rest f r → IsParsedAfter word rest f r
+parsed_as word own rest f r is reported = subst (λ word. IsParsedAfter word rest f r) (sym ((bytes_eq-Decides word own).0 is)) reported
 
 -- what is reported for a word and the rest is reported for the bytes that they are
-whole : (bytes word rest : List ℕ) (v : Version) (count : ℕ) → IsFirstWord bytes word (Some rest) → (r : Result CertLine NextFault) → IsParsedAfter word rest v count r → IsParsed bytes v count r
-whole bytes word rest v count first (Ok line) read =
-    (line_splits (text_line_of line) ∙ (λ i. with_rest (read.head i) (Some (read.following i))) ∙ sym first.splits, read.within)
-whole bytes word rest v count first (Err (Text fault.Version)) (head, (n, is, not_one, not_two, same)) =
-    (n, is, not_one, not_two, (λ i. with_rest (sym head i) (Some (same i))) ∙ sym first.splits)
-whole bytes word rest v count first (Err (Text fault.Form)) (never, other) = (
+whole : (bytes word rest : List ℕ) (f : Format) → IsFirstWord bytes word (Some rest) → (r : Result CertLine NextFault) → IsParsedAfter word rest f r → IsParsed bytes f r
+whole bytes word rest f first (Ok line) read =
+    (line_splits (text_line_of line) ∙ (λ i. with_rest (read.head i) (read.following i)) ∙ sym first.splits, read.within)
+whole bytes word rest f first (Err (Text fault.Version)) (head, (n, is, not_one, not_two, not_three, same)) =
+    (n, is, not_one, not_two, not_three, (λ i. with_rest (sym head i) (Some (same i))) ∙ sym first.splits)
+whole bytes word rest f first (Err (Text fault.Form)) (never, other) = (
   λ line within same.
-      let both = one_first (line_head line) word (Some (line_rest line)) (Some rest) (head_is_word line) first.is_word (sym (line_splits line) ∙ same ∙ first.splits) in
-      never line (record { head = both.0; following = some_same (line_rest line) rest both.1; within = within }),
+      let both = one_first (line_head line) word (line_rest line) (Some rest) (head_is_word line) first.is_word (sym (line_splits line) ∙ same ∙ first.splits) in
+      never line (record { head = both.0; following = both.1; within = within }),
   λ n is same.
       let both = one_first (codes "pddl-cert") word (Some (decimal n)) (Some rest) refl first.is_word (same ∙ first.splits) in
       other (sym both.0) n is (some_same (decimal n) rest both.1),
 )
-whole bytes word rest v count first (Err NoMemory) reported = tt
-whole bytes word rest v count first _ reported = reported
+whole bytes word rest f first (Err NoMemory) reported = tt
+whole bytes word rest f first _ reported = reported
 
-pub parsed_whole : (bytes word : List ℕ) (following : Option (Bor (List ℕ))) (rest : Bor (List ℕ)) (v : Version) (count : ℕ) (r : Result CertLine NextFault)
-    → IsFirstWord bytes word (text_in following) → following ≡ Some rest → IsParsedAfter word rest.now v count r → IsParsed bytes v count r
-parsed_whole bytes word following rest v count r first is reported =
-    whole bytes word rest.now v count (subst (λ following. IsFirstWord bytes word (text_in following)) is first) r reported
+pub parsed_whole : (bytes word : List ℕ) (following : Option (Bor (List ℕ))) (rest : Bor (List ℕ)) (f : Format) (r : Result CertLine NextFault)
+    → IsFirstWord bytes word (text_in following) → following ≡ Some rest → IsParsedAfter word rest.now f r → IsParsed bytes f r
+parsed_whole bytes word following rest f r first is reported =
+    whole bytes word rest.now f (subst (λ following. IsFirstWord bytes word (text_in following)) is first) r reported
+
+-- ---- a word alone
+
+weights_then : (weights : List ℤ) (rest : List ℕ) → then_weights weights (Some rest) ≡ None → ⊥
+weights_then [] rest none = absurd (cc none)
+weights_then (w ∷ weights) rest none = absurd (cc none)
+
+some_weights : (weights : List ℤ) (others : Option (List ℕ)) → 1 ≤ length weights → then_weights weights others ≡ None → ⊥
+some_weights [] others some none = absurd (omega (arith, some))
+some_weights (w ∷ weights) others some none = absurd (cc none)
+
+some_numbers : (numbers : List ℕ) → 1 ≤ length numbers → then_numbers numbers ≡ None → ⊥
+some_numbers [] some none = absurd (omega (arith, some))
+some_numbers (n ∷ numbers) some none = absurd (cc none)
+
+constants_count : (v : Version) (n : ℕ) → is_weight_count v n ≡ true → 1 ≤ n
+constants_count one n is = omega (arith, eqb-true n 1 is)
+constants_count two n is = omega (arith, eqb-true n 2 is)
+constants_count three n is = omega (arith, leb-true 2 n (and_parts (nat_le 2 n) (nat_le n 33) is).0)
+
+-- each line has another word after its first one
+has_rest : (f : Format) → 1 ≤ f.weights → (line : TextLine) → IsTrue (is_line f line) → line_rest line ≡ None → ⊥
+has_rest f some (version v) is none = absurd (cc none)
+has_rest f some (claims claim) is none = absurd (cc none)
+has_rest f some (constant k) is none =
+    some_weights k None (constants_count f.version (length k) (and_parts (is_weight_count f.version (length k)) (list_all is_weight k) is).0) none
+has_rest f some (atom a) is none = weights_then a.weights (atom_rest a.atom) none
+has_rest f some (tabled (scope s)) is none =
+    some_numbers s (leb-true 1 (length s) (and_parts (rise f.atoms 0 s) (nat_le 1 (length s)) (and_parts (has_tables f.version) (rise f.atoms 0 s && nat_le 1 (length s)) is).1).1) none
+has_rest f some (tabled (row r)) is none =
+    let weights = (and_parts (are_weights f.weights r.weights) (rise f.atoms 0 r.atoms) (and_parts (has_tables f.version) (are_weights f.weights r.weights && rise f.atoms 0 r.atoms) is).1).0 in
+    let count = eqb-true (length r.weights) f.weights (and_parts (length r.weights == f.weights) (list_all is_weight r.weights) weights).0 in
+    some_weights r.weights (then_numbers r.atoms) (omega (arith, some, count)) none
+has_rest f some (listed l) is none = absurd (cc none)
+has_rest f some (last n) is none = absurd (cc none)
+
+pub no_line_of_a_word : (bytes word : List ℕ) (following : Option (List ℕ)) (f : Format) → 1 ≤ f.weights → IsFirstWord bytes word following → following ≡ None
+    → IsParsed bytes f (Err (Text fault.Form))
+no_line_of_a_word bytes word following f some first alone = (
+  λ line is same.
+      has_rest f some line is
+      ((one_first (line_head line) word (line_rest line) following (head_is_word line) first.is_word (sym (line_splits line) ∙ same ∙ first.splits)).1 ∙ alone),
+  λ n is same. absurd (cc ((one_first (codes "pddl-cert") word (Some (decimal n)) following refl first.is_word (same ∙ first.splits)).1 ∙ alone)),
+)

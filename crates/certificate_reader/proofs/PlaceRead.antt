@@ -1,13 +1,13 @@
 -- A line that is read at a place, and what is reported for one that cannot occur there.
-use Rattle.std.proofs.Common.{◌≡◌, ◌≢◌, ℕ, ◌+◌, ◌≤◌, List, ◌++◌, codes, Option, Some, refl, sym, ap, ◌∙◌, subst, arith}
-use Rattle.std.specs.Prelude.{◌&&◌, ◌==◌, Err, IsTrue, nat_le, nat_lt}
+use Rattle.std.proofs.Common.{◌≡◌, ◌≢◌, ℕ, ◌≤◌, List, ◌++◌, codes, Some, refl, sym, ap, ◌∙◌, subst, arith}
+use Rattle.std.specs.Prelude.{length, ◌&&◌, ◌==◌, Err, IsTrue, nat_le, nat_lt}
 use Rattle.std.specs.Fmt.{decimal}
 use Rattle.std.proofs.lemmas.Bool.{and_parts, eqb-true, leb-true, lt-ltb}
-use Rattle.certificate_definitions.specs.Certificates.{Version, one, two, is_number}
-use Rattle.certificate_definitions.specs.CertificateText.{TextLine, version, claims, constant, atom, listed, last, is_line, line_text, most_atoms, most_states, version_number}
-use Rattle.certificate_definitions.specs.CertificateMachine.{CertificatePlace, at_version, at_claim, at_constant, in_body, ended, next_place}
+use Rattle.certificate_definitions.specs.Certificates.{Version, one, two, three, is_number}
+use Rattle.certificate_definitions.specs.CertificateText.{scope, row, Format, TextLine, version, claims, constant, atom, tabled, listed, last, is_line, line_text, most_atoms, most_tables, most_rows, most_states, version_number}
+use Rattle.certificate_definitions.specs.CertificateMachine.{CertificatePlace, at_version, at_claim, at_constant, in_body, ended, no_format, no_body, format_at, atom_more, scope_more, row_more, state_more, atom_follows, row_follows, next_place}
 use Rattle.certificate_definitions.proofs.Machine.{never, only_where}
-use Rattle.certificate_reader.specs.Stages.{IsOver, IsReadAt, IsStep, IsWithin, atoms_at, version_at}
+use Rattle.certificate_reader.specs.Stages.{IsOver, IsReadAt, IsStep, IsWithin}
 use Rattle.certificate_reader.specs.Parsing.{IsParsed}
 use Rattle.certificate_reader.specs.declared.fault.NextFault.{NextFault}
 use Rattle.certificate_reader.specs.declared.fault.NextFault.TheVariants.{Text, NoMemory}
@@ -16,94 +16,114 @@ use Rattle.certificate_reader.specs.declared.fault.TextFault.TheVariants as faul
 use Rattle.certificate_reader.specs.Words.{line_head, line_rest}
 use Rattle.certificate_reader.proofs.NumbersRead.{same_number}
 use Rattle.certificate_reader.proofs.WordLemmas.{one_first}
-use Rattle.certificate_reader.proofs.LineLemmas.{head_is_word, line_splits}
+use Rattle.certificate_reader.proofs.LineLemmas.{head_is_word, line_splits, some_same}
 use Rattle.certificate_reader.proofs.LinesRead.{is_no_mark, unlike}
 use Rattle.certificate_reader.proofs.OneLine.{one_line}
 
-few_atoms : (place : CertificatePlace) → IsWithin place → atoms_at place ≤ most_atoms
+pub few_atoms : (place : CertificatePlace) → IsWithin place → (format_at place).atoms ≤ most_atoms
 few_atoms at_version within = omega arith
 few_atoms (at_claim v) within = omega arith
 few_atoms (at_constant v) within = omega arith
-few_atoms (in_body v n m) within = leb-true n most_atoms (and_parts (nat_le n most_atoms) (nat_le m most_states) within).0
+few_atoms (in_body b) within =
+    let bodies = (and_parts (nat_le b.format.atoms most_atoms && nat_le b.tables most_tables && nat_le b.rows most_rows) (nat_le b.states most_states) (and_parts (nat_le 1 b.format.weights) _ within).1).0 in
+    let tables = (and_parts (nat_le b.format.atoms most_atoms && nat_le b.tables most_tables) (nat_le b.rows most_rows) bodies).0 in
+    leb-true b.format.atoms most_atoms (and_parts (nat_le b.format.atoms most_atoms) (nat_le b.tables most_tables) tables).0
 few_atoms ended within = omega arith
 
+pub some_weights : (place : CertificatePlace) → IsWithin place → 1 ≤ (format_at place).weights
+some_weights at_version within = omega arith
+some_weights (at_claim v) within = omega arith
+some_weights (at_constant v) within = omega arith
+some_weights (in_body b) within = leb-true 1 b.format.weights (and_parts (nat_le 1 b.format.weights) _ within).0
+some_weights ended within = omega arith
+
 -- a line that leads on keeps the limits there
-pub leads_line : (place : CertificatePlace) → IsWithin place → (line : TextLine) (next : CertificatePlace) → next_place place line ≡ Some next → IsTrue (is_line (version_at place) (atoms_at place) line)
+pub leads_line : (place : CertificatePlace) → IsWithin place → (line : TextLine) (next : CertificatePlace) → next_place place line ≡ Some next → IsTrue (is_line (format_at place) line)
 leads_line at_version within (version w) next leads = refl
 leads_line at_version within (claims claim) next leads = never next leads
 leads_line at_version within (constant k) next leads = never next leads
 leads_line at_version within (atom a) next leads = never next leads
+leads_line at_version within (tabled (scope s)) next leads = never next leads
+leads_line at_version within (tabled (row r)) next leads = never next leads
 leads_line at_version within (listed l) next leads = never next leads
 leads_line at_version within (last count) next leads = never next leads
 leads_line (at_claim v) within (version w) next leads = never next leads
-leads_line (at_claim v) within (claims claim) next leads = (only_where (is_line v 0 (claims claim)) (at_constant v) next leads).0
+leads_line (at_claim v) within (claims claim) next leads = (only_where (is_line (no_format v) (claims claim)) (at_constant v) next leads).0
 leads_line (at_claim v) within (constant k) next leads = never next leads
 leads_line (at_claim v) within (atom a) next leads = never next leads
+leads_line (at_claim v) within (tabled (scope s)) next leads = never next leads
+leads_line (at_claim v) within (tabled (row r)) next leads = never next leads
 leads_line (at_claim v) within (listed l) next leads = never next leads
 leads_line (at_claim v) within (last count) next leads = never next leads
 leads_line (at_constant v) within (version w) next leads = never next leads
 leads_line (at_constant v) within (claims claim) next leads = never next leads
-leads_line (at_constant v) within (constant k) next leads = (only_where (is_line v 0 (constant k)) (in_body v 0 0) next leads).0
+leads_line (at_constant v) within (constant k) next leads = (only_where (is_line (no_format v) (constant k)) (in_body (no_body v (length k))) next leads).0
 leads_line (at_constant v) within (atom a) next leads = never next leads
+leads_line (at_constant v) within (tabled (scope s)) next leads = never next leads
+leads_line (at_constant v) within (tabled (row r)) next leads = never next leads
 leads_line (at_constant v) within (listed l) next leads = never next leads
 leads_line (at_constant v) within (last count) next leads = never next leads
-leads_line (in_body v n m) within (version w) next leads = never next leads
-leads_line (in_body v n m) within (claims claim) next leads = never next leads
-leads_line (in_body v n m) within (constant k) next leads = never next leads
-leads_line (in_body v n m) within (atom a) next leads = (and_parts ((m == 0) && nat_lt n most_atoms) (is_line v n (atom a)) (only_where ((m == 0) && nat_lt n most_atoms && is_line v n (atom a)) (in_body v (n + 1) m) next leads).0).1
-leads_line (in_body v n m) within (listed l) next leads = (and_parts (nat_lt m most_states) (is_line v n (listed l)) (only_where (nat_lt m most_states && is_line v n (listed l)) (in_body v n (m + 1)) next leads).0).1
-leads_line (in_body v n m) within (last count) next leads =
-    lt-ltb count 1152921504606846976 (omega (arith, eqb-true count m (only_where (count == m) ended next leads).0, leb-true m most_states (and_parts (nat_le n most_atoms) (nat_le m most_states) within).1))
+leads_line (in_body b) within (version w) next leads = never next leads
+leads_line (in_body b) within (claims claim) next leads = never next leads
+leads_line (in_body b) within (constant k) next leads = never next leads
+leads_line (in_body b) within (atom a) next leads = (and_parts (atom_follows b && nat_lt b.format.atoms most_atoms) (is_line b.format (atom a)) (only_where (atom_follows b && nat_lt b.format.atoms most_atoms && is_line b.format (atom a)) (in_body (atom_more b)) next leads).0).1
+leads_line (in_body b) within (tabled (scope s)) next leads = (and_parts ((b.states == 0) && nat_lt b.tables most_tables) (is_line b.format (tabled (scope s))) (only_where ((b.states == 0) && nat_lt b.tables most_tables && is_line b.format (tabled (scope s))) (in_body (scope_more b)) next leads).0).1
+leads_line (in_body b) within (tabled (row r)) next leads = (and_parts (row_follows b && nat_lt b.rows most_rows) (is_line b.format (tabled (row r))) (only_where (row_follows b && nat_lt b.rows most_rows && is_line b.format (tabled (row r))) (in_body (row_more b)) next leads).0).1
+leads_line (in_body b) within (listed l) next leads = (and_parts (nat_lt b.states most_states) (is_line b.format (listed l)) (only_where (nat_lt b.states most_states && is_line b.format (listed l)) (in_body (state_more b)) next leads).0).1
+leads_line (in_body b) within (last count) next leads =
+    lt-ltb count 1152921504606846976 (omega (arith, eqb-true count b.states (only_where (count == b.states) ended next leads).0, leb-true b.states most_states (and_parts _ (nat_le b.states most_states) (and_parts (nat_le 1 b.format.weights) _ within).1).1))
 leads_line ended within (version w) next leads = never next leads
 leads_line ended within (claims claim) next leads = never next leads
 leads_line ended within (constant k) next leads = never next leads
 leads_line ended within (atom a) next leads = never next leads
+leads_line ended within (tabled (scope s)) next leads = never next leads
+leads_line ended within (tabled (row r)) next leads = never next leads
 leads_line ended within (listed l) next leads = never next leads
 leads_line ended within (last count) next leads = never next leads
 
--- the line of a version is that of 1 or 2
-version_rest : (line : TextLine) → line_head line ≡ codes "pddl-cert" → (v : Version) × (line_rest line ≡ decimal (version_number v))
+-- the line of a version is that of 1, 2 or 3
+version_rest : (line : TextLine) → line_head line ≡ codes "pddl-cert" → (v : Version) × (line_rest line ≡ Some (decimal (version_number v)))
 version_rest (version v) head = (v, refl)
 version_rest (claims claim) head = absurd (unlike (codes "claim") (codes "pddl-cert") refl head)
 version_rest (constant k) head = absurd (unlike (codes "constant") (codes "pddl-cert") refl head)
 version_rest (atom a) head = absurd (unlike (codes "atom") (codes "pddl-cert") refl head)
+version_rest (tabled (scope s)) head = absurd (unlike (codes "table") (codes "pddl-cert") refl head)
+version_rest (tabled (row r)) head = absurd (unlike (codes "row") (codes "pddl-cert") refl head)
 version_rest (last count) head = absurd (unlike (codes "end") (codes "pddl-cert") refl head)
 version_rest (listed l) head = absurd (is_no_mark (codes "pddl-cert") refl refl refl l.mark head)
 
-neither : (n : ℕ) → IsTrue (is_number n) → n ≢ 1 → n ≢ 2 → (v : Version) → decimal n ≡ decimal (version_number v) → ⊥
-neither n is not_one not_two one same = not_one (same_number n 1 is refl same)
-neither n is not_one not_two two same = not_two (same_number n 2 is refl same)
+neither : (n : ℕ) → IsTrue (is_number n) → n ≢ 1 → n ≢ 2 → n ≢ 3 → (v : Version) → decimal n ≡ decimal (version_number v) → ⊥
+neither n is not_one not_two not_three one same = not_one (same_number n 1 is refl same)
+neither n is not_one not_two not_three two same = not_two (same_number n 2 is refl same)
+neither n is not_one not_two not_three three same = not_three (same_number n 3 is refl same)
 
-some_same : (a b : List ℕ) → ◌≡◌ {A = Option (List ℕ)} (Some a) (Some b) → a ≡ b
-some_same a b same = cc
-
-no_other_version : (line : TextLine) (n : ℕ) → IsTrue (is_number n) → n ≢ 1 → n ≢ 2 → codes "pddl-cert " ++ decimal n ≡ line_text line → ⊥
-no_other_version line n is not_one not_two same =
-    let both = one_first (codes "pddl-cert") (line_head line) (Some (decimal n)) (Some (line_rest line)) refl (head_is_word line) (same ∙ line_splits line) in
+no_other_version : (line : TextLine) (n : ℕ) → IsTrue (is_number n) → n ≢ 1 → n ≢ 2 → n ≢ 3 → codes "pddl-cert " ++ decimal n ≡ line_text line → ⊥
+no_other_version line n is not_one not_two not_three same =
+    let both = one_first (codes "pddl-cert") (line_head line) (Some (decimal n)) (line_rest line) refl (head_is_word line) (same ∙ line_splits line) in
     let (v, rest) = version_rest line (sym both.0) in
-    neither n is not_one not_two v (some_same (decimal n) (line_rest line) both.1 ∙ rest)
+    neither n is not_one not_two not_three v (some_same (decimal n) (decimal (version_number v)) (both.1 ∙ rest))
 
 -- what is reported for bytes that are no line there is reported for the place
-malformed_at : (place : CertificatePlace) → IsWithin place → (bytes : List ℕ) (v : Version) (count : ℕ) → v ≡ version_at place → count ≡ atoms_at place → IsParsed bytes v count (Err (Text fault.Form))
+malformed_at : (place : CertificatePlace) → IsWithin place → (bytes : List ℕ) (f : Format) → f ≡ format_at place → IsParsed bytes f (Err (Text fault.Form))
     → IsReadAt place bytes (Err (Text fault.Form))
-malformed_at place within bytes v count v_is count_is reported =
-    let (never, other) = subst (λ v. IsParsed bytes v (atoms_at place) (Err (Text fault.Form))) v_is (subst (λ n. IsParsed bytes v n (Err (Text fault.Form))) count_is reported) in (
+malformed_at place within bytes f f_is reported =
+    let (never, other) = subst (λ f. IsParsed bytes f (Err (Text fault.Form))) f_is reported in (
       λ line next leads. never line (leads_line place within line next leads),
       λ line is over. never line is,
-      λ at n is not_one not_two. other n is,
+      λ at n is not_one not_two not_three. other n is,
     )
 
 -- so is another fault of the bytes alone, but for another version, which is reported for the first line only
-pub reported_at : (place : CertificatePlace) → IsWithin place → (bytes : List ℕ) (v : Version) (count : ℕ) → v ≡ version_at place → count ≡ atoms_at place
-    → (why : NextFault) → why ≢ Text fault.Version → IsParsed bytes v count (Err why) → IsReadAt place bytes (Err why)
-reported_at place within bytes v count v_is count_is (Text fault.Version) other reported = absurd (other refl)
-reported_at place within bytes v count v_is count_is (Text fault.Form) other reported = malformed_at place within bytes v count v_is count_is reported
-reported_at place within bytes v count v_is count_is NoMemory other reported = tt
-reported_at place within bytes v count v_is count_is _ other reported = absurd reported
+pub reported_at : (place : CertificatePlace) → IsWithin place → (bytes : List ℕ) (f : Format) → f ≡ format_at place
+    → (why : NextFault) → why ≢ Text fault.Version → IsParsed bytes f (Err why) → IsReadAt place bytes (Err why)
+reported_at place within bytes f f_is (Text fault.Version) other reported = absurd (other refl)
+reported_at place within bytes f f_is (Text fault.Form) other reported = malformed_at place within bytes f f_is reported
+reported_at place within bytes f f_is NoMemory other reported = tt
+reported_at place within bytes f f_is _ other reported = absurd reported
 
-module _ (place : CertificatePlace) (within : IsWithin place) (line : TextLine) (is : IsTrue (is_line (version_at place) (atoms_at place) line)) (bytes : List ℕ) (text : line_text line ≡ bytes) where
-  only_line : (other : TextLine) → IsTrue (is_line (version_at place) (atoms_at place) other) → line_text other ≡ bytes → other ≡ line
-  only_line other other_is same = one_line (version_at place) (atoms_at place) (few_atoms place within) other line other_is is (same ∙ sym text)
+module _ (place : CertificatePlace) (within : IsWithin place) (line : TextLine) (is : IsTrue (is_line (format_at place) line)) (bytes : List ℕ) (text : line_text line ≡ bytes) where
+  only_line : (other : TextLine) → IsTrue (is_line (format_at place) other) → line_text other ≡ bytes → other ≡ line
+  only_line other other_is same = one_line (format_at place) (few_atoms place within) other line other_is is (same ∙ sym text)
 
   -- what comes of the line there is reported for its bytes
   pub reported_after : (why : TextFault) → IsStep place line (Err why) → IsReadAt place bytes (Err (Text why))
@@ -113,6 +133,6 @@ module _ (place : CertificatePlace) (within : IsWithin place) (line : TextLine) 
         let here = only_line other (leads_line place within other next leads) same in
         never next (sym nowhere ∙ ap (next_place place) (sym here) ∙ leads),
     λ other other_is over same. within_limits (subst (IsOver place) (only_line other other_is same) over),
-    λ at n n_is not_one not_two same. no_other_version line n n_is not_one not_two (same ∙ sym text),
+    λ at n n_is not_one not_two not_three same. no_other_version line n n_is not_one not_two not_three (same ∙ sym text),
   )
   reported_after _ reported = absurd reported

@@ -1,10 +1,13 @@
 -- What a reader gives out and reports, where some lines were given out before.
 use Rattle.std.proofs.Common.{◌≡◌, ◌≢◌, ℕ, ◌+◌, ◌<◌, true, List, [], ◌∷◌, ◌++◌, map, length, Option, None, Some, refl, ap, ◌∙◌, subst, length-append, arith}
 use Rattle.std.specs.Prelude.{◌&&◌, ◌==◌, nat_le, nat_lt, Err, Ok}
-use Rattle.std.proofs.lemmas.Bool.{and_parts, le-leb, leb-true, ltb-true}
+use Rattle.std.proofs.lemmas.Bool.{and_parts, eqb-true, le-leb, leb-true, ltb-true}
+use Rattle.std.specs.List.{list_all}
 use Rattle.std.proofs.lemmas.List.{length-map}
-use Rattle.certificate_definitions.specs.CertificateText.{TextLine, version, claims, constant, atom, listed, last, is_line, most_atoms, most_states, AreWhole, IsFaultAfter, trailing}
-use Rattle.certificate_definitions.specs.CertificateMachine.{CertificatePlace, at_version, at_claim, at_constant, in_body, ended, next_place}
+use Rattle.certificate_definitions.specs.Certificates.{Version, one, two, three, StateLine, is_weight}
+use Rattle.certificate_definitions.proofs.Beginnings.{body_lines}
+use Rattle.certificate_definitions.specs.CertificateText.{scope, row, TextLine, version, claims, constant, atom, tabled, listed, last, is_line, most_atoms, most_tables, most_rows, most_states, is_weight_count, scope_count, row_count, begin_with_scope, format_of, text_lines, TableLine, WeightedAtom, Beginning, AreWhole, IsFaultAfter, trailing}
+use Rattle.certificate_definitions.specs.CertificateMachine.{CertificatePlace, at_version, at_claim, at_constant, in_body, ended, no_format, no_body, atom_more, scope_more, row_more, state_more, atom_follows, row_follows, next_place}
 use Rattle.certificate_definitions.proofs.Machine.{ComesBefore, begins, never, only_where, place_same}
 use Rattle.certificate_reader.specs.declared.line.CertLine.{CertLine}
 use Rattle.certificate_reader.specs.Lines.{text_line_of}
@@ -19,65 +22,125 @@ use Rattle.certificate_reader.specs.Stages.{IsWithin, place_of}
 use Rattle.certificate_reader.specs.Ready.{IsPrompt, come_at, is_ready}
 use Rattle.certificate_reader.specs.Reader.{HasRead, HaveBegun, IsAdvance, IsAnswer, IsReportedOf, fault_at}
 
+some_constants : (v : Version) (n : ℕ) → is_weight_count v n ≡ true → nat_le 1 n ≡ true
+some_constants one n is = le-leb 1 n (omega (arith, eqb-true n 1 is))
+some_constants two n is = le-leb 1 n (omega (arith, eqb-true n 2 is))
+some_constants three n is = le-leb 1 n (omega (arith, leb-true 2 n (and_parts (nat_le 2 n) (nat_le n 33) is).0))
+
 -- one line more leads to a place within the limits
 pub leads_within : (place : CertificatePlace) → IsWithin place → (line : TextLine) (next : CertificatePlace) → next_place place line ≡ Some next → IsWithin next
-leads_within at_version within (version v) next leads = subst IsWithin (place_same (at_claim v) next leads) refl
+leads_within at_version within (version w) next leads = subst IsWithin (place_same (at_claim w) next leads) refl
 leads_within at_version within (claims claim) next leads = never next leads
 leads_within at_version within (constant k) next leads = never next leads
 leads_within at_version within (atom a) next leads = never next leads
+leads_within at_version within (tabled (scope s)) next leads = never next leads
+leads_within at_version within (tabled (row r)) next leads = never next leads
 leads_within at_version within (listed l) next leads = never next leads
 leads_within at_version within (last count) next leads = never next leads
 leads_within (at_claim v) within (version w) next leads = never next leads
-leads_within (at_claim v) within (claims claim) next leads = subst IsWithin (only_where (is_line v 0 (claims claim)) (at_constant v) next leads).1 refl
+leads_within (at_claim v) within (claims claim) next leads = subst IsWithin (only_where (is_line (no_format v) (claims claim)) (at_constant v) next leads).1 refl
 leads_within (at_claim v) within (constant k) next leads = never next leads
 leads_within (at_claim v) within (atom a) next leads = never next leads
+leads_within (at_claim v) within (tabled (scope s)) next leads = never next leads
+leads_within (at_claim v) within (tabled (row r)) next leads = never next leads
 leads_within (at_claim v) within (listed l) next leads = never next leads
 leads_within (at_claim v) within (last count) next leads = never next leads
 leads_within (at_constant v) within (version w) next leads = never next leads
 leads_within (at_constant v) within (claims claim) next leads = never next leads
-leads_within (at_constant v) within (constant k) next leads = subst IsWithin (only_where (is_line v 0 (constant k)) (in_body v 0 0) next leads).1 refl
+leads_within (at_constant v) within (constant k) next leads =
+    let (holds, same) = only_where (is_line (no_format v) (constant k)) (in_body (no_body v (length k))) next leads in
+    let some = some_constants v (length k) (and_parts (is_weight_count v (length k)) (list_all is_weight k) holds).0 in
+    subst IsWithin same (λ i. some i && true)
 leads_within (at_constant v) within (atom a) next leads = never next leads
+leads_within (at_constant v) within (tabled (scope s)) next leads = never next leads
+leads_within (at_constant v) within (tabled (row r)) next leads = never next leads
 leads_within (at_constant v) within (listed l) next leads = never next leads
 leads_within (at_constant v) within (last count) next leads = never next leads
-leads_within (in_body v n m) within (version w) next leads = never next leads
-leads_within (in_body v n m) within (claims claim) next leads = never next leads
-leads_within (in_body v n m) within (constant k) next leads = never next leads
-leads_within (in_body v n m) within (atom a) next leads =
-    let (holds, same) = only_where ((m == 0) && nat_lt n most_atoms && is_line v n (atom a)) (in_body v (n + 1) m) next leads in
-    let below : n < most_atoms = ltb-true n most_atoms (and_parts (m == 0) (nat_lt n most_atoms) (and_parts ((m == 0) && nat_lt n most_atoms) (is_line v n (atom a)) holds).0).1 in
-    subst IsWithin same (λ i. le-leb (n + 1) most_atoms (omega (arith, below)) i && (and_parts (nat_le n most_atoms) (nat_le m most_states) within).1 i)
-leads_within (in_body v n m) within (listed l) next leads =
-    let (holds, same) = only_where (nat_lt m most_states && is_line v n (listed l)) (in_body v n (m + 1)) next leads in
-    let below : m < most_states = ltb-true m most_states (and_parts (nat_lt m most_states) (is_line v n (listed l)) holds).0 in
-    subst IsWithin same (λ i. (and_parts (nat_le n most_atoms) (nat_le m most_states) within).0 i && le-leb (m + 1) most_states (omega (arith, below)) i)
-leads_within (in_body v n m) within (last count) next leads = subst IsWithin (only_where (count == m) ended next leads).1 refl
+leads_within (in_body b) within (version w) next leads = never next leads
+leads_within (in_body b) within (claims claim) next leads = never next leads
+leads_within (in_body b) within (constant k) next leads = never next leads
+leads_within (in_body b) within (atom a) next leads =
+    let (holds, same) = only_where (atom_follows b && nat_lt b.format.atoms most_atoms && is_line b.format (atom a)) (in_body (atom_more b)) next leads in
+    let below : b.format.atoms < most_atoms = ltb-true b.format.atoms most_atoms (and_parts (atom_follows b) (nat_lt b.format.atoms most_atoms) (and_parts (atom_follows b && nat_lt b.format.atoms most_atoms) (is_line b.format (atom a)) holds).0).1 in
+    let all = and_parts (nat_le 1 b.format.weights) (nat_le b.format.atoms most_atoms && nat_le b.tables most_tables && nat_le b.rows most_rows && nat_le b.states most_states) within in
+    let more = and_parts (nat_le b.format.atoms most_atoms && nat_le b.tables most_tables && nat_le b.rows most_rows) (nat_le b.states most_states) all.1 in
+    let rest = and_parts (nat_le b.format.atoms most_atoms && nat_le b.tables most_tables) (nat_le b.rows most_rows) more.0 in
+    let few = and_parts (nat_le b.format.atoms most_atoms) (nat_le b.tables most_tables) rest.0 in
+    subst IsWithin same (λ i. all.0 i && (le-leb (b.format.atoms + 1) most_atoms (omega (arith, below)) i && few.1 i && rest.1 i && more.1 i))
+leads_within (in_body b) within (tabled (scope s)) next leads =
+    let (holds, same) = only_where ((b.states == 0) && nat_lt b.tables most_tables && is_line b.format (tabled (scope s))) (in_body (scope_more b)) next leads in
+    let below : b.tables < most_tables = ltb-true b.tables most_tables (and_parts (b.states == 0) (nat_lt b.tables most_tables) (and_parts ((b.states == 0) && nat_lt b.tables most_tables) (is_line b.format (tabled (scope s))) holds).0).1 in
+    let all = and_parts (nat_le 1 b.format.weights) (nat_le b.format.atoms most_atoms && nat_le b.tables most_tables && nat_le b.rows most_rows && nat_le b.states most_states) within in
+    let more = and_parts (nat_le b.format.atoms most_atoms && nat_le b.tables most_tables && nat_le b.rows most_rows) (nat_le b.states most_states) all.1 in
+    let rest = and_parts (nat_le b.format.atoms most_atoms && nat_le b.tables most_tables) (nat_le b.rows most_rows) more.0 in
+    let few = and_parts (nat_le b.format.atoms most_atoms) (nat_le b.tables most_tables) rest.0 in
+    subst IsWithin same (λ i. all.0 i && (few.0 i && le-leb (b.tables + 1) most_tables (omega (arith, below)) i && rest.1 i && more.1 i))
+leads_within (in_body b) within (tabled (row r)) next leads =
+    let (holds, same) = only_where (row_follows b && nat_lt b.rows most_rows && is_line b.format (tabled (row r))) (in_body (row_more b)) next leads in
+    let below : b.rows < most_rows = ltb-true b.rows most_rows (and_parts (row_follows b) (nat_lt b.rows most_rows) (and_parts (row_follows b && nat_lt b.rows most_rows) (is_line b.format (tabled (row r))) holds).0).1 in
+    let all = and_parts (nat_le 1 b.format.weights) (nat_le b.format.atoms most_atoms && nat_le b.tables most_tables && nat_le b.rows most_rows && nat_le b.states most_states) within in
+    let more = and_parts (nat_le b.format.atoms most_atoms && nat_le b.tables most_tables && nat_le b.rows most_rows) (nat_le b.states most_states) all.1 in
+    let rest = and_parts (nat_le b.format.atoms most_atoms && nat_le b.tables most_tables) (nat_le b.rows most_rows) more.0 in
+    let few = and_parts (nat_le b.format.atoms most_atoms) (nat_le b.tables most_tables) rest.0 in
+    subst IsWithin same (λ i. all.0 i && (few.0 i && few.1 i && le-leb (b.rows + 1) most_rows (omega (arith, below)) i && more.1 i))
+leads_within (in_body b) within (listed l) next leads =
+    let (holds, same) = only_where (nat_lt b.states most_states && is_line b.format (listed l)) (in_body (state_more b)) next leads in
+    let below : b.states < most_states = ltb-true b.states most_states (and_parts (nat_lt b.states most_states) (is_line b.format (listed l)) holds).0 in
+    let all = and_parts (nat_le 1 b.format.weights) (nat_le b.format.atoms most_atoms && nat_le b.tables most_tables && nat_le b.rows most_rows && nat_le b.states most_states) within in
+    let more = and_parts (nat_le b.format.atoms most_atoms && nat_le b.tables most_tables && nat_le b.rows most_rows) (nat_le b.states most_states) all.1 in
+    let rest = and_parts (nat_le b.format.atoms most_atoms && nat_le b.tables most_tables) (nat_le b.rows most_rows) more.0 in
+    let few = and_parts (nat_le b.format.atoms most_atoms) (nat_le b.tables most_tables) rest.0 in
+    subst IsWithin same (λ i. all.0 i && (few.0 i && few.1 i && rest.1 i && le-leb (b.states + 1) most_states (omega (arith, below)) i))
+leads_within (in_body b) within (last count) next leads = subst IsWithin (only_where (count == b.states) ended next leads).1 refl
 leads_within ended within (version w) next leads = never next leads
 leads_within ended within (claims claim) next leads = never next leads
 leads_within ended within (constant k) next leads = never next leads
 leads_within ended within (atom a) next leads = never next leads
+leads_within ended within (tabled (scope s)) next leads = never next leads
+leads_within ended within (tabled (row r)) next leads = never next leads
 leads_within ended within (listed l) next leads = never next leads
 leads_within ended within (last count) next leads = never next leads
 
 -- ---- how many lines there are
 
-body_length : {X Y : Type 0} (f : X → TextLine) (g : Y → TextLine) (xs : List X) (ys : List Y) → length (map f xs ++ map g ys) ≡ length xs + length ys
-body_length f g xs ys = omega (arith, length-append (map f xs) (map g ys), length-map xs f, length-map ys g)
+body_length : (atoms : List WeightedAtom) (tables : List TableLine) (states : List StateLine) → length (body_lines atoms tables states) ≡ (length atoms + length tables) + length states
+body_length atoms tables states =
+    omega (
+      arith,
+      length-append (map atom atoms ++ map tabled tables) (map listed states),
+      length-append (map atom atoms) (map tabled tables),
+      length-map atoms atom,
+      length-map tables tabled,
+      length-map states listed,
+    )
 
-pub few_lines : (lines : List TextLine) (place : CertificatePlace) → ComesBefore place lines → length lines < 20000000
+table_lines : (tables : List TableLine) → length tables ≡ scope_count tables + row_count tables
+table_lines [] = refl
+table_lines (scope s ∷ tables) = let more = table_lines tables in let long : length (scope s ∷ tables) ≡ 1 + length tables = omega arith in omega (arith, more, long)
+table_lines (row r ∷ tables) = let more = table_lines tables in let long : length (row r ∷ tables) ≡ 1 + length tables = omega arith in omega (arith, more, long)
+
+-- there are few lines, and so their count is that of lines
+pub few_lines : (lines : List TextLine) (place : CertificatePlace) → ComesBefore place lines → length lines < 30000000
 few_lines lines at_version are = omega (arith, ap length are)
 few_lines lines (at_claim v) are = omega (arith, ap length are)
 few_lines lines (at_constant v) (claim, is, are) = omega (arith, ap length are)
-few_lines lines (in_body v n m) body =
-    omega (arith, ap length body.lines_are, body_length (λ a. atom a) (λ l. listed l) body.atoms body.states, body.atom_count_is, body.state_count_is, body.few_atoms, body.few_states)
+few_lines lines (in_body b) body =
+    let g : Beginning = body.beginning in
+    omega (arith, ap length body.lines_are, body_length g.atoms g.tables g.states, table_lines g.tables, body.keeps.few_atoms, body.keeps.few_tables, body.keeps.few_rows, body.keeps.few_states)
 few_lines lines ended (c, keeps, are) =
-    let (counts, each) = and_parts (nat_le (length c.atoms) most_atoms && nat_le (length c.lines) most_states) _ keeps in
-    let (atoms, states) = and_parts (nat_le (length c.atoms) most_atoms) (nat_le (length c.lines) most_states) counts in
+    let (counts, each) = and_parts _ (list_all (is_line (format_of c)) (text_lines c)) keeps in
+    let (bodies, states) = and_parts _ (nat_le (length c.lines) most_states) counts in
+    let (atoms, tables) = and_parts (nat_le (length c.atoms) most_atoms) _ bodies in
+    let (scopes, rows) = and_parts (begin_with_scope c.tables && nat_le (scope_count c.tables) most_tables) (nat_le (row_count c.tables) most_rows) tables in
     omega (
       arith,
       ap length are,
-      body_length (λ a. atom a) (λ l. listed l) c.atoms c.lines,
-      length-append (map (λ a. atom a) c.atoms ++ map (λ l. listed l) c.lines) (last (length c.lines) ∷ []),
+      body_length c.atoms c.tables c.lines,
+      length-append (body_lines c.atoms c.tables c.lines) (last (length c.lines) ∷ []),
+      table_lines c.tables,
       leb-true (length c.atoms) most_atoms atoms,
+      leb-true (scope_count c.tables) most_tables (and_parts (begin_with_scope c.tables) (nat_le (scope_count c.tables) most_tables) scopes).1,
+      leb-true (row_count c.tables) most_rows rows,
       leb-true (length c.lines) most_states states,
     )
 
@@ -97,7 +160,7 @@ pub come_unless_ended : (at : Stage) (bytes : List ℕ) → at ≢ stage.Ended �
 come_unless_ended stage.Version bytes goes_on = refl
 come_unless_ended (stage.Claim v) bytes goes_on = refl
 come_unless_ended (stage.Constants v) bytes goes_on = refl
-come_unless_ended (stage.Body v n m) bytes goes_on = refl
+come_unless_ended (stage.Body b) bytes goes_on = refl
 come_unless_ended stage.Ended bytes goes_on = absurd (goes_on refl)
 
 pub prompt_unless_ended : (at : Stage) → at ≢ stage.Ended → (waited came : List ℕ) → IsPrompt is_ready waited came → IsPrompt (come_at (place_of at)) waited came

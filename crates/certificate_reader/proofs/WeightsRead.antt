@@ -1,22 +1,21 @@
 -- Constants and weights, by their words.
-use Rattle.std.proofs.Common.{◌≡◌, ℕ, true, false, List, Option, None, Some, ap, ◌∙◌}
-use Rattle.std.specs.Prelude.{ℤ, IfNone, IsTrue}
-use Rattle.std.specs.Borrow.{Bor}
+use Rattle.std.proofs.Common.{◌≡◌, ℕ, ◌+◌, ◌<◌, ◌≤◌, true, List, [], ◌∷◌, ◌++◌, map, length, length-append, Option, None, Some, refl, sym, ap, ◌∙◌, arith}
+use Rattle.std.specs.Prelude.{◌&&◌, ℤ, IsTrue}
 use Rattle.std.specs.Fmt.{signed_decimal}
-use Rattle.std.specs.Option.{option_map_or}
+use Rattle.std.specs.List.{list_all}
 use Rattle.std.proofs.lemmas.Bool.{and_parts}
-use Rattle.certificate_definitions.specs.Certificates.{Version, one, two, is_weight}
-use Rattle.certificate_definitions.specs.CertificateText.{Weights, are_weights}
-use Rattle.certificate_reader.specs.Words.{IsFirstWord, text_in, with_rest, with_weights}
+use Rattle.std.proofs.lemmas.List.{map-append}
+use Rattle.certificate_definitions.specs.Certificates.{is_weight}
+use Rattle.certificate_reader.specs.Words.{IsFirstWord, IsLeading, then_weights, then_words, with_rest}
 use Rattle.certificate_reader.proofs.WordLemmas.{one_first}
 use Rattle.certificate_reader.proofs.NumberLemmas.{same_weight}
-use Rattle.certificate_reader.proofs.LineLemmas.{weight_is_word}
-
-abbrev pair : ℤ → Option ℤ → Weights
-pair of_value of_dead_end = record { of_value = of_value; of_dead_end = of_dead_end }
+use Rattle.certificate_reader.proofs.LineLemmas.{then_words_more, weight_is_word}
 
 some_same : (a b : List ℕ) → ◌≡◌ {A = Option (List ℕ)} (Some a) (Some b) → a ≡ b
 some_same a b same = cc
+
+never : {A : Type 0} (a : List ℕ) → ◌≡◌ {A = Option (List ℕ)} None (Some a) → A
+never a same = absurd (cc same)
 
 -- bytes begin with one weight
 one_weight : (a b : ℤ) (r s : Option (List ℕ)) → IsTrue (is_weight a) → IsTrue (is_weight b) → with_rest (signed_decimal a) r ≡ with_rest (signed_decimal b) s → (a ≡ b) × (r ≡ s)
@@ -24,61 +23,104 @@ one_weight a b r s a_is b_is same =
     let both = one_first (signed_decimal a) (signed_decimal b) r s (weight_is_word a a_is) (weight_is_word b b_is) same in
     (same_weight a b a_is b_is both.0, both.1)
 
-one_pair : (v : Version) (a b : ℤ) (m n : Option ℤ) (r s : Option (List ℕ)) → IsTrue (are_weights v (pair a m)) → IsTrue (are_weights v (pair b n))
-    → with_weights (pair a m) r ≡ with_weights (pair b n) s → (pair a m ≡ pair b n) × (r ≡ s)
-one_pair one a b None None r s h g same =
-    let both = one_weight a b r s (and_parts (is_weight a) true h).0 (and_parts (is_weight b) true g).0 same in
-    (ap (λ a. pair a None) both.0, both.1)
-one_pair one a b (Some m) n r s h g same = absurd (cc ((and_parts (is_weight a) false h).1))
-one_pair one a b None (Some n) r s h g same = absurd (cc ((and_parts (is_weight b) false g).1))
-one_pair two a b None n r s h g same = absurd (cc ((and_parts (is_weight a) false h).1))
-one_pair two a b (Some m) None r s h g same = absurd (cc ((and_parts (is_weight b) false g).1))
-one_pair two a b (Some m) (Some n) r s h g same =
-    let (a_is, m_is) = and_parts (is_weight a) (is_weight m) h in
-    let (b_is, n_is) = and_parts (is_weight b) (is_weight n) g in
-    let first = one_weight a b (Some (with_rest (signed_decimal m) r)) (Some (with_rest (signed_decimal n) s)) a_is b_is same in
-    let second = one_weight m n r s m_is n_is (some_same (with_rest (signed_decimal m) r) (with_rest (signed_decimal n) s) first.1) in
-    ((λ i. pair (first.0 i) (Some (second.0 i))), second.1)
+-- ---- words begin with one choice of weights
 
--- bytes begin with one choice of weights
-pub one_weights : (v : Version) (w x : Weights) (r s : Option (List ℕ)) → IsTrue (are_weights v w) → IsTrue (are_weights v x)
-    → with_weights w r ≡ with_weights x s → (w ≡ x) × (r ≡ s)
-one_weights v w x r s = one_pair v w.of_value x.of_value w.of_dead_end x.of_dead_end r s
+-- so many weights were before these
+one_choice : (before most : ℕ) (a b : List ℤ) (r s : Option (List ℕ)) → IsTrue (list_all is_weight a) → IsTrue (list_all is_weight b)
+    → before + length a ≤ most → before + length b ≤ most → (before + length a < most → r ≡ None) → (before + length b < most → s ≡ None)
+    → then_weights a r ≡ then_weights b s → (a ≡ b) × (r ≡ s)
+one_choice before most [] [] r s a_are b_are a_few b_few a_stops b_stops same = (refl, same)
+one_choice before most [] (y ∷ b) r s a_are b_are a_few b_few a_stops b_stops same =
+    let long : length (y ∷ b) ≡ 1 + length b = omega arith in
+    let none_yet : length {A = ℤ} [] ≡ 0 = refl in
+    never (with_rest (signed_decimal y) (then_weights b s)) (sym (a_stops (omega (arith, b_few, long, none_yet))) ∙ same)
+one_choice before most (x ∷ a) [] r s a_are b_are a_few b_few a_stops b_stops same =
+    let long : length (x ∷ a) ≡ 1 + length a = omega arith in
+    let none_yet : length {A = ℤ} [] ≡ 0 = refl in
+    never (with_rest (signed_decimal x) (then_weights a r)) (sym (b_stops (omega (arith, a_few, long, none_yet))) ∙ sym same)
+one_choice before most (x ∷ a) (y ∷ b) r s a_are b_are a_few b_few a_stops b_stops same =
+    let (x_is, a_more) = and_parts (is_weight x) (list_all is_weight a) a_are in
+    let (y_is, b_more) = and_parts (is_weight y) (list_all is_weight b) b_are in
+    let a_long : length (x ∷ a) ≡ 1 + length a = omega arith in
+    let b_long : length (y ∷ b) ≡ 1 + length b = omega arith in
+    let first = one_weight x y (then_weights a r) (then_weights b s) x_is y_is
+    (some_same (with_rest (signed_decimal x) (then_weights a r)) (with_rest (signed_decimal y) (then_weights b s)) same) in
+    let (rest, others) = one_choice (before + 1) most a b r s a_more b_more (omega (arith, a_few, a_long)) (omega (arith, b_few, b_long))
+    (λ below. a_stops (omega (arith, below, a_long))) (λ below. b_stops (omega (arith, below, b_long))) first.1 in
+    ((λ i. first.0 i ∷ rest i), others)
+
+pub one_leading : (words : Option (List ℕ)) (most : ℕ) (a b : List ℤ) (r s : Option (List ℕ)) → IsLeading words most a r → IsLeading words most b s → (a ≡ b) × (r ≡ s)
+one_leading words most a b r s h g =
+    one_choice 0 most a b r s h.are g.are (omega (arith, h.few)) (omega (arith, g.few)) (λ below. h.stops (omega (arith, below))) (λ below. g.stops (omega (arith, below))) (h.splits ∙ sym g.splits)
+
+-- as many weights as there may be, whatever comes after them
+pub leading : (words : Option (List ℕ)) (count : ℕ) (weights : List ℤ) (others : Option (List ℕ)) → IsTrue (list_all is_weight weights) → length weights ≡ count
+    → then_weights weights others ≡ words → IsLeading words count weights others
+leading words count weights others are long splits = record {
+  are = are;
+  few = omega (arith, long);
+  stops = λ below. absurd (omega (arith, long, below));
+  splits = splits;
+}
+
+-- fewer, and nothing after them
+pub leading_alone : (words : Option (List ℕ)) (most : ℕ) (weights : List ℤ) → IsTrue (list_all is_weight weights) → length weights ≤ most
+    → then_weights weights None ≡ words → IsLeading words most weights None
+leading_alone words most weights are few splits = record { are = are; few = few; stops = λ below. refl; splits = splits }
 
 -- ---- weights that were read
 
-value_is : (v : Version) (w : Weights) → IsTrue (are_weights v w) → IsTrue (is_weight w.of_value)
-value_is one w is = (and_parts (is_weight w.of_value) _ is).0
-value_is two w is = (and_parts (is_weight w.of_value) _ is).0
+-- the weight after those that were read
+record NextWeight (done weights : List ℤ) (others : Option (List ℕ)) (bytes : List ℕ) : Type 0 where
+  next : ℤ
+  more : List ℤ
+  is : IsTrue (is_weight next)
+  splits : bytes ≡ with_rest (signed_decimal next) (then_weights more others)
 
-module _ (bytes word : List ℕ) (following : Option (List ℕ)) (first : IsFirstWord bytes word following) where
-  first_is : (n : ℤ) → IsTrue (is_weight n) → (rest : Option (List ℕ)) → with_rest (signed_decimal n) rest ≡ bytes → (signed_decimal n ≡ word) × (rest ≡ following)
-  first_is n is rest same = one_first (signed_decimal n) word rest following (weight_is_word n is) first.is_word (same ∙ first.splits)
+weight_after : (done weights : List ℤ) (others : Option (List ℕ)) (bytes : List ℕ) → IsTrue (list_all is_weight done) → IsTrue (list_all is_weight weights)
+    → (length weights ≤ length done → others ≡ None) → then_weights done (Some bytes) ≡ then_weights weights others → NextWeight done weights others bytes
+weight_after [] [] others bytes d w stops same = never bytes (sym (stops (omega arith)) ∙ sym same)
+weight_after [] (n ∷ more) others bytes d w stops same = record {
+  next = n;
+  more = more;
+  is = (and_parts (is_weight n) (list_all is_weight more) w).0;
+  splits = some_same bytes (with_rest (signed_decimal n) (then_weights more others)) same;
+}
+weight_after (first ∷ done) [] others bytes d w stops same =
+    let none_yet : length {A = ℤ} [] ≡ 0 = refl in
+    never (with_rest (signed_decimal first) (then_weights done (Some bytes))) (sym (stops (omega (arith, none_yet))) ∙ sym same)
+weight_after (first ∷ done) (n ∷ weights) others bytes d w stops same =
+    let (d_here, d_more) = and_parts (is_weight first) (list_all is_weight done) d in
+    let (w_here, w_more) = and_parts (is_weight n) (list_all is_weight weights) w in
+    let d_long : length (first ∷ done) ≡ 1 + length done = omega arith in
+    let w_long : length (n ∷ weights) ≡ 1 + length weights = omega arith in
+    let left : Option (List ℕ) = then_weights done (Some bytes) in
+    let right : Option (List ℕ) = then_weights weights others in
+    let both = one_weight first n left right d_here w_here (some_same (with_rest (signed_decimal first) left) (with_rest (signed_decimal n) right) same) in
+    let more = weight_after done weights others bytes d_more w_more (λ fewer. stops (omega (arith, fewer, d_long, w_long))) both.1 in
+    record { next = more.next; more = more.more; is = more.is; splits = more.splits }
 
-  pub no_first_weight : ((n : ℤ) → IsTrue (is_weight n) → signed_decimal n ≡ word → ⊥)
-      → (v : Version) (w : Weights) (rest : Option (List ℕ)) → IsTrue (are_weights v w) → with_weights w rest ≡ bytes → ⊥
-  no_first_weight never v w rest is same =
-      let value = value_is v w is in
-      never w.of_value value (first_is w.of_value value (option_map_or (λ (n : ℤ). Some (with_rest (signed_decimal n) rest)) w.of_dead_end rest) same).0
+module _ (start : Option (List ℕ)) (most : ℕ) (done : List ℤ) (are : IsTrue (list_all is_weight done)) (few : length done < most)
+    (bytes word : List ℕ) (following : Option (List ℕ)) (first : IsFirstWord bytes word following) (read : then_weights done (Some bytes) ≡ start) where
+  pub no_weights : ((n : ℤ) → IsTrue (is_weight n) → signed_decimal n ≡ word → ⊥) → (weights : List ℤ) (others : Option (List ℕ)) → IsLeading start most weights others → ⊥
+  no_weights other weights others is =
+      let next = weight_after done weights others bytes are is.are (λ fewer. is.stops (omega (arith, fewer, few))) (read ∙ sym is.splits) in
+      let both = one_first word (signed_decimal next.next) following (then_weights next.more others) first.is_word (weight_is_word next.next next.is) (sym first.splits ∙ next.splits) in
+      other next.next next.is (sym both.0)
 
-  pub no_second_weight : ((n : ℤ) (rest : Option (List ℕ)) → IsTrue (is_weight n) → Some (with_rest (signed_decimal n) rest) ≡ following → ⊥)
-      → (w : Weights) (rest : Option (List ℕ)) → IsTrue (are_weights two w) → with_weights w rest ≡ bytes → ⊥
-  no_second_weight never w rest = by_second w.of_value w.of_dead_end
-    where
-      by_second : (a : ℤ) (m : Option ℤ) → IsTrue (are_weights two (pair a m)) → with_weights (pair a m) rest ≡ bytes → ⊥
-      by_second a None is same = absurd (cc ((and_parts (is_weight a) false is).1))
-      by_second a (Some n) is same =
-          let (a_is, n_is) = and_parts (is_weight a) (is_weight n) is in
-          never n rest n_is (first_is a a_is (Some (with_rest (signed_decimal n) rest)) same).1
+  pub one_weight_more : (n : ℤ) → signed_decimal n ≡ word → then_weights (done ++ n ∷ []) following ≡ start
+  one_weight_more n is =
+      ap (λ words. then_words words following) (map-append signed_decimal done (n ∷ []))
+      ∙ sym (then_words_more (map signed_decimal done) (signed_decimal n) following)
+      ∙ ap (λ word. then_weights done (Some (with_rest word following))) is
+      ∙ ap (λ bytes. then_weights done (Some bytes)) (sym first.splits)
+      ∙ read
 
--- the second weight, where what comes after the first is none
-pub no_word_after : (following : Option (Bor (List ℕ))) (bytes : Bor (List ℕ)) (word : List ℕ) (rest : Option (List ℕ)) → following ≡ Some bytes → IsFirstWord bytes.now word rest
-    → ((n : ℤ) → IsTrue (is_weight n) → signed_decimal n ≡ word → ⊥)
-    → (n : ℤ) (more : Option (List ℕ)) → IsTrue (is_weight n) → ◌≡◌ {A = Option (List ℕ)} (Some (with_rest (signed_decimal n) more)) (text_in following) → ⊥
-no_word_after following bytes word rest at first never n more is same =
-    never n is (first_is bytes.now word rest first n is more (some_same (with_rest (signed_decimal n) more) bytes.now (same ∙ ap text_in at))).0
+pub more_weights : (done : List ℤ) (n : ℤ) → IsTrue (list_all is_weight done) → IsTrue (is_weight n) → IsTrue (list_all is_weight (done ++ n ∷ []))
+more_weights [] n all is = ap (λ b. b && true) is
+more_weights (w ∷ done) n all is =
+    let (here, more) = and_parts (is_weight w) (list_all is_weight done) all in
+    ap (λ b. b && list_all is_weight (done ++ n ∷ [])) here ∙ more_weights done n more is
 
--- where there is none after the first weight, no weights are read, whatever is answered then
-pub none_after : {X P Q : Type 0} (read : Option X) → (P → Q) → IfNone read P → IfNone read Q
-none_after None then none = then none
-none_after (Some x) then none = tt
+pub one_longer : (done : List ℤ) (n : ℤ) (most : ℕ) → length done < most → length (done ++ n ∷ []) ≤ most
+one_longer done n most few = omega (arith, few, length-append done (n ∷ []))

@@ -4,8 +4,7 @@ use Rattle.std.specs.Global.{Vec}
 use Rattle.certificate_reader.specs.declared.line.Claim.{Claim}
 use Rattle.certificate_reader.specs.declared.line.Claim.TheVariants.{Bound, Unsolvable}
 use Rattle.certificate_reader.specs.declared.line.Version.{Version}
-use Rattle.certificate_reader.specs.declared.line.Version.TheVariants.{One, Two}
-use Rattle.certificate_reader.specs.declared.line.Weights.{Weights}
+use Rattle.certificate_reader.specs.declared.line.Version.TheVariants.{One, Two, Three}
 use Rattle.certificate_reader.specs.declared.line.Mark.{Mark}
 use Rattle.certificate_reader.specs.declared.line.Mark.TheVariants.{Open, Cut, Dead}
 use Rattle.certificate_reader.specs.declared.line.StateLine.{StateLine}
@@ -23,9 +22,7 @@ claim_of Unsolvable = claims.none
 abbrev pub version_of : Version → certificates.Version
 version_of One = certificates.one
 version_of Two = certificates.two
-
-abbrev pub weights_of : Weights → text.Weights
-weights_of w = record { of_value = w.of_value; of_dead_end = w.of_dead_end }
+version_of Three = certificates.three
 
 abbrev pub mark_of : Mark → claims.Mark
 mark_of Open = claims.opened
@@ -44,8 +41,10 @@ named_atom_of a = record { predicate = name_of a.predicate; objects = map name_o
 abbrev pub text_line_of : CertLine → text.TextLine
 text_line_of (line.Head version) = text.version (version_of version)
 text_line_of (line.Claim claim) = text.claims (claim_of claim)
-text_line_of (line.Constant k) = text.constant (weights_of k)
+text_line_of (line.Constant k) = text.constant k.items
 text_line_of (line.Weight weights predicate objects) =
-    text.atom (record { weights = weights_of weights; atom = record { predicate = name_of predicate; objects = map name_of objects.items } })
+    text.atom (record { weights = weights.items; atom = record { predicate = name_of predicate; objects = map name_of objects.items } })
+text_line_of (line.Table scope) = text.tabled (text.scope scope.items)
+text_line_of (line.Row weights atoms) = text.tabled (text.row (record { weights = weights.items; atoms = atoms.items }))
 text_line_of (line.Listed l) = text.listed (line_of l)
 text_line_of (line.Last count) = text.last count

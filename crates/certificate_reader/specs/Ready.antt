@@ -17,7 +17,7 @@ abbrev pub come_at : CertificatePlace → List ℕ → Bool
 come_at at_version bytes = is_ready bytes
 come_at (at_claim v) bytes = is_ready bytes
 come_at (at_constant v) bytes = is_ready bytes
-come_at (in_body v atoms states) bytes = is_ready bytes
+come_at (in_body b) bytes = is_ready bytes
 come_at ended [] = false
 come_at ended (byte ∷ bytes) = true
 

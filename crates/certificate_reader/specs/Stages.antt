@@ -1,11 +1,15 @@
 -- Where the code's reader is, and what comes of a line there.
-use Rattle.std.specs.Prelude.{◌≡◌, ◌≢◌, ℕ, Bool, true, ◌&&◌, nat_le, List, ◌++◌, codes, None, Some, Result, Ok, Err, IsTrue}
+use Rattle.std.specs.Prelude.{◌≡◌, ◌≢◌, ℕ, ◌<◌, Bool, true, ◌&&◌, nat_le, List, ◌++◌, codes, None, Some, Result, Ok, Err, IsTrue}
 use Rattle.std.specs.Fmt.{decimal}
-use Rattle.certificate_definitions.specs.Certificates.{Version, one, is_number}
+use Rattle.certificate_definitions.specs.Certificates.{is_number}
 use Rattle.certificate_reader.specs.declared.line.CertLine.{CertLine}
+use Rattle.certificate_reader.specs.declared.format.Format.{Format}
 use Rattle.certificate_reader.specs.Lines.{text_line_of, version_of}
-use Rattle.certificate_definitions.specs.CertificateText.{TextLine, atom, listed, is_line, line_text, most_atoms, most_states}
-use Rattle.certificate_definitions.specs.CertificateMachine.{CertificatePlace, at_version, at_claim, at_constant, in_body, ended, next_place}
+use Rattle.certificate_definitions.specs.CertificateText as text
+use Rattle.certificate_definitions.specs.CertificateText.{scope, row, TextLine, atom, tabled, listed, is_line, line_text, most_atoms, most_tables, most_rows, most_states}
+use Rattle.certificate_definitions.specs.CertificateMachine as machine
+use Rattle.certificate_definitions.specs.CertificateMachine.{CertificatePlace, at_version, at_claim, at_constant, in_body, ended, format_at, next_place}
+use Rattle.certificate_reader.specs.declared.stage.Body.{Body}
 use Rattle.certificate_reader.specs.declared.stage.Stage.{Stage}
 use Rattle.certificate_reader.specs.declared.stage.Stage.TheVariants as stage
 use Rattle.certificate_reader.specs.declared.fault.NextFault.{NextFault}
@@ -13,35 +17,28 @@ use Rattle.certificate_reader.specs.declared.fault.NextFault.TheVariants.{Text, 
 use Rattle.certificate_reader.specs.declared.fault.TextFault.{TextFault}
 use Rattle.certificate_reader.specs.declared.fault.TextFault.TheVariants as fault
 
+abbrev pub format_of : Format → text.Format
+format_of f = record { version = version_of f.version; weights = f.weights; atoms = f.atoms }
+
+abbrev pub body_of : Body → machine.Body
+body_of b = record { format = format_of b.format; tables = b.tables; rows = b.rows; states = b.states }
+
 abbrev pub place_of : Stage → CertificatePlace
 place_of stage.Version = at_version
 place_of (stage.Claim version) = at_claim (version_of version)
 place_of (stage.Constants version) = at_constant (version_of version)
-place_of (stage.Body version atoms states) = in_body (version_of version) atoms states
+place_of (stage.Body b) = in_body (body_of b)
 place_of stage.Ended = ended
 
--- the version of the text; where none is reported yet, or none matters any more, any will do
-abbrev pub version_at : CertificatePlace → Version
-version_at at_version = one
-version_at (at_claim v) = v
-version_at (at_constant v) = v
-version_at (in_body v atoms states) = v
-version_at ended = one
+-- the body has weights, and no more atoms, tables, rows and states than there may be
+abbrev pub is_body_within : machine.Body → Bool
+is_body_within b = nat_le 1 b.format.weights && (nat_le b.format.atoms most_atoms && nat_le b.tables most_tables && nat_le b.rows most_rows && nat_le b.states most_states)
 
--- how many atoms come before the place
-abbrev pub atoms_at : CertificatePlace → ℕ
-atoms_at at_version = 0
-atoms_at (at_claim v) = 0
-atoms_at (at_constant v) = 0
-atoms_at (in_body v atoms states) = atoms
-atoms_at ended = 0
-
--- the place is after no more atoms and states than there may be
 abbrev pub is_within : CertificatePlace → Bool
 is_within at_version = true
 is_within (at_claim v) = true
 is_within (at_constant v) = true
-is_within (in_body v atoms states) = nat_le atoms most_atoms && nat_le states most_states
+is_within (in_body b) = is_body_within b
 is_within ended = true
 
 abbrev pub IsWithin : CertificatePlace → Type 0
@@ -49,8 +46,10 @@ IsWithin place = IsTrue (is_within place)
 
 -- the line could occur there but for a limit
 abbrev pub IsOver : CertificatePlace → TextLine → Type 0
-IsOver (in_body v atoms states) (atom a) = (states ≡ 0) × (atoms ≡ most_atoms)
-IsOver (in_body v atoms states) (listed l) = states ≡ most_states
+IsOver (in_body b) (atom a) = (b.tables ≡ 0) × (b.states ≡ 0) × (b.format.atoms ≡ most_atoms)
+IsOver (in_body b) (tabled (scope s)) = (b.states ≡ 0) × (b.tables ≡ most_tables)
+IsOver (in_body b) (tabled (row r)) = (0 < b.tables) × (b.states ≡ 0) × (b.rows ≡ most_rows)
+IsOver (in_body b) (listed l) = b.states ≡ most_states
 IsOver _ _ = ⊥
 
 -- the line leads to this stage, is one too many, or cannot occur there
@@ -64,11 +63,11 @@ IsStep place line _ = ⊥
 abbrev pub IsReadAt : CertificatePlace → List ℕ → Result (CertLine × Stage) NextFault → Type 0
 IsReadAt place bytes (Ok (line, next)) = (line_text (text_line_of line) ≡ bytes) × (next_place place (text_line_of line) ≡ Some (place_of next))
 IsReadAt place bytes (Err (Text fault.Version)) =
-    (place ≡ at_version) × ((number : ℕ) × IsTrue (is_number number) × (number ≢ 1) × (number ≢ 2) × (codes "pddl-cert " ++ decimal number ≡ bytes))
-IsReadAt place bytes (Err (Text fault.Limit)) = (line : TextLine) × IsTrue (is_line (version_at place) (atoms_at place) line) × IsOver place line × (line_text line ≡ bytes)
+    (place ≡ at_version) × ((number : ℕ) × IsTrue (is_number number) × (number ≢ 1) × (number ≢ 2) × (number ≢ 3) × (codes "pddl-cert " ++ decimal number ≡ bytes))
+IsReadAt place bytes (Err (Text fault.Limit)) = (line : TextLine) × IsTrue (is_line (format_at place) line) × IsOver place line × (line_text line ≡ bytes)
 IsReadAt place bytes (Err (Text fault.Form)) =
     ((line : TextLine) (next : CertificatePlace) → next_place place line ≡ Some next → line_text line ≢ bytes)
-    × ((line : TextLine) → IsTrue (is_line (version_at place) (atoms_at place) line) → IsOver place line → line_text line ≢ bytes)
-    × (place ≡ at_version → (number : ℕ) → IsTrue (is_number number) → number ≢ 1 → number ≢ 2 → codes "pddl-cert " ++ decimal number ≢ bytes)
+    × ((line : TextLine) → IsTrue (is_line (format_at place) line) → IsOver place line → line_text line ≢ bytes)
+    × (place ≡ at_version → (number : ℕ) → IsTrue (is_number number) → number ≢ 1 → number ≢ 2 → number ≢ 3 → codes "pddl-cert " ++ decimal number ≢ bytes)
 IsReadAt place bytes (Err NoMemory) = Unit {0}
 IsReadAt place bytes _ = ⊥

@@ -1,14 +1,14 @@
 -- The words of a line, and a line by its first word and what comes after it.
-use Rattle.std.specs.Prelude.{◌≡◌, ℕ, ℤ, ◌==◌, Bool, false, not, ◌||◌, List, [], ◌∷◌, ◌++◌, codes, length, map, Option, None, Some, IsTrue}
+use Rattle.std.specs.Prelude.{◌≡◌, ℕ, ◌<◌, ◌≤◌, ℤ, ◌==◌, Bool, false, not, ◌||◌, List, [], ◌∷◌, ◌++◌, codes, length, map, Option, None, Some, IsTrue}
 use Rattle.std.specs.Borrow.{Bor}
 use Rattle.std.specs.Char.{is_ascii_uppercase}
 use Rattle.std.specs.Fmt.{decimal, signed_decimal}
 use Rattle.std.specs.List.{flat_map, list_all}
-use Rattle.std.specs.Option.{option_map, option_map_or}
+use Rattle.std.specs.Option.{option_map}
 use Rattle.model.specs.PlanWriting.{is_lower_name}
 use Rattle.model.specs.Claims.{Claim, bound, none, Mark, opened, cut, dead}
-use Rattle.certificate_definitions.specs.Certificates.{Version, is_number, rise}
-use Rattle.certificate_definitions.specs.CertificateText.{NamedAtom, Weights, TextLine, version, claims, constant, atom, listed, last, after_blank, is_line, version_number}
+use Rattle.certificate_definitions.specs.Certificates.{is_number, is_weight, rise}
+use Rattle.certificate_definitions.specs.CertificateText.{NamedAtom, scope, row, Format, TextLine, version, claims, constant, atom, tabled, listed, last, after_blank, numbers_text, is_line, version_number}
 
 -- the bytes of a word, where there is one
 abbrev pub text_in : Option (Bor (List ℕ)) → Option (List ℕ)
@@ -54,6 +54,8 @@ line_head (version v) = codes "pddl-cert"
 line_head (claims claim) = codes "claim"
 line_head (constant k) = codes "constant"
 line_head (atom a) = codes "atom"
+line_head (tabled (scope atoms)) = codes "table"
+line_head (tabled (row r)) = codes "row"
 line_head (listed l) = mark_head l.mark
 line_head (last count) = codes "end"
 
@@ -62,26 +64,40 @@ abbrev pub claim_rest : Claim → List ℕ
 claim_rest (bound least) = codes "bound " ++ decimal least
 claim_rest none = codes "none"
 
--- the words of weights, and what comes after them, if anything does
-abbrev pub with_weights : Weights → Option (List ℕ) → List ℕ
-with_weights w rest = with_rest (signed_decimal w.of_value) (option_map_or (λ (n : ℤ). Some (with_rest (signed_decimal n) rest)) w.of_dead_end rest)
+-- these words, each after a blank, and then the rest, if any: all but the first blank
+abbrev pub then_words : List (List ℕ) → Option (List ℕ) → Option (List ℕ)
+then_words [] rest = rest
+then_words (word ∷ words) rest = Some (with_rest word (then_words words rest))
+
+-- weights and what comes after them
+abbrev pub then_weights : List ℤ → Option (List ℕ) → Option (List ℕ)
+then_weights weights = then_words (map signed_decimal weights)
+
+-- numbers, and nothing after them
+abbrev pub then_numbers : List ℕ → Option (List ℕ)
+then_numbers numbers = then_words (map decimal numbers) None
+
+-- The words begin with weights, at most so many, and others come after these only where there are as many.
+pub record IsLeading (words : Option (List ℕ)) (most : ℕ) (weights : List ℤ) (others : Option (List ℕ)) : Type 0 where
+  pub are : IsTrue (list_all is_weight weights)
+  pub few : length weights ≤ most
+  pub stops : length weights < most → others ≡ None
+  pub splits : then_weights weights others ≡ words
 
 -- what comes after the weights of an atom
 abbrev pub atom_rest : NamedAtom → List ℕ
 atom_rest a = codes "(" ++ a.predicate ++ flat_map after_blank a.objects ++ codes ")"
 
-abbrev pub line_rest : TextLine → List ℕ
-line_rest (version v) = decimal (version_number v)
-line_rest (claims claim) = claim_rest claim
-line_rest (constant k) = with_weights k None
-line_rest (atom a) = with_weights a.weights (Some (atom_rest a.atom))
-line_rest (listed l) = mark_rest l.mark l.cost ++ flat_map (λ (number : ℕ). after_blank (decimal number)) l.atoms
-line_rest (last count) = decimal count
-
--- these words, each after a blank, and then the rest, if any: all but the first blank
-abbrev pub then_words : List (List ℕ) → Option (List ℕ) → Option (List ℕ)
-then_words [] rest = rest
-then_words (word ∷ words) rest = Some (with_rest word (then_words words rest))
+-- what comes after the first word of a line and a blank
+abbrev pub line_rest : TextLine → Option (List ℕ)
+line_rest (version v) = Some (decimal (version_number v))
+line_rest (claims claim) = Some (claim_rest claim)
+line_rest (constant k) = then_weights k None
+line_rest (atom a) = then_weights a.weights (Some (atom_rest a.atom))
+line_rest (tabled (scope atoms)) = then_numbers atoms
+line_rest (tabled (row r)) = then_weights r.weights (then_numbers r.atoms)
+line_rest (listed l) = Some (mark_rest l.mark l.cost ++ numbers_text l.atoms)
+line_rest (last count) = Some (decimal count)
 
 -- The bytes are a number, and after it numbers of atoms, rising.
 pub record IsNumbered (bytes : List ℕ) (atom_count number : ℕ) (atoms : List ℕ) : Type 0 where
@@ -98,7 +114,7 @@ abbrev pub is_no_capital : ℕ → Bool
 is_no_capital byte = not (is_ascii_uppercase byte)
 
 -- the line begins with this word, after which these bytes are, and keeps the limits
-pub record IsReadAs (word rest : List ℕ) (v : Version) (atom_count : ℕ) (line : TextLine) : Type 0 where
+pub record IsReadAs (word rest : List ℕ) (f : Format) (line : TextLine) : Type 0 where
   pub head : line_head line ≡ word
-  pub following : line_rest line ≡ rest
-  pub within : IsTrue (is_line v atom_count line)
+  pub following : line_rest line ≡ Some rest
+  pub within : IsTrue (is_line f line)

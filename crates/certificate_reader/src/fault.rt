@@ -11,7 +11,7 @@ pub enum TextFault {
     Version,
     /// The text ends before the last line does: 42.
     Truncated,
-    /// One atom, or one state, more than there may be: 55.
+    /// One atom, one table, one row or one state more than there may be: 55.
     Limit,
 }
 

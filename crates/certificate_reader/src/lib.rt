@@ -3,6 +3,7 @@
 
 mod fault;
 mod first_word;
+mod format;
 mod laws;
 mod line;
 mod lower_names;
@@ -17,9 +18,9 @@ mod stage;
 mod waiting;
 
 pub use fault::TextFault;
-pub use laws::texts_are_certificates_one_for_one;
+pub use laws::{text_examples_are_judged, texts_are_certificates_one_for_one};
 pub use line::{
-    CertLine, Claim, LONGEST_LINE, MAX_ATOMS, MAX_STATE_LINES, MAX_WEIGHT, Mark, NUMBER_LIMIT,
-    NamedAtom, StateLine, Version, Weights,
+    CertLine, Claim, LONGEST_LINE, MAX_ATOMS, MAX_CONSTANTS, MAX_ROWS, MAX_STATE_LINES, MAX_TABLES,
+    MAX_WEIGHT, Mark, NUMBER_LIMIT, NamedAtom, StateLine, Version,
 };
 pub use reader::{CertFault, CertReader};

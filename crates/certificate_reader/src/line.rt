@@ -3,8 +3,17 @@
 /// The most atoms that a certificate may have.
 pub const MAX_ATOMS: usize = 1_048_576;
 
+/// The most tables that a certificate may have.
+pub const MAX_TABLES: usize = 4_194_304;
+
+/// The most rows that the tables of a certificate may have together.
+pub const MAX_ROWS: usize = 4_194_304;
+
 /// The most state lines that a certificate may have.
 pub const MAX_STATE_LINES: usize = 16_777_216;
+
+/// The most constants of a certificate: one for each of 32 values, and one for dead ends.
+pub const MAX_CONSTANTS: usize = 33;
 
 /// Each constant of a certificate and each of its weights is at most this, and no less than its negative.
 pub const MAX_WEIGHT: i64 = 2_147_483_647;
@@ -24,23 +33,16 @@ pub enum Claim {
     Unsolvable,
 }
 
-/// The version of a certificate's text. In version 2 a state may be listed as a dead end, and each atom has a second weight,
-/// by which dead ends are reported.
+/// The version of a certificate's text. From version 2 on a state may be listed as a dead end, and each atom has a last weight,
+/// by which dead ends are reported. In version 3 there are up to 32 values, and tables.
 #[derive(Clone, Copy, Debug, PartialEq, Eq)]
 pub enum Version {
     /// `pddl-cert 1`.
     One,
     /// `pddl-cert 2`.
     Two,
-}
-
-/// Two constants, or the two weights of an atom.
-#[derive(Clone, Copy, Debug, PartialEq, Eq)]
-pub struct Weights {
-    /// That by which a state has a value, a lower bound of what is still to pay from it on.
-    pub of_value: i64,
-    /// That by which a state is reported as a dead end. Version 1 has none.
-    pub of_dead_end: Option<i64>,
+    /// `pddl-cert 3`.
+    Three,
 }
 
 /// What a listing says of a state.
@@ -84,16 +86,28 @@ pub enum CertLine {
     Head(Version),
     /// The claim: `claim bound 6`, `claim none`.
     Claim(Claim),
-    /// The constants of the potential functions: `constant 6 1`, and in version 1 `constant 6`.
-    Constant(Weights),
+    /// The constants, one for each value and, last, one for dead ends: `constant 6 1`, and in version 1 `constant 6`.
+    Constant(Vec<i64>),
     /// An atom and its weights: `atom -3 0 (at b)`, and in version 1 `atom -3 (at b)`.
     Weight {
-        /// The weights.
-        weights: Weights,
+        /// The weights, as many as there are constants.
+        weights: Vec<i64>,
         /// The name of the atom's predicate, in lower case.
         predicate: Vec<u8>,
         /// The names of its objects, in order.
         objects: Vec<Vec<u8>>,
+    },
+    /// A table, which looks at these atoms: `table 0 2`.
+    Table {
+        /// The atoms, by their places, rising.
+        scope: Vec<u32>,
+    },
+    /// A row of the last table: `row 3 0 2`.
+    Row {
+        /// The weights, as many as there are constants.
+        weights: Vec<i64>,
+        /// Those of the table's atoms that are true, by their places, rising.
+        atoms: Vec<u32>,
     },
     /// A state: `open 3 0 2`, `cut 6 2 0 1`, `dead 1 2`.
     Listed(StateLine),

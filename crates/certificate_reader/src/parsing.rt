@@ -1,42 +1,39 @@
 //! A line of a certificate's text, read.
 ghost use Rattle.std.specs.Prelude.{◌≡◌, ◌≢◌, ℕ, ◌≤◌, ◌++◌, codes, Err, IfNone, IfOk, IfSome, IsTrue, List, Some, length};
 ghost use Rattle.std.specs.Fmt.{decimal};
-ghost use Rattle.certificate_definitions.specs.Certificates as certificates;
 ghost use Rattle.certificate_definitions.specs.Certificates.{is_number};
 ghost use Rattle.certificate_definitions.specs.CertificateText.{TextLine, is_line, line_text, listed, longest_line, most_atoms};
-ghost use Rattle.certificate_reader.specs.Lines.{line_of, named_atom_of, text_line_of, version_of};
+ghost use Rattle.certificate_reader.specs.Lines.{named_atom_of};
+ghost use Rattle.certificate_reader.specs.Stages.{format_of};
 ghost use Rattle.certificate_definitions.specs.CertificateText as text;
 ghost use Rattle.certificate_reader.specs.Parsing.{IsParsed, IsParsedAfter};
 ghost use Rattle.certificate_reader.specs.Words.{IsReadAs, are_lower, atom_rest, with_rest};
 
 use crate::fault::{NextFault, TextFault};
 use crate::first_word::{first_word, is};
-use crate::line::{CertLine, Mark, NamedAtom, StateLine, Version};
+use crate::format::{Format, has_tables, is_weight_count};
+use crate::line::{CertLine, MAX_CONSTANTS, Mark, NamedAtom, StateLine, Version};
 use crate::lower_names::{copy, is_lower_name, names};
 use crate::number::number;
-use crate::parts::{claim, numbered, weights};
+use crate::parts::{claim, leading_weights, numbered, numbers};
 use std::alloc::{AllocError, Global};
 
-/// The line that these bytes are, without an LF, in a text of this version, where so many atoms are named by their numbers.
+/// The line that these bytes are, without an LF, in a text of this format.
 ///
 /// # Errors
-/// [`TextFault::Version`] for `pddl-cert N` where N is neither 1 nor 2; [`TextFault::Form`] for all else that is no line;
+/// [`TextFault::Version`] for `pddl-cert N` where N is none of 1, 2 and 3; [`TextFault::Form`] for all else that is no line;
 /// [`NextFault::NoMemory`] where memory is refused.
-pub(crate) fn parse(
-    alloc: Global,
-    bytes: &[u8],
-    version: Version,
-    atom_count: usize,
-) -> Result<CertLine, NextFault>
-    requires few { atom_count ≤ most_atoms }
+pub(crate) fn parse(alloc: Global, bytes: &[u8], format: Format) -> Result<CertLine, NextFault>
+    requires some { 1 ≤ format.weights }
+    requires few { format.atoms ≤ most_atoms }
     requires short { length bytes.now ≤ longest_line }
-    ensures { IsParsed bytes.now (version_of version) atom_count result }
+    ensures { IsParsed bytes.now (format_of format) result }
 {
     let (word, following) = first_word(bytes);
     let Some(rest) = following else {
         return Err(NextFault::Text(TextFault::Form));
     };
-    parse_after(alloc, word, rest, version, atom_count)
+    parse_after(alloc, word, rest, format)
 }
 
 /// The line that begins with this word, after which the rest is.
@@ -44,24 +41,29 @@ fn parse_after(
     alloc: Global,
     word: &[u8],
     rest: &[u8],
-    version: Version,
-    atom_count: usize,
+    format: Format,
 ) -> Result<CertLine, NextFault>
-    requires few { atom_count ≤ most_atoms }
+    requires few { format.atoms ≤ most_atoms }
     requires short { length (with_rest word.now (Some rest.now)) ≤ longest_line }
-    ensures { IsParsedAfter word.now rest.now (version_of version) atom_count result }
+    ensures { IsParsedAfter word.now rest.now (format_of format) result }
 {
     if is(word, b"open") {
-        return open_line(alloc, rest, atom_count);
+        return open_line(alloc, rest, format);
     }
     if is(word, b"cut") {
-        return cut_line(alloc, rest, atom_count);
+        return cut_line(alloc, rest, format);
     }
     if is(word, b"dead") {
-        return dead_line(alloc, rest, version, atom_count);
+        return dead_line(alloc, rest, format);
+    }
+    if is(word, b"row") {
+        return row_line(alloc, rest, format);
+    }
+    if is(word, b"table") {
+        return table_line(alloc, rest, format);
     }
     if is(word, b"atom") {
-        return atom_line(alloc, rest, version);
+        return atom_line(alloc, rest, format);
     }
     if is(word, b"end") {
         return last_line(rest);
@@ -70,7 +72,7 @@ fn parse_after(
         return claim_line(rest);
     }
     if is(word, b"constant") {
-        return constant_line(rest, version);
+        return constant_line(alloc, rest, format);
     }
     if is(word, b"pddl-cert") {
         return head_line(rest);
@@ -80,11 +82,12 @@ fn parse_after(
 
 /// The first line, of which the rest comes after `pddl-cert`.
 fn head_line(rest: &[u8]) -> Result<CertLine, NextFault>
-    ensures { (v : certificates.Version) (atom_count : ℕ) → IsParsedAfter (codes "pddl-cert") rest.now v atom_count result }
+    ensures { (f : text.Format) → IsParsedAfter (codes "pddl-cert") rest.now f result }
 {
     match number(rest) {
         Some(1) => Ok(CertLine::Head(Version::One)),
         Some(2) => Ok(CertLine::Head(Version::Two)),
+        Some(3) => Ok(CertLine::Head(Version::Three)),
         Some(_) => Err(NextFault::Text(TextFault::Version)),
         None => Err(NextFault::Text(TextFault::Form)),
     }
@@ -92,7 +95,7 @@ fn head_line(rest: &[u8]) -> Result<CertLine, NextFault>
 
 /// The line of the claim that comes after `claim`.
 fn claim_line(rest: &[u8]) -> Result<CertLine, NextFault>
-    ensures { (v : certificates.Version) (atom_count : ℕ) → IsParsedAfter (codes "claim") rest.now v atom_count result }
+    ensures { (f : text.Format) → IsParsedAfter (codes "claim") rest.now f result }
 {
     match claim(rest) {
         Some(claim) => Ok(CertLine::Claim(claim)),
@@ -101,21 +104,24 @@ fn claim_line(rest: &[u8]) -> Result<CertLine, NextFault>
 }
 
 /// The line of the constants that come after `constant`.
-fn constant_line(rest: &[u8], version: Version) -> Result<CertLine, NextFault>
-    ensures { (atom_count : ℕ) → IsParsedAfter (codes "constant") rest.now (version_of version) atom_count result }
+fn constant_line(alloc: Global, rest: &[u8], format: Format) -> Result<CertLine, NextFault>
+    ensures { IsParsedAfter (codes "constant") rest.now (format_of format) result }
 {
-    let Some((constants, following)) = weights(rest, version) else {
+    let Some((constants, following)) = leading_weights(alloc, Some(rest), MAX_CONSTANTS)? else {
         return Err(NextFault::Text(TextFault::Form));
     };
-    match following {
-        None => Ok(CertLine::Constant(constants)),
-        Some(_) => Err(NextFault::Text(TextFault::Form)),
+    if following.is_some() {
+        return Err(NextFault::Text(TextFault::Form));
     }
+    if !is_weight_count(format.version, constants.len()) {
+        return Err(NextFault::Text(TextFault::Form));
+    }
+    Ok(CertLine::Constant(constants))
 }
 
 /// The last line, whose count comes after `end`.
 fn last_line(rest: &[u8]) -> Result<CertLine, NextFault>
-    ensures { (v : certificates.Version) (atom_count : ℕ) → IsParsedAfter (codes "end") rest.now v atom_count result }
+    ensures { (f : text.Format) → IsParsedAfter (codes "end") rest.now f result }
 {
     match number(rest) {
         Some(count) => Ok(CertLine::Last { count }),
@@ -124,13 +130,14 @@ fn last_line(rest: &[u8]) -> Result<CertLine, NextFault>
 }
 
 /// The line of the atom, with its weights, that comes after `atom`.
-fn atom_line(alloc: Global, rest: &[u8], version: Version) -> Result<CertLine, NextFault>
+fn atom_line(alloc: Global, rest: &[u8], format: Format) -> Result<CertLine, NextFault>
     requires short { length (with_rest (codes "atom") (Some rest.now)) ≤ longest_line }
-    ensures { (atom_count : ℕ) → IsParsedAfter (codes "atom") rest.now (version_of version) atom_count result }
+    ensures { IsParsedAfter (codes "atom") rest.now (format_of format) result }
 {
-    let Some((weights, following)) = weights(rest, version) else {
+    let Some((weights, following)) = leading_weights(alloc, Some(rest), format.weights)? else {
         return Err(NextFault::Text(TextFault::Form));
     };
+    // What comes after the weights comes after all of them.
     let Some(following) = following else {
         return Err(NextFault::Text(TextFault::Form));
     };
@@ -144,12 +151,46 @@ fn atom_line(alloc: Global, rest: &[u8], version: Version) -> Result<CertLine, N
     }
 }
 
-/// The line of the open state that comes after `open`.
-fn open_line(alloc: Global, rest: &[u8], atom_count: usize) -> Result<CertLine, NextFault>
-    requires few { atom_count ≤ most_atoms }
-    ensures { (v : certificates.Version) → IsParsedAfter (codes "open") rest.now v atom_count result }
+/// The line of the table whose scope comes after `table`.
+fn table_line(alloc: Global, rest: &[u8], format: Format) -> Result<CertLine, NextFault>
+    requires few { format.atoms ≤ most_atoms }
+    ensures { IsParsedAfter (codes "table") rest.now (format_of format) result }
 {
-    match numbered(alloc, rest, atom_count)? {
+    if !has_tables(format.version) {
+        return Err(NextFault::Text(TextFault::Form));
+    }
+    match numbers(alloc, Some(rest), format.atoms)? {
+        Some(scope) => Ok(CertLine::Table { scope }),
+        None => Err(NextFault::Text(TextFault::Form)),
+    }
+}
+
+/// The line of the row, with its weights, that comes after `row`.
+fn row_line(alloc: Global, rest: &[u8], format: Format) -> Result<CertLine, NextFault>
+    requires few { format.atoms ≤ most_atoms }
+    ensures { IsParsedAfter (codes "row") rest.now (format_of format) result }
+{
+    if !has_tables(format.version) {
+        return Err(NextFault::Text(TextFault::Form));
+    }
+    let Some((weights, following)) = leading_weights(alloc, Some(rest), format.weights)? else {
+        return Err(NextFault::Text(TextFault::Form));
+    };
+    if weights.len() < format.weights {
+        return Err(NextFault::Text(TextFault::Form));
+    }
+    match numbers(alloc, following, format.atoms)? {
+        Some(atoms) => Ok(CertLine::Row { weights, atoms }),
+        None => Err(NextFault::Text(TextFault::Form)),
+    }
+}
+
+/// The line of the open state that comes after `open`.
+fn open_line(alloc: Global, rest: &[u8], format: Format) -> Result<CertLine, NextFault>
+    requires few { format.atoms ≤ most_atoms }
+    ensures { IsParsedAfter (codes "open") rest.now (format_of format) result }
+{
+    match numbered(alloc, rest, format.atoms)? {
         Some((cost, atoms)) => Ok(CertLine::Listed(StateLine {
             cost,
             mark: Mark::Open,
@@ -160,9 +201,9 @@ fn open_line(alloc: Global, rest: &[u8], atom_count: usize) -> Result<CertLine, 
 }
 
 /// The line of the cut that comes after `cut`.
-fn cut_line(alloc: Global, rest: &[u8], atom_count: usize) -> Result<CertLine, NextFault>
-    requires few { atom_count ≤ most_atoms }
-    ensures { (v : certificates.Version) → IsParsedAfter (codes "cut") rest.now v atom_count result }
+fn cut_line(alloc: Global, rest: &[u8], format: Format) -> Result<CertLine, NextFault>
+    requires few { format.atoms ≤ most_atoms }
+    ensures { IsParsedAfter (codes "cut") rest.now (format_of format) result }
 {
     let (word, following) = first_word(rest);
     let Some(cost) = number(word) else {
@@ -171,7 +212,7 @@ fn cut_line(alloc: Global, rest: &[u8], atom_count: usize) -> Result<CertLine, N
     let Some(following) = following else {
         return Err(NextFault::Text(TextFault::Form));
     };
-    match numbered(alloc, following, atom_count)? {
+    match numbered(alloc, following, format.atoms)? {
         Some((least, atoms)) => Ok(CertLine::Listed(StateLine {
             cost,
             mark: Mark::Cut { rest: least },
@@ -182,19 +223,14 @@ fn cut_line(alloc: Global, rest: &[u8], atom_count: usize) -> Result<CertLine, N
 }
 
 /// The line of the dead end that comes after `dead`; version 1 has none.
-fn dead_line(
-    alloc: Global,
-    rest: &[u8],
-    version: Version,
-    atom_count: usize,
-) -> Result<CertLine, NextFault>
-    requires few { atom_count ≤ most_atoms }
-    ensures { IsParsedAfter (codes "dead") rest.now (version_of version) atom_count result }
+fn dead_line(alloc: Global, rest: &[u8], format: Format) -> Result<CertLine, NextFault>
+    requires few { format.atoms ≤ most_atoms }
+    ensures { IsParsedAfter (codes "dead") rest.now (format_of format) result }
 {
-    if let Version::One = version {
+    if let Version::One = format.version {
         return Err(NextFault::Text(TextFault::Form));
     }
-    match numbered(alloc, rest, atom_count)? {
+    match numbered(alloc, rest, format.atoms)? {
         Some((cost, atoms)) => Ok(CertLine::Listed(StateLine {
             cost,
             mark: Mark::Dead,

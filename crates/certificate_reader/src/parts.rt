@@ -1,16 +1,14 @@
 //! What comes after the first word of a line.
-ghost use Rattle.std.specs.Prelude.{◌≡◌, ◌≢◌, ℕ, ℤ, ◌≤◌, ◌<◌, Err, IfNone, IfOk, IfSome, IsTrue, List, None, OnOk, Option, Some, codes, map};
-ghost use Rattle.std.specs.Fmt.{decimal, signed_decimal};
-ghost use Rattle.std.specs.List.{list_all};
+ghost use Rattle.std.specs.Prelude.{◌≡◌, ◌≢◌, ℕ, ℤ, ◌≤◌, ◌<◌, IfNone, IfOk, IfSome, IsTrue, List, None, Option, map};
+ghost use Rattle.std.specs.Fmt.{decimal};
 ghost use Rattle.model.specs.Claims as model;
-ghost use Rattle.certificate_definitions.specs.Certificates.{is_claim, is_number, is_weight, rise};
-ghost use Rattle.certificate_definitions.specs.CertificateText as text;
-ghost use Rattle.certificate_definitions.specs.CertificateText.{are_weights, most_atoms};
-ghost use Rattle.certificate_reader.specs.Lines.{claim_of, version_of, weights_of};
-ghost use Rattle.certificate_reader.specs.Words.{IsNumbered, claim_rest, text_in, then_words, with_rest, with_weights};
+ghost use Rattle.certificate_definitions.specs.Certificates.{is_claim, rise};
+ghost use Rattle.certificate_definitions.specs.CertificateText.{most_atoms};
+ghost use Rattle.certificate_reader.specs.Lines.{claim_of};
+ghost use Rattle.certificate_reader.specs.Words.{IsLeading, IsNumbered, claim_rest, text_in, then_words};
 
 use crate::first_word::{first_word, is};
-use crate::line::{Claim, Version, Weights};
+use crate::line::Claim;
 use crate::number::{number, weight};
 use std::alloc::{AllocError, Global};
 
@@ -36,50 +34,30 @@ pub(crate) fn claim(rest: &[u8]) -> Option<Claim>
     }
 }
 
-/// The constants, or the weights of an atom, that the bytes begin with, and what comes after them; `None` where they begin
-/// with none. In version 1 there is one, in version 2 there are two.
-pub(crate) fn weights(bytes: &[u8], version: Version) -> Option<(Weights, Option<&[u8]>)>
-    ensures some { IfSome result (λ read. IsTrue (are_weights (version_of version) (weights_of read.0))
-        × (with_weights (weights_of read.0) (text_in read.1) ≡ bytes.now)) }
-    ensures none { IfNone result ((w : text.Weights) (rest : Option (List ℕ)) → IsTrue (are_weights (version_of version) w)
-        → with_weights w rest ≢ bytes.now) }
+/// The weights that the words begin with, at most so many, and what comes after them; `None` where a word among those is none.
+pub(crate) fn leading_weights(
+    alloc: Global,
+    rest: Option<&[u8]>,
+    most: usize,
+) -> Result<Option<(Vec<i64>, Option<&[u8]>)>, AllocError>
+    ensures some { IfOk result (λ found. IfSome found (λ read. IsLeading (text_in rest.entry) most read.0.items (text_in read.1))) }
+    ensures none { IfOk result (λ found. IfNone found ((weights : List ℤ) (others : Option (List ℕ))
+        → IsLeading (text_in rest.entry) most weights others → ⊥)) }
 {
-    let (word, following) = first_word(bytes);
-    let Some(of_value) = weight(word) else {
-        return None;
-    };
-    match version {
-        Version::One => Some((
-            Weights {
-                of_value,
-                of_dead_end: None,
-            },
-            following,
-        )),
-        Version::Two => two_weights(of_value, following),
+    let mut weights = Vec::new(alloc);
+    let mut left = rest;
+    'words: while weights.len() < most {
+        let Some(bytes) = left else {
+            return Ok(Some((weights, None)));
+        };
+        let (word, following) = first_word(bytes);
+        let Some(next) = weight(word) else {
+            return Ok(None);
+        };
+        weights.push(next)?;
+        left = following;
     }
-}
-
-/// This weight and one after it, with what comes after that; `None` where there is none after it.
-fn two_weights(of_value: i64, following: Option<&[u8]>) -> Option<(Weights, Option<&[u8]>)>
-    ensures some { IfSome result (λ read. (n : ℤ) × (weights_of read.0 ≡ record { of_value = of_value; of_dead_end = Some n }) × IsTrue (is_weight n)
-        × (Some (with_rest (signed_decimal n) (text_in read.1)) ≡ text_in following.entry)) }
-    ensures none { IfNone result ((n : ℤ) (rest : Option (List ℕ)) → IsTrue (is_weight n) → Some (with_rest (signed_decimal n) rest) ≢ text_in following.entry) }
-{
-    let Some(bytes) = following else {
-        return None;
-    };
-    let (word, rest) = first_word(bytes);
-    let Some(of_dead_end) = weight(word) else {
-        return None;
-    };
-    Some((
-        Weights {
-            of_value,
-            of_dead_end: Some(of_dead_end),
-        },
-        rest,
-    ))
+    Ok(Some((weights, left)))
 }
 
 /// A number and, after it, numbers of atoms, rising, and `None` where something else is there.
@@ -103,7 +81,7 @@ pub(crate) fn numbered(
 }
 
 /// The numbers of atoms that the bytes are, rising, and `None` where they are none.
-fn numbers(
+pub(crate) fn numbers(
     alloc: Global,
     rest: Option<&[u8]>,
     atom_count: usize,

@@ -1,12 +1,15 @@
 //! Where a reader is in a certificate, and which line may come next.
-ghost use Rattle.std.specs.Prelude.{◌≡◌, ℕ, ◌≤◌, IsTrue, length};
-ghost use Rattle.certificate_definitions.specs.CertificateText.{WeightedAtom, atom, is_line, longest_line};
-ghost use Rattle.certificate_definitions.specs.CertificateMachine.{in_body};
+ghost use Rattle.std.specs.Prelude.{◌≡◌, ℕ, ◌≤◌, IsTrue, List, length};
+ghost use Rattle.table_functions.specs.TableFunctions.{Row};
+ghost use Rattle.certificate_definitions.specs.Certificates.{StateLine};
+ghost use Rattle.certificate_definitions.specs.CertificateText.{WeightedAtom, scope, row, atom, tabled, listed, is_line, longest_line};
+ghost use Rattle.certificate_definitions.specs.CertificateMachine.{format_at, in_body, no_body, no_format};
 ghost use Rattle.certificate_reader.specs.Lines.{text_line_of, version_of};
-ghost use Rattle.certificate_reader.specs.Stages.{IsReadAt, IsStep, IsWithin, atoms_at, place_of, version_at};
+ghost use Rattle.certificate_reader.specs.Stages.{IsReadAt, IsStep, IsWithin, body_of, format_of, place_of};
 
 use crate::fault::{NextFault, TextFault};
-use crate::line::{CertLine, MAX_ATOMS, MAX_STATE_LINES, Version};
+use crate::format::Format;
+use crate::line::{CertLine, MAX_ATOMS, MAX_ROWS, MAX_STATE_LINES, MAX_TABLES, Version};
 use crate::parsing::parse;
 use std::alloc::Global;
 
@@ -19,46 +22,42 @@ pub(crate) enum Stage {
     Claim(Version),
     /// The constants.
     Constants(Version),
-    /// An atom, where there was no state yet, or a state, or the last line.
-    Body {
-        /// The version of the text.
-        version: Version,
-        /// How many atoms there were.
-        atoms: usize,
-        /// How many states there were.
-        states: usize,
-    },
+    /// What comes after the constants.
+    Body(Body),
     /// Nothing.
     Ended,
 }
 
-impl Stage {
-    /// The version of the text. Where it is not known yet, and where no line comes any more, any will do.
-    pub(crate) fn version(self) -> Version
-        ensures { version_of result ≡ version_at (place_of self) }
-    {
-        match self {
-            Stage::Claim(version) => version,
-            Stage::Constants(version) => version,
-            Stage::Body { version, .. } => version,
-            _ => Version::One,
-        }
-    }
+/// What came after the constants: atoms, which the format counts, then tables with their rows, then states.
+#[derive(Clone, Copy, Debug, PartialEq, Eq)]
+pub(crate) struct Body {
+    /// What was said of the form of lines.
+    pub(crate) format: Format,
+    /// How many tables began.
+    pub(crate) tables: usize,
+    /// How many rows there were.
+    pub(crate) rows: usize,
+    /// How many states there were.
+    pub(crate) states: usize,
+}
 
-    /// How many atoms there were.
-    pub(crate) fn atoms(self) -> usize
-        ensures { result ≡ atoms_at (place_of self) }
+impl Stage {
+    /// What is known of the form of lines. Where it is not known yet, and where no line comes any more, any will do.
+    pub(crate) fn format(self) -> Format
+        ensures { format_of result ≡ format_at (place_of self) }
     {
         match self {
-            Stage::Body { atoms, .. } => atoms,
-            _ => 0,
+            Stage::Claim(version) => no_format(version),
+            Stage::Constants(version) => no_format(version),
+            Stage::Body(body) => body.format,
+            _ => no_format(Version::One),
         }
     }
 
     /// The stage after this line, or the fault of one that cannot occur here.
     pub(crate) fn after(self, line: &CertLine) -> Result<Stage, TextFault>
         requires within { IsWithin (place_of self) }
-        requires line { IsTrue (is_line (version_at (place_of self)) (atoms_at (place_of self)) (text_line_of line.now)) }
+        requires line { IsTrue (is_line (format_at (place_of self)) (text_line_of line.now)) }
         ensures { IsStep (place_of self) (text_line_of line.now) result }
     {
         match self {
@@ -71,73 +70,141 @@ impl Stage {
                 _ => Err(TextFault::Form),
             },
             Stage::Constants(version) => match line {
-                CertLine::Constant(_) => Ok(Stage::Body {
-                    version,
-                    atoms: 0,
-                    states: 0,
-                }),
+                CertLine::Constant(constants) => Ok(Stage::Body(no_body(version, constants.len()))),
                 _ => Err(TextFault::Form),
             },
-            Stage::Body {
-                version,
-                atoms,
-                states,
-            } => after_body(version, atoms, states, line),
+            Stage::Body(body) => body.after(line),
             Stage::Ended => Err(TextFault::Form),
         }
     }
 }
 
-/// The stage after this line, or its fault, where so many atoms and states come before it.
-fn after_body(
-    version: Version,
-    atoms: usize,
-    states: usize,
-    line: &CertLine,
-) -> Result<Stage, TextFault>
-    requires within { IsWithin (in_body (version_of version) atoms states) }
-    requires line { IsTrue (is_line (version_of version) atoms (text_line_of line.now)) }
-    ensures { IsStep (in_body (version_of version) atoms states) (text_line_of line.now) result }
+/// The format before the constants, of which there will be one at least.
+fn no_format(version: Version) -> Format
+    ensures { format_of result ≡ no_format (version_of version) }
 {
-    match line {
-        CertLine::Weight { .. } => after_atom(version, atoms, states),
-        CertLine::Listed(_) => {
-            if states >= MAX_STATE_LINES {
-                return Err(TextFault::Limit);
-            }
-            Ok(Stage::Body {
-                version,
-                atoms,
-                states: states + 1,
-            })
-        }
-        CertLine::Last { count } => {
-            if *count == states as u64 {
-                Ok(Stage::Ended)
-            } else {
-                Err(TextFault::Form)
-            }
-        }
-        _ => Err(TextFault::Form),
+    Format {
+        version,
+        weights: 1,
+        atoms: 0,
     }
 }
 
-/// The stage after an atom, or its fault, where so many atoms and states come before it.
-fn after_atom(version: Version, atoms: usize, states: usize) -> Result<Stage, TextFault>
-    requires within { IsWithin (in_body (version_of version) atoms states) }
-    ensures { (a : WeightedAtom) → IsTrue (is_line (version_of version) atoms (atom a)) → IsStep (in_body (version_of version) atoms states) (atom a) result }
+/// What came after so many constants: nothing yet.
+fn no_body(version: Version, weights: usize) -> Body
+    ensures { body_of result ≡ no_body (version_of version) weights }
 {
-    if states > 0 {
-        return Err(TextFault::Form);
+    Body {
+        format: Format {
+            version,
+            weights,
+            atoms: 0,
+        },
+        tables: 0,
+        rows: 0,
+        states: 0,
     }
-    if atoms >= MAX_ATOMS {
-        return Err(TextFault::Limit);
+}
+
+impl Body {
+    /// The stage after this line, or its fault.
+    fn after(self, line: &CertLine) -> Result<Stage, TextFault>
+        requires within { IsWithin (in_body (body_of self)) }
+        requires line { IsTrue (is_line (format_of self.format) (text_line_of line.now)) }
+        ensures { IsStep (in_body (body_of self)) (text_line_of line.now) result }
+    {
+        match line {
+            CertLine::Weight { .. } => self.after_atom(),
+            CertLine::Table { .. } => self.after_table(),
+            CertLine::Row { .. } => self.after_row(),
+            CertLine::Listed(_) => self.after_state(),
+            CertLine::Last { count } => {
+                if *count == self.states as u64 {
+                    Ok(Stage::Ended)
+                } else {
+                    Err(TextFault::Form)
+                }
+            }
+            _ => Err(TextFault::Form),
+        }
     }
-    Ok(Stage::Body {
-        version,
-        atoms: atoms + 1,
-        states,
-    })
+
+    /// The stage after an atom, or its fault.
+    fn after_atom(self) -> Result<Stage, TextFault>
+        requires within { IsWithin (in_body (body_of self)) }
+        ensures { (a : WeightedAtom) → IsTrue (is_line (format_of self.format) (atom a)) → IsStep (in_body (body_of self)) (atom a) result }
+    {
+        if self.tables > 0 || self.states > 0 {
+            return Err(TextFault::Form);
+        }
+        if self.format.atoms >= MAX_ATOMS {
+            return Err(TextFault::Limit);
+        }
+        Ok(Stage::Body(Body {
+            format: Format {
+                version: self.format.version,
+                weights: self.format.weights,
+                atoms: self.format.atoms + 1,
+            },
+            tables: self.tables,
+            rows: self.rows,
+            states: self.states,
+        }))
+    }
+
+    /// The stage after the first line of a table, or its fault.
+    fn after_table(self) -> Result<Stage, TextFault>
+        requires within { IsWithin (in_body (body_of self)) }
+        ensures { (atoms : List ℕ) → IsTrue (is_line (format_of self.format) (tabled (scope atoms))) → IsStep (in_body (body_of self)) (tabled (scope atoms)) result }
+    {
+        if self.states > 0 {
+            return Err(TextFault::Form);
+        }
+        if self.tables >= MAX_TABLES {
+            return Err(TextFault::Limit);
+        }
+        Ok(Stage::Body(Body {
+            format: self.format,
+            tables: self.tables + 1,
+            rows: self.rows,
+            states: self.states,
+        }))
+    }
+
+    /// The stage after a row, or its fault.
+    fn after_row(self) -> Result<Stage, TextFault>
+        requires within { IsWithin (in_body (body_of self)) }
+        ensures { (r : Row) → IsTrue (is_line (format_of self.format) (tabled (row r))) → IsStep (in_body (body_of self)) (tabled (row r)) result }
+    {
+        if self.tables == 0 || self.states > 0 {
+            return Err(TextFault::Form);
+        }
+        if self.rows >= MAX_ROWS {
+            return Err(TextFault::Limit);
+        }
+        Ok(Stage::Body(Body {
+            format: self.format,
+            tables: self.tables,
+            rows: self.rows + 1,
+            states: self.states,
+        }))
+    }
+
+    /// The stage after a state, or its fault.
+    fn after_state(self) -> Result<Stage, TextFault>
+        requires within { IsWithin (in_body (body_of self)) }
+        ensures { (l : StateLine) → IsTrue (is_line (format_of self.format) (listed l)) → IsStep (in_body (body_of self)) (listed l) result }
+    {
+        if self.states >= MAX_STATE_LINES {
+            return Err(TextFault::Limit);
+        }
+        Ok(Stage::Body(Body {
+            format: self.format,
+            tables: self.tables,
+            rows: self.rows,
+            states: self.states + 1,
+        }))
+    }
 }
 
 /// The line that these bytes are at a stage, and the stage after it.
@@ -150,7 +217,7 @@ pub(crate) fn read_line(
     requires short { length bytes.now ≤ longest_line }
     ensures { IsReadAt (place_of stage) bytes.now result }
 {
-    match parse(alloc, bytes, stage.version(), stage.atoms()) {
+    match parse(alloc, bytes, stage.format()) {
         Ok(line) => match stage.after(&line) {
             Ok(next) => Ok((line, next)),
             Err(fault) => Err(NextFault::Text(fault)),

@@ -1,7 +1,5 @@
 //! The lines of certificates' texts, over devices that give bytes one by one, that fail, and that never end.
-use certificate::{
-    CertFault, CertLine, CertReader, Claim, Mark, StateLine, TextFault, Version, Weights,
-};
+use certificate::{CertFault, CertLine, CertReader, Claim, Mark, StateLine, TextFault, Version};
 use devices::{Memory, Source};
 use std::alloc::{AllocError, Global};
 use std::test::Fail;
@@ -48,19 +46,23 @@ fn one_by_one(alloc: Global, bytes: &[u8]) -> Result<InPieces<Memory>, AllocErro
 const DEAD: &[u8] =
     b"pddl-cert 2\nclaim bound 6\nconstant 6 -1\natom 0 0 (at a)\natom -3 0 (at b)\natom -6 2 (at c)\nopen 0 0\nopen 3 1\ndead 6 2\nend 3\n";
 
-/// One number in version 1, and two in version 2.
-fn weights(version: Version, of_value: i64, of_dead_end: i64) -> Weights {
-    Weights {
-        of_value,
-        of_dead_end: match version {
-            Version::One => None,
-            Version::Two => Some(of_dead_end),
-        },
+/// One number in version 1, and else two.
+fn weights(
+    alloc: Global,
+    version: Version,
+    of_value: i64,
+    of_dead_end: i64,
+) -> Result<Vec<i64>, AllocError> {
+    let mut weights = Vec::new(alloc);
+    weights.push(of_value)?;
+    if version != Version::One {
+        weights.push(of_dead_end)?;
     }
+    Ok(weights)
 }
 
 /// An atom of one object, with these weights.
-fn atom_at(alloc: Global, weights: Weights, object: &[u8]) -> Result<CertLine, AllocError> {
+fn atom_at(alloc: Global, weights: Vec<i64>, object: &[u8]) -> Result<CertLine, AllocError> {
     Ok(CertLine::Weight {
         weights,
         predicate: b"at".to_vec(alloc)?,
@@ -78,7 +80,7 @@ fn state(alloc: Global, cost: u64, mark: Mark, atom: u32) -> Result<CertLine, Al
 fn last_mark(version: Version) -> Mark {
     match version {
         Version::One => Mark::Cut { rest: 0 },
-        Version::Two => Mark::Dead,
+        Version::Two | Version::Three => Mark::Dead,
     }
 }
 
@@ -87,10 +89,10 @@ fn line_of(alloc: Global, version: Version, number: u32) -> Result<CertLine, All
     match number {
         0 => Ok(CertLine::Head(version)),
         1 => Ok(CertLine::Claim(Claim::Bound(6))),
-        2 => Ok(CertLine::Constant(weights(version, 6, -1))),
-        3 => atom_at(alloc, weights(version, 0, 0), b"a"),
-        4 => atom_at(alloc, weights(version, -3, 0), b"b"),
-        5 => atom_at(alloc, weights(version, -6, 2), b"c"),
+        2 => Ok(CertLine::Constant(weights(alloc, version, 6, -1)?)),
+        3 => atom_at(alloc, weights(alloc, version, 0, 0)?, b"a"),
+        4 => atom_at(alloc, weights(alloc, version, -3, 0)?, b"b"),
+        5 => atom_at(alloc, weights(alloc, version, -6, 2)?, b"c"),
         6 => state(alloc, 0, Mark::Open, 0),
         7 => state(alloc, 3, Mark::Open, 1),
         8 => state(alloc, 6, last_mark(version), 2),

@@ -3,7 +3,7 @@ use Rattle.std.specs.List.{flat_map}
 use Rattle.task.specs.Task.{task_of}
 use Rattle.task.specs.TaskParts.{atom_of, object_of}
 use Rattle.model.specs.PlanWriting.{object_text}
-use Rattle.certificate_reader.specs.Lines.{weights_of}
+use Rattle.certificate.specs.Weights.{weights_of}
 use Rattle.certificate_definitions.specs.CertificateNames.{predicate_name}
 use Rattle.certificate.proofs.LineTextLemmas.{where_added, atom_text}
 use Rattle.certificate.proofs.line_text.add_atom.Goals as goal

@@ -1,12 +1,11 @@
-use Rattle.std.proofs.Common.{◌≡◌, ◌+◌, ◌<◌, ◌≤◌, ◌++◌, ◌∷◌, [], List, get_or, length, map, take, sym, ap, ◌∙◌, subst, arith}
-use Rattle.std.specs.Prelude.{All, Contains, IsTrue}
+use Rattle.std.proofs.Common.{◌≡◌, ◌<◌, ◌≤◌, ◌++◌, ◌∷◌, [], get_or, length, map, take, sym, ap, ◌∙◌, subst, arith}
+use Rattle.std.specs.Prelude.{All, Contains}
 use Rattle.std.proofs.lemmas.List.{length-map, length-take-le}
 use Rattle.std.proofs.lemmas.List.Elements.{All-contains}
 use Rattle.std.proofs.Math.ListN.{get_or-map}
-use Rattle.packed_state.specs.PooledView.{pooled_states, pooled_width}
+use Rattle.packed_state.specs.PooledView.{pooled_states}
 use Rattle.packed_state.specs.Sets.{set_of}
 use Rattle.packed_state.specs.Store.{AreDistinct}
-use Rattle.certificate_definitions.specs.Certificates.{StateLine, rise}
 use Rattle.certificate_reader.specs.Lines.{line_of}
 use Rattle.certificate.specs.CertificateParts.{listed_of}
 use Rattle.certificate.specs.ListedSets.{lines_with, marked}

@@ -4,9 +4,10 @@ use Rattle.std.specs.List.{flat_map}
 use Rattle.task.specs.Task.{task_of}
 use Rattle.task.specs.TaskParts.{atom_of}
 use Rattle.devices.specs.Devices.{AppendsBeginning}
-use Rattle.certificate_reader.specs.Lines.{weights_of}
-use Rattle.certificate_definitions.specs.CertificateText.{Weights}
+use Rattle.certificate.specs.Weights.{weights_of}
 use Rattle.certificate_definitions.specs.CertificateNames.{weights_in}
+use Rattle.std.specs.Prelude.{ℤ, List, ◌∷◌}
+use Rattle.certificate_definitions.specs.Certificates.{potentials_of}
 use Rattle.certificate.specs.Gathering.{IsPassedOn, atom_line, atoms_weighed, line_of_atom}
 use Rattle.model.proofs.Pieces.{parts_split}
 use Rattle.certificate.proofs.GatheringLemmas.{passed_held, passed_then, passed_partly, passed_beginning, atom_more, atoms_all}
@@ -34,14 +35,14 @@ more g c =
     let i = c.loop-place.place in
     let value : to_z w64 (of_z w64 (get_or c.weights.result.now i (pos 0))) ≡ get_or c.weights.result.now i (pos 0) = search rules in
     let dead_end : to_z w64 (of_z w64 (get_or c.dead_end_weights.result.now i (pos 0))) ≡ get_or c.dead_end_weights.result.now i (pos 0) = search rules in
-    let of_value : to_z w64 (of_z w64 (get_or c.weights.result.now i (pos 0))) ≡ get_or cert.potentials.weights i (pos 0) = ◌∙◌ {b = get_or c.weights.result.now i (pos 0)} value (ap (λ ws. get_or ws i (pos 0)) c.weights.ensures.weights) in
+    let of_value : to_z w64 (of_z w64 (get_or c.weights.result.now i (pos 0))) ≡ get_or (potentials_of cert).weights i (pos 0) = ◌∙◌ {b = get_or c.weights.result.now i (pos 0)} value (ap (λ ws. get_or ws i (pos 0)) c.weights.ensures.weights) in
     let of_dead_end : to_z w64 (of_z w64 (get_or c.dead_end_weights.result.now i (pos 0))) ≡ get_or cert.dead_ends.weights i (pos 0) =
     ◌∙◌ {b = get_or c.dead_end_weights.result.now i (pos 0)} dead_end (ap (λ ds. get_or ds i (pos 0)) c.dead_end_weights.ensures.weights) in
     atom_more (task_of c.args.task.now) cert atom_of c.atoms-atoms.result.now c.atoms-atoms.ensures.atoms i c.index-atoms-place.result (weights_of c.weights_in-weights.result) c.loop-place-test.true
     (ap length (sym c.weights.ensures.weights) ∙ c.weights.ensures.one_for_each)
     (ap length (sym c.dead_end_weights.ensures.weights) ∙ c.dead_end_weights.ensures.one_for_each)
     (sym c.index-atoms-place.is)
-    (◌∙◌ {A = Weights} c.weights_in-weights.ensures (λ j. weights_in (c.version-version.ensures j) (of_value j) (of_dead_end j)))
+    (◌∙◌ {A = List ℤ} c.weights_in-weights.ensures (λ j. weights_in (c.version-version.ensures j) (of_value j ∷ []) (of_dead_end j)))
 
 pub returns-in_err-pass_on-clause-beginning : goal.returns-in_err-pass_on-clause-beginning
 returns-in_err-pass_on-clause-beginning g c =

@@ -1,13 +1,20 @@
-use Rattle.std.proofs.Common.{None}
-use Rattle.certificate_reader.specs.Lines.{version_of, weights_of}
-use Rattle.certificate_reader.proofs.ParseLemmas.{constant_goes_on, malformed_constant}
+use Rattle.std.proofs.Common.{rules, codes, refl, sym, ◌∙◌}
+use Rattle.certificate_reader.specs.Stages.{format_of}
+use Rattle.certificate_reader.specs.Words.{text_in}
+use Rattle.certificate_reader.proofs.LinesRead.{constant_goes_on, other_count}
+use Rattle.certificate_reader.proofs.ParseLemmas.{goes_on, malformed}
 use Rattle.certificate_reader.proofs.parsing.constant_line.Goals as goal
 
-pub returns-in_default : goal.returns-in_default
-returns-in_default c = malformed_constant c.args.rest.now (version_of c.args.version) (λ k. c.in_default.ensures.none k None)
+pub returns-then-is_some : goal.returns-then-is_some
+returns-then-is_some c =
+    let read = rw c.in-Some.is at c.in_ok-constants.ensures.some in
+    let (bytes, at) = goes_on c.in-Some.following (sym c.is_some.ensures ∙ c.if-is_some.true) in
+    malformed (codes "constant") c.args.rest.now (format_of c.args.format) refl
+    (constant_goes_on c.args.rest.now (format_of c.args.format) c.in-Some.constants.items (text_in c.in-Some.following) read bytes at)
 
-pub returns-in-Some-following : goal.returns-in-Some-following
-returns-in-Some-following c =
-    let read = c.in-Some.ensures.some in
-    malformed_constant c.args.rest.now (version_of c.args.version)
-    (constant_goes_on c.args.rest.now (version_of c.args.version) (weights_of c.in-Some.constants) c.in-Some.following c.in-Some-following.field-0 read.0 read.1 c.in-Some-following.is)
+pub returns-then-not-is_weight_count : goal.returns-then-not-is_weight_count
+returns-then-not-is_weight_count c =
+    let read = rw c.in-Some.is at c.in_ok-constants.ensures.some in
+    malformed (codes "constant") c.args.rest.now (format_of c.args.format) refl
+    (other_count c.args.rest.now (format_of c.args.format) c.in-Some.constants.items (text_in c.in-Some.following) read
+    (search rules))

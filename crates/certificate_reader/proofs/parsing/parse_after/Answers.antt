@@ -1,36 +1,44 @@
 use Rattle.std.proofs.Common.{codes, sym, ◌∙◌}
-use Rattle.certificate_reader.specs.Lines.{version_of}
+use Rattle.certificate_reader.specs.Stages.{format_of}
 use Rattle.certificate_reader.proofs.ParseLemmas.{parsed_as}
 use Rattle.certificate_reader.proofs.parsing.parse_after.Goals as goal
 
 pub returns-then-is : goal.returns-then-is
 returns-then-is c =
-    parsed_as c.args.word.now (codes "open") c.args.rest.now (version_of c.args.version) c.args.atom_count c.open_line.result (sym c.is.ensures ∙ c.if-is.true) (c.open_line.ensures (version_of c.args.version))
+    parsed_as c.args.word.now (codes "open") c.args.rest.now (format_of c.args.format) c.open_line.result (sym c.is.ensures ∙ c.if-is.true) c.open_line.ensures
 
 pub returns-then-is-2 : goal.returns-then-is-2
 returns-then-is-2 c =
-    parsed_as c.args.word.now (codes "cut") c.args.rest.now (version_of c.args.version) c.args.atom_count c.cut_line.result (sym c.is-2.ensures ∙ c.if-is-2.true) (c.cut_line.ensures (version_of c.args.version))
+    parsed_as c.args.word.now (codes "cut") c.args.rest.now (format_of c.args.format) c.cut_line.result (sym c.is-2.ensures ∙ c.if-is-2.true) c.cut_line.ensures
 
 pub returns-then-is-3 : goal.returns-then-is-3
 returns-then-is-3 c =
-    parsed_as c.args.word.now (codes "dead") c.args.rest.now (version_of c.args.version) c.args.atom_count c.dead_line.result (sym c.is-3.ensures ∙ c.if-is-3.true) c.dead_line.ensures
+    parsed_as c.args.word.now (codes "dead") c.args.rest.now (format_of c.args.format) c.dead_line.result (sym c.is-3.ensures ∙ c.if-is-3.true) c.dead_line.ensures
 
 pub returns-then-is-4 : goal.returns-then-is-4
 returns-then-is-4 c =
-    parsed_as c.args.word.now (codes "atom") c.args.rest.now (version_of c.args.version) c.args.atom_count c.atom_line.result (sym c.is-4.ensures ∙ c.if-is-4.true) (c.atom_line.ensures c.args.atom_count)
+    parsed_as c.args.word.now (codes "row") c.args.rest.now (format_of c.args.format) c.row_line.result (sym c.is-4.ensures ∙ c.if-is-4.true) c.row_line.ensures
 
 pub returns-then-is-5 : goal.returns-then-is-5
 returns-then-is-5 c =
-    parsed_as c.args.word.now (codes "end") c.args.rest.now (version_of c.args.version) c.args.atom_count c.last_line.result (sym c.is-5.ensures ∙ c.if-is-5.true) (c.last_line.ensures (version_of c.args.version) c.args.atom_count)
+    parsed_as c.args.word.now (codes "table") c.args.rest.now (format_of c.args.format) c.table_line.result (sym c.is-5.ensures ∙ c.if-is-5.true) c.table_line.ensures
 
 pub returns-then-is-6 : goal.returns-then-is-6
 returns-then-is-6 c =
-    parsed_as c.args.word.now (codes "claim") c.args.rest.now (version_of c.args.version) c.args.atom_count c.claim_line.result (sym c.is-6.ensures ∙ c.if-is-6.true) (c.claim_line.ensures (version_of c.args.version) c.args.atom_count)
+    parsed_as c.args.word.now (codes "atom") c.args.rest.now (format_of c.args.format) c.atom_line.result (sym c.is-6.ensures ∙ c.if-is-6.true) c.atom_line.ensures
 
 pub returns-then-is-7 : goal.returns-then-is-7
 returns-then-is-7 c =
-    parsed_as c.args.word.now (codes "constant") c.args.rest.now (version_of c.args.version) c.args.atom_count c.constant_line.result (sym c.is-7.ensures ∙ c.if-is-7.true) (c.constant_line.ensures c.args.atom_count)
+    parsed_as c.args.word.now (codes "end") c.args.rest.now (format_of c.args.format) c.last_line.result (sym c.is-7.ensures ∙ c.if-is-7.true) (c.last_line.ensures (format_of c.args.format))
 
 pub returns-then-is-8 : goal.returns-then-is-8
 returns-then-is-8 c =
-    parsed_as c.args.word.now (codes "pddl-cert") c.args.rest.now (version_of c.args.version) c.args.atom_count c.head_line.result (sym c.is-8.ensures ∙ c.if-is-8.true) (c.head_line.ensures (version_of c.args.version) c.args.atom_count)
+    parsed_as c.args.word.now (codes "claim") c.args.rest.now (format_of c.args.format) c.claim_line.result (sym c.is-8.ensures ∙ c.if-is-8.true) (c.claim_line.ensures (format_of c.args.format))
+
+pub returns-then-is-9 : goal.returns-then-is-9
+returns-then-is-9 c =
+    parsed_as c.args.word.now (codes "constant") c.args.rest.now (format_of c.args.format) c.constant_line.result (sym c.is-9.ensures ∙ c.if-is-9.true) c.constant_line.ensures
+
+pub returns-then-is-10 : goal.returns-then-is-10
+returns-then-is-10 c =
+    parsed_as c.args.word.now (codes "pddl-cert") c.args.rest.now (format_of c.args.format) c.head_line.result (sym c.is-10.ensures ∙ c.if-is-10.true) (c.head_line.ensures (format_of c.args.format))

@@ -1,0 +1,38 @@
+-- What the definitions say of the worked lines.
+use Rattle.std.proofs.Common.{[], ◌∷◌, ◌++◌, refl, arith}
+use Rattle.std.specs.Prelude.{pos}
+use Rattle.potential_functions.specs.FairExamples.{minus}
+use Rattle.certificate_definitions.specs.Certificates.{three}
+use Rattle.certificate_definitions.specs.CertificateText.{scope, tabled}
+use Rattle.certificate_definitions.specs.CertificateChecking.{not_checked, not_of_scope, repeated_row}
+use Rattle.certificate_definitions.specs.CertificateTextExamples.{AreTextsJudged, first_lines, zeros}
+
+pub texts_judged : AreTextsJudged
+texts_judged = record {
+  whole = refl;
+  without_tables = refl;
+  row_first = refl;
+  atom_behind_a_table = refl;
+  row_behind_a_state = refl;
+  table_behind_a_state = refl;
+  empty_scope = refl;
+  numbers_rise = refl;
+  another_number = refl;
+  weight_missing = refl;
+  one_constant = refl;
+  three_in_version_2 = refl;
+  table_in_version_2 = refl;
+  row_of_scope = refl;
+  row_of_others = refl;
+  row_without_weights = refl;
+  tables_of_version_2 = refl;
+  values_of_version_1 = refl;
+  dead_ends_of_version_1 = refl;
+  values_of_version_3 = refl;
+  dead_ends_of_version_3 = refl;
+  row_of_another_scope = not_of_scope (record { atoms = 1 ∷ []; weights = zeros }) (0 ∷ []) [] (first_lines ++ tabled (scope (1 ∷ [])) ∷ [], refl) refl;
+  row_twice = repeated_row (record { atoms = 0 ∷ 1 ∷ []; weights = zeros }) (0 ∷ 1 ∷ [])
+      (record { atoms = []; weights = zeros } ∷ record { atoms = 0 ∷ 1 ∷ []; weights = minus 2 ∷ pos 0 ∷ pos 1 ∷ [] } ∷ [])
+      (first_lines, refl) refl (record { atoms = 0 ∷ 1 ∷ []; weights = minus 2 ∷ pos 0 ∷ pos 1 ∷ [] }, (1, omega arith, refl), refl);
+  version_3_is_not_checked = not_checked three refl;
+}

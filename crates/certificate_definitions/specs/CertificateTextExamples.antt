@@ -1,0 +1,86 @@
+-- Worked examples of lines of certificates' texts: where each may occur, and what is wrong with others. Each is chosen so that
+-- a wrong reading says otherwise.
+use Rattle.std.specs.Prelude.{◌≡◌, ℕ, ℤ, pos, false, true, List, [], ◌∷◌, ◌++◌, codes, Option, None, Some}
+use Rattle.model.specs.Examples.{tie_task}
+use Rattle.model.specs.Claims.{bound}
+use Rattle.potential_functions.specs.FairExamples.{potentials, minus}
+use Rattle.certificate_definitions.specs.Certificates.{Version, one, two, three, Certificate, keeps_limits}
+use Rattle.certificate_definitions.specs.CertificateText.{WeightedAtom, scope, row, TextLine, version, claims, constant, atom, tabled, listed, last, NamedCertificate}
+use Rattle.certificate_definitions.specs.CertificateMachine.{CertificatePlace, in_body, ended, place_from, place_after}
+use Rattle.certificate_definitions.specs.CertificateNames.{values_said, dead_ends_said}
+use Rattle.certificate_definitions.specs.CertificateChecking.{IsWrongAfter}
+use Rattle.certificate_definitions.specs.CertificateExamples.{open_at, linked, tied}
+
+abbrev pub weighs : List ℤ → (name : List ℕ) → WeightedAtom
+weighs weights name = record { weights = weights; atom = record { predicate = name; objects = [] } }
+
+abbrev pub zeros : List ℤ
+zeros = pos 0 ∷ pos 0 ∷ pos 0 ∷ []
+
+-- the line of a row of these atoms
+abbrev pub row_line : List ℤ → List ℕ → TextLine
+row_line weights atoms = tabled (row (record { atoms = atoms; weights = weights }))
+
+-- the first lines of a text of version 3 with two values
+abbrev pub first_lines : List TextLine
+first_lines = version three ∷ claims (bound 2) ∷ constant (pos 2 ∷ pos 1 ∷ pos 0 ∷ []) ∷ atom (weighs zeros (codes "p")) ∷ atom (weighs zeros (codes "q")) ∷ []
+
+-- those of its one table, of both atoms: its rows are that none is true, and that both are
+abbrev pub table_lines_of_both : List TextLine
+table_lines_of_both = tabled (scope (0 ∷ 1 ∷ [])) ∷ row_line zeros [] ∷ row_line (minus 2 ∷ pos 0 ∷ pos 1 ∷ []) (0 ∷ 1 ∷ []) ∷ []
+
+abbrev pub last_lines : List TextLine
+last_lines = listed (open_at 0 []) ∷ last 1 ∷ []
+
+-- a certificate of one table of both atoms, which has a row with these weights and these atoms
+abbrev pub with_row : Version → List ℤ → List ℕ → Certificate
+with_row v weights atoms = record {
+  version = v;
+  claim = bound 0;
+  atoms = linked ∷ tied ∷ [];
+  values = potentials (pos 0) (pos 0 ∷ pos 0 ∷ []) ∷ [];
+  dead_ends = potentials (pos 0) (pos 0 ∷ pos 0 ∷ []);
+  tables = record { scope = 1 ∷ []; rows = record { atoms = atoms; weights = weights } ∷ [] } ∷ [];
+  lines = [];
+}
+
+-- what a text with one atom says of values and of dead ends
+abbrev pub said_of : Version → (constants weights : List ℤ) → NamedCertificate
+said_of v constants weights = record { version = v; claim = bound 0; constants = constants; atoms = weighs weights (codes "p") ∷ []; tables = []; lines = [] }
+
+-- the place after these lines, in a text of this version with so many constants, behind two atoms
+abbrev pub behind_atoms : Version → ℕ → List TextLine → Option CertificatePlace
+behind_atoms v weights = place_from (in_body (record { format = record { version = v; weights = weights; atoms = 2 }; tables = 0; rows = 0; states = 0 }))
+
+pub record AreTextsJudged : Type 0 where
+  -- Atoms come before tables, each table before its rows, and all of them before states.
+  pub whole : behind_atoms three 3 (table_lines_of_both ++ last_lines) ≡ Some ended
+  pub without_tables : behind_atoms three 3 (last_lines) ≡ Some ended
+  pub row_first : behind_atoms three 3 (row_line zeros [] ∷ []) ≡ None
+  pub atom_behind_a_table : behind_atoms three 3 (table_lines_of_both ++ atom (weighs zeros (codes "r")) ∷ []) ≡ None
+  pub row_behind_a_state : behind_atoms three 3 (table_lines_of_both ++ listed (open_at 0 []) ∷ row_line zeros (0 ∷ []) ∷ []) ≡ None
+  pub table_behind_a_state : behind_atoms three 3 (listed (open_at 0 []) ∷ tabled (scope (0 ∷ [])) ∷ []) ≡ None
+  -- A scope has an atom at least, and its numbers rise and are those of atoms; so are a row's, which has as many weights as
+  -- there are constants.
+  pub empty_scope : behind_atoms three 3 (tabled (scope []) ∷ []) ≡ None
+  pub numbers_rise : behind_atoms three 3 (tabled (scope (1 ∷ 0 ∷ [])) ∷ []) ≡ None
+  pub another_number : behind_atoms three 3 (tabled (scope (2 ∷ [])) ∷ []) ≡ None
+  pub weight_missing : behind_atoms three 3 (tabled (scope (0 ∷ [])) ∷ row_line (pos 0 ∷ pos 0 ∷ []) [] ∷ []) ≡ None
+  -- Version 3 has two constants at least, and version 2 just two; neither version 1 nor 2 has tables.
+  pub one_constant : place_after (version three ∷ claims (bound 2) ∷ constant (pos 2 ∷ []) ∷ []) ≡ None
+  pub three_in_version_2 : place_after (version two ∷ claims (bound 2) ∷ constant zeros ∷ []) ≡ None
+  pub table_in_version_2 : behind_atoms two 2 (tabled (scope (0 ∷ [])) ∷ []) ≡ None
+  -- The atoms of a row are of its table's scope.
+  pub row_of_scope : keeps_limits (with_row three (pos 0 ∷ pos 0 ∷ []) (1 ∷ [])) ≡ true
+  pub row_of_others : keeps_limits (with_row three (pos 0 ∷ pos 0 ∷ []) (0 ∷ [])) ≡ false
+  pub row_without_weights : keeps_limits (with_row three (pos 0 ∷ []) (1 ∷ [])) ≡ false
+  pub tables_of_version_2 : keeps_limits (with_row two (pos 0 ∷ pos 0 ∷ []) (1 ∷ [])) ≡ false
+  -- The last of several weights is that of dead ends; version 1 writes none.
+  pub values_of_version_1 : values_said (said_of one (pos 3 ∷ []) (pos 4 ∷ [])) ≡ potentials (pos 3) (pos 4 ∷ []) ∷ []
+  pub dead_ends_of_version_1 : dead_ends_said (said_of one (pos 3 ∷ []) (pos 4 ∷ [])) ≡ potentials (pos 0) (pos 0 ∷ [])
+  pub values_of_version_3 : values_said (said_of three (pos 3 ∷ pos 5 ∷ pos 7 ∷ []) (pos 4 ∷ pos 6 ∷ pos 8 ∷ [])) ≡ potentials (pos 3) (pos 4 ∷ []) ∷ potentials (pos 5) (pos 6 ∷ []) ∷ []
+  pub dead_ends_of_version_3 : dead_ends_said (said_of three (pos 3 ∷ pos 5 ∷ pos 7 ∷ []) (pos 4 ∷ pos 6 ∷ pos 8 ∷ [])) ≡ potentials (pos 7) (pos 8 ∷ [])
+  -- A row is of the last scope before it, and is once in its table, whatever it weighs; another table may have it too.
+  pub row_of_another_scope : IsWrongAfter tie_task (first_lines ++ tabled (scope (1 ∷ [])) ∷ tabled (scope (0 ∷ [])) ∷ []) (row_line zeros (1 ∷ [])) 40
+  pub row_twice : IsWrongAfter tie_task (first_lines ++ table_lines_of_both) (row_line zeros (0 ∷ 1 ∷ [])) 44
+  pub version_3_is_not_checked : IsWrongAfter tie_task [] (version three) 41

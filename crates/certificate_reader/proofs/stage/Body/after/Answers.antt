@@ -1,0 +1,25 @@
+use Rattle.std.proofs.Common.{ap, map, sym, subst, IsTrue}
+use Rattle.certificate_reader.specs.Lines.{line_of, name_of, text_line_of}
+use Rattle.certificate_definitions.specs.CertificateText.{is_line}
+use Rattle.certificate_definitions.specs.CertificateMachine.{in_body}
+use Rattle.certificate_reader.specs.Stages.{IsStep, body_of, format_of}
+use Rattle.certificate_reader.proofs.stage.Body.after.Goals as goal
+
+pub returns-in-Weight : goal.returns-in-Weight
+returns-in-Weight c =
+    let is = ap text_line_of c.in-Weight.is in
+    subst (λ line. IsStep (in_body (body_of c.args.self)) line c.after_atom.result) (sym is)
+    (c.after_atom.ensures (record { weights = c.in-Weight.weights.items; atom = record { predicate = name_of c.in-Weight.predicate; objects = map name_of c.in-Weight.objects.items } })
+    (subst (λ line. IsTrue (is_line (format_of c.args.self.format) line)) is c.requires.line))
+
+pub returns-in-Row : goal.returns-in-Row
+returns-in-Row c =
+    let is = ap text_line_of c.in-Row.is in
+    subst (λ line. IsStep (in_body (body_of c.args.self)) line c.after_row.result) (sym is)
+    (c.after_row.ensures (record { weights = c.in-Row.weights.items; atoms = c.in-Row.atoms.items }) (subst (λ line. IsTrue (is_line (format_of c.args.self.format) line)) is c.requires.line))
+
+pub returns-in-Listed : goal.returns-in-Listed
+returns-in-Listed c =
+    let is = ap text_line_of c.in-Listed.is in
+    subst (λ line. IsStep (in_body (body_of c.args.self)) line c.after_state.result) (sym is)
+    (c.after_state.ensures (line_of c.in-Listed.field-0) (subst (λ line. IsTrue (is_line (format_of c.args.self.format) line)) is c.requires.line))
