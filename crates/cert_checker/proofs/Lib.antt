@@ -1,4 +1,5 @@
 pub mod NamesLemmas
+pub mod LimitsLemmas
 pub mod GivenLemmas
 pub mod ListedLemmas
 pub mod PlacedLemmas
