@@ -17,6 +17,53 @@ use Rattle.certificate_reader.specs.Words.{are_lower}
 use Rattle.certificate_reader.proofs.OneText as one_text
 use Rattle.cert_checker.proofs.NamesLemmas.{one_named}
 
+-- ---- the limits of a certificate, one by one
+
+pub record AreLimits (c : Certificate) : Type 0 where
+  pub claim : is_claim c.claim ≡ true
+  pub few_atoms : nat_le (length c.atoms) most_atoms ≡ true
+  pub few_states : nat_le (length c.lines) most_states ≡ true
+  pub states : list_all (is_state_line c.version (length c.atoms)) c.lines ≡ true
+  pub value_count : is_value_count c.version (length c.values) ≡ true
+  pub values : list_all (are_potentials is_weight (length c.atoms)) c.values ≡ true
+  pub dead_ends : are_potentials (is_dead_end_weight c.version) (length c.atoms) c.dead_ends ≡ true
+  pub tables : are_tables c.version (length c.atoms) (length c.values + 1) c.tables ≡ true
+  pub few_tables : nat_le (length c.tables) most_tables ≡ true
+  pub few_rows : nat_le (length (rows_of c.tables)) most_rows ≡ true
+
+pub limits_of : (c : Certificate) → IsTrue (keeps_limits c) → AreLimits c
+limits_of c keeps =
+    let claims = is_claim c.claim in
+    let atoms = nat_le (length c.atoms) most_atoms in
+    let lines = nat_le (length c.lines) most_states in
+    let states = list_all (is_state_line c.version (length c.atoms)) c.lines in
+    let count = is_value_count c.version (length c.values) in
+    let values = list_all (are_potentials is_weight (length c.atoms)) c.values in
+    let dead_ends = are_potentials (is_dead_end_weight c.version) (length c.atoms) c.dead_ends in
+    let tables = are_tables c.version (length c.atoms) (length c.values + 1) c.tables in
+    let scopes = nat_le (length c.tables) most_tables in
+    let (first, few_rows) = and_parts (claims && atoms && lines && states && count && values && dead_ends && tables && scopes) (nat_le (length (rows_of c.tables)) most_rows) keeps in
+    let (first, few_tables) = and_parts (claims && atoms && lines && states && count && values && dead_ends && tables) scopes first in
+    let (first, tables_are) = and_parts (claims && atoms && lines && states && count && values && dead_ends) tables first in
+    let (first, dead_ends_are) = and_parts (claims && atoms && lines && states && count && values) dead_ends first in
+    let (first, values_are) = and_parts (claims && atoms && lines && states && count) values first in
+    let (first, count_is) = and_parts (claims && atoms && lines && states) count first in
+    let (first, states_are) = and_parts (claims && atoms && lines) states first in
+    let (first, few_states) = and_parts (claims && atoms) lines first in
+    let (claim, few_atoms) = and_parts claims atoms first in
+    record {
+      claim = claim;
+      few_atoms = few_atoms;
+      few_states = few_states;
+      states = states_are;
+      value_count = count_is;
+      values = values_are;
+      dead_ends = dead_ends_are;
+      tables = tables_are;
+      few_tables = few_tables;
+      few_rows = few_rows;
+    }
+
 -- ---- the limits of a text, one by one
 
 record AreTextLimits (said : NamedCertificate) : Type 0 where
@@ -67,19 +114,22 @@ text_limits said keeps =
 
 -- ---- values
 
--- what is written at a place keeps the limits, and so does 0, which is said where nothing is written
-weight_kept : (weights : List ℤ) (place : ℕ) → list_all is_weight weights ≡ true → is_weight (weight_said place weights) ≡ true
-weight_kept [] place all = refl
-weight_kept (w ∷ weights) zero all = (and_parts (is_weight w) (list_all is_weight weights) all).0
-weight_kept (w ∷ weights) (suc place) all = weight_kept weights place (and_parts (is_weight w) (list_all is_weight weights) all).1
+-- what is said at a place passes a test that all weights pass, and 0, which is said where none is written
+pub said_kept : (test : ℤ → Bool) → test (pos 0) ≡ true → (weights : List ℤ) (place : ℕ) → list_all test weights ≡ true → test (weight_said place weights) ≡ true
+said_kept test nothing [] place all = nothing
+said_kept test nothing (w ∷ weights) zero all = (and_parts (test w) (list_all test weights) all).0
+said_kept test nothing (w ∷ weights) (suc place) all = said_kept test nothing weights place (and_parts (test w) (list_all test weights) all).1
 
--- so does what is said of dead ends, which is 0 in version 1
+weight_kept : (count : ℕ) (weights : List ℤ) (place : ℕ) → are_weights count weights ≡ true → is_weight (weight_said place weights) ≡ true
+weight_kept count weights place are = said_kept is_weight refl weights place (and_parts (length weights == count) (list_all is_weight weights) are).1
+
+-- what is said of dead ends keeps the limits: it is 0 in version 1
 dead_end_kept : (v : Version) (count : ℕ) (weights : List ℤ) → are_weights count weights ≡ true → is_dead_end_weight v (weight_said (value_count v count) weights) ≡ true
 dead_end_kept one count weights are =
     let long : length weights ≡ count = eqb-true (length weights) count (and_parts (length weights == count) (list_all is_weight weights) are).0 in
     ap (is_dead_end_weight one) (get_or_past weights count (pos 0) (omega (arith, long)))
-dead_end_kept two count weights are = weight_kept weights (count - 1) (and_parts (length weights == count) (list_all is_weight weights) are).1
-dead_end_kept three count weights are = weight_kept weights (count - 1) (and_parts (length weights == count) (list_all is_weight weights) are).1
+dead_end_kept two count weights are = weight_kept count weights (count - 1) are
+dead_end_kept three count weights are = weight_kept count weights (count - 1) are
 
 value_count_kept : (v : Version) (count : ℕ) → is_weight_count v count ≡ true → is_value_count v (value_count v count) ≡ true
 value_count_kept one count is = is
@@ -120,7 +170,7 @@ module _ (said : NamedCertificate) (limits : AreTextLimits said) where
       let test = are_potentials is_weight (length said.atoms) in
       list_all-map test (value_said said) places
       ∙ always (λ place. test (value_said said place))
-      (λ place. value_kept is_weight place (λ weights are. weight_kept weights place (and_parts (length weights == length said.constants) (list_all is_weight weights) are).1)) places
+      (λ place. value_kept is_weight place (λ weights are. weight_kept (length said.constants) weights place are)) places
 
   dead_ends_kept : are_potentials (is_dead_end_weight said.version) (length said.atoms) (dead_ends_said said) ≡ true
   dead_ends_kept = value_kept (is_dead_end_weight said.version) (value_count said.version (length said.constants)) (dead_end_kept said.version (length said.constants))
