@@ -27,7 +27,7 @@ use Rattle.certificate_definitions.specs.Certificates.{Version, one, two, three,
 use Rattle.certificate_definitions.specs.CertificateRefusals.{IsPlanWithin}
 use Rattle.model.proofs.PlanWritingLemmas.{first_at}
 use Rattle.model.proofs.Tests.{passes_got}
-use Rattle.certificate_definitions.specs.CertificateText.{WeightedAtom, TableLine, scope, row, Format, TextLine, atom, tabled, listed, last, after_blank, begin_with_scope, format_of, is_line, is_weight_count, keeps_text_limits, line_text, longest_line, most_atoms, most_rows, most_states, most_tables, text_lines, weights_text}
+use Rattle.certificate_definitions.specs.CertificateText.{WeightedAtom, TableLine, row, Format, TextLine, atom, tabled, listed, last, after_blank, begin_with_scope, format_of, is_line, is_weight_count, keeps_text_limits, line_text, longest_line, most_atoms, most_rows, most_states, most_tables, text_lines, weights_text}
 use Rattle.certificate_definitions.specs.CertificateNames.{AllName, AreNumbersOf, IsNumberOf, IsTextOf, Names, are_atoms_of, certificate_text, constants_of, dead_ends_said, has_atom_names, named, named_atom, predicate_name, predicate_names, table_lines, value_count, value_said, values_said, weight_said, weighted_atoms, weights_in, weights_of_atom}
 use Rattle.certificate_definitions.specs.CertificateChecking.{IsAccepted, is_checked}
 use Rattle.certificate_reader.proofs.LinesRead.{few_constants}
