@@ -1,6 +1,7 @@
 //! The limits of a certificate's text.
 ghost use Rattle.std.specs.Prelude.{◌≡◌, IsTrue, length, map, nat_le};
 ghost use Rattle.std.specs.List.{list_all};
+ghost use Rattle.certificate_definitions.specs.Certificates as certificates;
 ghost use Rattle.certificate_definitions.specs.Certificates.{is_number, is_weight, is_dead_end_weight, is_claim, is_mark, rise, is_state_line, are_potentials, is_value_count, is_row, is_table, has_tables, are_tables, rows_of, keeps_limits};
 ghost use Rattle.certificate_reader.specs.Lines.{claim_of, line_of, mark_of, version_of};
 ghost use Rattle.certificate_reader.specs.declared.line.TheConstants.{MAX_ROWS};
@@ -178,7 +179,7 @@ fn are_tables(version: Version, tables: &[Table], atom_count: usize, weight_coun
     ensures { result ≡ are_tables (version_of version) atom_count weight_count (map table_of tables.now) }
 {
     for table in tables {
-        if !has_tables(version) || !is_table(table, atom_count, weight_count) {
+        if !(has_tables(version) && is_table(table, atom_count, weight_count)) {
             return false;
         }
     }
@@ -211,12 +212,18 @@ fn are_rows(table: &Table, atom_count: usize, weight_count: usize) -> bool
     ensures { result ≡ list_all (is_row atom_count weight_count (table_of table.now).scope) (table_of table.now).rows }
 {
     for row in 0..table.row_count() {
-        let weights = table.weights(row as u32);
-        if weights.len() != weight_count || !are_weights(weights) {
+        if !are_row_weights(table.weights(row as u32), weight_count) {
             return false;
         }
     }
     true
+}
+
+/// Whether these are so many weights.
+fn are_row_weights(weights: &[i64], count: usize) -> bool
+    ensures { result ≡ certificates.are_weights count weights.now }
+{
+    weights.len() == count && are_weights(weights)
 }
 
 /// Whether the tables have no more rows together than a certificate may have.
