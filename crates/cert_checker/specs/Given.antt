@@ -1,54 +1,17 @@
 -- What lines of a certificate's text have reported for a task's certificate.
-use Rattle.std.specs.Prelude.{◌≡◌, ◌≢◌, ℕ, suc, ℤ, Bool, true, false, ◌&&◌, IsTrue, List, [], ◌∷◌, ◌++◌, length, map, All, AllPairs, Contains, Option, None, Some}
-use Rattle.std.specs.List.{filter_map, flat_map, range_with_len}
+use Rattle.std.specs.Prelude.{◌≡◌, ◌≢◌, ℕ, suc, ℤ, Bool, true, false, ◌&&◌, IsTrue, List, [], ◌∷◌, ◌++◌, length, map, All, AllPairs, Contains}
+use Rattle.std.specs.List.{flat_map, range_with_len}
 use Rattle.model.specs.Task.{Atom, Task}
 use Rattle.model.specs.WellTyped.{is_atom}
 use Rattle.model.specs.Fluents.{is_fluent}
 use Rattle.model.specs.Claims.{Claim, none}
-use Rattle.certificate_definitions.specs.Certificates.{Version, StateLine}
+use Rattle.certificate_definitions.specs.Certificates.{Version}
 use Rattle.potential_functions.specs.PotentialFunctions.{PotentialFunction}
 use Rattle.table_functions.specs.TableFunctions.{SeveralValues}
-use Rattle.certificate_definitions.specs.CertificateText.{NamedAtom, WeightedAtom, TableLine, TextLine, version, claims, constant, atom, tabled, listed, last}
+pub use Rattle.certificate_definitions.specs.CertificateLines.{atom_in, table_in, state_in, atoms_given, tables_given, states_given}
+use Rattle.certificate_definitions.specs.CertificateText.{NamedAtom, WeightedAtom, TextLine, version, claims, constant, atom, tabled, listed, last}
 use Rattle.certificate_definitions.specs.CertificateNames.{AllName, table_lines, value_count, weight_said}
 use Rattle.certificate_definitions.specs.CertificateChecking.{AreRight}
-
--- the atom that the line gives, with its weights, what it says of a table, and the state that it lists
-abbrev pub atom_in : TextLine → Option WeightedAtom
-atom_in (version v) = None
-atom_in (claims claim) = None
-atom_in (constant k) = None
-atom_in (atom a) = Some a
-atom_in (tabled t) = None
-atom_in (listed l) = None
-atom_in (last count) = None
-
-abbrev pub table_in : TextLine → Option TableLine
-table_in (version v) = None
-table_in (claims claim) = None
-table_in (constant k) = None
-table_in (atom a) = None
-table_in (tabled t) = Some t
-table_in (listed l) = None
-table_in (last count) = None
-
-abbrev pub state_in : TextLine → Option StateLine
-state_in (version v) = None
-state_in (claims claim) = None
-state_in (constant k) = None
-state_in (atom a) = None
-state_in (tabled t) = None
-state_in (listed l) = Some l
-state_in (last count) = None
-
--- those of the lines, in order
-abbrev pub atoms_given : List TextLine → List WeightedAtom
-atoms_given lines = filter_map atom_in lines
-
-abbrev pub tables_given : List TextLine → List TableLine
-tables_given lines = filter_map table_in lines
-
-abbrev pub states_given : List TextLine → List StateLine
-states_given lines = filter_map state_in lines
 
 -- the names of those atoms
 abbrev pub names_given : List TextLine → List NamedAtom
