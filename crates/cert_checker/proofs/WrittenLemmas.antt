@@ -455,9 +455,9 @@ pub closed_reads_back : (task : Task) (c : Certificate) → IsTrue (is_task task
     → IsTextOf task (certificate_text task c) c
 closed_reads_back task c well has_names keeps closed = written_reads_back task c well has_names (typed_atoms task c.atoms closed.atoms_are_fluent) keeps
 
-pub closed_is_accepted : (task : Task) (c : Certificate) (plan : Option (List Instance)) → IsTrue (is_task task) → IsTrue (has_atom_names task) → IsTrue (is_checked c.version)
-    → IsTrue (keeps_limits c) → IsClosedFor task c → IsPlanWithin task c.claim plan → IsAccepted task (certificate_text task c) plan
-closed_is_accepted task c plan well has_names checked keeps closed within = record {
+pub closed_is_accepted : (task : Task) (c : Certificate) (plan : Option (List Instance)) → IsTrue (is_task task) → IsTrue (has_atom_names task) → IsTrue (keeps_limits c)
+    → IsTrue (is_checked c.version) → IsClosedFor task c → IsPlanWithin task c.claim plan → IsAccepted task (certificate_text task c) plan
+closed_is_accepted task c plan well has_names keeps checked closed within = record {
   certificate = c;
   is_text = closed_reads_back task c well has_names keeps closed;
   checked = checked;

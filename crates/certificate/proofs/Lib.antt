@@ -3,6 +3,7 @@ pub mod GatheringLemmas
 pub mod WholeText
 pub mod SetsLemmas
 pub mod LimitsLemmas
+pub mod RowsLemmas
 pub mod WideningLemmas
 pub mod NumbersLemmas
 pub mod ListedLemmas

@@ -1,4 +1,3 @@
-pub mod Weights
 pub mod CertificateParts
 pub mod Certificate
 pub mod Gathering

@@ -4,7 +4,7 @@ ghost use Rattle.certificate_definitions.specs.Certificates.{keeps_limits};
 ghost use Rattle.packed_state.specs.PooledView.{pooled_states};
 ghost use Rattle.certificate.specs.CertificateParts.{certificate_with};
 
-use crate::header::Header;
+use crate::header::{Bounds, Header};
 use crate::limits::keeps_limits;
 use crate::listing::states_of;
 use crate::states::{Listed, States};
@@ -15,8 +15,8 @@ use packed_state::{Packed, PooledStore, StateStore};
 use std::alloc::Global;
 use task::Atom;
 
-/// A certificate of a task, within the limits of a certificate's text: its version, its claim, its potential functions, its
-/// atoms, and the states that it lists, as sets of the numbers of its atoms.
+/// A certificate of a task, within the limits of a certificate's text: its version, its claim, its atoms, what bounds the
+/// costs of plans, and the states that it lists, as sets of the numbers of its atoms.
 #[derive(Drop)]
 pub struct Cert {
     header: Header,
@@ -26,15 +26,15 @@ pub struct Cert {
 }
 
 impl Cert {
-    ghost use Rattle.std.specs.Prelude.{◌<◌, ◌≤◌, ◌↔◌, IfOk, IfSome, IsSome, OnOk, Some, map, slice_get};
-    ghost use Rattle.std.specs.List.{list_all};
+    ghost use Rattle.std.specs.Prelude.{◌+◌, ◌<◌, ◌≤◌, ◌↔◌, All, IfOk, IfSome, IsSome, OnOk, Some, map, slice_get};
     ghost use Rattle.task.specs.TaskParts.{atom_of};
     ghost use Rattle.packed_state.specs.Packed.{bits_of};
     ghost use Rattle.packed_state.specs.PooledView.{pooled_width};
-    ghost use Rattle.certificate_definitions.specs.Certificates.{is_weight, potentials_of};
+    ghost use Rattle.certificate_definitions.specs.Certificates.{are_potentials, are_tables, is_value_count, is_weight, several_of};
     ghost use Rattle.certificate_reader.specs.Lines.{claim_of, line_of, version_of};
     ghost use Rattle.certificate_reader.specs.declared.line.TheConstants.{MAX_ATOMS, MAX_STATE_LINES};
-    ghost use Rattle.certificate.specs.CertificateParts.{certificate_with_lines, listed_of};
+    ghost use Rattle.certificate.specs.declared.header.Potential as header;
+    ghost use Rattle.certificate.specs.CertificateParts.{bounds_of, certificate_with_lines, listed_of, potential_of};
     ghost use Rattle.certificate.specs.ListedSets.{marked};
     ghost use Rattle.certificate.specs.Listing.{ListOnce};
     ghost use Rattle.certificate.specs.Certificate.{certificate_of, store_in};
@@ -82,38 +82,16 @@ impl Cert {
         self.header.claim
     }
 
-    /// The constant of its first value.
-    pub fn constant(&self) -> i64
-        ensures constant { result ≡ (potentials_of (certificate_of self.now)).constant }
-        ensures within_limits { IsTrue (is_weight result) }
+    /// What bounds the costs of plans, within the limits of a certificate's text: each of its potential functions has a weight
+    /// for each atom.
+    pub fn bounds(&self) -> &Bounds
+        ensures bounds { bounds_of result.now ≡ several_of (certificate_of self.now) }
+        ensures value_count { IsTrue (is_value_count (certificate_of self.now).version (length result.now.values.items)) }
+        ensures values { All (λ (p : header.Potential). IsTrue (are_potentials is_weight (length (certificate_of self.now).atoms) (potential_of p))) result.now.values.items }
+        ensures dead_ends { IsTrue (are_potentials is_weight (length (certificate_of self.now).atoms) (potential_of result.now.dead_ends)) }
+        ensures tables { IsTrue (are_tables (certificate_of self.now).version (length (certificate_of self.now).atoms) (length result.now.values.items + 1) (certificate_of self.now).tables) }
     {
-        self.header.bounds.values.constant
-    }
-
-    /// The weights of its atoms, in their order.
-    pub fn weights(&self) -> &[i64]
-        ensures weights { result.now ≡ (potentials_of (certificate_of self.now)).weights }
-        ensures one_for_each { length result.now ≡ length (certificate_of self.now).atoms }
-        ensures within_limits { IsTrue (list_all is_weight result.now) }
-    {
-        self.header.bounds.values.weights.as_slice()
-    }
-
-    /// The constant of the potential function that detects dead ends.
-    pub fn dead_end_constant(&self) -> i64
-        ensures constant { result ≡ (certificate_of self.now).dead_ends.constant }
-        ensures within_limits { IsTrue (is_weight result) }
-    {
-        self.header.bounds.dead_ends.constant
-    }
-
-    /// The weights of its atoms that detect dead ends, in their order.
-    pub fn dead_end_weights(&self) -> &[i64]
-        ensures weights { result.now ≡ (certificate_of self.now).dead_ends.weights }
-        ensures one_for_each { length result.now ≡ length (certificate_of self.now).atoms }
-        ensures within_limits { IsTrue (list_all is_weight result.now) }
-    {
-        self.header.bounds.dead_ends.weights.as_slice()
+        &self.header.bounds
     }
 
     /// Its atoms, which its states name by their places here, from 0.

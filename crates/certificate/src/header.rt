@@ -1,6 +1,7 @@
 //! What a certificate says before its states.
 use certificate_reader::{Claim, Version};
 use indexmap::IndexSet;
+use table_rows::Table;
 use task::Atom;
 
 /// A potential function: a constant, and a weight for each atom, in their order.
@@ -15,13 +16,16 @@ pub struct Potential {
 /// What bounds the costs of plans from each state on.
 #[derive(Drop)]
 pub struct Bounds {
-    /// The potential function by which a state has a value, a lower bound of what is still to pay from it on.
-    pub values: Potential,
+    /// The potential functions by which a state has values, lower bounds of what is still to pay from it on, of which the
+    /// greatest counts. Versions 1 and 2 have one.
+    pub values: Vec<Potential>,
     /// That by which a state is reported as a dead end. In version 1 all of it is 0.
     pub dead_ends: Potential,
+    /// The tables, of whose rows each has a weight for each value and, last, one for dead ends. Versions 1 and 2 have none.
+    pub tables: Vec<Table>,
 }
 
-/// What a certificate says before its states: the version, the claim, the atoms and the potential functions.
+/// What a certificate says before its states: the version, the claim, the atoms, and what bounds the costs of plans.
 #[derive(Drop)]
 pub struct Header {
     /// The version of its text.
@@ -30,6 +34,6 @@ pub struct Header {
     pub claim: Claim,
     /// The atoms, in order.
     pub atoms: IndexSet<Atom>,
-    /// The potential functions.
+    /// What bounds the costs of plans.
     pub bounds: Bounds,
 }

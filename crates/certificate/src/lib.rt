@@ -8,7 +8,6 @@ mod limits;
 mod line_text;
 mod listing;
 mod states;
-mod weights;
 mod widening;
 mod writer;
 

@@ -1,14 +1,19 @@
 //! The limits of a certificate's text.
-ghost use Rattle.std.specs.Prelude.{◌≡◌, map};
+ghost use Rattle.std.specs.Prelude.{◌≡◌, IsTrue, length, map, nat_le};
 ghost use Rattle.std.specs.List.{list_all};
-ghost use Rattle.certificate_definitions.specs.Certificates.{is_number, is_weight, is_dead_end_weight, is_claim, is_mark, rise, is_state_line, are_potentials, keeps_limits};
+ghost use Rattle.certificate_definitions.specs.Certificates as certificates;
+ghost use Rattle.certificate_definitions.specs.Certificates.{is_number, is_weight, is_dead_end_weight, is_claim, is_mark, rise, is_state_line, are_potentials, is_value_count, is_row, is_table, has_tables, are_tables, rows_of, keeps_limits};
 ghost use Rattle.certificate_reader.specs.Lines.{claim_of, line_of, mark_of, version_of};
-ghost use Rattle.certificate.specs.CertificateParts.{certificate_with_lines, potential_of};
+ghost use Rattle.certificate_reader.specs.declared.line.TheConstants.{MAX_ROWS};
+ghost use Rattle.table_rows.specs.Tables.{table_of};
+ghost use Rattle.certificate.specs.CertificateParts.{are_bounds, bounds_of, certificate_with_lines, potential_of};
 
-use crate::header::{Header, Potential};
+use crate::header::{Bounds, Header, Potential};
 use certificate_reader::{
-    Claim, MAX_ATOMS, MAX_STATE_LINES, MAX_WEIGHT, Mark, NUMBER_LIMIT, StateLine, Version,
+    Claim, MAX_ATOMS, MAX_CONSTANTS, MAX_ROWS, MAX_STATE_LINES, MAX_TABLES, MAX_WEIGHT, Mark,
+    NUMBER_LIMIT, StateLine, Version,
 };
+use table_rows::Table;
 
 /// Whether a certificate that begins so may have these lines.
 pub(crate) fn keeps_limits(header: &Header, lines: &[StateLine]) -> bool
@@ -19,8 +24,29 @@ pub(crate) fn keeps_limits(header: &Header, lines: &[StateLine]) -> bool
         && atom_count <= MAX_ATOMS
         && lines.len() <= MAX_STATE_LINES
         && are_state_lines(header.version, lines, atom_count)
-        && are_potentials(&header.bounds.values, atom_count)
-        && are_dead_ends(header.version, &header.bounds.dead_ends, atom_count)
+        && are_bounds(header.version, &header.bounds, atom_count)
+}
+
+/// Whether a certificate of this version and of this many atoms may have these bounds.
+fn are_bounds(version: Version, bounds: &Bounds, atom_count: usize) -> bool
+    ensures { result ≡ are_bounds (version_of version) atom_count (bounds_of bounds.now) }
+{
+    is_value_count(version, bounds.values.len())
+        && are_values(&bounds.values, atom_count)
+        && are_dead_ends(version, &bounds.dead_ends, atom_count)
+        && are_tables(version, &bounds.tables, atom_count, bounds.values.len() + 1)
+        && bounds.tables.len() <= MAX_TABLES
+        && are_few_rows(&bounds.tables)
+}
+
+/// Whether a certificate of this version may have so many values.
+fn is_value_count(version: Version, count: usize) -> bool
+    ensures { result ≡ is_value_count (version_of version) count }
+{
+    match version {
+        Version::One | Version::Two => count == 1,
+        Version::Three => 1 <= count && count < MAX_CONSTANTS,
+    }
 }
 
 /// Whether the number may occur in a certificate.
@@ -38,6 +64,18 @@ fn is_claim(claim: Claim) -> bool
         Claim::Bound(least) => is_number(least),
         Claim::Unsolvable => true,
     }
+}
+
+/// Whether each value is a constant and a weight for each of this many atoms.
+fn are_values(values: &[Potential], atom_count: usize) -> bool
+    ensures { result ≡ list_all (are_potentials is_weight atom_count) (map potential_of values.now) }
+{
+    for value in values {
+        if !are_potentials(value, atom_count) {
+            return false;
+        }
+    }
+    true
 }
 
 /// Whether these are a constant and a weight for each of this many atoms.
@@ -132,6 +170,72 @@ fn rise(numbers: &[u32], atom_count: usize) -> bool
             return false;
         }
         least = number + 1;
+    }
+    true
+}
+
+/// Whether a certificate of this version and of this many atoms may have these tables, whose rows have so many weights.
+fn are_tables(version: Version, tables: &[Table], atom_count: usize, weight_count: usize) -> bool
+    ensures { result ≡ are_tables (version_of version) atom_count weight_count (map table_of tables.now) }
+{
+    for table in tables {
+        if !(has_tables(version) && is_table(table, atom_count, weight_count)) {
+            return false;
+        }
+    }
+    true
+}
+
+/// Whether a certificate of this version may have tables.
+fn has_tables(version: Version) -> bool
+    ensures { result ≡ has_tables (version_of version) }
+{
+    match version {
+        Version::One | Version::Two => false,
+        Version::Three => true,
+    }
+}
+
+/// Whether a certificate of this many atoms may have this table, whose rows have so many weights.
+fn is_table(table: &Table, atom_count: usize, weight_count: usize) -> bool
+    ensures { result ≡ is_table atom_count weight_count (table_of table.now) }
+{
+    rise(table.scope(), atom_count)
+        && 1 <= table.width()
+        && are_rows(table, atom_count, weight_count)
+}
+
+/// Whether each row of the table, whose scope may occur in a certificate of this many atoms, has so many weights, each within
+/// its limits. That its atoms are of the scope is so for each table.
+fn are_rows(table: &Table, atom_count: usize, weight_count: usize) -> bool
+    requires scope { IsTrue (rise atom_count 0 (table_of table.now).scope) }
+    ensures { result ≡ list_all (is_row atom_count weight_count (table_of table.now).scope) (table_of table.now).rows }
+{
+    for row in 0..table.row_count() {
+        if !are_row_weights(table.weights(row as u32), weight_count) {
+            return false;
+        }
+    }
+    true
+}
+
+/// Whether these are so many weights.
+fn are_row_weights(weights: &[i64], count: usize) -> bool
+    ensures { result ≡ certificates.are_weights count weights.now }
+{
+    weights.len() == count && are_weights(weights)
+}
+
+/// Whether the tables have no more rows together than a certificate may have.
+fn are_few_rows(tables: &[Table]) -> bool
+    ensures { result ≡ nat_le (length (rows_of (map table_of tables.now))) MAX_ROWS }
+{
+    let mut room = MAX_ROWS;
+    for table in tables {
+        if table.row_count() > room {
+            return false;
+        }
+        room -= table.row_count();
     }
     true
 }

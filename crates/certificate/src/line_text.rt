@@ -1,18 +1,19 @@
 //! The lines of a certificate's text, each added to the bytes of those before it.
-ghost use Rattle.std.specs.Prelude.{◌≡◌, ◌++◌, codes, map, OnOk};
+ghost use Rattle.std.specs.Prelude.{◌≡◌, ◌<◌, ◌++◌, [], All, codes, length, map, OnOk};
 ghost use Rattle.std.specs.List.{flat_map};
-ghost use Rattle.std.specs.Fmt.{decimal, signed_decimal};
+ghost use Rattle.std.specs.Fmt.{decimal};
 ghost use Rattle.task.specs.Task.{task_of};
 ghost use Rattle.task.specs.TaskParts.{atom_of, object_of};
 ghost use Rattle.model.specs.PlanWriting.{object_name, object_text};
 ghost use Rattle.certificate_reader.specs.Lines.{claim_of, line_of, mark_of, version_of};
-ghost use Rattle.certificate.specs.Weights.{weights_of};
 ghost use Rattle.certificate_definitions.specs.CertificateText as line;
 ghost use Rattle.certificate_definitions.specs.CertificateText.{claims, last, line_text, mark_text, weights_text, whole_line};
-ghost use Rattle.certificate_definitions.specs.CertificateNames.{predicate_name};
-ghost use Rattle.certificate.specs.Gathering.{line_of_atom, number_text, state_line};
+ghost use Rattle.certificate_definitions.specs.CertificateNames.{named_atom, predicate_name, weights_in};
+ghost use Rattle.certificate.specs.declared.header.Potential as header;
+ghost use Rattle.certificate.specs.CertificateParts.{bounds_of, constants_in, weights_at};
+ghost use Rattle.certificate.specs.Gathering.{atom_line, number_text, row_line, scope_line, state_line, weight_text};
 
-use crate::weights::Weights;
+use crate::header::Bounds;
 use certificate_reader::{Claim, Mark, StateLine, Version};
 use itoa::Buffer;
 use std::alloc::AllocError;
@@ -22,14 +23,15 @@ use task::{Atom, ObjectId, PredicateId, Task};
 pub(crate) fn add_head(
     version: Version,
     claim: Claim,
-    constants: Weights,
+    bounds: &Bounds,
     text: &mut Vec<u8>,
 ) -> Result<(), AllocError>
-    ensures { OnOk result (text.new.items ≡ text.old.items ++ (whole_line (line.version (version_of version)) ++ whole_line (claims (claim_of claim)) ++ whole_line (line.constant (weights_of constants)))) }
+    ensures { OnOk result (text.new.items ≡ text.old.items ++ (whole_line (line.version (version_of version)) ++ whole_line (claims (claim_of claim)) ++ whole_line (line.constant (constants_in (version_of version) (bounds_of bounds.now))))) }
 {
     text.extend_from_slice(version_line(version))?;
     add_claim(claim, text)?;
-    add_weights(b"\nconstant", constants, text)?;
+    text.extend_from_slice(b"\nconstant")?;
+    add_constants(version, bounds, text)?;
     text.extend_from_slice(b"\n")
 }
 
@@ -54,20 +56,72 @@ fn add_claim(claim: Claim, text: &mut Vec<u8>) -> Result<(), AllocError>
     }
 }
 
-/// Adds the line of an atom, by its names, with its weights.
+/// Adds the constants of the values and, from version 2 on, that of dead ends, with a blank before each.
+fn add_constants(
+    version: Version,
+    bounds: &Bounds,
+    text: &mut Vec<u8>,
+) -> Result<(), AllocError>
+    ensures { OnOk result (text.new.items ≡ text.old.items ++ weights_text (constants_in (version_of version) (bounds_of bounds.now))) }
+{
+    for value in &bounds.values {
+        add_weight(value.constant, text)?;
+    }
+    add_dead_end_weight(version, bounds.dead_ends.constant, text)
+}
+
+/// Adds the line of the atom at this place, from 0, by its names, with its weights.
 pub(crate) fn add_atom(
     task: &Task,
     atom: &Atom,
-    weights: Weights,
+    place: usize,
+    version: Version,
+    bounds: &Bounds,
     text: &mut Vec<u8>,
 ) -> Result<(), AllocError>
-    ensures { OnOk result (text.new.items ≡ text.old.items ++ line_of_atom (task_of task.now) (weights_of weights) (atom_of atom.now)) }
+    requires values { All (λ (p : header.Potential). place < length p.weights.items) bounds.now.values.items }
+    requires dead_ends { place < length bounds.now.dead_ends.weights.items }
+    ensures { OnOk result (text.new.items ≡ text.old.items ++ atom_line (record { weights = weights_at (version_of version) (bounds_of bounds.now) place; atom = named_atom (task_of task.now) (atom_of atom.now) })) }
 {
-    add_weights(b"atom", weights, text)?;
+    text.extend_from_slice(b"atom")?;
+    add_weights_at(place, version, bounds, text)?;
     text.extend_from_slice(b" (")?;
     text.extend_from_slice(predicate_name(task, atom.predicate))?;
     add_names(task, atom.objects.as_slice(), text)?;
     text.extend_from_slice(b")\n")
+}
+
+/// Adds the weights of the atom at this place, from 0: those of the values and, from version 2 on, that of dead ends, with a
+/// blank before each.
+fn add_weights_at(
+    place: usize,
+    version: Version,
+    bounds: &Bounds,
+    text: &mut Vec<u8>,
+) -> Result<(), AllocError>
+    requires values { All (λ (p : header.Potential). place < length p.weights.items) bounds.now.values.items }
+    requires dead_ends { place < length bounds.now.dead_ends.weights.items }
+    ensures { OnOk result (text.new.items ≡ text.old.items ++ weights_text (weights_at (version_of version) (bounds_of bounds.now) place)) }
+{
+    for value in &bounds.values {
+        add_weight(value.weights[place], text)?;
+    }
+    add_dead_end_weight(version, bounds.dead_ends.weights[place], text)
+}
+
+/// Adds a constant or a weight of dead ends, with a blank before it; version 1 writes none.
+fn add_dead_end_weight(
+    version: Version,
+    weight: i64,
+    text: &mut Vec<u8>,
+) -> Result<(), AllocError>
+    ensures { OnOk result (text.new.items ≡ text.old.items ++ weights_text (weights_in (version_of version) [] weight)) }
+{
+    match version {
+        Version::One => Ok(()),
+        Version::Two => add_weight(weight, text),
+        Version::Three => add_weight(weight, text),
+    }
 }
 
 /// Adds the objects' names, with a blank before each.
@@ -79,6 +133,29 @@ fn add_names(task: &Task, objects: &[ObjectId], text: &mut Vec<u8>) -> Result<()
         text.extend_from_slice(object_name(task, *object))?;
     }
     Ok(())
+}
+
+/// Adds the line of a table's scope.
+pub(crate) fn add_scope(scope: &[u32], text: &mut Vec<u8>) -> Result<(), AllocError>
+    ensures { OnOk result (text.new.items ≡ text.old.items ++ scope_line scope.now) }
+{
+    text.extend_from_slice(b"table")?;
+    add_numbers(scope, text)?;
+    text.extend_from_slice(b"\n")
+}
+
+/// Adds the line of a row with these weights, in which these atoms are true.
+pub(crate) fn add_row(
+    weights: &[i64],
+    atoms: &[u32],
+    text: &mut Vec<u8>,
+) -> Result<(), AllocError>
+    ensures { OnOk result (text.new.items ≡ text.old.items ++ row_line (record { atoms = atoms.now; weights = weights.now })) }
+{
+    text.extend_from_slice(b"row")?;
+    add_weights(weights, text)?;
+    add_numbers(atoms, text)?;
+    text.extend_from_slice(b"\n")
 }
 
 /// Adds the line of a state.
@@ -130,21 +207,19 @@ fn add_number(before: &[u8], number: u64, text: &mut Vec<u8>) -> Result<(), Allo
     text.extend_from_slice(Buffer::new().format(number).as_bytes())
 }
 
-/// Adds these bytes, and then constants or weights, with a blank before each.
-fn add_weights(before: &[u8], weights: Weights, text: &mut Vec<u8>) -> Result<(), AllocError>
-    ensures { OnOk result (text.new.items ≡ text.old.items ++ (before.now ++ weights_text (weights_of weights))) }
+/// Adds the weights, with a blank before each.
+fn add_weights(weights: &[i64], text: &mut Vec<u8>) -> Result<(), AllocError>
+    ensures { OnOk result (text.new.items ≡ text.old.items ++ weights_text weights.now) }
 {
-    text.extend_from_slice(before)?;
-    add_weight(weights.of_value, text)?;
-    match weights.of_dead_end {
-        None => Ok(()),
-        Some(of_dead_end) => add_weight(of_dead_end, text),
+    for weight in weights {
+        add_weight(*weight, text)?;
     }
+    Ok(())
 }
 
 /// Adds a blank, and then a constant or a weight in decimal digits, a `-` before it where it is negative.
 fn add_weight(weight: i64, text: &mut Vec<u8>) -> Result<(), AllocError>
-    ensures { OnOk result (text.new.items ≡ text.old.items ++ (codes " " ++ signed_decimal weight)) }
+    ensures { OnOk result (text.new.items ≡ text.old.items ++ weight_text weight) }
 {
     text.extend_from_slice(b" ")?;
     text.extend_from_slice(Buffer::new().format(weight).as_bytes())

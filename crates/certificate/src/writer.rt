@@ -1,27 +1,28 @@
 //! The text of a certificate, on any device.
-ghost use Rattle.std.specs.Prelude.{◌≡◌, ◌++◌, [], OnOk};
+ghost use Rattle.std.specs.Prelude.{◌≡◌, ◌++◌, [], map, OnOk};
 ghost use Rattle.std.specs.Io.KnownBytes.{Appends};
 ghost use Rattle.std.specs.List.{flat_map};
 ghost use Rattle.devices.specs.Devices.{AppendsBeginning, CountsDevice};
 ghost use Rattle.task.specs.Task.{task_of};
 ghost use Rattle.certificate.specs.Certificate.{certificate_of};
 ghost use Rattle.certificate_definitions.specs.CertificateNames.{certificate_text};
-ghost use Rattle.certificate.specs.Gathering.{IsPassedOn, atom_line, atoms_weighed, state_line};
+ghost use Rattle.table_rows.specs.Tables.{table_of};
+ghost use Rattle.certificate.specs.Gathering.{IsPassedOn, atom_line, atoms_weighed, row_line, state_line, table_text};
 
 use crate::cert::Cert;
-use crate::line_text::{add_atom, add_head, add_last, add_state};
-use crate::weights::weights_in;
+use crate::line_text::{add_atom, add_head, add_last, add_row, add_scope, add_state};
 use certificate_reader::{Mark, StateLine};
 use devices::{IoFault, Sink, write_all};
 use packed_state::{Packed, StateStore};
 use std::alloc::Global;
+use table_rows::Table;
 use task::Task;
 
 /// From how many bytes on what is held is written.
 const PIECE: usize = 65_536;
 
 /// Writes the text of a certificate of the task, a line at a time: the version, the claim and the constants, a line for
-/// each atom, by its names, a line for each listed state, and last how many states are listed.
+/// each atom, by its names, the lines of each table, a line for each listed state, and last how many states are listed.
 ///
 /// # Errors
 /// The device failed, or memory was refused. It has then taken a beginning of the text.
@@ -44,10 +45,9 @@ pub fn write_cert<W: Sink>(
     ensures name { W.name out.new ≡ W.name out.old }
 {
     let mut held = Vec::new(alloc);
-    let version = cert.version();
-    let constants = weights_in(version, cert.constant(), cert.dead_end_constant());
-    add_head(version, cert.claim(), constants, &mut held)?;
+    add_head(cert.version(), cert.claim(), cert.bounds(), &mut held)?;
     write_atoms(task, cert, &mut held, out)?;
+    write_tables(alloc, &cert.bounds().tables, &mut held, out)?;
     write_states(alloc, cert, &mut held, out)?;
     add_last(cert.line_count(), &mut held)?;
     write_all(out, held.as_slice())
@@ -60,19 +60,75 @@ fn write_atoms<W: Sink>(
     held: &mut Vec<u8>,
     out: &mut W,
 ) -> Result<(), IoFault>
-    ensures text { OnOk result (IsPassedOn (W.taken out.old) (W.taken out.new) held.old.items held.new.items (flat_map (atom_line (task_of task.now) (certificate_of cert.now).version) (atoms_weighed (certificate_of cert.now)))) }
-    ensures beginning { AppendsBeginning (W.taken out.old) (W.taken out.new) (held.old.items ++ flat_map (atom_line (task_of task.now) (certificate_of cert.now).version) (atoms_weighed (certificate_of cert.now))) }
+    ensures text { OnOk result (IsPassedOn (W.taken out.old) (W.taken out.new) held.old.items held.new.items (flat_map atom_line (atoms_weighed (task_of task.now) (certificate_of cert.now)))) }
+    ensures beginning { AppendsBeginning (W.taken out.old) (W.taken out.new) (held.old.items ++ flat_map atom_line (atoms_weighed (task_of task.now) (certificate_of cert.now))) }
     ensures failures { CountsDevice (W.failures out.old) (W.failures out.new) result }
     ensures name { W.name out.new ≡ W.name out.old }
 {
-    let (version, atoms) = (cert.version(), cert.atoms());
+    let (version, bounds, atoms) = (cert.version(), cert.bounds(), cert.atoms());
     for place in 0..atoms.len() {
-        let weights = weights_in(
-            version,
-            cert.weights()[place],
-            cert.dead_end_weights()[place],
-        );
-        add_atom(task, &atoms[place], weights, held)?;
+        add_atom(task, &atoms[place], place, version, bounds, held)?;
+        pass_on(held, out)?;
+    }
+    Ok(())
+}
+
+/// Writes the lines of the tables after the bytes that are held.
+fn write_tables<W: Sink>(
+    alloc: Global,
+    tables: &[Table],
+    held: &mut Vec<u8>,
+    out: &mut W,
+) -> Result<(), IoFault>
+    ensures text { OnOk result (IsPassedOn (W.taken out.old) (W.taken out.new) held.old.items held.new.items (flat_map table_text (map table_of tables.now))) }
+    ensures beginning { AppendsBeginning (W.taken out.old) (W.taken out.new) (held.old.items ++ flat_map table_text (map table_of tables.now)) }
+    ensures failures { CountsDevice (W.failures out.old) (W.failures out.new) result }
+    ensures name { W.name out.new ≡ W.name out.old }
+{
+    for table in tables {
+        write_table(alloc, table, held, out)?;
+    }
+    Ok(())
+}
+
+/// Writes the lines of the table after the bytes that are held.
+fn write_table<W: Sink>(
+    alloc: Global,
+    table: &Table,
+    held: &mut Vec<u8>,
+    out: &mut W,
+) -> Result<(), IoFault>
+    ensures text { OnOk result (IsPassedOn (W.taken out.old) (W.taken out.new) held.old.items held.new.items (table_text (table_of table.now))) }
+    ensures beginning { AppendsBeginning (W.taken out.old) (W.taken out.new) (held.old.items ++ table_text (table_of table.now)) }
+    ensures failures { CountsDevice (W.failures out.old) (W.failures out.new) result }
+    ensures name { W.name out.new ≡ W.name out.old }
+{
+    add_scope(table.scope(), held)?;
+    pass_on(held, out)?;
+    write_rows(alloc, table, held, out)
+}
+
+/// Writes the lines of the table's rows after the bytes that are held.
+fn write_rows<W: Sink>(
+    alloc: Global,
+    table: &Table,
+    held: &mut Vec<u8>,
+    out: &mut W,
+) -> Result<(), IoFault>
+    ensures text { OnOk result (IsPassedOn (W.taken out.old) (W.taken out.new) held.old.items held.new.items (flat_map row_line (table_of table.now).rows)) }
+    ensures beginning { AppendsBeginning (W.taken out.old) (W.taken out.new) (held.old.items ++ flat_map row_line (table_of table.now).rows) }
+    ensures failures { CountsDevice (W.failures out.old) (W.failures out.new) result }
+    ensures name { W.name out.new ≡ W.name out.old }
+{
+    let Ok(mut set) = Packed::empty(alloc, table.width()) else {
+        return Err(IoFault::NoMemory);
+    };
+    let mut atoms = Vec::new(alloc);
+    for row in 0..table.row_count() {
+        let Ok(()) = table.list_atoms(row as u32, &mut set, &mut atoms) else {
+            return Err(IoFault::NoMemory);
+        };
+        add_row(table.weights(row as u32), &atoms, held)?;
         pass_on(held, out)?;
     }
     Ok(())

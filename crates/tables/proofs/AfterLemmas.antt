@@ -19,9 +19,9 @@ use Rattle.table_functions.specs.FairTables.{agrees, ConditionalChange, changes_
 use Rattle.table_functions.proofs.Lists.{all-at}
 use Rattle.table_functions.proofs.Rows.{same-itself}
 use Rattle.tables.specs.Placed.{place_in, placed_in, is_so}
-use Rattle.tables.specs.Rows.{are_rising, atoms_at}
+use Rattle.table_rows.specs.Rows.{are_rising, atoms_at}
 use Rattle.tables.specs.Afters.{When, PlacedChanges, certain_place, certain_set, when_in, placed_changes, is_plain, left_of, turns, is_open_at, turned, ways}
-use Rattle.tables.proofs.RowLemmas.{rising-tail}
+use Rattle.table_rows.proofs.RowLemmas.{rising-tail}
 use Rattle.tables.proofs.PlacedLemmas.{place-within, no-place, among-got, above-got, atom-at, placed-agree}
 
 -- ---- tests of some element

@@ -10,7 +10,7 @@ use Rattle.table_functions.specs.TableFunctions.{Row}
 use Rattle.table_functions.specs.FairTables.{agrees}
 use Rattle.table_functions.proofs.Lists.{any-at}
 use Rattle.tables.specs.Placed.{placed_in, is_so}
-use Rattle.tables.specs.Rows.{are_rising, rows_from}
+use Rattle.table_rows.specs.Rows.{are_rising, rows_from}
 use Rattle.tables.proofs.PlacedLemmas.{placed-agree}
 
 -- ---- some element of a list

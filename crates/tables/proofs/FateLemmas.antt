@@ -18,7 +18,7 @@ use Rattle.table_functions.proofs.Lists.{all-from, all-at, any-at}
 use Rattle.potential_functions.specs.PotentialFunctions.{IsInRange, weight}
 use Rattle.potential_functions.proofs.Ranges.{weight-range}
 use Rattle.table_functions.specs.TableFunctions.{Row, Table, is_among, row_of, weight_at}
-use Rattle.tables.specs.Rows.{atoms_at}
+use Rattle.table_rows.specs.Rows.{atoms_at}
 use Rattle.tables.specs.Afters.{When, losses_to, most_of, raised, turns, is_open_at, freed, free_places, ways, ways_of, turned}
 use Rattle.tables.specs.Fates.{IsLoss, are_rows, LosesTo, Question, weight_in, is_closed_from, closed_at, lost_from, lost_at, LosesFrom, IsFate, leaves, raised_by, rows_of, LosesInAll}
 use Rattle.tables.specs.declared.losses.Fate.{Fate}

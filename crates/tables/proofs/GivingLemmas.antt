@@ -12,7 +12,7 @@ use Rattle.potential_functions.specs.PotentialFunctions.{IsInRange}
 use Rattle.table_functions.specs.TableFunctions.{Row, Table, is_among, weight_at}
 use Rattle.table_functions.specs.FairTables.{agrees, agreeing, table_gives}
 use Rattle.table_functions.proofs.Lists.{none-passes}
-use Rattle.tables.specs.Rows.{are_rising, atoms_at}
+use Rattle.table_rows.specs.Rows.{are_rising, atoms_at}
 use Rattle.tables.specs.Placed.{PlacedLiteral, placed_in, is_so}
 use Rattle.tables.specs.Afters.{most_of, raised}
 use Rattle.tables.specs.Candidates.{AreCandidates}

@@ -1,5 +1,3 @@
-pub mod RowLemmas
-pub mod StoreLemmas
 pub mod PlacedLemmas
 pub mod AgreeingLemmas
 pub mod AfterLemmas

@@ -10,12 +10,12 @@ use Rattle.model.proofs.ListLemmas.{Contains-got, Contains-place, Contains-none,
 use Rattle.table_functions.specs.TableFunctions.{Row, Table, row_of, weight_at}
 use Rattle.table_functions.specs.FairTables.{agrees, agreeing, ConditionalChange, afters_of, touches_scope, is_closed, losses_from, most_lost}
 use Rattle.table_functions.proofs.Lists.{all-from, all-at}
-use Rattle.tables.specs.Rows.{are_rising, atoms_at, rows_from}
+use Rattle.table_rows.specs.Rows.{are_rising, atoms_at, rows_from}
 use Rattle.tables.specs.Placed.{placed_in, is_so}
 use Rattle.tables.specs.Afters.{placed_changes, is_plain, left_of, free_places, ways_of, losses_to, most_of}
 use Rattle.tables.specs.Fates.{Question, weight_in, is_closed_from, closed_at, lost_from, lost_at, rows_of, MostLostInAll}
 use Rattle.tables.specs.Losses.{LosesByTable, IsLossByTable}
-use Rattle.tables.proofs.RowLemmas.{length-rows, row-set}
+use Rattle.table_rows.proofs.RowLemmas.{length-rows, row-set}
 use Rattle.tables.proofs.PlacedLemmas.{placed-agree}
 use Rattle.tables.proofs.MostLemmas.{most-alike, greatest-is, or_nothing}
 use Rattle.tables.proofs.WayLemmas.{same-truth, all-ways, lost-into, lost-from}

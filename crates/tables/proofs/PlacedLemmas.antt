@@ -14,8 +14,8 @@ use Rattle.table_functions.specs.TableFunctions.{is_among}
 use Rattle.table_functions.specs.FairTables.{agrees}
 use Rattle.tables.specs.declared.placed.PlacedLiteral as code
 use Rattle.tables.specs.Placed.{PlacedLiteral, placed_of, place_in, placed_in, is_so}
-use Rattle.tables.specs.Rows.{are_rising, atoms_at}
-use Rattle.tables.proofs.RowLemmas.{rising-tail}
+use Rattle.table_rows.specs.Rows.{are_rising, atoms_at}
+use Rattle.table_rows.proofs.RowLemmas.{rising-tail}
 
 -- ---- one literal after another
 

@@ -8,7 +8,7 @@ use Rattle.model.proofs.ListLemmas.{Contains-map, map-Contains, Contains-filter_
 use Rattle.table_functions.specs.TableFunctions.{Row, Table, is_among, row_of, weight_at}
 use Rattle.table_functions.specs.FairTables.{ConditionalChange, afters_of, losses_from}
 use Rattle.table_functions.proofs.Lists.{all-from, all-at}
-use Rattle.tables.specs.Rows.{are_rising, atoms_at}
+use Rattle.table_rows.specs.Rows.{are_rising, atoms_at}
 use Rattle.tables.specs.Afters.{placed_changes, is_plain, left_of, is_open_at, ways, losses_to}
 use Rattle.tables.proofs.AfterLemmas.{after-way, way-after}
 

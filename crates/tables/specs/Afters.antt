@@ -10,7 +10,7 @@ use Rattle.model.specs.NumberedLiterals.{NumberedChange}
 use Rattle.table_functions.specs.TableFunctions.{Row, Table, is_among, row_of, weight_at}
 use Rattle.table_functions.specs.FairTables.{ConditionalChange, changes_in}
 use Rattle.tables.specs.Placed.{PlacedLiteral, place_in, placed_in, is_so}
-use Rattle.tables.specs.Rows.{atoms_at}
+use Rattle.table_rows.specs.Rows.{atoms_at}
 
 -- ---- changes within a scope
 

@@ -2,14 +2,13 @@
 use Rattle.std.specs.Prelude.{◌≡◌, ℕ, Bool, true, false, not, ◌||◌, if◌then◌else◌, ℤ, pos, neg_ℤ, ◌≤ℤ◌, List, [], length, map, slice_get, Option, None, Some, is_some}
 use Rattle.std.specs.List.{list_all, flat_map, range_with_len}
 use Rattle.std.specs.Option.{option_map_or}
-use Rattle.packed_state.specs.PooledView.{pooled_states}
 use Rattle.table_functions.specs.TableFunctions.{Table, row_of, weight_at}
-use Rattle.tables.specs.Rows.{atoms_at}
+use Rattle.table_rows.specs.Rows.{atoms_at}
 use Rattle.tables.specs.Placed.{PlacedLiteral, placed_of, is_so}
 use Rattle.tables.specs.Afters.{PlacedChanges, ways_of, losses_to, most_of, raised}
 use Rattle.tables.specs.PlacedChanges.{changes_of}
-use Rattle.tables.specs.Tables.{table_of}
-use Rattle.tables.specs.declared.table.Table as code_of_table
+use Rattle.table_rows.specs.Tables.{table_of, sets_of}
+use Rattle.table_rows.specs.declared.table.Table as code_of_table
 use Rattle.tables.specs.declared.losses.Question as code_of_question
 use Rattle.tables.specs.declared.losses.Fate.{Fate}
 use Rattle.tables.specs.declared.losses.Fate.TheVariants.{Disagrees, Leaves}
@@ -46,7 +45,7 @@ pub record Question : Type 0 where
   pub changes : PlacedChanges
 
 abbrev pub question_of : code_of_table.Table → code_of_question.Question → Question
-question_of t q = record { table = table_of t; sets = pooled_states t.rows.sets; place = q.place; literals = map placed_of q.literals.now; changes = changes_of q.changes.now }
+question_of t q = record { table = table_of t; sets = sets_of t; place = q.place; literals = map placed_of q.literals.now; changes = changes_of q.changes.now }
 
 abbrev pub weight_in : Question → ℕ → ℤ
 weight_in q row = option_map_or (weight_at q.place) (slice_get q.table.rows row) (pos 0)

@@ -2,8 +2,8 @@
 use Rattle.std.specs.Prelude.{◌<◌, All, length, map}
 use Rattle.tables.specs.Placed.{PlacedLiteral, placed_of}
 use Rattle.tables.specs.PlacedChanges.{changes_of, FitsWidth}
-use Rattle.tables.specs.Tables.{table_of, weight_count_of}
-use Rattle.tables.specs.declared.table.Table.{Table}
+use Rattle.table_rows.specs.Tables.{table_of, weight_count_of}
+use Rattle.table_rows.specs.declared.table.Table.{Table}
 use Rattle.tables.specs.declared.losses.Question.{Question}
 
 -- its places are in the scope, and its place is that of a weight

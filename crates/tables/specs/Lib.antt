@@ -1,7 +1,4 @@
-pub mod Rows
-pub mod Pushing
 pub mod Placed
-pub mod Tables
 pub mod Lists
 pub mod Candidates
 pub mod Afters

@@ -5,7 +5,7 @@ use Rattle.table_functions.specs.TableFunctions as model
 use Rattle.table_functions.specs.FairTables.{ConditionalChange, is_closed, table_loses}
 use Rattle.tables.specs.declared.indexed.IndexedTable.{IndexedTable}
 use Rattle.tables.specs.Fates.{IsLoss}
-use Rattle.tables.specs.Tables.{table_of, weight_count_of}
+use Rattle.table_rows.specs.Tables.{table_of, weight_count_of}
 
 abbrev pub indexed_of : IndexedTable → model.Table
 indexed_of t = table_of t.table

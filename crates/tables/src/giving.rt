@@ -3,11 +3,11 @@ ghost use Rattle.std.specs.Prelude.{◌≡◌, ◌<◌, All, IfOk, Some, length,
 ghost use Rattle.std.specs.List.{list_any, list_all};
 ghost use Rattle.grounding.specs.Views.{numbered_of};
 ghost use Rattle.packed_state.specs.Packed.{bits_of};
-ghost use Rattle.packed_state.specs.PooledView.{pooled_width, pooled_states};
 ghost use Rattle.table_functions.specs.TableFunctions.{Row};
 ghost use Rattle.table_functions.specs.FairTables as model;
 ghost use Rattle.tables.specs.Fates.{IsLoss};
-ghost use Rattle.tables.specs.Rows.{atoms_at};
+ghost use Rattle.table_rows.specs.Rows.{atoms_at};
+ghost use Rattle.table_rows.specs.Tables.{sets_of};
 ghost use Rattle.tables.specs.Giving.{given_by};
 ghost use Rattle.tables.specs.Losses.{indexed_of, indexed_count_of};
 ghost use Rattle.tables.specs.Placed as by_places;
@@ -18,7 +18,7 @@ use crate::losses::{greater_of, or_nothing};
 use crate::placed::{PlacedLiteral, all_are_so, placed};
 use faults::NoMemory;
 use grounding::NumberedLiteral;
-use packed_state::{Packed, StateStore};
+use packed_state::Packed;
 use std::alloc::Global;
 
 impl IndexedTable {
@@ -30,19 +30,19 @@ impl IndexedTable {
         ensures { IfOk result (λ some. some ≡ list_any (λ (r : Row). model.agrees (map numbered_of literals.now) (indexed_of self.now).scope r.atoms) (indexed_of self.now).rows) }
     {
         let placed = placed(alloc, self.table.scope(), literals)?;
-        let mut set = Packed::empty(alloc, self.table.rows.sets.width())?;
+        let mut set = Packed::empty(alloc, self.table.width())?;
         Ok(self.some_are_so(placed.as_slice(), &mut set))
     }
 
     /// Whether the literals are true of some row, each of which is copied to `set`.
     fn some_are_so(&self, literals: &[PlacedLiteral], set: &mut Packed) -> bool
-        requires width { length (bits_of set.old) ≡ pooled_width self.now.table.rows.sets }
-        requires below { All (λ (l : by_places.PlacedLiteral). l.place < pooled_width self.now.table.rows.sets) (map placed_of literals.now) }
-        ensures { result ≡ list_any (λ bits. list_all (is_so bits) (map placed_of literals.now)) (pooled_states self.now.table.rows.sets) }
+        requires width { length (bits_of set.old) ≡ length (indexed_of self.now).scope }
+        requires below { All (λ (l : by_places.PlacedLiteral). l.place < length (indexed_of self.now).scope) (map placed_of literals.now) }
+        ensures { result ≡ list_any (λ bits. list_all (is_so bits) (map placed_of literals.now)) (sets_of self.now.table) }
     {
         let candidates = self.candidates(literals);
         for k in 0..candidates.len() {
-            self.table.rows.sets.get(candidates.at(k), set);
+            self.table.get(candidates.at(k), set);
             if all_are_so(set, literals) {
                 return true;
             }
@@ -65,7 +65,7 @@ impl IndexedTable {
         ensures range { IfOk result IsLoss }
     {
         let placed = placed(alloc, self.table.scope(), literals)?;
-        let mut set = Packed::empty(alloc, self.table.rows.sets.width())?;
+        let mut set = Packed::empty(alloc, self.table.width())?;
         let mut most = None;
         for row in 0..self.table.row_count() {
             most = self.raised_by(row as u32, placed.as_slice(), place, &mut set, most);

@@ -2,26 +2,25 @@
 ghost use Rattle.std.specs.Prelude.{◌≡◌, ℕ, ◌<◌, ◌⊎◌, true, All, IfOk, length, map, slice_get, Some};
 ghost use Rattle.std.proofs.Props.{props};
 ghost use Rattle.packed_state.specs.Packed.{bits_of};
-ghost use Rattle.packed_state.specs.PooledView.{pooled_width, pooled_states};
 ghost use Rattle.potential_functions.specs.PotentialFunctions.{IsInRange};
 ghost use Rattle.table_functions.specs.TableFunctions.{Row};
 ghost use Rattle.tables.specs.Lists.{list_at, IsIndexOf};
-ghost use Rattle.tables.specs.Tables.{table_of};
+ghost use Rattle.table_rows.specs.Tables.{table_of, sets_of};
 
 use crate::candidates::Candidates;
 use crate::lists::Lists;
 use crate::placed::PlacedLiteral;
-use crate::table::Table;
 use faults::NoMemory;
-use packed_state::{Packed, StateStore};
+use packed_state::Packed;
 use std::alloc::Global;
+use table_rows::Table;
 
 /// A table, and for each atom of its scope the rows in which it is true.
 #[derive(Drop)]
 pub struct IndexedTable {
     pub(crate) table: Table,
     index: Lists,
-    ghost indexed: { IsIndexOf (pooled_states table.rows.sets) (length (pooled_states table.rows.sets)) index } by { Prim.hlevel props },
+    ghost indexed: { IsIndexOf (sets_of table) (length (sets_of table)) index } by { Prim.hlevel props },
     ghost in_range: { All (λ (r : Row). All IsInRange r.weights) (table_of table).rows } by { Prim.hlevel props },
 }
 
@@ -51,7 +50,7 @@ impl IndexedTable {
 
     /// The rows with the rarest of the atoms that are to be true, or all where none is.
     pub(crate) fn candidates(&self, literals: &[PlacedLiteral]) -> Candidates<'_>
-        ensures { AreCandidates (pooled_states self.now.table.rows.sets) (map placed_of literals.now) (candidates_of result) }
+        ensures { AreCandidates (sets_of self.now.table) (map placed_of literals.now) (candidates_of result) }
     {
         let mut best = Candidates::All(self.table.row_count() as u32);
         for literal in literals {
@@ -77,13 +76,13 @@ impl IndexedTable {
 
 /// For each atom of the table's scope the rows in which it is true.
 fn index_of(alloc: Global, table: &Table) -> Result<Lists, NoMemory>
-    ensures { IfOk result (IsIndexOf (pooled_states table.now.rows.sets) (length (pooled_states table.now.rows.sets))) }
+    ensures { IfOk result (IsIndexOf (sets_of table.now) (length (sets_of table.now))) }
 {
-    let width = table.rows.sets.width();
+    let width = table.width();
     let mut index = Lists::empty(alloc, width)?;
     let mut set = Packed::empty(alloc, width)?;
-    for row in 0..table.rows.sets.len() {
-        table.rows.sets.get(row as u32, &mut set);
+    for row in 0..table.row_count() {
+        table.get(row as u32, &mut set);
         index.file(&set, row as u32)?;
     }
     Ok(index)

@@ -3,7 +3,6 @@ ghost use Rattle.std.specs.Option.{option_map_or};
 ghost use Rattle.std.specs.Prelude.{◌≡◌, ℤ, pos, ◌<◌, ◌∷◌, [], All, IfOk, List, OnOk, length, map, slice_get};
 ghost use Rattle.std.specs.Int.{int_max};
 ghost use Rattle.packed_state.specs.Packed.{bits_of};
-ghost use Rattle.packed_state.specs.PooledView.{pooled_states};
 ghost use Rattle.potential_functions.specs.PotentialFunctions.{IsInRange};
 ghost use Rattle.grounding.specs.Views.{numbered_of};
 ghost use Rattle.grounding.specs.Changes.{conditional_of};
@@ -13,14 +12,14 @@ ghost use Rattle.tables.specs.Losses.{indexed_of, indexed_count_of, IsLossByTabl
 ghost use Rattle.tables.specs.Afters.{raised, turned, ways};
 ghost use Rattle.tables.specs.Fates.{question_of, MostLost, IsFate, MostLostInAll};
 ghost use Rattle.tables.specs.FitsTable.{FitsTable};
-ghost use Rattle.tables.specs.Tables.{table_of, weight_count_of};
+ghost use Rattle.table_rows.specs.Tables.{table_of, weight_count_of};
 
 use crate::afters::PlacedChanges;
 use crate::indexed::IndexedTable;
 use crate::placed::{PlacedLiteral, all_are_so, placed};
 use faults::NoMemory;
 use grounding::{CountingChange, NumberedLiteral};
-use packed_state::{Packed, StateStore};
+use packed_state::Packed;
 use potentials::touches;
 use std::alloc::Global;
 
@@ -84,7 +83,7 @@ impl IndexedTable {
         requires { FitsTable self.now.table question.now }
         ensures { IfOk result (MostLostInAll (question_of self.now.table question.now)) }
     {
-        let width = self.table.rows.sets.width();
+        let width = self.table.width();
         let mut set = Packed::empty(alloc, width)?;
         let mut left = Packed::empty(alloc, width)?;
         let mut free = Vec::new(alloc);
@@ -111,14 +110,14 @@ impl IndexedTable {
         free: &mut Vec<u32>,
     ) -> Result<Fate, NoMemory>
         requires fits { FitsTable self.now.table question.now }
-        requires there { row < length (pooled_states self.now.table.rows.sets) }
+        requires there { row < length (table_of self.now.table).rows }
         requires set { length (bits_of set.old) ≡ length (table_of self.now.table).scope }
         requires left { length (bits_of left.old) ≡ length (table_of self.now.table).scope }
         ensures fate { IfOk result (IsFate (question_of self.now.table question.now) row) }
         ensures set { OnOk result (length (bits_of set.new) ≡ length (table_of self.now.table).scope) }
         ensures left { OnOk result (length (bits_of left.new) ≡ length (table_of self.now.table).scope) }
     {
-        self.table.rows.sets.get(row, set);
+        self.table.get(row, set);
         if !all_are_so(set, question.literals) {
             return Ok(Fate::Disagrees);
         }

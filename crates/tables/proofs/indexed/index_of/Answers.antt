@@ -4,7 +4,7 @@ use Rattle.packed_state.specs.PooledView.{pooled_states}
 use Rattle.packed_state.proofs.PackedLemmas.{length-set_of}
 use Rattle.tables.specs.Lists.{IsIndexOf}
 use Rattle.tables.proofs.ListsLemmas.{index-none, index-more}
-use Rattle.tables.proofs.StoreLemmas.{few-sets}
+use Rattle.table_rows.proofs.StoreLemmas.{few-sets}
 use Rattle.tables.proofs.indexed.index_of.Goals as goal
 
 pub loop-row-init : goal.loop-row-init

@@ -1,6 +1,6 @@
 use Rattle.std.proofs.Common.{rules, ◌≡◌, ◌∙◌, ◌-◌, take, drop, get_or, length, sym, ap, subst, arith, to_z, of_z, w64}
 use Rattle.std.specs.Int.{int_max}
-use Rattle.tables.specs.Tables.{table_of}
+use Rattle.table_rows.specs.Tables.{table_of}
 use Rattle.packed_state.specs.Packed.{bits_of}
 use Rattle.tables.specs.Afters.{turned, ways}
 use Rattle.tables.specs.Fates.{LosesTo}

@@ -2,8 +2,8 @@ use Rattle.std.proofs.Common.{◌∙◌, arith}
 use Rattle.packed_state.specs.PooledView.{pooled_states}
 use Rattle.tables.specs.Candidates.{candidates_of}
 use Rattle.tables.proofs.FateLemmas.{all-candidates, narrower, item-at}
-use Rattle.tables.proofs.RowLemmas.{length-rows}
-use Rattle.tables.proofs.StoreLemmas.{few-sets}
+use Rattle.table_rows.proofs.RowLemmas.{length-rows}
+use Rattle.table_rows.proofs.StoreLemmas.{few-sets}
 use Rattle.tables.proofs.indexed.IndexedTable.candidates.Goals as goal
 
 pub overflow_cast-best : goal.overflow_cast-best

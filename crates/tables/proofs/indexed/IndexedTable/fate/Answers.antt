@@ -5,10 +5,10 @@ use Rattle.packed_state.specs.PooledView.{pooled_states}
 use Rattle.tables.specs.Afters.{left_of, free_places, ways}
 use Rattle.tables.specs.Fates.{question_of, LosesTo, LosesFrom, are_rows}
 use Rattle.tables.specs.PlacedChanges.{changes_of}
-use Rattle.tables.specs.Tables.{table_of}
+use Rattle.table_rows.specs.Tables.{table_of}
 use Rattle.tables.proofs.AfterLemmas.{length-changed}
 use Rattle.tables.proofs.FateLemmas.{row-range, row-there, free-below, fate-loses, fate-leaves, weight-is}
-use Rattle.tables.proofs.RowLemmas.{length-rows}
+use Rattle.table_rows.proofs.RowLemmas.{length-rows}
 use Rattle.tables.proofs.indexed.IndexedTable.fate.Goals as goal
 
 pub list_free-requires-clause-left : goal.list_free-requires-clause-left

@@ -10,13 +10,13 @@ use Rattle.table_functions.specs.FairTables.{agreeing}
 use Rattle.table_functions.specs.TableFunctions.{weight_at}
 use Rattle.tables.specs.Fates.{IsLoss}
 use Rattle.tables.specs.Placed.{PlacedLiteral, placed_of, placed_in}
-use Rattle.tables.specs.Tables.{table_of}
+use Rattle.table_rows.specs.Tables.{table_of}
 use Rattle.tables.proofs.FateLemmas.{row-there}
 use Rattle.tables.proofs.GivingLemmas.{most_given, given-more, given-range}
 use Rattle.tables.proofs.MostLemmas.{or_nothing, greatest-is}
 use Rattle.tables.proofs.PlacedLemmas.{all-within}
-use Rattle.tables.proofs.RowLemmas.{length-rows}
-use Rattle.tables.proofs.StoreLemmas.{few-sets}
+use Rattle.table_rows.proofs.RowLemmas.{length-rows}
+use Rattle.table_rows.proofs.StoreLemmas.{few-sets}
 use Rattle.tables.proofs.indexed.IndexedTable.gives.Goals as goal
 
 pub loop-row-init : goal.loop-row-init

@@ -1,7 +1,7 @@
 use Rattle.std.proofs.Common.{◌≡◌, map, take, length}
 use Rattle.grounding.specs.Views.{numbered_of}
 use Rattle.packed_state.specs.Packed.{bits_of}
-use Rattle.tables.specs.Tables.{table_of}
+use Rattle.table_rows.specs.Tables.{table_of}
 use Rattle.tables.proofs.GivingLemmas.{most_given}
 use Rattle.tables.proofs.indexed.IndexedTable.gives.Given as goal
 

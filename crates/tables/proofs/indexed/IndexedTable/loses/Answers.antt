@@ -10,11 +10,11 @@ use Rattle.tables.specs.Afters.{PlacedChanges, placed_changes}
 use Rattle.tables.specs.Fates.{MostLostInAll}
 use Rattle.tables.specs.Placed.{PlacedLiteral, placed_of, placed_in}
 use Rattle.tables.specs.PlacedChanges.{changes_of, FitsWidth}
-use Rattle.tables.specs.Tables.{table_of}
+use Rattle.table_rows.specs.Tables.{table_of}
 use Rattle.tables.proofs.LossLemmas.{loss-is, loses-nothing}
 use Rattle.tables.proofs.PlacedLemmas.{all-within}
 use Rattle.tables.proofs.PlacingLemmas.{changes-fit, all-plain}
-use Rattle.tables.proofs.StoreLemmas.{sets-wide}
+use Rattle.table_rows.proofs.StoreLemmas.{sets-wide}
 use Rattle.tables.proofs.indexed.IndexedTable.loses.Goals as goal
 
 pub returns-then-not-touches_scope : goal.returns-then-not-touches_scope

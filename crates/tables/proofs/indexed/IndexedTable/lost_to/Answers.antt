@@ -1,6 +1,6 @@
 use Rattle.std.proofs.Common.{◌∙◌, sym, arith}
 use Rattle.std.proofs.lemmas.Int.{ints}
-use Rattle.tables.specs.Tables.{table_of}
+use Rattle.table_rows.specs.Tables.{table_of}
 use Rattle.packed_state.specs.Packed.{bits_of}
 use Rattle.tables.proofs.FateLemmas.{row-range, row-there, one-loses}
 use Rattle.tables.proofs.indexed.IndexedTable.lost_to.Goals as goal

@@ -2,7 +2,7 @@ use Rattle.std.proofs.Common.{◌≡◌, length, take}
 use Rattle.packed_state.specs.Packed.{bits_of}
 use Rattle.tables.specs.Candidates.{candidates_of}
 use Rattle.tables.specs.Fates.{question_of}
-use Rattle.tables.specs.Tables.{table_of}
+use Rattle.table_rows.specs.Tables.{table_of}
 use Rattle.tables.proofs.FateLemmas.{LosesSoFar}
 use Rattle.tables.proofs.indexed.IndexedTable.most_lost.Given as goal
 

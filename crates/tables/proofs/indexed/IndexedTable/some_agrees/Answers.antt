@@ -7,7 +7,7 @@ use Rattle.packed_state.proofs.PackedLemmas.{length-set_of}
 use Rattle.tables.specs.Placed.{PlacedLiteral, placed_of, placed_in, is_so}
 use Rattle.tables.proofs.AgreeingLemmas.{rows-agree}
 use Rattle.tables.proofs.PlacedLemmas.{all-within}
-use Rattle.tables.proofs.StoreLemmas.{sets-wide}
+use Rattle.table_rows.proofs.StoreLemmas.{sets-wide}
 use Rattle.tables.proofs.indexed.IndexedTable.some_agrees.Goals as goal
 
 pub some_are_so-requires-clause-width : goal.some_are_so-requires-clause-width

@@ -7,7 +7,7 @@ use Rattle.grounding.specs.Views.{numbered_of}
 use Rattle.packed_state.specs.Packed.{bits_of}
 use Rattle.table_functions.specs.TableFunctions.{Row, Table}
 use Rattle.table_functions.specs.FairTables.{agrees}
-use Rattle.tables.specs.Tables.{table_of}
+use Rattle.table_rows.specs.Tables.{table_of}
 use Rattle.tables.specs.AllTables.{tables_of}
 use Rattle.tables.specs.Losses.{indexed_of}
 use Rattle.tables.proofs.TablesLemmas.{all-agree, read-at, by-all}

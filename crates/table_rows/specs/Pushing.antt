@@ -1,0 +1,16 @@
+-- One row more, in memory.
+use Rattle.std.specs.Prelude.{◌≡◌, Bool, ℤ, List, [], ◌∷◌, ◌++◌, Contains, MatchBool}
+use Rattle.packed_state.specs.PooledView.{pooled_states}
+use Rattle.table_rows.specs.declared.rows.Rows.{Rows}
+
+-- both are as they were
+pub record AreSameRows (old new : Rows) : Type 0 where
+  pub sets : pooled_states new.sets ≡ pooled_states old.sets
+  pub weights : new.weights.items ≡ old.weights.items
+
+-- the set comes after the others, and its weights after theirs, if it is not among them; else all is as it was
+abbrev pub ArePushed : (old new : Rows) → List Bool → List ℤ → Bool → Type 0
+ArePushed old new set weights is_new =
+    MatchBool is_new
+    ((¬ Contains (pooled_states old.sets) set) × (pooled_states new.sets ≡ pooled_states old.sets ++ set ∷ []) × (new.weights.items ≡ old.weights.items ++ weights))
+    (Contains (pooled_states old.sets) set × AreSameRows old new)
