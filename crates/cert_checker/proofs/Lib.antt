@@ -4,6 +4,7 @@ pub mod GivenLemmas
 pub mod ListedLemmas
 pub mod PlacedLemmas
 pub mod AtomsLemmas
+pub mod HeaderLemmas
 pub mod ReadingLemmas
 pub mod ListingLemmas
 pub mod SplitLemmas

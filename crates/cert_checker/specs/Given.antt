@@ -1,5 +1,5 @@
 -- What lines of a certificate's text have reported for a task's certificate.
-use Rattle.std.specs.Prelude.{◌≡◌, ◌≢◌, ℕ, suc, ℤ, Bool, true, false, ◌&&◌, IsTrue, List, [], ◌∷◌, ◌++◌, length, map, All, AllPairs, Contains}
+use Rattle.std.specs.Prelude.{◌≡◌, ◌≢◌, ℕ, zero, suc, ◌+◌, ℤ, Bool, true, false, ◌&&◌, IsTrue, List, [], ◌∷◌, ◌++◌, length, map, All, AllPairs, Contains}
 use Rattle.std.specs.List.{flat_map, range_with_len}
 use Rattle.model.specs.Task.{Atom, Task}
 use Rattle.model.specs.WellTyped.{is_atom}
@@ -74,10 +74,16 @@ pub record HaveGiven (task : Task) (lines : List TextLine) (heading : Heading) :
 abbrev pub with_weight : PotentialFunction → ℤ → PotentialFunction
 with_weight p w = record { constant = p.constant; weights = p.weights ++ w ∷ [] }
 
+-- the value at this place, from 0, has this weight more
+abbrev pub push_at : ℕ → ℤ → List PotentialFunction → List PotentialFunction
+push_at place w [] = []
+push_at zero w (p ∷ values) = with_weight p w ∷ values
+push_at (suc place) w (p ∷ values) = p ∷ push_at place w values
+
 -- each value has one weight more, that at its place; the first is at this place
 abbrev pub with_weights_from : ℕ → List ℤ → List PotentialFunction → List PotentialFunction
 with_weights_from place weights [] = []
-with_weights_from place weights (p ∷ values) = with_weight p (weight_said place weights) ∷ with_weights_from (suc place) weights values
+with_weights_from place weights (p ∷ values) = with_weight p (weight_said place weights) ∷ with_weights_from (place + 1) weights values
 
 -- and dead ends have the one behind those
 abbrev pub with_weights : SeveralValues → List ℤ → SeveralValues

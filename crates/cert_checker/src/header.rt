@@ -1,16 +1,14 @@
 //! What a certificate says before its states, read line by line.
-ghost use Rattle.std.specs.Prelude.{◌≡◌, ℕ, ◌<◌, ◌==◌, pos, ◌+◌, ◌++◌, ◌∷◌, [], if◌then◌else◌, IfErr, IfOk, List, OnOk, length, map, slice_get};
-ghost use Rattle.std.specs.Option.{option_map};
+ghost use Rattle.std.specs.Prelude.{◌≡◌, ℕ, ◌<◌, pos, ◌+◌, ◌++◌, ◌∷◌, [], IfErr, IfOk, List, OnOk, length, map};
 ghost use Rattle.task.specs.Task.{task_of};
 ghost use Rattle.formulas.specs.FluentTable.{AreFluentsOf};
 ghost use Rattle.model.specs.Task as model;
-ghost use Rattle.potential_functions.specs.PotentialFunctions.{PotentialFunction};
 ghost use Rattle.certificate_reader.specs.Lines.{named_atom_of, text_line_of, version_of};
 ghost use Rattle.certificate_definitions.specs.CertificateNames.{value_count, weight_said};
 ghost use Rattle.certificate_definitions.specs.CertificateText.{TextLine, BeginCertificate, atom};
 ghost use Rattle.cert_checker.specs.declared.refusal.Refusal.TheVariants as refusal;
 ghost use Rattle.cert_checker.specs.declared.refusal.RefusalCode.TheVariants.{CertVersion};
-ghost use Rattle.cert_checker.specs.Given.{begun_with, with_weight, with_weights};
+ghost use Rattle.cert_checker.specs.Given.{begun_with, push_at, with_weights};
 ghost use Rattle.cert_checker.specs.Taking.{HasTaken, IsTaken, IsWrongNow};
 ghost use Rattle.certificate_reader.specs.Reader.{source_of};
 ghost use Rattle.certificate.specs.CertificateParts.{bounds_of, potential_of};
@@ -105,9 +103,7 @@ fn take_weights(bounds: &mut Bounds, weights: &[i64]) -> Result<(), NoMemory>
 /// Puts the weight after those of the value at this place.
 fn push_weight(values: &mut Vec<Potential>, place: usize, weight: i64) -> Result<(), NoMemory>
     requires { place < length values.old.items }
-    ensures width { OnOk result (length values.new.items ≡ length values.old.items) }
-    ensures values { OnOk result ((k : ℕ) → slice_get (map potential_of values.new.items) k
-        ≡ (if k == place then option_map (λ (p : PotentialFunction). with_weight p weight) (slice_get (map potential_of values.old.items) k) else slice_get (map potential_of values.old.items) k)) }
+    ensures { OnOk result (map potential_of values.new.items ≡ push_at place weight (map potential_of values.old.items)) }
 {
     values[place].weights.push(weight)?;
     Ok(())
