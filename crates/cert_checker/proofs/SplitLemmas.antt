@@ -65,17 +65,14 @@ numbers_short count least (n ∷ numbers) few within all =
     omega (arith, above, below, rest, digits, word, length-append (after_blank (decimal n)) (numbers_text numbers))
 
 -- a blank and a weight are at most 12 bytes
-all_weights_short : (weights : List ℤ) → IsTrue (list_all is_weight weights) → length (weights_text weights) ≤ 12 * length weights
-all_weights_short [] all = omega arith
-all_weights_short (w ∷ weights) all =
+pub weights_short : (weights : List ℤ) → IsTrue (list_all is_weight weights) → length (weights_text weights) ≤ 12 * length weights
+weights_short [] all = omega arith
+weights_short (w ∷ weights) all =
     let (here, more) = and_parts (is_weight w) (list_all is_weight weights) all in
     let first = weight_short w here in
-    let rest = all_weights_short weights more in
+    let rest = weights_short weights more in
     let word : length (after_blank (signed_decimal w)) ≡ 1 + length (signed_decimal w) = omega arith in
     omega (arith, first, rest, word, length-append (after_blank (signed_decimal w)) (weights_text weights))
-
-pub weights_short : (count : ℕ) (weights : List ℤ) → IsTrue (are_weights count weights) → length (weights_text weights) ≤ 12 * length weights
-weights_short count weights are = all_weights_short weights (and_parts (length weights == count) (list_all is_weight weights) are).1
 
 mark_short : (v : Version) (mark : Mark) (cost : ℕ) → is_number cost ≡ true → is_mark v mark ≡ true → length (mark_text mark cost) ≤ 43
 mark_short v opened cost is marked =
@@ -112,7 +109,7 @@ module _ (f : Format) (few : f.atoms ≤ most_atoms) (few_weights : f.weights �
   line_short (claims none) is = let long : length (line_text (claims none)) ≡ 10 = refl in omega (arith, long)
   line_short (constant k) is =
       let (count, all) = and_parts (is_weight_count f.version (length k)) (list_all is_weight k) is in
-      let digits = all_weights_short k all in
+      let digits = weights_short k all in
       let most = few_constants f.version (length k) count in
       let long : length (codes "constant" ++ weights_text k) ≡ 8 + length (weights_text k) = omega arith in
       omega (arith, digits, most, long)
@@ -125,11 +122,11 @@ module _ (f : Format) (few : f.atoms ≤ most_atoms) (few_weights : f.weights �
       omega (arith, few, more, long)
   line_short (tabled (row r)) is =
       let (weights, rising) = and_parts (are_weights f.weights r.weights) (rise f.atoms 0 r.atoms) (and_parts (has_tables f.version) _ is).1 in
-      let many = eqb-true (length r.weights) f.weights (and_parts (length r.weights == f.weights) (list_all is_weight r.weights) weights).0 in
-      let digits = weights_short f.weights r.weights weights in
+      let (many, all) = and_parts (length r.weights == f.weights) (list_all is_weight r.weights) weights in
+      let digits = weights_short r.weights all in
       let more = numbers_short f.atoms 0 r.atoms few (omega arith) rising in
       let start : length (codes "row" ++ weights_text r.weights) ≡ 3 + length (weights_text r.weights) = omega arith in
-      omega (arith, few, few_weights, many, digits, more, start, length-append (codes "row" ++ weights_text r.weights) (numbers_text r.atoms))
+      omega (arith, few, few_weights, eqb-true (length r.weights) f.weights many, digits, more, start, length-append (codes "row" ++ weights_text r.weights) (numbers_text r.atoms))
   line_short (listed l) is =
       let (first, rising) = and_parts (is_number l.cost && is_mark f.version l.mark) (rise f.atoms 0 l.atoms) is in
       let (cost_is, marked) = and_parts (is_number l.cost) (is_mark f.version l.mark) first in
