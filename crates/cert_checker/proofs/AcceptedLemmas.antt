@@ -102,10 +102,12 @@ scope_same a b same = cc same
 row_same : (q r : Row) → row q ≡ row r → q ≡ r
 row_same q r same = cc same
 
+-- the lines of tables begin with a scope
 no_row_first : (tables : List Table) (r : Row) (more : List TableLine) → flat_map table_lines tables ≡ row r ∷ more → ⊥
 no_row_first [] r more same = absurd (cc same)
 no_row_first (t ∷ tables) r more same = absurd (cc (table_parts (scope t.scope) (row r) (map row t.rows ++ flat_map table_lines tables) more same).0)
 
+-- rows that end before the next scope are those of one table
 rows_there : (own rows : List Row) (tables : List Table) (r : Row) (more : List TableLine) → map row own ++ flat_map table_lines tables ≡ map row rows ++ row r ∷ more
     → (following : List Row) × (own ≡ rows ++ r ∷ following)
 rows_there [] [] tables r more same = absurd (no_row_first tables r more same)
@@ -119,12 +121,14 @@ rows_there (q ∷ own) (p ∷ rows) tables r more same =
     let (following, are) = rows_there own rows tables r more rest in
     (following, (λ i. here i ∷ are i))
 
+-- a scope after a table's rows is of a later table
 past_rows : (own : List Row) (rest front : List TableLine) (atoms : List ℕ) (more : List TableLine) → map row own ++ rest ≡ front ++ scope atoms ∷ more
     → (left : List TableLine) × (rest ≡ left ++ scope atoms ∷ more)
 past_rows [] rest front atoms more same = (front, same)
 past_rows (q ∷ own) rest [] atoms more same = absurd (cc (table_parts (row q) (scope atoms) (map row own ++ rest) more same).0)
 past_rows (q ∷ own) rest (t ∷ front) atoms more same = past_rows own rest front atoms more (table_parts (row q) t (map row own ++ rest) (front ++ scope atoms ∷ more) same).1
 
+-- the rows after a scope are those of its table
 table_there : (tables : List Table) (front : List TableLine) (atoms : List ℕ) (rows : List Row) (r : Row) (more : List TableLine)
     → flat_map table_lines tables ≡ front ++ scope atoms ∷ (map row rows ++ row r ∷ more) → HasTable tables atoms rows r
 table_there [] [] atoms rows r more same = absurd (cc same)
@@ -158,7 +162,7 @@ first_three said line there =
     body : List TextLine
     body = body_lines said.atoms said.tables said.lines ++ last (length said.lines) ∷ []
 
--- it comes after them only if it is of another kind
+-- and after them only atoms, tables, states and the end come
 module _ (said : NamedCertificate) (line : TextLine) (no_atom : (a : WeightedAtom) → atom a ≡ line → ⊥) (no_table : (t : TableLine) → tabled t ≡ line → ⊥) (no_state : (l : StateLine) → listed l ≡ line → ⊥)
     (no_end : (count : ℕ) → last count ≡ line → ⊥) where
   not_after : Contains (body_lines said.atoms said.tables said.lines ++ last (length said.lines) ∷ []) line → ⊥
@@ -198,8 +202,8 @@ module _ (task : Task) (c : Certificate) (closed : IsClosedFor task c) (checked 
     occurs : (line : TextLine) → text_lines is.said ≡ before ++ line ∷ after → Contains (text_lines is.said) line
     occurs line splits = subst (λ lines. Contains lines line) (sym splits) (Contains-append_right before (line ∷ after) line (Contains-here line after))
 
-    no_other_version : (v : Version) → text_lines is.said ≡ before ++ version v ∷ after → is_checked v ≡ false → ⊥
-    no_other_version v splits unchecked =
+    no_unchecked_version : (v : Version) → text_lines is.said ≡ before ++ version v ∷ after → is_checked v ≡ false → ⊥
+    no_unchecked_version v splits unchecked =
         false≢true (sym unchecked ∙ ap is_checked (sym (version_there is.said v (occurs (version v) splits)) ∙ is.version) ∙ checked)
 
     atom_after : (a : WeightedAtom) → text_lines is.said ≡ before ++ atom a ∷ after → IsNamedAfter task (names_given before) a.atom c.atoms
@@ -274,7 +278,7 @@ module _ (task : Task) (c : Certificate) (closed : IsClosedFor task c) (checked 
         subst (λ claim. Allows claim (l.cost + rest)) is_none allowed.1
 
     not_wrong : (line : TextLine) (number : ℕ) → text_lines is.said ≡ before ++ line ∷ after → IsWrongAfter task before line number → ⊥
-    not_wrong line number splits (not_checked v unchecked) = no_other_version v splits unchecked
+    not_wrong line number splits (not_checked v unchecked) = no_unchecked_version v splits unchecked
     not_wrong line number splits (not_of_scope r atoms rows ends other) = false≢true (sym other ∙ of_scope r atoms rows (table_after r atoms rows splits ends))
     not_wrong line number splits (repeated_row r atoms rows ends of_table twice) = no_row_twice r atoms rows (table_after r atoms rows splits ends) twice
     not_wrong line number splits (not_fluent a none_is) = none_is (is_fluent_atom a splits)
@@ -355,8 +359,8 @@ module _ (said : NamedCertificate) (keeps : IsTrue (keeps_text_limits said)) (be
         let all = sym (list_all-append test before (l ∷ more)) ∙ ap (list_all test) (sym splits) ∙ kept_lines said keeps in
         (and_parts (test l) (list_all test more) (and_parts (list_all test before) (list_all test (l ∷ more)) all).1).0
 
-    is_it : (bytes line : List ℕ) → bytes ≡ text_of (l ∷ more) → HasLine bytes line → line_text l ≡ line
-    is_it bytes line are has = line_is_first (format_of said) (few_atoms_kept said keeps) bytes line l more keeps_here are has
+    line_is : (bytes line : List ℕ) → bytes ≡ text_of (l ∷ more) → HasLine bytes line → line_text l ≡ line
+    line_is bytes line are has = line_is_first (format_of said) (few_atoms_kept said keeps) bytes line l more keeps_here are has
 
     -- the lines after the first
     abbrev after_version : List TextLine
@@ -384,15 +388,15 @@ module _ (said : NamedCertificate) (keeps : IsTrue (keeps_text_limits said)) (be
         nothing_after l next leads
 
     no_fault_at_line : (bytes : List ℕ) → bytes ≡ text_of (l ∷ more) → (number : ℕ) → IsFaultAfter before bytes number → ⊥
-    no_fault_at_line bytes are number (other_version line has is) = this_version (subst (IsOtherVersion before) (sym (is_it bytes line are has)) is)
-    no_fault_at_line bytes are number (malformed line has nowhere this few) = nowhere (l, begun, is_it bytes line are has)
+    no_fault_at_line bytes are number (other_version line has is) = this_version (subst (IsOtherVersion before) (sym (line_is bytes line are has)) is)
+    no_fault_at_line bytes are number (malformed line has nowhere this few) = nowhere (l, begun, line_is bytes line are has)
     no_fault_at_line bytes are number (too_long front rest splits long single) =
         let short : length (line_text l) ≤ longest_line = line_short (format_of said) (few_atoms_kept said keeps) (few_weights_kept said keeps) l keeps_here in
         single (end_within front rest (line_text l) (text_of more) (sym splits ∙ are ∙ first_line l more) (omega (arith, long, short)))
     no_fault_at_line bytes are number (trailing whole some) = not_whole_yet whole
     no_fault_at_line bytes are number (cut_short not_whole single few) =
         single (subst (λ bytes. Contains bytes 10) (sym (are ∙ first_line l more)) (Contains-append_right (line_text l) (10 ∷ text_of more) 10 (Contains-here 10 (text_of more))))
-    no_fault_at_line bytes are number (too_many line has over) = not_too_many (subst (IsOneTooMany before) (sym (is_it bytes line are has)) over)
+    no_fault_at_line bytes are number (too_many line has over) = not_too_many (subst (IsOneTooMany before) (sym (line_is bytes line are has)) over)
 
   no_text_fault : (rest : List TextLine) → text_lines said ≡ before ++ rest → (bytes : List ℕ) → bytes ≡ text_of rest → (number : ℕ) → IsFaultAfter before bytes number → ⊥
   no_text_fault [] splits = no_fault_at_end splits
