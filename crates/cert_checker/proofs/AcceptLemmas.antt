@@ -13,7 +13,8 @@ use Rattle.cert_checker.specs.declared.refusal.RefusalCode.TheVariants as code
 use Rattle.cert_checker.specs.RefusalCode.{number_of}
 use Rattle.cert_checker.specs.Reasons.{reason_of}
 use Rattle.cert_checker.specs.Reading.{CountsRefusal, IsLineRefusal, IsRead, IsReportedAt}
-use Rattle.cert_checker.proofs.AcceptedLemmas.{accepted_has_no_fault, one_certificate}
+use Rattle.cert_checker.proofs.AcceptedLemmas.{accepted_has_no_fault}
+use Rattle.cert_checker.proofs.LimitsLemmas.{one_certificate}
 use Rattle.model.specs.Task.{Task, Instance}
 use Rattle.model.specs.Claims.{Claim}
 use Rattle.model.specs.Limits.{max_numbered_atoms}
@@ -88,7 +89,7 @@ module _ {R : Type 0} (remaining : R → Option (List ℕ)) (task : Task) (first
       text = read.text;
       consumed = read.consumed;
       at_end = read.at_end;
-      accepted = record { certificate = c; is_text = read.is_text; closed = closed; within = plan_within task c.claim plan answer shown answers };
+      accepted = record { certificate = c; is_text = read.is_text; checked = read.checked; closed = closed; within = plan_within task c.claim plan answer shown answers };
       within = within;
       answers = answers;
     }

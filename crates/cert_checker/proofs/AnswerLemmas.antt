@@ -16,9 +16,11 @@ use Rattle.model.specs.Task.{Task, Instance}
 use Rattle.model.specs.Runs.{System, cost_of_all, Solves, CostsAtLeast, IsOptimal, valid, IsVerdict}
 use Rattle.model.specs.Meaning.{State}
 use Rattle.model.specs.Claims.{Line}
-use Rattle.certificate_definitions.specs.Certificates.{Certificate, lines_of, IsClosedFor}
+use Rattle.certificate_definitions.specs.Certificates.{Certificate, is_dead_end_weight, lines_of, IsClosedFor}
 use Rattle.certificate_definitions.specs.CertificateRefusals.{Reason, limit, unfair, dead_unfair, IsPlanWithin, IsWrong, IsWrongLine}
 use Rattle.model.proofs.ListLemmas.{Contains-place}
+use Rattle.cert_checker.proofs.LimitsLemmas.{AreLimits, limits_of}
+use Rattle.cert_checker.proofs.VersionLemmas.{one_weight_each, weights_of_each}
 use Rattle.certificate_definitions.proofs.CertificateRefusalsLemmas.{right, right_line}
 
 pub on_ok : {T E : Type 0} {P : Type 0} (r : Result T E) → P → OnOk r P
@@ -28,12 +30,14 @@ on_ok (Err e) p = tt
 -- where all is right to the last line, the certificate is closed
 pub closed_for : (task : Task) (c : Certificate) (most : ℕ) → IsRightUpTo task c most (length (lines_of task c)) → IsClosedFor task c
 closed_for task c most right = record {
-  one_weight_an_atom = right.weighed;
-  one_dead_end_weight_an_atom = right.dead_ends_weighed;
-  potentials_are_fair = right.fair.fair;
-  dead_ends_are_fair = right.fair.dead_fair;
+  as_many_values = limits.value_count;
+  one_weight_an_atom = weights_of_each (length c.atoms) c.values limits.values;
+  one_dead_end_weight_an_atom = one_weight_each (is_dead_end_weight c.version) (length c.atoms) c.dead_ends limits.dead_ends;
+  tables_are_over_atoms = limits.tables;
+  are_fair = right.fair;
   atoms_are_fluent = right.atoms.fluent;
   atoms_are_distinct = right.atoms.distinct;
+  rows_are_distinct = right.rows;
   states_are_distinct = right.distinct;
   listing_is_closed = record {
     initial_listed = right.initial;
@@ -44,6 +48,9 @@ closed_for task c most right = record {
   };
 }
   where
+    limits : AreLimits c
+    limits = limits_of c right.keeps
+
     closed : (line : Line State) → Contains (lines_of task c) line → IsLineClosed task c line
     closed line listed =
         let at = Contains-place (lines_of task c) line listed in
@@ -69,8 +76,8 @@ dead_not_limit same = absurd (cc)
 pub no_fault : (task : Task) (c : Certificate) (plan : Option (List Instance)) (most : ℕ) → IsClosedFor task c → IsPlanWithin task c.claim plan → (e : Refusal) → IsTrueRefusal task c plan most e → IsNoFault e
 no_fault task c plan most closed within (refusal.Line code line) wrong = no_line task c closed line (reason_of code) wrong
 no_fault task c plan most closed within (refusal.Plain code) wrong = only_limit task c plan most closed within (reason_of code) wrong
-no_fault task c plan most closed within (refusal.Unfair i) wrong = absurd (not_limit (right task c closed plan most unfair within (instance_of i, wrong.0, wrong.1)))
-no_fault task c plan most closed within (refusal.DeadUnfair i) wrong = absurd (dead_not_limit (right task c closed plan most dead_unfair within (instance_of i, wrong.0, wrong.1)))
+no_fault task c plan most closed within (refusal.Unfair i) wrong = absurd (not_limit (right task c closed plan most unfair within (instance_of i, wrong)))
+no_fault task c plan most closed within (refusal.DeadUnfair i) wrong = absurd (dead_not_limit (right task c closed plan most dead_unfair within (instance_of i, wrong)))
 no_fault task c plan most closed within refusal.NoMemory wrong = tt
 no_fault task c plan most closed within _ wrong = absurd wrong
 

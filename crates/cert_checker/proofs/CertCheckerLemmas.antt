@@ -1,6 +1,6 @@
 -- Why a certificate that the checker goes through without a refusal is closed.
 use Rattle.std.proofs.Common.{◌≡◌, ℕ, zero, suc, ◌+◌, ◌<◌, ◌≤◌, true, ◌&&◌, List, [], ◌∷◌, ◌++◌, length, map, take, get_or, Option, None, Some, inl, inr, refl, sym, ap, ◌∙◌, subst, arith}
-use Rattle.std.specs.Prelude.{IsTrue, MatchOption, OnOk, Result, Ok, Err, nat_eq, nat_le, Contains, slice_get}
+use Rattle.std.specs.Prelude.{IsTrue, MatchOption, OnOk, Result, Ok, Err, nat_eq, Contains, slice_get}
 use Rattle.std.specs.Option.{option_eq}
 use Rattle.std.proofs.lemmas.Bool.{eqb-true, ltb-true, and_parts}
 use Rattle.std.specs.List.{list_all}
@@ -13,9 +13,10 @@ use Rattle.model.specs.Task.{Task, Instance}
 use Rattle.model.specs.Meaning.{State, system_of}
 use Rattle.model.specs.Instances.{successors_of}
 use Rattle.model.specs.Claims.{Allows, Mark, opened, cut, dead, Line, IsListedWithin}
-use Rattle.certificate_definitions.specs.Certificates.{Version, one, two, Certificate, StateLine, are_potentials, is_claim, is_dead_end_of, is_dead_end_weight, is_mark, is_number, is_state_line, is_weight, keeps_limits, lines_of, rise, state_of_line}
+use Rattle.certificate_definitions.specs.Certificates.{Version, one, two, three, Certificate, StateLine, is_dead_end_of, is_mark, is_number, is_state_line, keeps_limits, lines_of, rise, state_of_line}
 use Rattle.certificate_definitions.specs.CertificateRefusals.{IsListed}
 use Rattle.model.proofs.ListLemmas.{Contains-cases, Contains-none}
+use Rattle.cert_checker.proofs.LimitsLemmas.{limits_of}
 use Rattle.model.proofs.InstancesLemmas.{Contains-successors}
 
 -- ---- elements at their places
@@ -88,14 +89,14 @@ line_open task cert s cost closed = record {
   is_dead = λ is. absurd (cc);
 }
 
-pub line_cut : (task : Task) (cert : Certificate) (s : State) (cost rest : ℕ) → IsCutClosed cert s cost rest → IsLineClosed task cert (record { state = s; cost = cost; mark = cut rest })
+pub line_cut : (task : Task) (cert : Certificate) (s : State) (cost rest : ℕ) → IsCutClosed task cert s cost rest → IsLineClosed task cert (record { state = s; cost = cost; mark = cut rest })
 line_cut task cert s cost rest closed = record {
   is_open = λ is. absurd (cc);
-  is_cut = λ other is. let alike : rest ≡ other = cc in subst (IsCutClosed cert s cost) alike closed;
+  is_cut = λ other is. let alike : rest ≡ other = cc in subst (IsCutClosed task cert s cost) alike closed;
   is_dead = λ is. absurd (cc);
 }
 
-pub line_dead : (task : Task) (cert : Certificate) (s : State) (cost : ℕ) → IsTrue (is_dead_end_of cert s) → IsLineClosed task cert (record { state = s; cost = cost; mark = dead })
+pub line_dead : (task : Task) (cert : Certificate) (s : State) (cost : ℕ) → IsTrue (is_dead_end_of task cert s) → IsLineClosed task cert (record { state = s; cost = cost; mark = dead })
 line_dead task cert s cost reported = record {
   is_open = λ is. absurd (cc);
   is_cut = λ rest is. absurd (cc);
@@ -123,12 +124,7 @@ lines_within task cert k line at = omega (arith, slice_get_within (lines_of task
 -- ---- limits
 
 pub lines_within_limits : (c : Certificate) → keeps_limits c ≡ true → list_all (is_state_line c.version (length c.atoms)) c.lines ≡ true
-lines_within_limits c keeps =
-    let counts = is_claim c.claim && nat_le (length c.atoms) 1048576 && nat_le (length c.lines) 16777216 in
-    let states = list_all (is_state_line c.version (length c.atoms)) c.lines in
-    let values = are_potentials is_weight (length c.atoms) c.potentials in
-    (and_parts counts states (and_parts (counts && states) values
-    (and_parts (counts && states && values) (are_potentials (is_dead_end_weight c.version) (length c.atoms) c.dead_ends) keeps).0).0).1
+lines_within_limits c keeps = (limits_of c keeps).states
 
 small_line : (c : Certificate) (place : ℕ) (l : StateLine) → keeps_limits c ≡ true → slice_get c.lines place ≡ Some l → (is_number l.cost && is_mark c.version l.mark) ≡ true
 small_line c place l keeps at =
@@ -148,3 +144,4 @@ small_cut c place cost rest keeps (l, at, cost_is, mark_is) =
     cut_small : (v : Version) → is_mark v (cut rest) ≡ true → is_number rest ≡ true
     cut_small one is = is
     cut_small two is = is
+    cut_small three is = is

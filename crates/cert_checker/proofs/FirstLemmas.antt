@@ -1,6 +1,6 @@
 -- Why a refusal of the checker is the first: what the reading of the lines has found out so far.
 use Rattle.std.proofs.Common.{◌≡◌, ℕ, ◌<◌, List, length, map, take, get_or, Option, None, Some, refl, sym, ap, ◌∙◌, subst, arith}
-use Rattle.std.specs.Prelude.{All, MatchOption, Result, Ok, Err, IfErr, slice_get}
+use Rattle.std.specs.Prelude.{All, IsTrue, MatchOption, Result, Ok, Err, IfErr, slice_get}
 use Rattle.std.proofs.lemmas.List.Elements.{All-contains}
 use Rattle.std.proofs.lemmas.List.{length-take, get_or-take, take-map}
 use Rattle.std.proofs.lemmas.Option.{slice_get_within, slice_get-get_or, get_or_from_slice_get}
@@ -10,7 +10,7 @@ use Rattle.cert_checker.specs.declared.refusal.RefusalCode.{RefusalCode}
 use Rattle.cert_checker.specs.Reasons.{reason_of}
 use Rattle.cert_checker.specs.CertChecker.{IsFirstRefusal, IsFirstSuccessor, IsFirstToLeave}
 use Rattle.cert_checker.specs.FluentAtoms.{AreFluent}
-use Rattle.cert_checker.specs.CheckedLines.{AreFairFor, CutsAreAllowed, IsLineClosed, IsRightUpTo}
+use Rattle.cert_checker.specs.CheckedLines.{AreRowsDistinct, CutsAreAllowed, IsLineClosed, IsRightUpTo}
 use Rattle.model.proofs.ListLemmas.{Contains-got}
 use Rattle.cert_checker.proofs.CertCheckerLemmas.{AllListed, entry, slice_get-map, got_mapped}
 use Rattle.cert_checker.proofs.RefusalsLemmas.{AreApart}
@@ -20,7 +20,7 @@ use Rattle.model.specs.Instances.{successors_of}
 use Rattle.model.specs.Limits.{max_numbered_atoms}
 use Rattle.model.specs.Grounding.{exceeded_limit}
 use Rattle.model.specs.Claims.{none, opened, Line, IsListedWithin}
-use Rattle.certificate_definitions.specs.Certificates.{Certificate, StateLine, lines_of, IsClosedFor}
+use Rattle.certificate_definitions.specs.Certificates.{Certificate, StateLine, keeps_limits, lines_of, AreFairFor, IsClosedFor}
 use Rattle.certificate_definitions.specs.CertificateRefusals.{Reason, state_line, IsFirst}
 use Rattle.certificate_definitions.specs.CertificateChecking.{IsCut}
 use Rattle.certificate_definitions.proofs.CertificateRefusalsLemmas.{apart}
@@ -68,12 +68,12 @@ cuts_allowed task c all place l rest below at at_cut claim =
 -- ---- the lines so far
 
 -- all is right up to the first state line
-pub right_from : (task : Task) (c : Certificate) (most : ℕ) → (length c.potentials.weights ≡ length c.atoms) × (length c.dead_ends.weights ≡ length c.atoms) → AreApart task c → AreFluent task c.atoms → CutsAreAllowed task c (length (lines_of task c))
+pub right_from : (task : Task) (c : Certificate) (most : ℕ) → IsTrue (keeps_limits c) → AreRowsDistinct c → AreApart task c → AreFluent task c.atoms → CutsAreAllowed task c (length (lines_of task c))
     → exceeded_limit most max_numbered_atoms task c.atoms ≡ None → AreFairFor task c → IsListedWithin (lines_of task c) (system_of task).initial 0
     → IsRightUpTo task c most 0
-right_from task c most weighed apart atoms allowed few fair initial = record {
-  weighed = weighed.0;
-  dead_ends_weighed = weighed.1;
+right_from task c most keeps rows apart atoms allowed few fair initial = record {
+  keeps = keeps;
+  rows = rows;
   atoms = atoms;
   distinct = apart;
   allowed = allowed;
@@ -86,8 +86,8 @@ right_from task c most weighed apart atoms allowed few fair initial = record {
 pub right_to_line : (task : Task) (c : Certificate) (most place : ℕ) → IsRightUpTo task c most 0
     → ((k : ℕ) (l : Line State) → k < place → slice_get (lines_of task c) k ≡ Some l → IsLineClosed task c l) → IsRightUpTo task c most place
 right_to_line task c most place right lines = record {
-  weighed = right.weighed;
-  dead_ends_weighed = right.dead_ends_weighed;
+  keeps = right.keeps;
+  rows = right.rows;
   atoms = right.atoms;
   distinct = right.distinct;
   allowed = right.allowed;

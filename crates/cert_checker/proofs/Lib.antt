@@ -10,6 +10,7 @@ pub mod ListingLemmas
 pub mod SplitLemmas
 pub mod AcceptedLemmas
 pub mod WrittenLemmas
+pub mod VersionLemmas
 pub mod CertCheckerLemmas
 pub mod RefusalsLemmas
 pub mod WeightsLemmas

@@ -1,27 +1,26 @@
 -- What is reported for a certificate is the first thing that is wrong: nothing before it is.
 use Rattle.std.proofs.Common.{◌≡◌, ◌≢◌, ℕ, ◌+◌, ◌<◌, ◌≤◌, ◌⊎◌, ◌&&◌, true, List, length, Option, None, Some, inl, inr, refl, sym, ap, ◌∙◌, subst, arith}
-use Rattle.std.specs.Prelude.{IsSome, IsTrue, AllPairs, Contains, slice_get}
+use Rattle.std.specs.Prelude.{IsSome, IsTrue, AllPairs, slice_get}
 use Rattle.std.proofs.lemmas.Bool.{cases_eq, false≢true}
 use Rattle.std.proofs.lemmas.Option.{slice_get_within, get_or_from_slice_get}
-use Rattle.std.proofs.lemmas.List.Elements.{All-contains}
 use Rattle.model.specs.Task.{Atom, Task, Instance}
 use Rattle.model.specs.WellTyped.{is_atom}
 use Rattle.model.specs.Runs.{Solves}
-use Rattle.model.specs.Meaning.{State, cost_of, system_of, initial_state}
-use Rattle.model.specs.StaticallyFalse.{kept_instances}
+use Rattle.model.specs.Meaning.{State, system_of, initial_state}
 use Rattle.model.specs.NumberedAtoms.{numbered_atoms}
 use Rattle.model.specs.Limits.{max_numbered_atoms}
 use Rattle.model.specs.Grounding.{exceeded_limit}
 use Rattle.model.specs.Claims.{none, Allows, opened, cut, Line, IsListedWithin}
 use Rattle.model.specs.Fluents.{is_fluent}
-use Rattle.certificate_definitions.specs.Certificates.{Certificate, lines_of, IsClosedFor}
-use Rattle.certificate_definitions.specs.CertificateRefusals.{Reason, not_fluent, repeated, no_initial, unfair, unfair_goal, goal_open, successor_missing, successor_dearer, cut_weak, cut_not_allowed, plan_invalid, plan_dearer, limit, dead_unfair, dead_unfair_goal, not_dead, IsWrongLine, IsWrong, IsFirst, stage_of, rank_of, state_line}
-use Rattle.potential_functions.specs.PotentialFunctions.{PotentialFunction}
-use Rattle.potential_functions.specs.Fair.{nothing, IsFairAt, IsFairAtGoals, AreFair}
-use Rattle.potentials.specs.Fairness.{AreInstancesFair, AreInstancesFairAt, AreInstancesDeadFair}
+use Rattle.certificate_definitions.specs.Certificates.{Certificate, potentials_of, lines_of, AreFairFor, IsClosedFor}
+use Rattle.certificate_definitions.specs.CertificateChecking.{is_checked}
+use Rattle.certificate_definitions.specs.CertificateRefusals.{Reason, not_fluent, repeated, no_initial, unfair, unfair_goal, goal_open, successor_missing, successor_dearer, cut_weak, cut_not_allowed, plan_invalid, plan_dearer, limit, dead_unfair, dead_unfair_goal, not_dead, IsUnfairIn, IsUnfairAtGoalsIn, IsDeadUnfairIn, IsDeadUnfairAtGoalsIn, IsWrongLine, IsWrong, IsFirst, stage_of, rank_of, state_line}
+use Rattle.potential_functions.specs.Fair.{AreFair}
+use Rattle.potentials.specs.Fairness.{AreInstancesFair, AreInstancesDeadFair}
 use Rattle.cert_checker.specs.FluentAtoms.{AreFluent}
-use Rattle.cert_checker.specs.CheckedLines.{AreFairFor, CutsAreAllowed, IsLineClosed, IsRightUpTo}
-use Rattle.certificate_definitions.proofs.CertificateRefusalsLemmas.{apart, right_line}
+use Rattle.cert_checker.specs.CheckedLines.{CutsAreAllowed, IsLineClosed, IsRightUpTo}
+use Rattle.cert_checker.proofs.VersionLemmas.{goals_fair_in, none_dead_unfair_in, none_unfair_in}
+use Rattle.certificate_definitions.proofs.CertificateRefusalsLemmas.{apart, dead_goals_fair, goals_fair, none_dead_unfair, none_unfair, right_line}
 
 -- ---- what is known of a beginning of the certificate
 
@@ -49,12 +48,12 @@ states_right_all task c pairs allowed = record {
   allowed = allowed;
 }
 
--- the first so many things that are asked of the potential functions are so
+-- of the first so many things that are asked of the values, and of dead ends, nothing is wrong
 pub record AreFairUpTo (task : Task) (c : Certificate) (count : ℕ) : Type 0 where
-  pub instances : 0 < count → AreInstancesFair task (numbered_atoms task c.atoms) c.potentials
-  pub goals : 1 < count → IsFairAtGoals task (numbered_atoms task c.atoms) c.potentials
-  pub dead_instances : 2 < count → AreInstancesDeadFair task (numbered_atoms task c.atoms) c.dead_ends
-  pub dead_goals : 3 < count → IsFairAtGoals task (numbered_atoms task c.atoms) c.dead_ends
+  pub instances : 0 < count → (i : Instance) → IsUnfairIn c.version task c i → ⊥
+  pub goals : 1 < count → IsUnfairAtGoalsIn c.version task c → ⊥
+  pub dead_instances : 2 < count → (i : Instance) → IsDeadUnfairIn c.version task c i → ⊥
+  pub dead_goals : 3 < count → IsDeadUnfairAtGoalsIn c.version task c → ⊥
 
 -- nothing is asked before the first; each that is asked of the values, and of dead ends, comes after those before it
 pub none_asked : (task : Task) (c : Certificate) → AreFairUpTo task c 0
@@ -65,30 +64,30 @@ none_asked task c = record {
   dead_goals = λ below. absurd (omega arith);
 }
 
-pub instances_asked : (task : Task) (c : Certificate) → AreInstancesFair task (numbered_atoms task c.atoms) c.potentials → AreFairUpTo task c 1
-instances_asked task c instances = record {
-  instances = λ below. instances;
-  goals = λ below. absurd (omega arith);
-  dead_instances = λ below. absurd (omega arith);
-  dead_goals = λ below. absurd (omega arith);
-}
+module _ (task : Task) (c : Certificate) (checked : IsTrue (is_checked c.version)) where
+  pub instances_asked : AreInstancesFair task (numbered_atoms task c.atoms) (potentials_of c) → AreFairUpTo task c 1
+  instances_asked instances = record {
+    instances = λ below. none_unfair_in task c c.version checked instances;
+    goals = λ below. absurd (omega arith);
+    dead_instances = λ below. absurd (omega arith);
+    dead_goals = λ below. absurd (omega arith);
+  }
 
-pub values_asked : (task : Task) (c : Certificate) → AreFair task (numbered_atoms task c.atoms) c.potentials → AreFairUpTo task c 2
-values_asked task c fair = record {
-  instances = λ below. fair.instances;
-  goals = λ below. fair.goals;
-  dead_instances = λ below. absurd (omega arith);
-  dead_goals = λ below. absurd (omega arith);
-}
+  pub values_asked : AreFair task (numbered_atoms task c.atoms) (potentials_of c) → AreFairUpTo task c 2
+  values_asked fair = record {
+    instances = λ below. none_unfair_in task c c.version checked fair.instances;
+    goals = λ below. goals_fair_in task c c.version checked fair.goals;
+    dead_instances = λ below. absurd (omega arith);
+    dead_goals = λ below. absurd (omega arith);
+  }
 
-pub dead_instances_asked : (task : Task) (c : Certificate) → AreFair task (numbered_atoms task c.atoms) c.potentials → AreInstancesDeadFair task (numbered_atoms task c.atoms) c.dead_ends
-    → AreFairUpTo task c 3
-dead_instances_asked task c fair instances = record {
-  instances = λ below. fair.instances;
-  goals = λ below. fair.goals;
-  dead_instances = λ below. instances;
-  dead_goals = λ below. absurd (omega arith);
-}
+  pub dead_instances_asked : AreFair task (numbered_atoms task c.atoms) (potentials_of c) → AreInstancesDeadFair task (numbered_atoms task c.atoms) c.dead_ends → AreFairUpTo task c 3
+  dead_instances_asked fair instances = record {
+    instances = λ below. none_unfair_in task c c.version checked fair.instances;
+    goals = λ below. goals_fair_in task c c.version checked fair.goals;
+    dead_instances = λ below. none_dead_unfair_in task c c.version checked instances;
+    dead_goals = λ below. absurd (omega arith);
+  }
 
 fair_so_far : (task : Task) (c : Certificate) (most count : ℕ) → AreFairUpTo task c most → count ≤ most → AreFairUpTo task c count
 fair_so_far task c most count fair few = record {
@@ -99,11 +98,11 @@ fair_so_far task c most count fair few = record {
 }
 
 fair_wholly : (task : Task) (c : Certificate) (count : ℕ) → AreFairFor task c → AreFairUpTo task c count
-fair_wholly task c count both = record {
-  instances = λ below. both.fair.instances;
-  goals = λ below. both.fair.goals;
-  dead_instances = λ below. both.dead_fair.instances;
-  dead_goals = λ below. both.dead_fair.goals;
+fair_wholly task c count fair = record {
+  instances = λ below. none_unfair task c c.version fair;
+  goals = λ below. goals_fair task c c.version fair;
+  dead_instances = λ below. none_dead_unfair task c c.version fair;
+  dead_goals = λ below. dead_goals_fair task c c.version fair;
 }
 
 none_reported : {X : Type 0} (o : Option X) → o ≡ None → IsSome o → ⊥
@@ -202,21 +201,16 @@ module _ (task : Task) (c : Certificate) where
         | inr later ↦ in_limit plan most r l within (omega arith) wrong
       ]
 
-  all_fair : (allowance : Instance → ℕ) (p : PotentialFunction) → AreInstancesFairAt allowance task (numbered_atoms task c.atoms) p
-      → (i : Instance) × Contains (kept_instances task) i × ¬ IsFairAt (allowance i) task (numbered_atoms task c.atoms) p.weights i → ⊥
-  all_fair allowance p fair (i, kept, wrong) =
-      wrong (All-contains (λ (i : Instance). IsFairAt (allowance i) task (numbered_atoms task c.atoms) p.weights i) (kept_instances task) i fair kept)
-
-  -- nothing is wrong of what is asked of the potential functions so far
+  -- nothing is wrong of what is asked of the values so far
   in_fair : (plan : Option (List Instance)) (most : ℕ) (r : Reason) (l : ℕ) → AreFairUpTo task c (rank_of r + 1) → stage_of r ≡ 2 → IsWrongLine task c r l ⊎ IsWrong task c plan most r → ⊥
   in_fair plan most unfair l fair stage (inl wrong) = wrong
-  in_fair plan most unfair l fair stage (inr wrong) = all_fair (cost_of task) c.potentials (fair.instances (omega arith)) wrong
+  in_fair plan most unfair l fair stage (inr (i, wrong)) = fair.instances (omega arith) i wrong
   in_fair plan most unfair_goal l fair stage (inl wrong) = wrong
-  in_fair plan most unfair_goal l fair stage (inr wrong) = wrong (fair.goals (omega arith))
+  in_fair plan most unfair_goal l fair stage (inr wrong) = fair.goals (omega arith) wrong
   in_fair plan most dead_unfair l fair stage (inl wrong) = wrong
-  in_fair plan most dead_unfair l fair stage (inr wrong) = all_fair nothing c.dead_ends (fair.dead_instances (omega arith)) wrong
+  in_fair plan most dead_unfair l fair stage (inr (i, wrong)) = fair.dead_instances (omega arith) i wrong
   in_fair plan most dead_unfair_goal l fair stage (inl wrong) = wrong
-  in_fair plan most dead_unfair_goal l fair stage (inr wrong) = wrong (fair.dead_goals (omega arith))
+  in_fair plan most dead_unfair_goal l fair stage (inr wrong) = fair.dead_goals (omega arith) wrong
   in_fair plan most not_fluent l fair stage wrong = absurd (omega arith)
   in_fair plan most repeated l fair stage wrong = absurd (omega arith)
   in_fair plan most cut_not_allowed l fair stage wrong = absurd (omega arith)
@@ -368,10 +362,10 @@ module _ (task : Task) (c : Certificate) where
   before_plan plan most r l closed within stage (inl wrong) = right_line task c closed r l wrong
   before_plan plan most limit l closed within stage (inr wrong) = none_reported (exceeded_limit most max_numbered_atoms task c.atoms) within wrong
   before_plan plan most no_initial l closed within stage (inr wrong) = wrong closed.listing_is_closed.initial_listed
-  before_plan plan most unfair l closed within stage (inr wrong) = all_fair (cost_of task) c.potentials closed.potentials_are_fair.instances wrong
-  before_plan plan most unfair_goal l closed within stage (inr wrong) = wrong closed.potentials_are_fair.goals
-  before_plan plan most dead_unfair l closed within stage (inr wrong) = all_fair nothing c.dead_ends closed.dead_ends_are_fair.instances wrong
-  before_plan plan most dead_unfair_goal l closed within stage (inr wrong) = wrong closed.dead_ends_are_fair.goals
+  before_plan plan most unfair l closed within stage (inr (i, wrong)) = none_unfair task c c.version closed.are_fair i wrong
+  before_plan plan most unfair_goal l closed within stage (inr wrong) = goals_fair task c c.version closed.are_fair wrong
+  before_plan plan most dead_unfair l closed within stage (inr (i, wrong)) = none_dead_unfair task c c.version closed.are_fair i wrong
+  before_plan plan most dead_unfair_goal l closed within stage (inr wrong) = dead_goals_fair task c c.version closed.are_fair wrong
   before_plan plan most plan_invalid l closed within stage (inr wrong) = omega arith
   before_plan plan most plan_dearer l closed within stage (inr wrong) = omega arith
   before_plan plan most not_fluent l closed within stage (inr wrong) = wrong

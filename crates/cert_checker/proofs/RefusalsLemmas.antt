@@ -114,13 +114,13 @@ wrong_dearer task c place s cost i next listed apart there leads at dearer = (
 
 -- ---- cuts
 
-pub wrong_cut : (task : Task) (c : Certificate) (place : ℕ) (s : State) (cost rest : ℕ) → IsListedAs task c place s cost (cut rest) → (value_of c s < rest) ⊎ ¬ Allows c.claim (cost + rest)
+pub wrong_cut : (task : Task) (c : Certificate) (place : ℕ) (s : State) (cost rest : ℕ) → IsListedAs task c place s cost (cut rest) → (value_of task c s < rest) ⊎ ¬ Allows c.claim (cost + rest)
     → IsWrongLine task c cut_weak (state_line c place)
 wrong_cut task c place s cost rest there wrong = (record { state = s; cost = cost; mark = cut rest }, rest, (place, refl, there), refl, wrong)
 
 -- ---- dead ends
 
-pub wrong_dead : (task : Task) (c : Certificate) (place : ℕ) (s : State) (cost : ℕ) → IsListedAs task c place s cost dead → is_dead_end_of c s ≡ false → IsWrongLine task c not_dead (state_line c place)
+pub wrong_dead : (task : Task) (c : Certificate) (place : ℕ) (s : State) (cost : ℕ) → IsListedAs task c place s cost dead → is_dead_end_of task c s ≡ false → IsWrongLine task c not_dead (state_line c place)
 wrong_dead task c place s cost there alive = (record { state = s; cost = cost; mark = dead }, (place, refl, there), refl, alive)
 
 pub not_allowed : (claim whole : Claim) (cost : ℕ) (b : Bool) → claim ≡ whole → IsTrue b ↔ Allows claim cost → b ≡ false → ¬ Allows whole cost

@@ -1,9 +1,11 @@
 -- A list of actions that runs stays on open states of a closed listing, to its end or until it comes to a cut.
-use Rattle.std.proofs.Common.{◌≡◌, ℕ, zero, suc, ◌+◌, ◌<◌, ◌≤◌, List, [], ◌∷◌, ◌++◌, length, take, drop, get_or, Option, None, Some, refl, sym, ap, ◌∙◌, subst, arith}
-use Rattle.std.specs.Prelude.{All, Bool, Contains, IsTrue, nat_le}
+use Rattle.std.proofs.Common.{◌≡◌, ℕ, zero, suc, ◌+◌, ◌<◌, ◌≤◌, true, List, [], ◌∷◌, ◌++◌, length, take, drop, get_or, Option, None, Some, refl, sym, ap, ◌∙◌, subst, arith}
+use Rattle.std.specs.Prelude.{All, Bool, ◌&&◌, Contains, IsTrue, nat_le, nat_lt}
+use Rattle.std.specs.List.{list_all}
 use Rattle.std.specs.Option.{option_and_then}
-use Rattle.std.proofs.lemmas.Bool.{and_parts, false≢true}
+use Rattle.std.proofs.lemmas.Bool.{and_parts, false≢true, lt-ltb, ltb-true}
 use Rattle.std.proofs.lemmas.Option.{same_Some}
+use Rattle.std.proofs.lemmas.List.{length-append}
 use Rattle.std.proofs.lemmas.List.Elements.{All-contains_itself}
 use Rattle.std.proofs.lemmas.List.Sums.{sum_by-cons}
 use Rattle.model.specs.Runs.{System, run, cost_of_all, IsReachable, Solves}
@@ -14,14 +16,21 @@ use Rattle.model.specs.Grounding.{bits_of_state}
 use Rattle.model.specs.Fluents.{is_fluent}
 use Rattle.model.specs.NumberedAtoms.{numbered_atoms}
 use Rattle.model.specs.Claims.{Claim, opened, cut, dead, Line, IsClosed, ClaimHolds, IsLowerBound, AreDeadEnds}
-use Rattle.certificate_definitions.specs.Certificates.{Certificate, is_dead_end_of, lines_of, value_of, IsClosedFor}
+use Rattle.certificate_definitions.specs.Certificates.{Version, one, two, three, Certificate, potentials_of, several_of, rise, has_tables, is_row, is_table, are_tables, is_dead_end_in, is_dead_end_of, lines_of, value_in, value_of, AreFairIn, IsClosedFor}
 use Rattle.model.proofs.ClaimsLemmas.{claim-of_closed, reachable_next}
 use Rattle.model.proofs.GroundTaskLemmas.{are_numbered, numbered-distinct, numbered-fluent}
 use Rattle.model.proofs.NumberingLemmas.{distinct-from_pairs, Contains-occurs_in}
 use Rattle.model.proofs.StaticLemmas.{contains-reachable}
-use Rattle.potential_functions.specs.PotentialFunctions.{PotentialFunction, value, value_of_state}
+use Rattle.potential_functions.specs.PotentialFunctions.{PotentialFunction, value, value_of_state, is_dead_state}
+use Rattle.potential_functions.specs.Fair.{AreFair, AreDeadFair}
 use Rattle.potential_functions.specs.Laws.{AreNumberable}
 use Rattle.potential_functions.proofs.LowerBound.{dead_fair_ones_detect_dead_ends, fair_ones_are_lower_bounds}
+use Rattle.table_functions.specs.TableFunctions.{Table}
+use Rattle.table_functions.specs.FairTables as tables
+use Rattle.table_functions.specs.Laws.{are_over, AreOver, AreSound}
+use Rattle.table_functions.proofs.LowerBound.{fair_values_are_sound}
+use Rattle.table_functions.proofs.WithoutTables.{ground_atoms_are_all_numbered}
+use Rattle.cert_checker.proofs.VersionLemmas.{some_value}
 use Rattle.cert_checker.proofs.WeightsLemmas.{alike_itself, value-numbered}
 use Rattle.cert_checker.specs.OnListing.{IsOpenWithin, IsOnCut, StaysListed, to_its_end, to_a_cut}
 
@@ -153,6 +162,25 @@ module _ {S A : Type 0} (t : System S A) (value : S → ℕ) (is_dead : S → Bo
       by_stay {cost} low (open_to m within each at_last) =
           to_a_cut m within (λ k below. let at = each k below in (at.0, at.1, open_at_more t lines at.0 _ _ at.2 (omega arith))) (on_cut m (at_last.0, at_last.1, cut_at_more t lines at_last.0 _ _ at_last.2 (omega arith)))
 
+-- ---- scopes
+
+-- numbers that rise below a count are below each greater one
+rise_within : (atom_count count least : ℕ) (scope : List ℕ) → atom_count ≤ count → rise atom_count least scope ≡ true → list_all (λ number. nat_lt number count) scope ≡ true
+rise_within atom_count count least [] few rises = refl
+rise_within atom_count count least (n ∷ scope) few rises =
+    let (here, more) = and_parts (nat_le least n && nat_lt n atom_count) (rise atom_count (n + 1) scope) rises in
+    let below = ltb-true n atom_count (and_parts (nat_le least n) (nat_lt n atom_count) here).1 in
+    λ i. lt-ltb n count (omega (arith, below, few)) i && rise_within atom_count count (n + 1) scope few more i
+
+scopes_within : (v : Version) (atom_count weight_count count : ℕ) → atom_count ≤ count → (those : List Table) → IsTrue (are_tables v atom_count weight_count those) → IsTrue (are_over count those)
+scopes_within v atom_count weight_count count few [] are = refl
+scopes_within v atom_count weight_count count few (t ∷ those) are =
+    let (here, more) = and_parts (has_tables v && is_table atom_count weight_count t) (are_tables v atom_count weight_count those) are in
+    let table = (and_parts (has_tables v) (is_table atom_count weight_count t) here).1 in
+    let scope = (and_parts (rise atom_count 0 t.scope && nat_le 1 (length t.scope)) (list_all (is_row atom_count weight_count t.scope) t.rows) table).0 in
+    let rises = (and_parts (rise atom_count 0 t.scope) (nat_le 1 (length t.scope)) scope).0 in
+    λ i. rise_within atom_count count 0 t.scope few rises i && scopes_within v atom_count weight_count count few those more i
+
 -- ---- a certificate that is closed for a task
 
 module _ (task : Task) (c : Certificate) (closed : IsClosedFor task c) where
@@ -171,27 +199,69 @@ module _ (task : Task) (c : Certificate) (closed : IsClosedFor task c) where
   numbered_first : (others : List Atom) × (numbered_atoms task c.atoms ≡ c.atoms ++ others)
   numbered_first = (are_numbered task c.atoms).more_first (distinct-from_pairs c.atoms closed.atoms_are_distinct)
 
+  -- ---- one potential function
+
   -- so a state has the same value where the others have numbers too
   value_same : (p : PotentialFunction) → length p.weights ≡ length c.atoms → (s : State) → value p (bits_of_state (numbered_atoms task c.atoms) s) ≡ value_of_state c.atoms p s
   value_same p weighed s = value-numbered p p (alike_itself p) (numbered_atoms task c.atoms) c.atoms numbered_first.0 s numbered_first.1 (omega (arith, weighed))
 
-  -- what is still to pay from a reachable state on does not fall short of the value that the certificate gives to it
-  pub value_below : IsLowerBound (system_of task) (value_of c)
-  value_below s end plan reached runs goal =
-      let lower = (fair_ones_are_lower_bounds task (numbered_atoms task c.atoms) c.potentials numberable closed.potentials_are_fair).bound s end plan
+  potential_below : (p : PotentialFunction) → length p.weights ≡ length c.atoms → AreFair task (numbered_atoms task c.atoms) p → IsLowerBound (system_of task) (value_of_state c.atoms p)
+  potential_below p weighed fair s end plan reached runs goal =
+      let lower = (fair_ones_are_lower_bounds task (numbered_atoms task c.atoms) p numberable fair).bound s end plan
       (λ q static. contains-reachable task s q static reached) runs goal in
-      omega (arith, value_same c.potentials closed.one_weight_an_atom s, lower)
+      omega (arith, value_same p weighed s, lower)
+
+  potential_detects : (p : PotentialFunction) → length p.weights ≡ length c.atoms → AreDeadFair task (numbered_atoms task c.atoms) p → AreDeadEnds (system_of task) (is_dead_state c.atoms p)
+  potential_detects p weighed fair s end plan reached reported runs =
+      (dead_fair_ones_detect_dead_ends task (numbered_atoms task c.atoms) p numberable fair).dead_ends s end plan
+      (λ q static. contains-reachable task s q static reached) (ap (nat_le 1) (value_same p weighed s) ∙ reported) runs
+
+  -- the first value has a weight for each atom
+  first_weighed : length (potentials_of c).weights ≡ length c.atoms
+  first_weighed = closed.one_weight_an_atom 0 _ (some_value c.version (length c.values) closed.as_many_values)
+
+  -- ---- several values over tables
+
+  enough : length c.atoms ≤ length (numbered_atoms task c.atoms)
+  enough = omega (arith, ap length numbered_first.1, length-append c.atoms numbered_first.0)
+
+  -- weights and scopes are of atoms that have numbers
+  over : AreOver (length (numbered_atoms task c.atoms)) (several_of c)
+  over = record {
+    values = λ place d within. let weighed = closed.one_weight_an_atom place d within in omega (arith, weighed, enough);
+    dead_ends = omega (arith, closed.one_dead_end_weight_an_atom, enough);
+    scopes = scopes_within c.version (length c.atoms) (length c.values + 1) (length (numbered_atoms task c.atoms)) enough c.tables closed.tables_are_over_atoms;
+  }
+
+  sound : tables.AreFair task (numbered_atoms task c.atoms) (several_of c) → AreSound task (numbered_atoms task c.atoms) (several_of c)
+  sound = fair_values_are_sound task (numbered_atoms task c.atoms) (several_of c) (ground_atoms_are_all_numbered task c.atoms numberable) over
+
+  -- ---- each version
+
+  below_in : (v : Version) → AreFairIn v task c → IsLowerBound (system_of task) (value_in v task c)
+  below_in one fair = potential_below (potentials_of c) first_weighed fair.values
+  below_in two fair = potential_below (potentials_of c) first_weighed fair.values
+  below_in three fair = λ s end plan reached runs goal.
+      (sound fair).lower_bounds.bound s end plan (λ q static. contains-reachable task s q static reached) runs goal
+
+  detects_in : (v : Version) → AreFairIn v task c → AreDeadEnds (system_of task) (is_dead_end_in v task c)
+  detects_in one fair = potential_detects c.dead_ends closed.one_dead_end_weight_an_atom fair.dead_ends
+  detects_in two fair = potential_detects c.dead_ends closed.one_dead_end_weight_an_atom fair.dead_ends
+  detects_in three fair = λ s end plan reached reported runs.
+      (sound fair).dead_ends.no_plan s end plan (λ q static. contains-reachable task s q static reached) reported runs
+
+  -- what is still to pay from a reachable state on does not fall short of the value that the certificate gives to it
+  pub value_below : IsLowerBound (system_of task) (value_of task c)
+  value_below = below_in c.version closed.are_fair
 
   -- and a reachable state that it reports to be a dead end is one
-  pub detects_dead_ends : AreDeadEnds (system_of task) (is_dead_end_of c)
-  detects_dead_ends s end plan reached reported runs =
-      (dead_fair_ones_detect_dead_ends task (numbered_atoms task c.atoms) c.dead_ends numberable closed.dead_ends_are_fair).dead_ends s end plan
-      (λ q static. contains-reachable task s q static reached) (ap (nat_le 1) (value_same c.dead_ends closed.one_dead_end_weight_an_atom s) ∙ reported) runs
+  pub detects_dead_ends : AreDeadEnds (system_of task) (is_dead_end_of task c)
+  detects_dead_ends = detects_in c.version closed.are_fair
 
 pub closed_holds : (task : Task) (c : Certificate) → IsClosedFor task c → ClaimHolds (system_of task) c.claim
 closed_holds task c closed =
-    claim-of_closed (system_of task) (value_of c) (is_dead_end_of c) c.claim (lines_of task c) (value_below task c closed) (detects_dead_ends task c closed) closed.listing_is_closed
+    claim-of_closed (system_of task) (value_of task c) (is_dead_end_of task c) c.claim (lines_of task c) (value_below task c closed) (detects_dead_ends task c closed) closed.listing_is_closed
 
 pub solving_stays : (task : Task) (c : Certificate) (plan : List Instance) → IsClosedFor task c → Solves (system_of task) plan → StaysListed (system_of task) (lines_of task c) plan
 solving_stays task c plan closed =
-    stays_listed (system_of task) (value_of c) (is_dead_end_of c) c.claim (lines_of task c) (detects_dead_ends task c closed) closed.listing_is_closed (value_below task c closed) plan
+    stays_listed (system_of task) (value_of task c) (is_dead_end_of task c) c.claim (lines_of task c) (detects_dead_ends task c closed) closed.listing_is_closed (value_below task c closed) plan

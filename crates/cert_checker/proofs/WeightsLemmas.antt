@@ -1,7 +1,7 @@
 -- Potential functions that give each atom the same weight: they are fair alike, and where further atoms have the weight 0,
 -- a state has the same value.
-use Rattle.std.proofs.Common.{◌≡◌, ◌∙◌, ℕ, zero, suc, ◌+◌, ◌-◌, ◌<◌, ◌≤◌, Bool, true, false, ◌&&◌, List, [], ◌∷◌, ◌++◌, length, take, replicate, get_or, Some, refl, sym, ap, subst, arith, ℤ, pos, negsuc, ◌+ℤ◌, ◌≤ℤ◌}
-use Rattle.std.specs.Prelude.{All, if◌then◌else◌, nat_le, ◌==◌, slice_get}
+use Rattle.std.proofs.Common.{◌≡◌, ◌∙◌, ℕ, zero, suc, ◌+◌, ◌-◌, ◌<◌, ◌≤◌, Bool, true, false, ◌&&◌, List, [], ◌∷◌, ◌++◌, length, map, take, replicate, get_or, Some, refl, sym, ap, subst, arith, ℤ, pos, negsuc, ◌+ℤ◌, ◌≤ℤ◌}
+use Rattle.std.specs.Prelude.{All, IsTrue, if◌then◌else◌, nat_le, ◌==◌, slice_get}
 use Rattle.std.specs.Int.{int_max}
 use Rattle.std.specs.List.{list_all}
 use Rattle.std.specs.FinSet.{contains}
@@ -22,9 +22,15 @@ use Rattle.potential_functions.proofs.Sums.{sum-alike}
 use Rattle.potential_functions.proofs.Ranges.{zero-range}
 use Rattle.potential_functions.proofs.Zero.{zero-dead_fair}
 use Rattle.potentials.specs.Fairness.{AreInstancesFairAt}
-use Rattle.certificate_definitions.specs.Certificates.{Certificate, is_claim, is_weight, is_dead_end_weight, is_state_line, are_potentials, keeps_limits}
+use Rattle.certificate.specs.declared.header.Bounds.{Bounds}
+use Rattle.certificate.specs.declared.header.Potential.{Potential}
+use Rattle.certificate.specs.CertificateParts.{bounds_of, potential_of}
+use Rattle.table_functions.specs.TableFunctions.{SeveralValues}
+use Rattle.certificate_definitions.specs.Certificates.{Version, Certificate, potentials_of, several_of, are_potentials, is_value_count, is_weight}
+use Rattle.certificate_definitions.specs.CertificateRefusals.{MayLose}
 use Rattle.cert_checker.specs.Weights.{HasItsWeights}
-use Rattle.cert_checker.specs.CertChecker.{IsFirstToLoseAt, IsUnfairAt}
+use Rattle.cert_checker.proofs.VersionLemmas.{some_value}
+use Rattle.cert_checker.specs.CertChecker.{IsFirstToLoseAt}
 
 -- ---- the same weights
 
@@ -107,22 +113,25 @@ value-numbered p q same atoms first more s is enough =
     ∙ ap (value p) (map-append (contains s) first more)
     ∙ value-first p q same (bits_of_state first s) (bits_of_state more s) (omega (arith, enough, length-map first (contains s)))
 
--- ---- a certificate's potentials, with weights for more atoms
+-- ---- a certificate's first value
 
--- there is a weight for each atom in both potential functions, as the limits say
-pub one_for_each : (c : Certificate) → keeps_limits c ≡ true → (length c.potentials.weights ≡ length c.atoms) × (length c.dead_ends.weights ≡ length c.atoms)
-one_for_each c keeps =
-    let most = is_claim c.claim && nat_le (length c.atoms) 1048576 && nat_le (length c.lines) 16777216 && list_all (is_state_line c.version (length c.atoms)) c.lines in
-    let values = are_potentials is_weight (length c.atoms) c.potentials in
-    let (first, dead_ends) = and_parts (most && values) (are_potentials (is_dead_end_weight c.version) (length c.atoms) c.dead_ends) keeps in (
-      one_weight_each is_weight (length c.atoms) c.potentials (and_parts most values first).1,
-      one_weight_each (is_dead_end_weight c.version) (length c.atoms) c.dead_ends dead_ends,
-    )
-  where
-    one_weight_each : (is_in_range : ℤ → Bool) (count : ℕ) (p : PotentialFunction) → are_potentials is_in_range count p ≡ true → length p.weights ≡ count
-    one_weight_each is_in_range count p are =
-        let first = (and_parts (is_in_range p.constant && (length p.weights == count)) (list_all is_in_range p.weights) are).0 in
-        eqb-true (length p.weights) count (and_parts (is_in_range p.constant) (length p.weights == count) first).1
+first_mapped : {X Y : Type 0} (f : X → Y) (xs : List X) (first : X) (d : Y) → 0 < length xs → first ≡ get_or xs 0 first → get_or (map f xs) 0 d ≡ f first
+first_mapped f [] first d some is = absurd (omega arith)
+first_mapped f (x ∷ xs) first d some is = ap f (sym is)
+
+pub first_value : (c : Certificate) (b : Bounds) (first : Potential) → IsTrue (is_value_count c.version (length b.values.items)) → bounds_of b ≡ several_of c → first ≡ get_or b.values.items 0 first
+    → potential_of first ≡ potentials_of c
+first_value c b first count same is =
+    let none : PotentialFunction = record { constant = pos 0; weights = [] } in
+    sym (first_mapped potential_of b.values.items first none (some_value c.version (length b.values.items) count) is) ∙ ap (λ (s : SeveralValues). get_or s.values 0 none) same
+
+-- it keeps the limits, as each of them does
+pub first_within : (v : Version) (atom_count : ℕ) (values : List Potential) (first : Potential) → IsTrue (is_value_count v (length values))
+    → All (λ (p : Potential). IsTrue (are_potentials is_weight atom_count (potential_of p))) values → first ≡ get_or values 0 first → IsTrue (are_potentials is_weight atom_count (potential_of first))
+first_within v atom_count values first count all is =
+    subst (λ (p : Potential). IsTrue (are_potentials is_weight atom_count (potential_of p))) (sym is) (all 0 first (some_value v (length values) count))
+
+-- ---- a certificate's potentials, with weights for more atoms
 
 pub alike : (said : PotentialFunction) (width : ℕ) (p : PotentialFunction) → HasItsWeights said width p → AreAlike p said
 alike said width p has = record { constant = has.constant; weights = has.weights }
@@ -167,8 +176,13 @@ weight_in_range (w ∷ v) zero all = in_range w (and_parts (is_weight w) (list_a
 weight_in_range (w ∷ v) (suc n) all = weight_in_range v n (and_parts (is_weight w) (list_all is_weight v) all).1
 
 -- those within the limits of a certificate's text are in range
-pub said_in_range : (said : PotentialFunction) → is_weight said.constant ≡ true → list_all is_weight said.weights ≡ true → AreInRange said
-said_in_range said constant weights = record { constant = in_range said.constant constant; weights = all_in_range said.weights (λ n. weight_in_range said.weights n weights) }
+pub said_in_range : (count : ℕ) (said : PotentialFunction) → are_potentials is_weight count said ≡ true → AreInRange said
+said_in_range count said are =
+    let (first, weights) = and_parts (is_weight said.constant && (length said.weights == count)) (list_all is_weight said.weights) are in
+    record {
+      constant = in_range said.constant (and_parts (is_weight said.constant) (length said.weights == count) first).0;
+      weights = all_in_range said.weights (λ n. weight_in_range said.weights n weights);
+    }
 
 -- and so they are with further weights
 range_at : (v : List ℤ) (n : ℕ) → All IsInRange v → IsInRange (weight v n)
@@ -212,10 +226,10 @@ module _ (allowance : Instance → ℕ) (task : Task) (c : Certificate) (said : 
       is = same_Some first.instance i (sym first.named ∙ at)
 
   -- the first one that is unfair is one
-  pub unfair_reported : (number : ℕ) (i : Instance) → IsFirstUnfairAt allowance task atoms p number → slice_get (kept_instances task) number ≡ Some i → IsUnfairAt allowance task c said i
+  pub unfair_reported : (number : ℕ) (i : Instance) → IsFirstUnfairAt allowance task atoms p number → slice_get (kept_instances task) number ≡ Some i → MayLose (allowance i) task c said i
   unfair_reported number i first at =
       let (place, there, is) = first_reported number i first at in
-      subst (IsUnfairAt allowance task c said) is (Contains-got (kept_instances task) place there.instance there.named, there.unfair)
+      subst (λ (j : Instance). MayLose (allowance j) task c said j) is (Contains-got (kept_instances task) place there.instance there.named, there.unfair)
 
 -- ---- potentials that are all 0
 

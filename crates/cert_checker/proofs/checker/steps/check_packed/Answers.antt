@@ -8,7 +8,7 @@ use Rattle.certificate_definitions.specs.Certificates.{lines_of}
 use Rattle.cert_checker.specs.CertChecker.{IsFirstRefusal}
 use Rattle.cert_checker.specs.CheckedLines.{CutsAreAllowed, IsFirstGrounded, IsRightUpTo}
 use Rattle.cert_checker.specs.PackedListing.{task_at, certificate_at}
-use Rattle.cert_checker.proofs.WeightsLemmas.{one_for_each}
+use Rattle.cert_checker.proofs.VersionLemmas.{rows_apart}
 use Rattle.cert_checker.proofs.FirstLemmas.{right_from, right_to_line}
 use Rattle.cert_checker.proofs.RefusalsLemmas.{AreApart}
 use Rattle.cert_checker.proofs.checker.steps.check_packed.Goals as goal
@@ -25,7 +25,8 @@ begun : (c : In_ok-check_initial) (most : ℕ) → AreApart (task_at c.args.list
     → IsRightUpTo (task_at c.args.listing.now) (certificate_at c.args.listing.now) most 0
 begun c most distinct allowed within =
     let listing = c.args.listing.now in
-    right_from (task_at listing) (certificate_at listing) most (one_for_each (certificate_at listing) listing.cert.now.within_limits) distinct listing.listed.fluent allowed within c.requires c.in_ok-check_initial.ensures.right
+    let keeps = listing.cert.now.within_limits in
+    right_from (task_at listing) (certificate_at listing) most keeps (rows_apart (certificate_at listing) listing.checked keeps) distinct listing.listed.fluent allowed within c.requires c.in_ok-check_initial.ensures.right
 
 pub returns-clause-right : goal.returns-clause-right
 returns-clause-right c =

@@ -1,43 +1,41 @@
-use Rattle.std.proofs.Common.{rules, ◌∙◌, refl, sym, subst, arith, length}
-use Rattle.std.specs.Int.{w64}
-use Rattle.std.proofs.lemmas.Int.{to_z-of_z}
+use Rattle.std.proofs.Common.{refl, subst, arith, length}
 use Rattle.std.proofs.lemmas.Option.{slice_get_within}
 use Rattle.formulas.specs.State.{instance_of}
 use Rattle.grounding.specs.Ground.{task_in, atoms_in}
-use Rattle.potential_functions.specs.PotentialFunctions.{PotentialFunction, AreInRange}
 use Rattle.potential_functions.specs.Fair.{nothing}
 use Rattle.potentials.specs.Potentials.{potentials_of}
 use Rattle.potentials.specs.Fairness.{DetectsDead}
 use Rattle.certificate.specs.Certificate.{certificate_of}
+use Rattle.certificate.specs.CertificateParts.{potential_of}
+use Rattle.table_functions.specs.TableFunctions.{SeveralValues}
+use Rattle.certificate_definitions.specs.Certificates.{is_weight}
 use Rattle.model.specs.StaticallyFalse.{kept_instances}
 use Rattle.certificate_definitions.specs.CertificateRefusals.{dead_unfair, dead_unfair_goal}
 use Rattle.cert_checker.specs.Weights.{HasItsWeights}
 use Rattle.cert_checker.proofs.OrderLemmas.{atoms_right, dead_instances_asked, values_asked, states_right_all, first_asked}
 use Rattle.cert_checker.proofs.PackedListingLemmas.{numbered_after}
+use Rattle.cert_checker.proofs.VersionLemmas.{dead_unfair_in, dead_unfair_at_goals_in, first_dead_to_lose_in, one_weight_each}
 use Rattle.cert_checker.proofs.WeightsLemmas.{fair_reported, first_reported, goals_reported, instances_reported, said_in_range, unfair_reported}
 use Rattle.cert_checker.proofs.checker.weights.dead_fair_potentials.Goals as goal
 use Rattle.cert_checker.proofs.checker.weights.dead_fair_potentials.Goals.{In_ok-potentials}
 
 pub at_width-requires-clause-range : goal.at_width-requires-clause-range
-at_width-requires-clause-range c =
-    let said : PotentialFunction = record { constant = c.dead_end_constant.result; weights = c.dead_end_weights.result.now } in
-    subst (λ constant. AreInRange (record { constant = constant; weights = said.weights })) (sym (to_z-of_z w64 c.dead_end_constant.result (search rules)))
-    (said_in_range said c.dead_end_constant.ensures.within_limits c.dead_end_weights.ensures.within_limits)
+at_width-requires-clause-range c = said_in_range (length (certificate_of c.args.cert.now).atoms) (potential_of c.bounds.result.now.dead_ends) c.bounds.ensures.dead_ends
 
 pub at_width-requires-clause-enough : goal.at_width-requires-clause-enough
 at_width-requires-clause-enough c =
     let task = task_in c.args.grounded.now in
     let cert = certificate_of c.args.cert.now in
-    omega (arith, numbered_after task (atoms_in c.args.grounded.now) cert c.requires.fluent c.requires.numbered, c.width.ensures, c.dead_end_weights.ensures.one_for_each)
+    let weighed = one_weight_each is_weight (length cert.atoms) (potential_of c.bounds.result.now.dead_ends) c.bounds.ensures.dead_ends in
+    omega (arith, numbered_after task (atoms_in c.args.grounded.now) cert c.requires.fluent c.requires.numbered, c.width.ensures, weighed)
 
 -- they have the certificate's weights
 has : (c : In_ok-potentials) → let cert = certificate_of c.args.cert.now in HasItsWeights cert.dead_ends (length (atoms_in c.args.grounded.now)) (potentials_of c.in_ok-potentials.potentials)
 has c =
     let cert = certificate_of c.args.cert.now in
     let p = potentials_of c.in_ok-potentials.potentials in
-    let constant_is = to_z-of_z w64 c.dead_end_constant.result (search rules) ∙ c.dead_end_constant.ensures.constant in
     subst (λ width. HasItsWeights cert.dead_ends width p) c.width.ensures
-    (subst (λ (said : PotentialFunction). HasItsWeights said c.width.result p) (λ i. record { constant = constant_is i; weights = c.dead_end_weights.ensures.weights i }) c.in_ok-potentials.ensures)
+    (subst (λ (s : SeveralValues). HasItsWeights s.dead_ends c.width.result p) c.bounds.ensures.bounds c.in_ok-potentials.ensures)
 
 pub kept_instance-requires : goal.kept_instance-requires
 kept_instance-requires c =
@@ -65,8 +63,10 @@ returns-in-Instance-clause-wrong c =
     let atoms = atoms_in c.args.grounded.now in
     let cert = certificate_of c.args.cert.now in
     let p = potentials_of c.in_ok-potentials.potentials in
-    unfair_reported nothing task cert cert.dead_ends atoms p c.requires.numbered (has (goal.at.returns-in-Instance-clause-wrong c).In_ok-potentials) c.in-Instance.number (instance_of c.kept_instance.result)
-    (subst (DetectsDead task atoms p) c.in-Instance.is c.in_ok-dead_fairness.ensures) c.kept_instance.ensures
+    let i = instance_of c.kept_instance.result in
+    dead_unfair_in task cert cert.version c.requires.checked i
+    (unfair_reported nothing task cert cert.dead_ends atoms p c.requires.numbered (has (goal.at.returns-in-Instance-clause-wrong c).In_ok-potentials) c.in-Instance.number i
+    (subst (DetectsDead task atoms p) c.in-Instance.is c.in_ok-dead_fairness.ensures) c.kept_instance.ensures)
 
 pub returns-in-Instance-clause-first : goal.returns-in-Instance-clause-first
 returns-in-Instance-clause-first c =
@@ -75,9 +75,10 @@ returns-in-Instance-clause-first c =
     let atoms = atoms_in c.args.grounded.now in
     let cert = certificate_of c.args.cert.now in
     let p = potentials_of c.in_ok-potentials.potentials in (
-      first_asked task cert dead_unfair plan most refl (atoms_right task cert c.requires.fluent) (states_right_all task cert distinct allowed) within (values_asked task cert c.requires.fair),
-      first_reported nothing task cert cert.dead_ends atoms p c.requires.numbered (has (goal.at.returns-in-Instance-clause-first c).In_ok-potentials) c.in-Instance.number
-          (instance_of c.kept_instance.result) (subst (DetectsDead task atoms p) c.in-Instance.is c.in_ok-dead_fairness.ensures) c.kept_instance.ensures,
+      first_asked task cert dead_unfair plan most refl (atoms_right task cert c.requires.fluent) (states_right_all task cert distinct allowed) within (values_asked task cert c.requires.checked c.requires.fair),
+      first_dead_to_lose_in task cert cert.version c.requires.checked (instance_of c.kept_instance.result)
+          (first_reported nothing task cert cert.dead_ends atoms p c.requires.numbered (has (goal.at.returns-in-Instance-clause-first c).In_ok-potentials) c.in-Instance.number
+          (instance_of c.kept_instance.result) (subst (DetectsDead task atoms p) c.in-Instance.is c.in_ok-dead_fairness.ensures) c.kept_instance.ensures),
     )
 
 pub returns-in-Goal-clause-wrong : goal.returns-in-Goal-clause-wrong
@@ -87,7 +88,8 @@ returns-in-Goal-clause-wrong c =
     let atoms = atoms_in c.args.grounded.now in
     let cert = certificate_of c.args.cert.now in
     let p = potentials_of c.in_ok-potentials.potentials in
-    goals_reported nothing task cert cert.dead_ends atoms p c.requires.numbered (has (goal.at.returns-in-Goal-clause-wrong c).In_ok-potentials) (subst (DetectsDead task atoms p) c.in-Goal.is c.in_ok-dead_fairness.ensures).1
+    dead_unfair_at_goals_in task cert cert.version c.requires.checked
+    (goals_reported nothing task cert cert.dead_ends atoms p c.requires.numbered (has (goal.at.returns-in-Goal-clause-wrong c).In_ok-potentials) (subst (DetectsDead task atoms p) c.in-Goal.is c.in_ok-dead_fairness.ensures).1)
 
 pub returns-in-Goal-clause-first : goal.returns-in-Goal-clause-first
 returns-in-Goal-clause-first c =
@@ -97,5 +99,5 @@ returns-in-Goal-clause-first c =
     let cert = certificate_of c.args.cert.now in
     let p = potentials_of c.in_ok-potentials.potentials in
     first_asked task cert dead_unfair_goal plan most refl (atoms_right task cert c.requires.fluent) (states_right_all task cert distinct allowed) within
-    (dead_instances_asked task cert c.requires.fair
+    (dead_instances_asked task cert c.requires.checked c.requires.fair
     (instances_reported nothing task cert cert.dead_ends atoms p c.requires.numbered (has (goal.at.returns-in-Goal-clause-first c).In_ok-potentials) (subst (DetectsDead task atoms p) c.in-Goal.is c.in_ok-dead_fairness.ensures).0))

@@ -1,43 +1,49 @@
-use Rattle.std.proofs.Common.{rules, ◌∙◌, refl, sym, subst, arith, length}
-use Rattle.std.specs.Int.{w64}
-use Rattle.std.proofs.lemmas.Int.{to_z-of_z}
+use Rattle.std.proofs.Common.{refl, subst, arith, length}
 use Rattle.std.proofs.lemmas.Option.{slice_get_within}
 use Rattle.formulas.specs.State.{instance_of}
 use Rattle.grounding.specs.Ground.{task_in, atoms_in}
-use Rattle.potential_functions.specs.PotentialFunctions.{PotentialFunction, AreInRange}
+use Rattle.potential_functions.specs.PotentialFunctions.{PotentialFunction}
 use Rattle.model.specs.Meaning.{cost_of}
 use Rattle.potentials.specs.Potentials.{potentials_of}
 use Rattle.potentials.specs.Fairness.{Reports}
 use Rattle.certificate.specs.Certificate.{certificate_of}
+use Rattle.certificate.specs.CertificateParts.{potential_of}
 use Rattle.model.specs.StaticallyFalse.{kept_instances}
+use Rattle.certificate_definitions.specs.Certificates as certificates
+use Rattle.certificate_definitions.specs.Certificates.{is_weight}
 use Rattle.certificate_definitions.specs.CertificateRefusals.{unfair, unfair_goal}
 use Rattle.cert_checker.specs.Weights.{HasItsWeights}
 use Rattle.cert_checker.proofs.OrderLemmas.{atoms_right, instances_asked, none_asked, states_right_all, first_asked}
 use Rattle.cert_checker.proofs.PackedListingLemmas.{numbered_after}
-use Rattle.cert_checker.proofs.WeightsLemmas.{fair_reported, first_reported, goals_reported, instances_reported, said_in_range, unfair_reported}
+use Rattle.cert_checker.proofs.VersionLemmas.{first_to_lose_in, one_weight_each, unfair_in, unfair_at_goals_in}
+use Rattle.cert_checker.proofs.WeightsLemmas.{fair_reported, first_reported, first_value, first_within, goals_reported, instances_reported, said_in_range, unfair_reported}
 use Rattle.cert_checker.proofs.checker.weights.fair_potentials.Goals as goal
 use Rattle.cert_checker.proofs.checker.weights.fair_potentials.Goals.{In_ok-potentials}
 
 pub at_width-requires-clause-range : goal.at_width-requires-clause-range
 at_width-requires-clause-range c =
-    let said : PotentialFunction = record { constant = c.constant.result; weights = c.weights.result.now } in
-    subst (λ constant. AreInRange (record { constant = constant; weights = said.weights })) (sym (to_z-of_z w64 c.constant.result (search rules)))
-    (said_in_range said c.constant.ensures.within_limits c.weights.ensures.within_limits)
+    let cert = certificate_of c.args.cert.now in
+    let first = c.index.result.now in
+    said_in_range (length cert.atoms) (potential_of first)
+    (first_within cert.version (length cert.atoms) c.bounds.result.now.values.items first c.bounds.ensures.value_count c.bounds.ensures.values c.index.ensures)
 
 pub at_width-requires-clause-enough : goal.at_width-requires-clause-enough
 at_width-requires-clause-enough c =
     let task = task_in c.args.grounded.now in
     let cert = certificate_of c.args.cert.now in
-    omega (arith, numbered_after task (atoms_in c.args.grounded.now) cert c.requires.fluent c.requires.numbered, c.width.ensures, c.weights.ensures.one_for_each)
+    let first = c.index.result.now in
+    let weighed = one_weight_each is_weight (length cert.atoms) (potential_of first)
+    (first_within cert.version (length cert.atoms) c.bounds.result.now.values.items first c.bounds.ensures.value_count c.bounds.ensures.values c.index.ensures) in
+    omega (arith, numbered_after task (atoms_in c.args.grounded.now) cert c.requires.fluent c.requires.numbered, c.width.ensures, weighed)
 
 -- they have the certificate's weights
-has : (c : In_ok-potentials) → let cert = certificate_of c.args.cert.now in HasItsWeights cert.potentials (length (atoms_in c.args.grounded.now)) (potentials_of c.in_ok-potentials.potentials)
+has : (c : In_ok-potentials) → let cert = certificate_of c.args.cert.now in HasItsWeights (certificates.potentials_of cert) (length (atoms_in c.args.grounded.now)) (potentials_of c.in_ok-potentials.potentials)
 has c =
     let cert = certificate_of c.args.cert.now in
     let p = potentials_of c.in_ok-potentials.potentials in
-    let constant_is = to_z-of_z w64 c.constant.result (search rules) ∙ c.constant.ensures.constant in
-    subst (λ width. HasItsWeights cert.potentials width p) c.width.ensures
-    (subst (λ (said : PotentialFunction). HasItsWeights said c.width.result p) (λ i. record { constant = constant_is i; weights = c.weights.ensures.weights i }) c.in_ok-potentials.ensures)
+    let said_is = first_value cert c.bounds.result.now c.index.result.now c.bounds.ensures.value_count c.bounds.ensures.bounds c.index.ensures in
+    subst (λ width. HasItsWeights (certificates.potentials_of cert) width p) c.width.ensures
+    (subst (λ (said : PotentialFunction). HasItsWeights said c.width.result p) said_is c.in_ok-potentials.ensures)
 
 pub kept_instance-requires : goal.kept_instance-requires
 kept_instance-requires c =
@@ -52,7 +58,7 @@ returns-in-Fair-clause-fair c =
     let atoms = atoms_in c.args.grounded.now in
     let cert = certificate_of c.args.cert.now in
     let p = potentials_of c.in_ok-potentials.potentials in
-    fair_reported (cost_of task) task cert cert.potentials atoms p c.requires.numbered (has (goal.at.returns-in-Fair-clause-fair c).In_ok-potentials)
+    fair_reported (cost_of task) task cert (certificates.potentials_of cert) atoms p c.requires.numbered (has (goal.at.returns-in-Fair-clause-fair c).In_ok-potentials)
     (subst (Reports task atoms p) c.in-Fair.is c.in_ok-fair.ensures)
 
 pub returns-in-Fair-clause-weights : goal.returns-in-Fair-clause-weights
@@ -65,8 +71,10 @@ returns-in-Instance-clause-wrong c =
     let atoms = atoms_in c.args.grounded.now in
     let cert = certificate_of c.args.cert.now in
     let p = potentials_of c.in_ok-potentials.potentials in
-    unfair_reported (cost_of task) task cert cert.potentials atoms p c.requires.numbered (has (goal.at.returns-in-Instance-clause-wrong c).In_ok-potentials) c.in-Instance.number (instance_of c.kept_instance.result)
-    (subst (Reports task atoms p) c.in-Instance.is c.in_ok-fair.ensures) c.kept_instance.ensures
+    let i = instance_of c.kept_instance.result in
+    unfair_in task cert cert.version c.requires.checked i
+    (unfair_reported (cost_of task) task cert (certificates.potentials_of cert) atoms p c.requires.numbered (has (goal.at.returns-in-Instance-clause-wrong c).In_ok-potentials) c.in-Instance.number i
+    (subst (Reports task atoms p) c.in-Instance.is c.in_ok-fair.ensures) c.kept_instance.ensures)
 
 pub returns-in-Instance-clause-first : goal.returns-in-Instance-clause-first
 returns-in-Instance-clause-first c =
@@ -76,8 +84,9 @@ returns-in-Instance-clause-first c =
     let cert = certificate_of c.args.cert.now in
     let p = potentials_of c.in_ok-potentials.potentials in (
       first_asked task cert unfair plan most refl (atoms_right task cert c.requires.fluent) (states_right_all task cert distinct allowed) within (none_asked task cert),
-      first_reported (cost_of task) task cert cert.potentials atoms p c.requires.numbered (has (goal.at.returns-in-Instance-clause-first c).In_ok-potentials) c.in-Instance.number
-          (instance_of c.kept_instance.result) (subst (Reports task atoms p) c.in-Instance.is c.in_ok-fair.ensures) c.kept_instance.ensures,
+      first_to_lose_in task cert cert.version c.requires.checked (instance_of c.kept_instance.result)
+          (first_reported (cost_of task) task cert (certificates.potentials_of cert) atoms p c.requires.numbered (has (goal.at.returns-in-Instance-clause-first c).In_ok-potentials) c.in-Instance.number
+          (instance_of c.kept_instance.result) (subst (Reports task atoms p) c.in-Instance.is c.in_ok-fair.ensures) c.kept_instance.ensures),
     )
 
 pub returns-in-Goal-clause-wrong : goal.returns-in-Goal-clause-wrong
@@ -87,7 +96,8 @@ returns-in-Goal-clause-wrong c =
     let atoms = atoms_in c.args.grounded.now in
     let cert = certificate_of c.args.cert.now in
     let p = potentials_of c.in_ok-potentials.potentials in
-    goals_reported (cost_of task) task cert cert.potentials atoms p c.requires.numbered (has (goal.at.returns-in-Goal-clause-wrong c).In_ok-potentials) (subst (Reports task atoms p) c.in-Goal.is c.in_ok-fair.ensures).1
+    unfair_at_goals_in task cert cert.version c.requires.checked
+    (goals_reported (cost_of task) task cert (certificates.potentials_of cert) atoms p c.requires.numbered (has (goal.at.returns-in-Goal-clause-wrong c).In_ok-potentials) (subst (Reports task atoms p) c.in-Goal.is c.in_ok-fair.ensures).1)
 
 pub returns-in-Goal-clause-first : goal.returns-in-Goal-clause-first
 returns-in-Goal-clause-first c =
@@ -97,5 +107,5 @@ returns-in-Goal-clause-first c =
     let cert = certificate_of c.args.cert.now in
     let p = potentials_of c.in_ok-potentials.potentials in
     first_asked task cert unfair_goal plan most refl (atoms_right task cert c.requires.fluent) (states_right_all task cert distinct allowed) within
-    (instances_asked task cert
-    (instances_reported (cost_of task) task cert cert.potentials atoms p c.requires.numbered (has (goal.at.returns-in-Goal-clause-first c).In_ok-potentials) (subst (Reports task atoms p) c.in-Goal.is c.in_ok-fair.ensures).0))
+    (instances_asked task cert c.requires.checked
+    (instances_reported (cost_of task) task cert (certificates.potentials_of cert) atoms p c.requires.numbered (has (goal.at.returns-in-Goal-clause-first c).In_ok-potentials) (subst (Reports task atoms p) c.in-Goal.is c.in_ok-fair.ensures).0))

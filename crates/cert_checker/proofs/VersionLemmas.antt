@@ -1,0 +1,140 @@
+-- What the definitions say of a certificate of a version that is checked: it has one potential function, one for dead ends, and
+-- no tables.
+use Rattle.std.proofs.Common.{◌≡◌, ℕ, ◌+◌, ◌<◌, true, List, [], ◌∷◌, length, refl, sym, subst, arith, Bool, ℤ}
+use Rattle.std.specs.Prelude.{IsTrue, All, AllPairs, Contains, ◌≢◌, ◌&&◌, ◌==◌, nat_le}
+use Rattle.std.specs.List.{list_all}
+use Rattle.std.proofs.lemmas.Bool.{and_parts, eqb-true, false≢true, leb-true}
+use Rattle.std.proofs.lemmas.List.Elements.{All-cons, All-contains}
+use Rattle.model.specs.Task.{Task, Instance}
+use Rattle.model.specs.Meaning.{State, cost_of}
+use Rattle.model.specs.StaticallyFalse.{kept_instances}
+use Rattle.model.specs.NumberedAtoms.{numbered_atoms}
+use Rattle.potential_functions.specs.PotentialFunctions.{PotentialFunction, value_of_state, is_dead_state}
+use Rattle.potential_functions.specs.Fair.{nothing, IsFairAt, IsFairAtGoals}
+use Rattle.table_functions.specs.TableFunctions.{Row, Table}
+use Rattle.potentials.specs.Fairness.{AreInstancesFair, AreInstancesFairAt, AreInstancesDeadFair}
+use Rattle.certificate_definitions.specs.Certificates.{Version, one, two, three, Certificate, potentials_of, are_potentials, are_tables, has_tables, is_dead_end_weight, is_table, is_value_count, is_weight, keeps_limits, value_in, is_dead_end_in, ArePotentialsFair, AreFairIn}
+use Rattle.certificate_definitions.specs.CertificateRefusals.{MayLose, IsUnfairIn, IsUnfairAtGoalsIn, IsDeadUnfairIn, IsDeadUnfairAtGoalsIn}
+use Rattle.certificate_definitions.specs.CertificateChecking.{is_checked}
+use Rattle.cert_checker.specs.CertChecker.{IsFirstToLoseAt, IsFirstToLoseIn, IsFirstDeadToLoseIn}
+use Rattle.cert_checker.specs.CheckedLines.{AreRowsDistinct}
+use Rattle.cert_checker.proofs.LimitsLemmas.{limits_of}
+
+module _ (task : Task) (c : Certificate) where
+  -- ---- what is said of states
+
+  pub value_as : (v : Version) → IsTrue (is_checked v) → (s : State) → value_of_state c.atoms (potentials_of c) s ≡ value_in v task c s
+  value_as one checked s = refl
+  value_as two checked s = refl
+  value_as three checked s = absurd (false≢true checked)
+
+  pub dead_end_as : (v : Version) → IsTrue (is_checked v) → (s : State) → is_dead_state c.atoms c.dead_ends s ≡ is_dead_end_in v task c s
+  dead_end_as one checked s = refl
+  dead_end_as two checked s = refl
+  dead_end_as three checked s = absurd (false≢true checked)
+
+  -- ---- what is fair
+
+  pub fair_in : (v : Version) → IsTrue (is_checked v) → ArePotentialsFair task c → AreFairIn v task c
+  fair_in one checked fair = fair
+  fair_in two checked fair = fair
+  fair_in three checked fair = absurd (false≢true checked)
+
+  none_loses : (allowance : Instance → ℕ) (p : PotentialFunction) → AreInstancesFairAt allowance task (numbered_atoms task c.atoms) p → (i : Instance) → MayLose (allowance i) task c p i → ⊥
+  none_loses allowance p fair i (kept, wrong) =
+      wrong (All-contains (λ (i : Instance). IsFairAt (allowance i) task (numbered_atoms task c.atoms) p.weights i) (kept_instances task) i fair kept)
+
+  pub none_unfair_in : (v : Version) → IsTrue (is_checked v) → AreInstancesFair task (numbered_atoms task c.atoms) (potentials_of c) → (i : Instance) → IsUnfairIn v task c i → ⊥
+  none_unfair_in one checked fair i wrong = none_loses (cost_of task) (potentials_of c) fair i wrong
+  none_unfair_in two checked fair i wrong = none_loses (cost_of task) (potentials_of c) fair i wrong
+  none_unfair_in three checked fair i wrong = absurd (false≢true checked)
+
+  pub goals_fair_in : (v : Version) → IsTrue (is_checked v) → IsFairAtGoals task (numbered_atoms task c.atoms) (potentials_of c) → IsUnfairAtGoalsIn v task c → ⊥
+  goals_fair_in one checked fair wrong = wrong fair
+  goals_fair_in two checked fair wrong = wrong fair
+  goals_fair_in three checked fair wrong = absurd (false≢true checked)
+
+  pub none_dead_unfair_in : (v : Version) → IsTrue (is_checked v) → AreInstancesDeadFair task (numbered_atoms task c.atoms) c.dead_ends → (i : Instance) → IsDeadUnfairIn v task c i → ⊥
+  none_dead_unfair_in one checked fair i wrong = none_loses nothing c.dead_ends fair i wrong
+  none_dead_unfair_in two checked fair i wrong = none_loses nothing c.dead_ends fair i wrong
+  none_dead_unfair_in three checked fair i wrong = absurd (false≢true checked)
+
+  -- ---- what is not
+
+  pub unfair_in : (v : Version) → IsTrue (is_checked v) → (i : Instance) → MayLose (cost_of task i) task c (potentials_of c) i → IsUnfairIn v task c i
+  unfair_in one checked i loses = loses
+  unfair_in two checked i loses = loses
+  unfair_in three checked i loses = absurd (false≢true checked)
+
+  pub unfair_at_goals_in : (v : Version) → IsTrue (is_checked v) → ¬ IsFairAtGoals task (numbered_atoms task c.atoms) (potentials_of c) → IsUnfairAtGoalsIn v task c
+  unfair_at_goals_in one checked unfair = unfair
+  unfair_at_goals_in two checked unfair = unfair
+  unfair_at_goals_in three checked unfair = absurd (false≢true checked)
+
+  pub dead_unfair_in : (v : Version) → IsTrue (is_checked v) → (i : Instance) → MayLose 0 task c c.dead_ends i → IsDeadUnfairIn v task c i
+  dead_unfair_in one checked i loses = loses
+  dead_unfair_in two checked i loses = loses
+  dead_unfair_in three checked i loses = absurd (false≢true checked)
+
+  pub dead_unfair_at_goals_in : (v : Version) → IsTrue (is_checked v) → ¬ IsFairAtGoals task (numbered_atoms task c.atoms) c.dead_ends → IsDeadUnfairAtGoalsIn v task c
+  dead_unfair_at_goals_in one checked unfair = unfair
+  dead_unfair_at_goals_in two checked unfair = unfair
+  dead_unfair_at_goals_in three checked unfair = absurd (false≢true checked)
+
+  pub first_to_lose_in : (v : Version) → IsTrue (is_checked v) → (i : Instance) → IsFirstToLoseAt (cost_of task) task c (potentials_of c) i → IsFirstToLoseIn v task c i
+  first_to_lose_in one checked i first = first
+  first_to_lose_in two checked i first = first
+  first_to_lose_in three checked i first = absurd (false≢true checked)
+
+  pub first_dead_to_lose_in : (v : Version) → IsTrue (is_checked v) → (i : Instance) → IsFirstToLoseAt nothing task c c.dead_ends i → IsFirstDeadToLoseIn v task c i
+  first_dead_to_lose_in one checked i first = first
+  first_dead_to_lose_in two checked i first = first
+  first_dead_to_lose_in three checked i first = absurd (false≢true checked)
+
+-- ---- weights
+
+-- a constant, and a weight for each of so many atoms
+pub one_weight_each : (is_in_range : ℤ → Bool) (count : ℕ) (p : PotentialFunction) → are_potentials is_in_range count p ≡ true → length p.weights ≡ count
+one_weight_each is_in_range count p are =
+    let first = (and_parts (is_in_range p.constant && (length p.weights == count)) (list_all is_in_range p.weights) are).0 in
+    eqb-true (length p.weights) count (and_parts (is_in_range p.constant) (length p.weights == count) first).1
+
+-- each value has a weight for each of so many atoms
+pub weights_of_each : (count : ℕ) (values : List PotentialFunction) → list_all (are_potentials is_weight count) values ≡ true → All (λ (p : PotentialFunction). length p.weights ≡ count) values
+weights_of_each count [] all = λ k d below. absurd (omega arith)
+weights_of_each count (p ∷ values) all =
+    let (here, more) = and_parts (are_potentials is_weight count p) (list_all (are_potentials is_weight count) values) all in
+    All-cons (λ (p : PotentialFunction). length p.weights ≡ count) p values (one_weight_each is_weight count p here) (weights_of_each count values more)
+
+-- each version has a value
+pub some_value : (v : Version) (count : ℕ) → is_value_count v count ≡ true → 0 < count
+some_value one count is = let same = eqb-true count 1 is in omega (arith, same)
+some_value two count is = let same = eqb-true count 1 is in omega (arith, same)
+some_value three count is = let least = leb-true 1 count (and_parts (nat_le 1 count) (nat_le count 32) is).0 in omega (arith, least)
+
+-- so the first value has a weight for each atom, and that of dead ends has
+pub one_for_each : (c : Certificate) → keeps_limits c ≡ true → (length (potentials_of c).weights ≡ length c.atoms) × (length c.dead_ends.weights ≡ length c.atoms)
+one_for_each c keeps =
+    let limits = limits_of c keeps in (
+      weights_of_each (length c.atoms) c.values limits.values 0 _ (some_value c.version (length c.values) limits.value_count),
+      one_weight_each (is_dead_end_weight c.version) (length c.atoms) c.dead_ends limits.dead_ends,
+    )
+
+-- ---- tables
+
+no_tables : (v : Version) (atom_count weight_count : ℕ) (tables : List Table) → IsTrue (is_checked v) → are_tables v atom_count weight_count tables ≡ true → tables ≡ []
+no_tables v atom_count weight_count [] checked are = refl
+no_tables v atom_count weight_count (t ∷ tables) checked are =
+    let here = (and_parts (has_tables v && is_table atom_count weight_count t) (are_tables v atom_count weight_count tables) are).0 in
+    absurd (none v checked (and_parts (has_tables v) (is_table atom_count weight_count t) here).0)
+  where
+    none : (v : Version) → IsTrue (is_checked v) → has_tables v ≡ true → ⊥
+    none one checked has = false≢true has
+    none two checked has = false≢true has
+    none three checked has = false≢true checked
+
+-- where there are no tables, none has a row twice
+pub rows_apart : (c : Certificate) → IsTrue (is_checked c.version) → keeps_limits c ≡ true → AreRowsDistinct c
+rows_apart c checked keeps =
+    subst (All (λ (t : Table). AllPairs (λ (q r : Row). q.atoms ≢ r.atoms) t.rows))
+    (sym (no_tables c.version (length c.atoms) (length c.values + 1) c.tables checked (limits_of c keeps).tables)) (λ place d below. absurd (omega arith))
