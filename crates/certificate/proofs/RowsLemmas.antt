@@ -90,5 +90,10 @@ room_left t tables room left is =
     ap (λ n. nat_le n room) many ∙ ap (λ m. nat_le (length t.rows + length (rows_of tables)) m) (sym is) ∙ both_less (length t.rows) (length (rows_of tables)) left
   where
     both_less : (a b c : ℕ) → nat_le (a + b) (a + c) ≡ nat_le b c
-    both_less zero b c = refl
-    both_less (suc a) b c = both_less a b c
+    both_less a b c = same_test (nat_le (a + b) (a + c)) (nat_le b c) refl refl
+      where
+        same_test : (p q : Bool) → nat_le (a + b) (a + c) ≡ p → nat_le b c ≡ q → p ≡ q
+        same_test true true is such = refl
+        same_test false false is such = refl
+        same_test true false is such = let low = leb-true (a + b) (a + c) is in sym such ∙ le-leb b c (omega (arith, low))
+        same_test false true is such = let low = leb-true b c such in sym is ∙ le-leb (a + b) (a + c) (omega (arith, low))
