@@ -1,5 +1,6 @@
 -- Rows of a table in memory: a bit for each atom of the scope, and all weights in one list.
-use Rattle.std.specs.Prelude.{ℕ, nat_lt, Bool, true, ◌&&◌, ℤ, List, [], ◌∷◌, take, drop, if◌then◌else◌}
+use Rattle.std.specs.Prelude.{ℕ, nat_lt, ◌==◌, Bool, true, ◌&&◌, ℤ, List, [], ◌∷◌, Option, take, drop, if◌then◌else◌}
+use Rattle.std.specs.List.{position}
 use Rattle.table_functions.specs.TableFunctions.{Row}
 
 -- each number is above the one before it
@@ -13,6 +14,10 @@ abbrev pub atoms_at : List ℕ → List Bool → List ℕ
 atoms_at [] bits = []
 atoms_at (n ∷ scope) [] = []
 atoms_at (n ∷ scope) (bit ∷ bits) = if bit then n ∷ atoms_at scope bits else atoms_at scope bits
+
+-- the place of an atom in the scope, from 0, if it is there
+abbrev pub place_in : List ℕ → ℕ → Option ℕ
+place_in scope number = position (λ n. n == number) scope
 
 -- the rows of these sets, of which each has so many of the weights
 abbrev pub rows_from : ℕ → List ℕ → List (List Bool) → List ℤ → List Row

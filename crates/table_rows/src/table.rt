@@ -103,6 +103,16 @@ impl Table {
         self.rows.weights[start + place as usize]
     }
 
+    /// All weights of the row at this place, from 0.
+    pub fn weights(&self, row: u32) -> &[i64]
+        requires { row < length (table_of self.now).rows }
+        ensures { (r : Row) → slice_get (table_of self.now).rows row ≡ Some r → result.now ≡ r.weights }
+    {
+        let count = self.count as usize;
+        let start = count * row as usize;
+        &self.rows.weights[start..start + count]
+    }
+
     /// Puts the row of this set and these weights after the others and answers `true`, if it has no row of this set yet; else
     /// `false`. Where memory is refused the table stays as it is.
     ///

@@ -9,7 +9,7 @@ get-requires-clause-there c =
     let t = c.args.self.now in
     omega (arith, c.requires.there, length-rows t.count t.scope.items (pooled_states t.rows.sets) t.rows.weights.items)
 
-pub returns-clause-set : goal.returns-clause-set
-returns-clause-set c =
+pub returns-clause-atoms : goal.returns-clause-atoms
+returns-clause-atoms c =
     let t = c.args.self.now in
     λ r at. row-set t.count t.scope.items (pooled_states t.rows.sets) t.rows.weights.items c.args.row (bits_of c.get.new.into) r c.get.ensures.set at

@@ -1,0 +1,71 @@
+//! Rows by their atoms.
+ghost use Rattle.std.specs.Prelude.{◌≡◌, ◌<◌, IsTrue, IfOk, OnErr, OnOk, Some, length, slice_get};
+ghost use Rattle.packed_state.specs.Packed.{bits_of};
+ghost use Rattle.table_functions.specs.TableFunctions.{Row};
+ghost use Rattle.table_rows.specs.Rows.{are_rising};
+ghost use Rattle.table_rows.specs.Tables.{table_of, weight_count_of};
+
+use crate::places::{list_atoms, set_of};
+use crate::table::Table;
+use faults::NoMemory;
+use packed_state::Packed;
+use std::alloc::Global;
+
+/// What came of a row that was to be added.
+#[derive(Clone, Copy, Debug, PartialEq, Eq)]
+pub enum Added {
+    /// It is the last row.
+    New,
+    /// It was not added, since one of its atoms is not of the scope.
+    OutsideScope,
+    /// It was not added, since a row has just its atoms.
+    Repeated,
+}
+
+impl Table {
+    ghost use Rattle.table_rows.specs.Adding.{IsAdded};
+
+    /// Puts the numbers of the atoms of the row at this place, from 0, in the place of what `atoms` has, rising. The set, as
+    /// wide as the scope, is lent: it becomes the row's.
+    ///
+    /// # Errors
+    /// Where memory is refused.
+    pub fn list_atoms(
+        &self,
+        row: u32,
+        set: &mut Packed,
+        atoms: &mut Vec<u32>,
+    ) -> Result<(), NoMemory>
+        requires there { row < length (table_of self.now).rows }
+        requires width { length (bits_of set.old) ≡ length (table_of self.now).scope }
+        ensures atoms { (r : Row) → slice_get (table_of self.now).rows row ≡ Some r → OnOk result (atoms.new.items ≡ r.atoms) }
+        ensures width { length (bits_of set.new) ≡ length (table_of self.now).scope }
+    {
+        self.get(row, set);
+        atoms.clear();
+        list_atoms(self.scope(), set, atoms)
+    }
+
+    /// Puts the row of these atoms, rising, and these weights after the others, if all atoms are of the scope and no row has
+    /// just these; else the table stays as it is. So it does where memory is refused.
+    ///
+    /// # Errors
+    /// Where memory is refused.
+    pub fn add(&mut self, alloc: Global, atoms: &[u32], weights: &[i64]) -> Result<Added, NoMemory>
+        requires rising { IsTrue (are_rising atoms.now) }
+        requires weights { length weights.now ≡ weight_count_of self.old }
+        requires room { length (table_of self.old).rows < 16777216 }
+        ensures ok { IfOk result (IsAdded (table_of self.old) (table_of self.new) (record { atoms = atoms.now; weights = weights.now })) }
+        ensures count { weight_count_of self.new ≡ weight_count_of self.old }
+        ensures err { OnErr result (table_of self.new ≡ table_of self.old) }
+    {
+        let Some(set) = set_of(alloc, self.scope(), atoms)? else {
+            return Ok(Added::OutsideScope);
+        };
+        if self.insert(&set, weights)? {
+            Ok(Added::New)
+        } else {
+            Ok(Added::Repeated)
+        }
+    }
+}

@@ -1,0 +1,73 @@
+//! The places of atoms in a scope.
+ghost use Rattle.std.specs.Prelude.{◌≡◌, ◌<◌, ◌^◌, ◌++◌, ◌∷◌, [], IsTrue, IfOk, OnOk, length};
+ghost use Rattle.packed_state.specs.Packed.{bits_of};
+ghost use Rattle.packed_state.specs.Sets.{has};
+ghost use Rattle.table_rows.specs.Places.{IsSetOf};
+ghost use Rattle.table_rows.specs.Rows as model;
+ghost use Rattle.table_rows.specs.Rows.{are_rising, atoms_at};
+
+use faults::NoMemory;
+use packed_state::Packed;
+use std::alloc::Global;
+
+/// The place of the atom in the scope, from 0, if it is there.
+pub fn place_in(scope: &[u32], atom: u32) -> Option<u32>
+    requires { length scope.now < 2 ^ 32 }
+    ensures { result ≡ model.place_in scope.now atom }
+{
+    match position_in(scope, atom) {
+        Some(place) => Some(place as u32),
+        None => None,
+    }
+}
+
+/// The index of the atom in the scope, if it is there.
+fn position_in(scope: &[u32], atom: u32) -> Option<usize>
+    ensures { result ≡ model.place_in scope.now atom }
+{
+    scope.iter().position(|number| *number == atom)
+}
+
+/// The set of the places of these atoms in the scope, and none where one of them is not there.
+pub(crate) fn set_of(
+    alloc: Global,
+    scope: &[u32],
+    atoms: &[u32],
+) -> Result<Option<Packed>, NoMemory>
+    requires few { length scope.now < 2 ^ 32 }
+    requires rising { IsTrue (are_rising scope.now) }
+    ensures { IfOk result (IsSetOf scope.now atoms.now) }
+{
+    let mut set = Packed::empty(alloc, scope.len() as u32)?;
+    for atom in atoms {
+        let Some(place) = place_in(scope, *atom) else {
+            return Ok(None);
+        };
+        set.insert(place);
+    }
+    Ok(Some(set))
+}
+
+/// Puts the atoms of the scope whose places are in the set after the others.
+pub(crate) fn list_atoms(scope: &[u32], set: &Packed, atoms: &mut Vec<u32>) -> Result<(), NoMemory>
+    requires few { length scope.now < 2 ^ 32 }
+    requires width { length (bits_of set.now) ≡ length scope.now }
+    ensures { OnOk result (atoms.new.items ≡ atoms.old.items ++ atoms_at scope.now (bits_of set.now)) }
+{
+    for place in 0..scope.len() {
+        push_if_in(set, place as u32, scope[place], atoms)?;
+    }
+    Ok(())
+}
+
+/// Puts the atom after the others, if its place is in the set.
+fn push_if_in(set: &Packed, place: u32, atom: u32, atoms: &mut Vec<u32>) -> Result<(), NoMemory>
+    requires { place < length (bits_of set.now) }
+    ensures { OnOk result (atoms.new.items ≡ atoms.old.items ++ atoms_at (atom ∷ []) (has (bits_of set.now) place ∷ [])) }
+{
+    if !set.has(place) {
+        return Ok(());
+    }
+    atoms.push(atom)?;
+    Ok(())
+}
