@@ -168,6 +168,9 @@ potential_parts is_in_range count p are =
     let (constant_is, many) = and_parts (is_in_range p.constant) (length p.weights == count) first in
     (constant_is, eqb-true (length p.weights) count many, weights)
 
+pub weight_count : (count : ℕ) (p : PotentialFunction) → are_potentials is_weight count p ≡ true → length p.weights ≡ count
+weight_count count p are = let (_, many, _) = potential_parts is_weight count p are in many
+
 -- what detects dead ends is a weight, in version 1 too, where it is 0
 dead_end_weight : (version : Version) (w : ℤ) → is_dead_end_weight version w ≡ true → is_weight w ≡ true
 dead_end_weight one (pos zero) is = refl
