@@ -1,4 +1,4 @@
-use Rattle.std.proofs.Common.{◌≡◌, ◌<◌, ◌∙◌, ◌++◌, [], arith, ap, get_or, length, refl}
+use Rattle.std.proofs.Common.{◌≡◌, ℕ, ◌<◌, ◌∙◌, ◌++◌, List, [], arith, ap, get_or, length, refl}
 use Rattle.std.specs.Prelude.{Some, slice_get}
 use Rattle.std.proofs.lemmas.List.FromFn.{length-map-range_with_len}
 use Rattle.std.proofs.lemmas.Option.{slice_get-get_or}
@@ -39,7 +39,7 @@ added g c =
     let at = there g c in
     let atoms : c.deref.result.now ≡ r.atoms = c.deref.ensures.value ∙ c.in-Ok-list_atoms.ensures.atoms r at in
     let weights : c.weights.result.now ≡ r.weights = c.weights.ensures r at in
-    c.in_ok-add_row.ensures ∙ (λ j. c.loop-row.held.items ++ row_line (record { atoms = atoms j; weights = weights j }))
+    ◌∙◌ {A = List ℕ} c.in_ok-add_row.ensures (λ j. c.loop-row.held.items ++ row_line (record { atoms = atoms j; weights = weights j }))
 
 pub returns-in_err-pass_on-clause-beginning : goal.returns-in_err-pass_on-clause-beginning
 returns-in_err-pass_on-clause-beginning g c =
