@@ -1,6 +1,6 @@
 -- Atoms that are taken, and atoms that came before.
 use Rattle.std.proofs.Common.{◌≡◌, Bool, true, false, not, List, [], ◌∷◌, ◌++◌, map, refl, sym, ap, ◌∙◌, subst}
-use Rattle.std.specs.Prelude.{IsTrue, Contains, if◌then◌else◌}
+use Rattle.std.specs.Prelude.{ℤ, IsTrue, Contains, if◌then◌else◌}
 use Rattle.std.specs.List.{list_any}
 use Rattle.std.proofs.lemmas.Bool.{false≢true}
 use Rattle.std.proofs.lemmas.List.{map-append}
@@ -14,10 +14,10 @@ use Rattle.model.specs.Task.{Atom, Task}
 use Rattle.model.specs.WellTyped.{is_atom}
 use Rattle.model.specs.Fluents.{is_fluent}
 use Rattle.model.proofs.ListLemmas.{Contains-map, map-Contains}
-use Rattle.certificate_definitions.specs.CertificateText.{Weights, WeightedAtom, TextLine, atom}
-use Rattle.certificate_definitions.specs.CertificateNames.{Names, of_dead_end_or_zero}
+use Rattle.certificate_definitions.specs.CertificateText.{WeightedAtom, TextLine, atom, BeginCertificate}
+use Rattle.certificate_definitions.specs.CertificateNames.{Names}
 use Rattle.certificate_definitions.specs.CertificateChecking.{IsWrongAfter}
-use Rattle.cert_checker.specs.Given.{Heading, HaveGiven}
+use Rattle.cert_checker.specs.Given.{Heading, HaveGiven, with_weights}
 use Rattle.cert_checker.proofs.GivenLemmas.{reported_new_atom, wrong_again}
 
 any_there : (x : code.Atom) (keys : List code.Atom) → Contains (map atom_of keys) (atom_of x) → list_any (atom_eq x) keys ≡ true
@@ -34,25 +34,19 @@ was_new is_new true is holds = absurd (false≢true (sym is ∙ holds))
 was_new is_new false is holds = refl
 
 -- the heading with these atoms, and the weights of one more
-abbrev pub with_atom : Heading → Weights → List Atom → Heading
-with_atom heading weights atoms = record {
-  version = heading.version;
-  claim = heading.claim;
-  atoms = atoms;
-  potentials = record { constant = heading.potentials.constant; weights = heading.potentials.weights ++ weights.of_value ∷ [] };
-  dead_ends = record { constant = heading.dead_ends.constant; weights = heading.dead_ends.weights ++ of_dead_end_or_zero weights ∷ [] };
-}
+abbrev pub with_atom : Heading → List ℤ → List Atom → Heading
+with_atom heading weights atoms = record { version = heading.version; claim = heading.claim; atoms = atoms; bounds = with_weights heading.bounds weights }
 
 module _ (task : Task) (before : List TextLine) (heading : Heading) (keys : List code.Atom) (atoms_are : heading.atoms ≡ map atom_of keys)
     (reported : HaveGiven task before heading) (said : WeightedAtom) (a : code.Atom) (names : Names task said.atom (atom_of a)) (typed : IsTrue (is_atom task (atom_of a)))
     (changes : IsTrue (is_fluent task (atom_of a).predicate)) (is_new : Bool) (added : is_new ≡ not (list_any (atom_eq a) keys)) where
-  pub new_is_reported : is_new ≡ true → (after : List code.Atom) → after ≡ insert_key atom_eq keys a → HaveGiven task (before ++ atom said ∷ []) (with_atom heading said.weights (map atom_of after))
-  new_is_reported holds after is =
+  pub new_is_reported : is_new ≡ true → BeginCertificate (before ++ atom said ∷ []) → (after : List code.Atom) → after ≡ insert_key atom_eq keys a → HaveGiven task (before ++ atom said ∷ []) (with_atom heading said.weights (map atom_of after))
+  new_is_reported holds begun after is =
       let absent = was_new is_new (list_any (atom_eq a) keys) added holds in
       subst (λ atoms. HaveGiven task (before ++ atom said ∷ []) (with_atom heading said.weights atoms))
       (ap (λ atoms. atoms ++ atom_of a ∷ []) atoms_are ∙ sym (ap (map atom_of) (is ∙ ap (λ b. if b then keys else keys ++ a ∷ []) absent) ∙ map-append atom_of keys (a ∷ [])))
       (reported_new_atom task before heading reported said (atom_of a) names typed changes
-      (λ among. false≢true (sym absent ∙ any_there a keys (subst (λ atoms. Contains atoms (atom_of a)) atoms_are among))))
+      (λ among. false≢true (sym absent ∙ any_there a keys (subst (λ atoms. Contains atoms (atom_of a)) atoms_are among))) begun)
 
   pub again_is_wrong : is_new ≡ false → IsWrongAfter task before (atom said) 44
   again_is_wrong fails =

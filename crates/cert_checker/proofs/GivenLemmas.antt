@@ -1,7 +1,10 @@
 -- What one line more reports.
-use Rattle.std.proofs.Common.{◌≡◌, ◌≢◌, ℕ, ◌⊎◌, inl, inr, ⊎_elim, Bool, true, false, List, [], ◌∷◌, ◌++◌, map, None, Some, refl, sym, ap, ◌∙◌, subst, append_assoc, append-nil, true≢false, arith}
-use Rattle.std.specs.Prelude.{IsTrue, ◌&&◌, Contains, pos}
-use Rattle.std.proofs.lemmas.List.{map-append}
+use Rattle.std.proofs.Common.{◌≡◌, ◌≢◌, ℕ, zero, suc, ◌+◌, ◌⊎◌, inl, inr, ⊎_elim, Bool, true, false, List, [], ◌∷◌, ◌++◌, map, length, None, Some, refl, sym, ap, ◌∙◌, subst, append_assoc, append-nil, true≢false, arith}
+use Rattle.std.specs.Prelude.{IsTrue, ℤ, ◌&&◌, ◌==◌, nat_lt, Contains, pos}
+use Rattle.std.proofs.lemmas.Bool.{and_parts}
+use Rattle.std.specs.List.{flat_map, range_with_len}
+use Rattle.std.proofs.lemmas.List.FromFn.{length-range_with_len}
+use Rattle.std.proofs.lemmas.List.{length-map, map-append}
 use Rattle.std.proofs.lemmas.List.Elements.{All-nil, All-push, Contains-push, Contains-push_cases, Contains-append_left, Contains-get_or}
 use Rattle.std.proofs.lemmas.List.Elements.{filter_map-append}
 use Rattle.std.proofs.lemmas.List.Quantifiers.{all_pairs_push}
@@ -10,14 +13,14 @@ use Rattle.model.specs.Task.{Atom, Task}
 use Rattle.model.specs.WellTyped.{is_atom}
 use Rattle.model.specs.Fluents.{is_fluent}
 use Rattle.model.specs.Claims.{Claim, bound, none}
-use Rattle.potential_functions.specs.PotentialFunctions.{PotentialFunction}
-use Rattle.certificate_definitions.specs.Certificates.{Version, one}
-use Rattle.certificate_definitions.specs.CertificateText.{NamedAtom, Weights, WeightedAtom, TextLine, version, claims, constant, atom, listed, last, BeginCertificate, AreWhole}
-use Rattle.certificate_definitions.specs.CertificateNames.{AllName, Names, of_dead_end_or_zero}
-use Rattle.certificate_definitions.specs.CertificateMachine.{CertificatePlace, at_version, at_claim, at_constant, in_body, ended, next_place, place_after}
-use Rattle.certificate_definitions.specs.CertificateChecking.{AreRight, IsWrongAfter, not_fluent, repeated_atom, repeated_state, cut_not_allowed}
-use Rattle.certificate_definitions.proofs.Machine.{ComesBefore, never, occurs, followed, place_of_beginning}
-use Rattle.cert_checker.specs.Given.{Heading, HaveGiven, atom_in, atoms_given, dead_ends_given, names_given, state_in, states_given, values_given}
+use Rattle.table_functions.specs.TableFunctions.{SeveralValues}
+use Rattle.certificate_definitions.specs.Certificates.{Version, one, two, three, has_tables}
+use Rattle.certificate_definitions.specs.CertificateText.{NamedAtom, WeightedAtom, TableLine, scope, row, Format, is_line, is_table_line, most_rows, most_tables, TextLine, version, claims, constant, atom, tabled, listed, last, BeginCertificate, AreWhole}
+use Rattle.certificate_definitions.specs.CertificateNames.{AllName, Names, table_lines, value_count, weight_said}
+use Rattle.certificate_definitions.specs.CertificateMachine.{Body, row_follows, row_more, scope_more, CertificatePlace, at_version, at_claim, at_constant, in_body, ended, next_place, place_after}
+use Rattle.certificate_definitions.specs.CertificateChecking.{is_checked, AreRight, IsWrongAfter, not_checked, not_of_scope, repeated_row, not_fluent, repeated_atom, repeated_state, cut_not_allowed}
+use Rattle.certificate_definitions.proofs.Machine.{IsBody, only_where, ComesBefore, never, occurs, followed, place_of_beginning}
+use Rattle.cert_checker.specs.Given.{Heading, HaveGiven, AreGiven, AreNotGiven, atom_in, table_in, state_in, atoms_given, tables_given, states_given, names_given, value_given, values_given, with_weight, with_weights_from, with_weights, begun_with}
 use Rattle.cert_checker.proofs.NamesLemmas.{one_named, same_names}
 
 -- ---- lists of lines
@@ -34,6 +37,7 @@ reported_atom lines a reported = let (line, there, is) = filter_map-Contains ato
     line_is (claims claim) is = absurd (cc is)
     line_is (constant k) is = absurd (cc is)
     line_is (atom b) is = let same : b ≡ a = cc in ap (λ a. atom a) same
+    line_is (tabled t) is = absurd (cc is)
     line_is (listed l) is = absurd (cc is)
     line_is (last count) is = absurd (cc is)
 
@@ -63,7 +67,7 @@ nothing_first before v line begun there = let at = placed before (version v) beg
     by_place at_version are next leads = Contains-none line (subst (λ lines. Contains lines line) are there)
     by_place (at_claim w) are next leads = never next leads
     by_place (at_constant w) are next leads = never next leads
-    by_place (in_body w n m) are next leads = never next leads
+    by_place (in_body b) are next leads = never next leads
     by_place ended are next leads = never next leads
 
 -- before the claim none is
@@ -77,11 +81,11 @@ only_claim before c d begun there = let at = placed before (claims c) begun in b
         no_claim : Contains (version v ∷ []) (claims d) → ⊥
         no_claim there = ⊎_elim (λ same. absurd (cc same)) (λ none. Contains-none (claims d) none) (Contains-cases (version v) [] (claims d) there)
     by_place (at_constant v) are next leads = never next leads
-    by_place (in_body v n m) are next leads = never next leads
+    by_place (in_body b) are next leads = never next leads
     by_place ended are next leads = never next leads
 
 -- before the constant none is
-only_constant : (before : List TextLine) (k d : Weights) → BeginCertificate (before ++ constant k ∷ []) → Contains before (constant d) → ⊥
+only_constant : (before : List TextLine) (k d : List ℤ) → BeginCertificate (before ++ constant k ∷ []) → Contains before (constant d) → ⊥
 only_constant before k d begun there = let at = placed before (constant k) begun in by_place at.place at.occurs at.next at.leads
   where
     no_constant : (v : Version) (claim : Claim) → Contains (version v ∷ claims claim ∷ []) (constant d) → ⊥
@@ -94,7 +98,74 @@ only_constant before k d begun there = let at = placed before (constant k) begun
     by_place at_version are next leads = never next leads
     by_place (at_claim v) are next leads = never next leads
     by_place (at_constant v) (claim, is, are) next leads = no_constant v claim (subst (λ lines. Contains lines (constant d)) are there)
-    by_place (in_body v n m) are next leads = never next leads
+    by_place (in_body b) are next leads = never next leads
+    by_place ended are next leads = never next leads
+
+-- nor an atom
+no_atom_first : (before : List TextLine) (k : List ℤ) → BeginCertificate (before ++ constant k ∷ []) → atoms_given before ≡ []
+no_atom_first before k begun = let at = placed before (constant k) begun in by_place at.place at.occurs at.next at.leads
+  where
+    by_place : (place : CertificatePlace) → ComesBefore place before → (next : CertificatePlace) → next_place place (constant k) ≡ Some next → atoms_given before ≡ []
+    by_place at_version are next leads = never next leads
+    by_place (at_claim v) are next leads = never next leads
+    by_place (at_constant v) (claim, is, are) next leads = ap atoms_given are
+    by_place (in_body b) are next leads = never next leads
+    by_place ended are next leads = never next leads
+
+-- the constants are in the first lines of a body
+constant_there : (b : Body) (before : List TextLine) → IsBody b before → (k : List ℤ) × Contains before (constant k)
+constant_there b before body =
+    let g = body.beginning in
+    let rest = map (λ a. atom a) g.atoms ++ map (λ t. tabled t) g.tables ++ map (λ l. listed l) g.states in (
+      g.constants,
+      subst (λ lines. Contains lines (constant g.constants)) (sym body.lines_are)
+          (Contains-there (version g.version) (claims g.claim ∷ constant g.constants ∷ rest) (constant g.constants)
+          (Contains-there (claims g.claim) (constant g.constants ∷ rest) (constant g.constants) (Contains-here (constant g.constants) rest))),
+    )
+
+-- so they come before an atom
+constant_first : (before : List TextLine) (a : WeightedAtom) → BeginCertificate (before ++ atom a ∷ []) → (k : List ℤ) × Contains before (constant k)
+constant_first before a begun = let at = placed before (atom a) begun in by_place at.place at.occurs at.next at.leads
+  where
+    by_place : (place : CertificatePlace) → ComesBefore place before → (next : CertificatePlace) → next_place place (atom a) ≡ Some next → (k : List ℤ) × Contains before (constant k)
+    by_place at_version are next leads = never next leads
+    by_place (at_claim v) are next leads = never next leads
+    by_place (at_constant v) (claim, is, are) next leads = never next leads
+    by_place (in_body b) body next leads = constant_there b before body
+    by_place ended are next leads = never next leads
+
+-- where nothing is wrong there are no tables, since a version that has them is not checked
+pub no_tables_yet : (task : Task) (before : List TextLine) (t : TableLine) → AreRight task before → BeginCertificate (before ++ tabled t ∷ []) → ⊥
+no_tables_yet task before t right begun = let at = placed before (tabled t) begun in by_place at.place at.occurs at.next at.leads
+  where
+    of_line : (f : Format) (t : TableLine) → is_line f (tabled t) ≡ true → has_tables f.version ≡ true
+    of_line f t is = (and_parts (has_tables f.version) (is_table_line f t) is).0
+
+    has_them : (b : Body) (t : TableLine) (next : CertificatePlace) → next_place (in_body b) (tabled t) ≡ Some next → has_tables b.format.version ≡ true
+    has_them b (scope s) next leads =
+        let (holds, same) = only_where ((b.states == 0) && nat_lt b.tables most_tables && is_line b.format (tabled (scope s))) (in_body (scope_more b)) next leads in
+        of_line b.format (scope s) (and_parts ((b.states == 0) && nat_lt b.tables most_tables) (is_line b.format (tabled (scope s))) holds).1
+    has_them b (row r) next leads =
+        let (holds, same) = only_where (row_follows b && nat_lt b.rows most_rows && is_line b.format (tabled (row r))) (in_body (row_more b)) next leads in
+        of_line b.format (row r) (and_parts (row_follows b && nat_lt b.rows most_rows) (is_line b.format (tabled (row r))) holds).1
+
+    not_both : (v : Version) → has_tables v ≡ true → is_checked v ≡ false
+    not_both one has = absurd (true≢false (sym has))
+    not_both two has = absurd (true≢false (sym has))
+    not_both three has = refl
+
+    refused : (b : Body) → IsBody b before → has_tables b.format.version ≡ true → ⊥
+    refused b body has =
+        let g = body.beginning in
+        let version_is : g.version ≡ b.format.version = ap (λ (b : Body). b.format.version) body.body_is in
+        let rest = claims g.claim ∷ constant g.constants ∷ map (λ a. atom a) g.atoms ++ map (λ t. tabled t) g.tables ++ map (λ l. listed l) g.states in
+        right [] rest (version g.version) 41 body.lines_are (not_checked g.version (not_both g.version (subst (λ v. has_tables v ≡ true) (sym version_is) has)))
+
+    by_place : (place : CertificatePlace) → ComesBefore place before → (next : CertificatePlace) → next_place place (tabled t) ≡ Some next → ⊥
+    by_place at_version are next leads = never next leads
+    by_place (at_claim v) are next leads = never next leads
+    by_place (at_constant v) are next leads = never next leads
+    by_place (in_body b) body next leads = refused b body (has_them b t next leads)
     by_place ended are next leads = never next leads
 
 -- ---- one line more
@@ -123,20 +194,25 @@ right_more task before line right not_wrong front rest other number splits wrong
     ⊎_elim (λ (fronts, lines). not_wrong number (subst (λ front. IsWrongAfter task front line number) (sym fronts) (subst (λ line. IsWrongAfter task front line number) (sym lines) wrong)))
     (λ (more, is). right front more other number is wrong) (split_last before front rest line other splits)
 
--- a line that says of no atom and no state is not wrong
+-- a line that says of no atom, no table and no state is not wrong, where its version is checked
 abbrev pub is_plain : TextLine → Bool
 is_plain (version v) = true
 is_plain (claims claim) = true
 is_plain (constant k) = true
 is_plain (atom a) = false
+is_plain (tabled t) = false
 is_plain (listed l) = false
 is_plain (last count) = true
 
-plain_is_right : (task : Task) (before : List TextLine) (line : TextLine) (number : ℕ) → IsWrongAfter task before line number → is_plain line ≡ true → ⊥
-plain_is_right task before line number (not_fluent a none_is) plain = absurd (true≢false (sym plain))
-plain_is_right task before line number (repeated_atom a is there) plain = absurd (true≢false (sym plain))
-plain_is_right task before line number (repeated_state l there) plain = absurd (true≢false (sym plain))
-plain_is_right task before line number (cut_not_allowed l new cut there) plain = absurd (true≢false (sym plain))
+plain_is_right : (task : Task) (before : List TextLine) (line : TextLine) (number : ℕ) → ((v : Version) → line ≡ version v → is_checked v ≡ true) → IsWrongAfter task before line number
+    → is_plain line ≡ true → ⊥
+plain_is_right task before line number checked (not_checked v unchecked) plain = absurd (true≢false (sym (checked v refl) ∙ unchecked))
+plain_is_right task before line number checked (not_of_scope r atoms rows here no_scope) plain = absurd (true≢false (sym plain))
+plain_is_right task before line number checked (repeated_row r atoms rows here of_scope there) plain = absurd (true≢false (sym plain))
+plain_is_right task before line number checked (not_fluent a none_is) plain = absurd (true≢false (sym plain))
+plain_is_right task before line number checked (repeated_atom a is there) plain = absurd (true≢false (sym plain))
+plain_is_right task before line number checked (repeated_state l there) plain = absurd (true≢false (sym plain))
+plain_is_right task before line number checked (cut_not_allowed l new cut there) plain = absurd (true≢false (sym plain))
 
 named_push : (task : Task) (names : List NamedAtom) (atoms : List Atom) (name : NamedAtom) (a : Atom) → AllName task names atoms → Names task name a
     → AllName task (names ++ name ∷ []) (atoms ++ a ∷ [])
@@ -162,33 +238,45 @@ name_of_atom task (n ∷ names) (b ∷ atoms) a (here, are) there =
     ⊎_elim (λ same. (n, Contains-here n names, subst (Names task n) same here))
     (λ later. let (name, occurs, is) = name_of_atom task names atoms a are later in (name, Contains-there n names name occurs, is)) (Contains-cases b atoms a there)
 
--- the names and the weights of some lines and one atom more
+-- the atoms and the names of some lines and one atom more
+atoms_more : (before : List TextLine) (a : WeightedAtom) → atoms_given (before ++ atom a ∷ []) ≡ atoms_given before ++ a ∷ []
+atoms_more before a = filter_map-append atom_in before (atom a ∷ [])
+
 names_more : (before : List TextLine) (a : WeightedAtom) → names_given (before ++ atom a ∷ []) ≡ names_given before ++ a.atom ∷ []
-names_more before a = ap (map (λ (a : WeightedAtom). a.atom)) (filter_map-append atom_in before (atom a ∷ [])) ∙ map-append (λ (a : WeightedAtom). a.atom) (atoms_given before) (a ∷ [])
+names_more before a = ap (map (λ (a : WeightedAtom). a.atom)) (atoms_more before a) ∙ map-append (λ (a : WeightedAtom). a.atom) (atoms_given before) (a ∷ [])
 
-values_more : (before : List TextLine) (a : WeightedAtom) → values_given (before ++ atom a ∷ []) ≡ values_given before ++ a.weights.of_value ∷ []
-values_more before a =
-    ap (map (λ (a : WeightedAtom). a.weights.of_value)) (filter_map-append atom_in before (atom a ∷ [])) ∙ map-append (λ (a : WeightedAtom). a.weights.of_value) (atoms_given before) (a ∷ [])
+-- each value has the weight of that atom more
+value_more : (k : List ℤ) (atoms : List WeightedAtom) (a : WeightedAtom) (place : ℕ)
+    → value_given k (atoms ++ a ∷ []) place ≡ with_weight (value_given k atoms place) (weight_said place a.weights)
+value_more k atoms a place = λ i. record { constant = weight_said place k; weights = map-append (λ (a : WeightedAtom). weight_said place a.weights) atoms (a ∷ []) i }
 
-dead_ends_more : (before : List TextLine) (a : WeightedAtom) → dead_ends_given (before ++ atom a ∷ []) ≡ dead_ends_given before ++ of_dead_end_or_zero a.weights ∷ []
-dead_ends_more before a =
-    ap (map (λ (a : WeightedAtom). of_dead_end_or_zero a.weights)) (filter_map-append atom_in before (atom a ∷ []))
-    ∙ map-append (λ (a : WeightedAtom). of_dead_end_or_zero a.weights) (atoms_given before) (a ∷ [])
+values_from : (k : List ℤ) (atoms : List WeightedAtom) (a : WeightedAtom) (place count : ℕ)
+    → map (value_given k (atoms ++ a ∷ [])) (range_with_len place count) ≡ with_weights_from place a.weights (map (value_given k atoms) (range_with_len place count))
+values_from k atoms a place zero = refl
+values_from k atoms a place (suc count) = λ i. value_more k atoms a place i ∷ values_from k atoms a (place + 1) count i
+
+given_more : (v : Version) (k : List ℤ) (atoms : List WeightedAtom) (a : WeightedAtom) (bounds : SeveralValues) → AreGiven v k atoms bounds → AreGiven v k (atoms ++ a ∷ []) (with_weights bounds a.weights)
+given_more v k atoms a bounds given = record {
+  values = ap (with_weights_from 0 a.weights) given.values ∙ sym (values_from k atoms a 0 (value_count v (length k)));
+  dead_ends =
+      let count : length bounds.values ≡ value_count v (length k) =
+      ap length given.values ∙ length-map (range_with_len 0 (value_count v (length k))) (value_given k atoms) ∙ length-range_with_len 0 (value_count v (length k)) in
+      (λ i. with_weight (given.dead_ends i) (weight_said (count i) a.weights)) ∙ sym (value_more k atoms a (value_count v (length k)));
+}
 
 -- no lines say nothing
-abbrev pub nothing_said : PotentialFunction
-nothing_said = record { constant = pos 0; weights = [] }
+abbrev pub nothing_said : SeveralValues
+nothing_said = record { values = []; dead_ends = record { constant = pos 0; weights = [] }; tables = [] }
 
-pub reported_nothing : (task : Task) → HaveGiven task [] (record { version = one; claim = bound 0; atoms = []; potentials = nothing_said; dead_ends = nothing_said })
+pub reported_nothing : (task : Task) → HaveGiven task [] (record { version = one; claim = bound 0; atoms = []; bounds = nothing_said })
 reported_nothing task = record {
   one_version = λ v there. absurd (Contains-none (version v) there);
   one_claim = λ c there. absurd (Contains-none (claims c) there);
   none_occurs = λ same. absurd (cc same);
-  one_constant = λ k there. absurd (Contains-none (constant k) there);
-  one_dead_end_constant = λ k there. absurd (Contains-none (constant k) there);
+  given = λ k there. absurd (Contains-none (constant k) there);
+  not_given = λ absent. record { values = refl; dead_ends = refl };
+  tables = refl;
   named = tt;
-  weighed = refl;
-  dead_ends_weighed = refl;
   fluent = All-nil (λ (a : Atom). IsTrue (is_atom task a && is_fluent task a.predicate));
   distinct = λ i j d below within. absurd (omega (arith, within));
   right = λ front rest line number splits wrong. nothing_before front line rest splits;
@@ -203,100 +291,118 @@ module _ (task : Task) (before : List TextLine) (heading : Heading) (reported : 
       none_more (claims claim) is = refl
       none_more (constant k) is = refl
       none_more (atom a) is = absurd (cc is)
+      none_more (tabled t) is = refl
       none_more (listed l) is = refl
       none_more (last count) is = refl
 
   named_still : (line : TextLine) → atom_in line ≡ None → AllName task (names_given (before ++ line ∷ [])) heading.atoms
   named_still line none_in = subst (λ (reported : List WeightedAtom). AllName task (map (λ a. a.atom) reported) heading.atoms) (sym (no_atom_more line none_in)) reported.named
 
-  weighed_still : (line : TextLine) → atom_in line ≡ None → heading.potentials.weights ≡ values_given (before ++ line ∷ [])
-  weighed_still line none_in = reported.weighed ∙ ap (map (λ (a : WeightedAtom). a.weights.of_value)) (sym (no_atom_more line none_in))
+  no_table_more : (line : TextLine) → table_in line ≡ None → tables_given (before ++ line ∷ []) ≡ tables_given before
+  no_table_more line none_in = filter_map-append table_in before (line ∷ []) ∙ ap (λ more. tables_given before ++ more) (none_more line none_in) ∙ append-nil (tables_given before)
+    where
+      none_more : (line : TextLine) → table_in line ≡ None → tables_given (line ∷ []) ≡ []
+      none_more (version v) is = refl
+      none_more (claims claim) is = refl
+      none_more (constant k) is = refl
+      none_more (atom a) is = refl
+      none_more (tabled t) is = absurd (cc is)
+      none_more (listed l) is = refl
+      none_more (last count) is = refl
 
-  dead_ends_weighed_still : (line : TextLine) → atom_in line ≡ None → heading.dead_ends.weights ≡ dead_ends_given (before ++ line ∷ [])
-  dead_ends_weighed_still line none_in = reported.dead_ends_weighed ∙ ap (map (λ (a : WeightedAtom). of_dead_end_or_zero a.weights)) (sym (no_atom_more line none_in))
+  tabled_still : (line : TextLine) → table_in line ≡ None → flat_map table_lines heading.bounds.tables ≡ tables_given (before ++ line ∷ [])
+  tabled_still line none_in = reported.tables ∙ sym (no_table_more line none_in)
+
+  given_still : (line : TextLine) → atom_in line ≡ None → (k : List ℤ) → Contains before (constant k) → AreGiven heading.version k (atoms_given (before ++ line ∷ [])) heading.bounds
+  given_still line none_in k there = subst (λ atoms. AreGiven heading.version k atoms heading.bounds) (sym (no_atom_more line none_in)) (reported.given k there)
+
+  not_given_still : (line : TextLine) → ((k : List ℤ) → Contains (before ++ line ∷ []) (constant k) → ⊥) → AreNotGiven heading.bounds
+  not_given_still line absent = reported.not_given (λ k there. absent k (Contains-append_left before (line ∷ []) (constant k) there))
 
   -- what was reported for a line is reported still, where the next one is another
   among_more : (line other : TextLine) → (line ≡ other → ⊥) → Contains (before ++ line ∷ []) other → Contains before other
   among_more line other differs there = ⊎_elim (λ earlier. earlier) (λ same. absurd (differs same)) (Contains-push_cases before line other there)
 
-  pub reported_version : (v : Version) → BeginCertificate (before ++ version v ∷ [])
-      → HaveGiven task (before ++ version v ∷ []) (record { version = v; claim = heading.claim; atoms = heading.atoms; potentials = heading.potentials; dead_ends = heading.dead_ends })
-  reported_version v begun = record {
+  pub reported_version : (v : Version) → is_checked v ≡ true → BeginCertificate (before ++ version v ∷ [])
+      → HaveGiven task (before ++ version v ∷ []) (record { version = v; claim = heading.claim; atoms = heading.atoms; bounds = heading.bounds })
+  reported_version v checked begun = record {
     one_version = λ w there. ⊎_elim (λ earlier. absurd (nothing_first before v (version w) begun earlier)) (λ same. version_same w same) (Contains-push_cases before (version v) (version w) there);
     one_claim = λ d there. reported.one_claim d (among_more (version v) (claims d) (λ same. cc same) there);
     none_occurs = λ none_is. Contains-append_left before (version v ∷ []) (claims none) (reported.none_occurs none_is);
-    one_constant = λ k there. reported.one_constant k (among_more (version v) (constant k) (λ same. cc same) there);
-    one_dead_end_constant = λ k there. reported.one_dead_end_constant k (among_more (version v) (constant k) (λ same. cc same) there);
+    given = λ k there. absurd (nothing_first before v (constant k) begun (among_more (version v) (constant k) (λ same. cc same) there));
+    not_given = not_given_still (version v);
+    tables = tabled_still (version v) refl;
     named = named_still (version v) refl;
-    weighed = weighed_still (version v) refl;
-    dead_ends_weighed = dead_ends_weighed_still (version v) refl;
     fluent = reported.fluent;
     distinct = reported.distinct;
-    right = right_more task before (version v) reported.right (λ number wrong. plain_is_right task before (version v) number wrong refl);
+    right = right_more task before (version v) reported.right (λ number wrong. plain_is_right task before (version v) number (λ w same. subst (λ u. is_checked u ≡ true) (version_same w same) checked) wrong refl);
   }
     where
       version_same : (w : Version) → version v ≡ version w → v ≡ w
       version_same w same = cc same
 
   pub reported_claim : (c : Claim) → BeginCertificate (before ++ claims c ∷ [])
-      → HaveGiven task (before ++ claims c ∷ []) (record { version = heading.version; claim = c; atoms = heading.atoms; potentials = heading.potentials; dead_ends = heading.dead_ends })
+      → HaveGiven task (before ++ claims c ∷ []) (record { version = heading.version; claim = c; atoms = heading.atoms; bounds = heading.bounds })
   reported_claim c begun = record {
     one_version = λ v there. reported.one_version v (among_more (claims c) (version v) (λ same. cc same) there);
     one_claim = λ d there. ⊎_elim (λ earlier. absurd (only_claim before c d begun earlier)) (λ same. claim_same d same) (Contains-push_cases before (claims c) (claims d) there);
     none_occurs = λ none_is. subst (λ d. Contains (before ++ claims c ∷ []) (claims d)) none_is (Contains-push before (claims c));
-    one_constant = λ k there. reported.one_constant k (among_more (claims c) (constant k) (λ same. cc same) there);
-    one_dead_end_constant = λ k there. reported.one_dead_end_constant k (among_more (claims c) (constant k) (λ same. cc same) there);
+    given = λ k there. given_still (claims c) refl k (among_more (claims c) (constant k) (λ same. cc same) there);
+    not_given = not_given_still (claims c);
+    tables = tabled_still (claims c) refl;
     named = named_still (claims c) refl;
-    weighed = weighed_still (claims c) refl;
-    dead_ends_weighed = dead_ends_weighed_still (claims c) refl;
     fluent = reported.fluent;
     distinct = reported.distinct;
-    right = right_more task before (claims c) reported.right (λ number wrong. plain_is_right task before (claims c) number wrong refl);
+    right = right_more task before (claims c) reported.right (λ number wrong. plain_is_right task before (claims c) number (λ w same. absurd (cc same)) wrong refl);
   }
     where
       claim_same : (d : Claim) → claims c ≡ claims d → c ≡ d
       claim_same d same = cc same
 
-  pub reported_constant : (k : Weights) → BeginCertificate (before ++ constant k ∷ [])
-      → HaveGiven task (before ++ constant k ∷ []) (record {
-        version = heading.version;
-        claim = heading.claim;
-        atoms = heading.atoms;
-        potentials = record { constant = k.of_value; weights = heading.potentials.weights };
-        dead_ends = record { constant = of_dead_end_or_zero k; weights = heading.dead_ends.weights };
-      })
+  pub reported_constant : (k : List ℤ) → BeginCertificate (before ++ constant k ∷ [])
+      → HaveGiven task (before ++ constant k ∷ []) (record { version = heading.version; claim = heading.claim; atoms = heading.atoms; bounds = begun_with heading.version k heading.bounds })
   reported_constant k begun = record {
     one_version = λ v there. reported.one_version v (among_more (constant k) (version v) (λ same. cc same) there);
     one_claim = λ d there. reported.one_claim d (among_more (constant k) (claims d) (λ same. cc same) there);
     none_occurs = λ none_is. Contains-append_left before (constant k ∷ []) (claims none) (reported.none_occurs none_is);
-    one_constant = λ d there. ap (λ (w : Weights). w.of_value) (constant_is d there);
-    one_dead_end_constant = λ d there. ap of_dead_end_or_zero (constant_is d there);
+    given = λ d there. subst (λ d. AreGiven heading.version d (atoms_given (before ++ constant k ∷ [])) (begun_with heading.version k heading.bounds)) (constant_is d there) begun_given;
+    not_given = λ absent. absurd (absent k (Contains-push before (constant k)));
+    tables = tabled_still (constant k) refl;
     named = named_still (constant k) refl;
-    weighed = weighed_still (constant k) refl;
-    dead_ends_weighed = dead_ends_weighed_still (constant k) refl;
     fluent = reported.fluent;
     distinct = reported.distinct;
-    right = right_more task before (constant k) reported.right (λ number wrong. plain_is_right task before (constant k) number wrong refl);
+    right = right_more task before (constant k) reported.right (λ number wrong. plain_is_right task before (constant k) number (λ w same. absurd (cc same)) wrong refl);
   }
     where
-      constant_same : (d : Weights) → constant k ≡ constant d → k ≡ d
+      constant_same : (d : List ℤ) → constant k ≡ constant d → k ≡ d
       constant_same d same = cc same
 
-      constant_is : (d : Weights) → Contains (before ++ constant k ∷ []) (constant d) → k ≡ d
+      constant_is : (d : List ℤ) → Contains (before ++ constant k ∷ []) (constant d) → k ≡ d
       constant_is d there = ⊎_elim (λ earlier. absurd (only_constant before k d begun earlier)) (λ same. constant_same d same) (Contains-push_cases before (constant k) (constant d) there)
 
-  -- a line that reports neither the version, nor the claim, nor the constants, nor an atom
-  pub reported_else : (line : TextLine) → ((v : Version) → line ≡ version v → ⊥) → ((d : Claim) → line ≡ claims d → ⊥) → ((k : Weights) → line ≡ constant k → ⊥) → atom_in line ≡ None
+      none_before : AreNotGiven heading.bounds
+      none_before = reported.not_given (λ d there. only_constant before k d begun there)
+
+      no_atoms : atoms_given (before ++ constant k ∷ []) ≡ []
+      no_atoms = no_atom_more (constant k) refl ∙ no_atom_first before k begun
+
+      begun_given : AreGiven heading.version k (atoms_given (before ++ constant k ∷ [])) (begun_with heading.version k heading.bounds)
+      begun_given = subst (λ atoms. AreGiven heading.version k atoms (begun_with heading.version k heading.bounds)) (sym no_atoms) (record {
+        values = ap (λ values. values ++ values_given heading.version k []) none_before.values;
+        dead_ends = λ i. record { constant = weight_said (value_count heading.version (length k)) k; weights = none_before.dead_ends i };
+      })
+
+  -- a line that reports neither the version, nor the claim, nor the constants, nor an atom, nor of a table
+  pub reported_else : (line : TextLine) → ((v : Version) → line ≡ version v → ⊥) → ((d : Claim) → line ≡ claims d → ⊥) → ((k : List ℤ) → line ≡ constant k → ⊥) → atom_in line ≡ None → table_in line ≡ None
       → ((number : ℕ) → IsWrongAfter task before line number → ⊥) → HaveGiven task (before ++ line ∷ []) heading
-  reported_else line no_version no_claim no_constant no_atom is_right = record {
+  reported_else line no_version no_claim no_constant no_atom no_table is_right = record {
     one_version = λ v there. reported.one_version v (among_more line (version v) (no_version v) there);
     one_claim = λ d there. reported.one_claim d (among_more line (claims d) (no_claim d) there);
     none_occurs = λ none_is. Contains-append_left before (line ∷ []) (claims none) (reported.none_occurs none_is);
-    one_constant = λ k there. reported.one_constant k (among_more line (constant k) (no_constant k) there);
-    one_dead_end_constant = λ k there. reported.one_dead_end_constant k (among_more line (constant k) (no_constant k) there);
+    given = λ k there. given_still line no_atom k (among_more line (constant k) (no_constant k) there);
+    not_given = not_given_still line;
+    tables = tabled_still line no_table;
     named = named_still line no_atom;
-    weighed = weighed_still line no_atom;
-    dead_ends_weighed = dead_ends_weighed_still line no_atom;
     fluent = reported.fluent;
     distinct = reported.distinct;
     right = right_more task before line reported.right is_right;
@@ -304,10 +410,14 @@ module _ (task : Task) (before : List TextLine) (heading : Heading) (reported : 
 
   pub reported_last : (count : ℕ) → HaveGiven task (before ++ last count ∷ []) heading
   reported_last count =
-      reported_else (last count) (λ v same. cc same) (λ d same. cc same) (λ k same. cc same) refl (λ number wrong. plain_is_right task before (last count) number wrong refl)
+      reported_else (last count) (λ v same. cc same) (λ d same. cc same) (λ k same. cc same) refl refl
+      (λ number wrong. plain_is_right task before (last count) number (λ w same. absurd (cc same)) wrong refl)
 
   module _ (said : WeightedAtom) (a : Atom) (names : Names task said.atom a) (typed : IsTrue (is_atom task a)) (changes : IsTrue (is_fluent task a.predicate)) where
     right_atom : (Contains heading.atoms a → ⊥) → (line : TextLine) (number : ℕ) → IsWrongAfter task before line number → line ≡ atom said → ⊥
+    right_atom new line number (not_checked v unchecked) same = absurd (cc same)
+    right_atom new line number (not_of_scope r atoms rows here no_scope) same = absurd (cc same)
+    right_atom new line number (repeated_row r atoms rows here of_scope there) same = absurd (cc same)
     right_atom new line number (not_fluent b none_is) same =
         let here : b ≡ said = cc in absurd (none_is (a, subst (λ (b : WeightedAtom). Names task b.atom a) (sym here) names, typed, changes))
     right_atom new line number (repeated_atom b is (earlier, there, earlier_is)) same =
@@ -319,22 +429,22 @@ module _ (task : Task) (before : List TextLine) (heading : Heading) (reported : 
     right_atom new line number (repeated_state l there) same = absurd (cc same)
     right_atom new line number (cut_not_allowed l first cut there) same = absurd (cc same)
 
-    pub reported_new_atom : (Contains heading.atoms a → ⊥) → HaveGiven task (before ++ atom said ∷ []) (record {
+    pub reported_new_atom : (Contains heading.atoms a → ⊥) → BeginCertificate (before ++ atom said ∷ []) → HaveGiven task (before ++ atom said ∷ []) (record {
       version = heading.version;
       claim = heading.claim;
       atoms = heading.atoms ++ a ∷ [];
-      potentials = record { constant = heading.potentials.constant; weights = heading.potentials.weights ++ said.weights.of_value ∷ [] };
-      dead_ends = record { constant = heading.dead_ends.constant; weights = heading.dead_ends.weights ++ of_dead_end_or_zero said.weights ∷ [] };
+      bounds = with_weights heading.bounds said.weights;
     })
-    reported_new_atom new = record {
+    reported_new_atom new begun = record {
       one_version = λ v there. reported.one_version v (among_more (atom said) (version v) (λ same. cc same) there);
       one_claim = λ d there. reported.one_claim d (among_more (atom said) (claims d) (λ same. cc same) there);
       none_occurs = λ none_is. Contains-append_left before (atom said ∷ []) (claims none) (reported.none_occurs none_is);
-      one_constant = λ k there. reported.one_constant k (among_more (atom said) (constant k) (λ same. cc same) there);
-      one_dead_end_constant = λ k there. reported.one_dead_end_constant k (among_more (atom said) (constant k) (λ same. cc same) there);
+      given = λ k there.
+          subst (λ atoms. AreGiven heading.version k atoms (with_weights heading.bounds said.weights)) (sym (atoms_more before said))
+          (given_more heading.version k (atoms_given before) said heading.bounds (reported.given k (among_more (atom said) (constant k) (λ same. cc same) there)));
+      not_given = λ absent. let (k, there) = constant_first before said begun in absurd (absent k (Contains-append_left before (atom said ∷ []) (constant k) there));
+      tables = tabled_still (atom said) refl;
       named = subst (λ names. AllName task names (heading.atoms ++ a ∷ [])) (sym (names_more before said)) (named_push task (names_given before) heading.atoms said.atom a reported.named names);
-      weighed = ap (λ weights. weights ++ said.weights.of_value ∷ []) reported.weighed ∙ sym (values_more before said);
-      dead_ends_weighed = ap (λ weights. weights ++ of_dead_end_or_zero said.weights ∷ []) reported.dead_ends_weighed ∙ sym (dead_ends_more before said);
       fluent = All-push (λ (a : Atom). IsTrue (is_atom task a && is_fluent task a.predicate)) heading.atoms a reported.fluent (λ i. typed i && changes i);
       distinct = all_pairs_push (λ (a b : Atom). a ≢ b) heading.atoms a reported.distinct (λ k d within same. new (subst (Contains heading.atoms) same (Contains-get_or heading.atoms k d within)));
       right = right_more task before (atom said) reported.right (λ number wrong. right_atom new (atom said) number wrong refl);
@@ -355,6 +465,7 @@ states_same lines line is = filter_map-append state_in lines (line ∷ []) ∙ a
     alone (claims claim) is = refl
     alone (constant k) is = refl
     alone (atom a) is = refl
+    alone (tabled t) is = refl
     alone (listed l) is = absurd (cc is)
     alone (last count) is = refl
 

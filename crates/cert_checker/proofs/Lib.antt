@@ -1,8 +1,10 @@
 pub mod NamesLemmas
+pub mod LimitsLemmas
 pub mod GivenLemmas
 pub mod ListedLemmas
 pub mod PlacedLemmas
 pub mod AtomsLemmas
+pub mod HeaderLemmas
 pub mod ReadingLemmas
 pub mod ListingLemmas
 pub mod SplitLemmas

@@ -1,33 +1,46 @@
 -- A certificate's text after some of its lines: what is left are the lines after them, each no longer than a line may be.
-use Rattle.std.proofs.Common.{◌≡◌, ℕ, suc, ◌+◌, ◌*◌, ◌<◌, ◌≤◌, true, false, not, List, [], ◌∷◌, ◌++◌, codes, map, length, length-append, Option, None, Some, refl, sym, ap, ◌∙◌, subst, append_assoc, append-nil, arith}
-use Rattle.std.specs.Prelude.{◌&&◌, Contains, IsTrue, nat_le, ℤ, pos, negsuc}
+use Rattle.std.proofs.Common.{◌≡◌, ℕ, suc, ◌+◌, ◌*◌, ◌<◌, ◌≤◌, Bool, true, not, List, [], ◌∷◌, ◌++◌, codes, length, length-append, Option, None, Some, refl, sym, ap, ◌∙◌, subst, append_assoc, append-nil, arith}
+use Rattle.std.specs.Prelude.{◌&&◌, ◌==◌, Contains, IsTrue, nat_le, ℤ, pos, negsuc}
 use Rattle.std.specs.Fmt.{decimal, signed_decimal}
-use Rattle.std.specs.List.{flat_map, list_all}
-use Rattle.std.proofs.lemmas.Bool.{and_parts, false≢true, leb-true, ltb-true, ne_eqb}
+use Rattle.std.specs.List.{list_all}
+use Rattle.std.specs.Option.{option_and_then}
+use Rattle.std.proofs.lemmas.Bool.{and_parts, eqb-true, leb-true, ltb-true, ne_eqb}
 use Rattle.std.proofs.lemmas.Fmt.{length-decimal-le}
-use Rattle.std.proofs.lemmas.List.Folds.{list_all-append}
 use Rattle.model.specs.Claims.{bound, none, Mark, opened, cut, dead}
-use Rattle.certificate_definitions.specs.Certificates.{Version, one, two, is_mark, is_number, is_weight, rise}
+use Rattle.certificate_definitions.specs.Certificates.{Version, one, two, three, are_weights, has_tables, is_mark, is_number, is_weight, rise}
 use Rattle.model.proofs.ListLemmas.{Contains-here, Contains-there}
-use Rattle.certificate_definitions.specs.CertificateText.{NamedCertificate, Weights, TextLine, version, claims, constant, atom, listed, last, BeginCertificate, HasLine, IsInOneLine, after_blank, are_weights, is_line, keeps_text_limits, line_text, longest_line, mark_text, most_atoms, most_states, text_lines, text_of, version_number, weights_text, whole_line}
+use Rattle.certificate_definitions.specs.CertificateText.{scope, row, NamedCertificate, TextLine, version, claims, constant, atom, tabled, listed, last, Format, format_of, begin_with_scope, row_count, scope_count, BeginCertificate, HasLine, IsInOneLine, after_blank, is_line, is_weight_count, keeps_text_limits, line_text, longest_line, mark_text, most_atoms, most_rows, most_states, most_tables, numbers_text, text_lines, text_of, version_number, weights_text, whole_line}
+use Rattle.certificate_definitions.specs.CertificateMachine.{CertificatePlace, at_version, ended, format_at, next_place, place_from}
+use Rattle.certificate_definitions.proofs.Machine.{end_of_whole, never, place_of_beginning, place_same}
+use Rattle.certificate_reader.specs.Stages.{IsWithin}
 use Rattle.certificate_reader.specs.Words.{are_lower}
 use Rattle.certificate_reader.proofs.NumberLemmas.{is_below}
 use Rattle.certificate_reader.proofs.NumbersRead.{rise_parts}
 use Rattle.certificate_reader.proofs.WordLemmas.{same_head, same_tail}
+use Rattle.certificate_reader.proofs.LinesRead.{few_constants}
 use Rattle.certificate_reader.proofs.OneLine.{one_line}
-use Rattle.certificate_reader.proofs.OneText.{is_one_line, line_in_one, lines_more, one_whole}
+use Rattle.certificate_reader.proofs.OneText.{is_one_line, line_in_one, one_whole}
+use Rattle.certificate_reader.proofs.PlaceRead.{few_atoms, leads_line}
+use Rattle.certificate_reader.proofs.ReaderLemmas.{leads_within}
 
--- ---- lines keep the limits, whatever the count of atoms
+-- ---- a certificate's lines keep the limits
 
-pub kept_lines : (c : NamedCertificate) → IsTrue (keeps_text_limits c) → IsTrue (list_all (is_line c.version most_atoms) (text_lines c))
-kept_lines c keeps =
-    let (counts, each) = and_parts (nat_le (length c.atoms) most_atoms && nat_le (length c.lines) most_states) (list_all (is_line c.version (length c.atoms)) (text_lines c)) keeps in
-    let few = leb-true (length c.atoms) most_atoms (and_parts (nat_le (length c.atoms) most_atoms) (nat_le (length c.lines) most_states) counts).0 in
-    lines_more c.version (length c.atoms) few (text_lines c) each
+pub kept_lines : (c : NamedCertificate) → IsTrue (keeps_text_limits c) → IsTrue (list_all (is_line (format_of c)) (text_lines c))
+kept_lines c keeps = (and_parts _ (list_all (is_line (format_of c)) (text_lines c)) keeps).1
 
--- the first of some lines keep them too
-first_kept : (v : Version) (lines rest : List TextLine) → IsTrue (list_all (is_line v most_atoms) (lines ++ rest)) → IsTrue (list_all (is_line v most_atoms) lines)
-first_kept v lines rest all = (and_parts (list_all (is_line v most_atoms) lines) (list_all (is_line v most_atoms) rest) (sym (list_all-append (is_line v most_atoms) lines rest) ∙ all)).0
+pub few_atoms_kept : (c : NamedCertificate) → IsTrue (keeps_text_limits c) → length c.atoms ≤ most_atoms
+few_atoms_kept c keeps =
+    let tables = begin_with_scope c.tables && nat_le (scope_count c.tables) most_tables && nat_le (row_count c.tables) most_rows in
+    let (counts, _) = and_parts _ (list_all (is_line (format_of c)) (text_lines c)) keeps in
+    let (bodies, _) = and_parts (nat_le (length c.atoms) most_atoms && tables) (nat_le (length c.lines) most_states) counts in
+    leb-true (length c.atoms) most_atoms (and_parts (nat_le (length c.atoms) most_atoms) tables bodies).0
+
+pub few_weights_kept : (c : NamedCertificate) → IsTrue (keeps_text_limits c) → length c.constants ≤ 33
+few_weights_kept c keeps =
+    let test : TextLine → Bool = is_line (format_of c) in
+    let (_, others) = and_parts (test (claims c.claim)) _ (kept_lines c keeps) in
+    let (constants_are, _) = and_parts (test (constant c.constants)) _ others in
+    few_constants c.version (length c.constants) (and_parts (is_weight_count c.version (length c.constants)) (list_all is_weight c.constants) constants_are).0
 
 -- ---- how long a line is
 
@@ -42,30 +55,24 @@ weight_short (negsuc n) is =
     omega (arith, digits)
 
 numbers_short : (count least : ℕ) (numbers : List ℕ) → count ≤ most_atoms → least ≤ count → rise count least numbers ≡ true
-    → length (flat_map (λ (number : ℕ). after_blank (decimal number)) numbers) + 8 * least ≤ 8 * count
+    → length (numbers_text numbers) + 8 * least ≤ 8 * count
 numbers_short count least [] few within all = omega (arith, within)
 numbers_short count least (n ∷ numbers) few within all =
     let (above, below, more) = rise_parts count least n numbers all in
     let rest = numbers_short count (n + 1) numbers few (omega (arith, below)) more in
     let digits : length (decimal n) ≤ 7 = length-decimal-le 7 n (omega arith) (omega (arith, below, few)) (omega (arith, below, few)) in
     let word : length (after_blank (decimal n)) ≡ 1 + length (decimal n) = omega arith in
-    omega (arith, above, below, rest, digits, word, length-append (after_blank (decimal n)) (flat_map (λ (number : ℕ). after_blank (decimal number)) numbers))
+    omega (arith, above, below, rest, digits, word, length-append (after_blank (decimal n)) (numbers_text numbers))
 
--- two weights and the blank between them
-pub weights_short : (v : Version) (w : Weights) → IsTrue (are_weights v w) → length (weights_text w) ≤ 23
-weights_short v w are = by_second v w.of_value w.of_dead_end are
-  where
-    by_second : (v : Version) (value : ℤ) (dead_end : Option ℤ) → are_weights v (record { of_value = value; of_dead_end = dead_end }) ≡ true
-        → length (weights_text (record { of_value = value; of_dead_end = dead_end })) ≤ 23
-    by_second one value None are = let first = weight_short value (and_parts (is_weight value) true are).0 in omega (arith, first)
-    by_second one value (Some dead_end) are = absurd (false≢true (and_parts (is_weight value) false are).1)
-    by_second two value None are = absurd (false≢true (and_parts (is_weight value) false are).1)
-    by_second two value (Some dead_end) are =
-        let (value_is, dead_end_is) = and_parts (is_weight value) (is_weight dead_end) are in
-        let first = weight_short value value_is in
-        let second = weight_short dead_end dead_end_is in
-        let word : length (after_blank (signed_decimal dead_end)) ≡ 1 + length (signed_decimal dead_end) = omega arith in
-        omega (arith, first, second, word, length-append (signed_decimal value) (after_blank (signed_decimal dead_end)))
+-- a blank and a weight are at most 12 bytes
+pub weights_short : (weights : List ℤ) → IsTrue (list_all is_weight weights) → length (weights_text weights) ≤ 12 * length weights
+weights_short [] all = omega arith
+weights_short (w ∷ weights) all =
+    let (here, more) = and_parts (is_weight w) (list_all is_weight weights) all in
+    let first = weight_short w here in
+    let rest = weights_short weights more in
+    let word : length (after_blank (signed_decimal w)) ≡ 1 + length (signed_decimal w) = omega arith in
+    omega (arith, first, rest, word, length-append (after_blank (signed_decimal w)) (weights_text weights))
 
 mark_short : (v : Version) (mark : Mark) (cost : ℕ) → is_number cost ≡ true → is_mark v mark ≡ true → length (mark_text mark cost) ≤ 43
 mark_short v opened cost is marked =
@@ -74,14 +81,10 @@ mark_short v opened cost is marked =
     omega (arith, digits, word)
 mark_short v (cut least) cost is marked =
     let digits = number_short cost is in
-    let others = number_short least (least_is v marked) in
+    let others = number_short least marked in
     let word : length (codes "cut " ++ decimal cost) ≡ 4 + length (decimal cost) = omega arith in
     let second : length (after_blank (decimal least)) ≡ 1 + length (decimal least) = omega arith in
     omega (arith, digits, others, word, second, length-append (codes "cut " ++ decimal cost) (after_blank (decimal least)))
-  where
-    least_is : (v : Version) → is_mark v (cut least) ≡ true → is_number least ≡ true
-    least_is one marked = marked
-    least_is two marked = marked
 mark_short v dead cost is marked =
     let digits = number_short cost is in
     let word : length (codes "dead " ++ decimal cost) ≡ 5 + length (decimal cost) = omega arith in
@@ -90,34 +93,50 @@ mark_short v dead cost is marked =
 version_is : (v : Version) → is_number (version_number v) ≡ true
 version_is one = refl
 version_is two = refl
+version_is three = refl
 
 -- a line that keeps the limits is not too long
-pub line_short : (v : Version) (line : TextLine) → IsTrue (is_line v most_atoms line) → length (line_text line) ≤ longest_line
-line_short v (version w) is =
-    let digits = number_short (version_number w) (version_is w) in
-    let long : length (codes "pddl-cert " ++ decimal (version_number w)) ≡ 10 + length (decimal (version_number w)) = omega arith in
-    omega (arith, digits, long)
-line_short v (claims (bound n)) is =
-    let digits = number_short n is in
-    let long : length (codes "claim bound " ++ decimal n) ≡ 12 + length (decimal n) = omega arith in
-    omega (arith, digits, long)
-line_short v (claims none) is = let long : length (line_text (claims none)) ≡ 10 = refl in omega (arith, long)
-line_short v (constant k) is =
-    let digits = weights_short v k is in
-    let long : length (codes "constant " ++ weights_text k) ≡ 9 + length (weights_text k) = omega arith in
-    omega (arith, digits, long)
-line_short v (atom a) is =
-    leb-true (length (line_text (atom a))) longest_line (and_parts (are_weights v a.weights && are_lower a.atom) (nat_le (length (line_text (atom a))) longest_line) is).1
-line_short v (listed l) is =
-    let (first, rising) = and_parts (is_number l.cost && is_mark v l.mark) (rise most_atoms 0 l.atoms) is in
-    let (cost_is, marked) = and_parts (is_number l.cost) (is_mark v l.mark) first in
-    let start = mark_short v l.mark l.cost cost_is marked in
-    let more = numbers_short most_atoms 0 l.atoms (omega arith) (omega arith) rising in
-    omega (arith, start, more, length-append (mark_text l.mark l.cost) (flat_map (λ (number : ℕ). after_blank (decimal number)) l.atoms))
-line_short v (last n) is =
-    let digits = number_short n is in
-    let long : length (codes "end " ++ decimal n) ≡ 4 + length (decimal n) = omega arith in
-    omega (arith, digits, long)
+module _ (f : Format) (few : f.atoms ≤ most_atoms) (few_weights : f.weights ≤ 33) where
+  pub line_short : (line : TextLine) → IsTrue (is_line f line) → length (line_text line) ≤ longest_line
+  line_short (version w) is =
+      let digits = number_short (version_number w) (version_is w) in
+      let long : length (codes "pddl-cert " ++ decimal (version_number w)) ≡ 10 + length (decimal (version_number w)) = omega arith in
+      omega (arith, digits, long)
+  line_short (claims (bound n)) is =
+      let digits = number_short n is in
+      let long : length (codes "claim bound " ++ decimal n) ≡ 12 + length (decimal n) = omega arith in
+      omega (arith, digits, long)
+  line_short (claims none) is = let long : length (line_text (claims none)) ≡ 10 = refl in omega (arith, long)
+  line_short (constant k) is =
+      let (count, all) = and_parts (is_weight_count f.version (length k)) (list_all is_weight k) is in
+      let digits = weights_short k all in
+      let most = few_constants f.version (length k) count in
+      let long : length (codes "constant" ++ weights_text k) ≡ 8 + length (weights_text k) = omega arith in
+      omega (arith, digits, most, long)
+  line_short (atom a) is =
+      leb-true (length (line_text (atom a))) longest_line (and_parts (are_weights f.weights a.weights && are_lower a.atom) (nat_le (length (line_text (atom a))) longest_line) is).1
+  line_short (tabled (scope s)) is =
+      let (rising, _) = and_parts (rise f.atoms 0 s) (nat_le 1 (length s)) (and_parts (has_tables f.version) _ is).1 in
+      let more = numbers_short f.atoms 0 s few (omega arith) rising in
+      let long : length (codes "table" ++ numbers_text s) ≡ 5 + length (numbers_text s) = omega arith in
+      omega (arith, few, more, long)
+  line_short (tabled (row r)) is =
+      let (weights, rising) = and_parts (are_weights f.weights r.weights) (rise f.atoms 0 r.atoms) (and_parts (has_tables f.version) _ is).1 in
+      let (many, all) = and_parts (length r.weights == f.weights) (list_all is_weight r.weights) weights in
+      let digits = weights_short r.weights all in
+      let more = numbers_short f.atoms 0 r.atoms few (omega arith) rising in
+      let start : length (codes "row" ++ weights_text r.weights) ≡ 3 + length (weights_text r.weights) = omega arith in
+      omega (arith, few, few_weights, eqb-true (length r.weights) f.weights many, digits, more, start, length-append (codes "row" ++ weights_text r.weights) (numbers_text r.atoms))
+  line_short (listed l) is =
+      let (first, rising) = and_parts (is_number l.cost && is_mark f.version l.mark) (rise f.atoms 0 l.atoms) is in
+      let (cost_is, marked) = and_parts (is_number l.cost) (is_mark f.version l.mark) first in
+      let start = mark_short f.version l.mark l.cost cost_is marked in
+      let more = numbers_short f.atoms 0 l.atoms few (omega arith) rising in
+      omega (arith, few, start, more, length-append (mark_text l.mark l.cost) (numbers_text l.atoms))
+  line_short (last n) is =
+      let digits = number_short n is in
+      let long : length (codes "end " ++ decimal n) ≡ 4 + length (decimal n) = omega arith in
+      omega (arith, digits, long)
 
 -- ---- the first line
 
@@ -135,10 +154,10 @@ pub first_line : (line : TextLine) (lines : List TextLine) → text_of (line ∷
 first_line line lines = append_assoc (line_text line) (10 ∷ []) (text_of lines)
 
 -- the first line of some bytes is that of the text that they are
-pub line_is_first : (v : Version) (bytes line : List ℕ) (l : TextLine) (more : List TextLine) → IsTrue (is_line v most_atoms l) → bytes ≡ text_of (l ∷ more) → HasLine bytes line
+pub line_is_first : (f : Format) → f.atoms ≤ most_atoms → (bytes line : List ℕ) (l : TextLine) (more : List TextLine) → IsTrue (is_line f l) → bytes ≡ text_of (l ∷ more) → HasLine bytes line
     → line_text l ≡ line
-line_is_first v bytes line l more is are (following, splits, single, few) =
-    (one_whole (line_text l) line (text_of more) following (line_in_one v most_atoms (omega arith) l is) (in_one line single) (sym (first_line l more) ∙ sym are ∙ splits ∙ append_assoc line (10 ∷ []) following)).0
+line_is_first f few bytes line l more is are (following, splits, single, short) =
+    (one_whole (line_text l) line (text_of more) following (line_in_one f few l is) (in_one line single) (sym (first_line l more) ∙ sym are ∙ splits ∙ append_assoc line (10 ∷ []) following)).0
 
 -- bytes that reach past an LF have it in them
 pub end_within : (front rest line following : List ℕ) → front ++ rest ≡ line ++ 10 ∷ following → length line < length front → Contains front 10
@@ -153,48 +172,49 @@ pub text_push : (lines : List TextLine) (line : TextLine) → text_of (lines ++ 
 text_push [] line = append-nil (whole_line line)
 text_push (first ∷ lines) line = ap (λ text. whole_line first ++ text) (text_push lines line) ∙ sym (append_assoc (whole_line first) (text_of lines) (whole_line line))
 
--- the version that a text's first line reports
-first_version : (u v : Version) (rest following : List ℕ) → line_text (version u) ++ 10 ∷ rest ≡ line_text (version v) ++ 10 ∷ following → u ≡ v
-first_version u v rest following same =
-    version_same u v (one_line one most_atoms (omega arith) (version u) (version v) refl refl
-    (one_whole (line_text (version u)) (line_text (version v)) rest following (line_in_one one most_atoms (omega arith) (version u) refl) (line_in_one one most_atoms (omega arith) (version v) refl) same).0)
-  where
-    version_same : (u v : Version) → version u ≡ version v → u ≡ v
-    version_same u v same = cc same
+-- where the first of some lines leads
+step_of : (next : Option CertificatePlace) (lines : List TextLine) (after : CertificatePlace) → option_and_then (λ next. place_from next lines) next ≡ Some after
+    → (place : CertificatePlace) × (next ≡ Some place) × (place_from place lines ≡ Some after)
+step_of None lines after leads = never after leads
+step_of (Some place) lines after leads = (place, refl, leads)
 
--- lines that begin a certificate, and with which the text of one begins, keep the limits of its version
-pub begun_kept : (c : NamedCertificate) (before : List TextLine) (bytes : List ℕ) → BeginCertificate before → text_of (text_lines c) ≡ text_of before ++ bytes
-    → IsTrue (list_all (is_line c.version most_atoms) before)
-begun_kept c [] bytes begun same = refl
-begun_kept c (l ∷ before) bytes (rest, (d, keeps, are)) same =
-    subst (λ v. IsTrue (list_all (is_line v most_atoms) (l ∷ before))) (sym versions) (first_kept d.version (l ∷ before) rest (subst (λ lines. IsTrue (list_all (is_line d.version most_atoms) lines)) are (kept_lines d keeps)))
-  where
-    after_version : NamedCertificate → List TextLine
-    after_version e = claims e.claim ∷ constant e.constants ∷ (map (λ a. atom a) e.atoms ++ map (λ l. listed l) e.lines) ++ last (length e.lines) ∷ []
-
-    first_is : (a b : TextLine) (xs ys : List TextLine) → a ∷ xs ≡ b ∷ ys → a ≡ b
-    first_is a b xs ys same = cc same
-
-    here : version d.version ≡ l
-    here = first_is (version d.version) l (after_version d) (before ++ rest) are
-
-    versions : c.version ≡ d.version
-    versions =
-        first_version c.version d.version (text_of (after_version c)) (text_of before ++ bytes)
-        (sym (first_line (version c.version) (after_version c)) ∙ same ∙ append_assoc (whole_line l) (text_of before) bytes ∙ append_assoc (line_text l) (10 ∷ []) (text_of before ++ bytes)
-        ∙ ap (λ (line : TextLine). line_text line ++ 10 ∷ (text_of before ++ bytes)) (sym here))
-
-pub split_off : (v : Version) (before lines : List TextLine) (bytes : List ℕ) → IsTrue (list_all (is_line v most_atoms) before) → IsTrue (list_all (is_line v most_atoms) lines)
+-- of two lists of lines that lead on from a place, and of which the text of the first begins with that of the other, the first begins with the other
+split_from : (before lines : List TextLine) (bytes : List ℕ) (place between after : CertificatePlace) → IsWithin place → place_from place before ≡ Some between → place_from place lines ≡ Some after
     → text_of lines ≡ text_of before ++ bytes → (rest : List TextLine) × (lines ≡ before ++ rest) × (bytes ≡ text_of rest)
-split_off v [] lines bytes front all same = (lines, refl, sym same)
-split_off v (l ∷ before) [] bytes front all same =
+split_from [] lines bytes place between after within h g same = (lines, refl, sym same)
+split_from (l ∷ before) [] bytes place between after within h g same =
     absurd (nothing_there (line_text l) (text_of before ++ bytes)
     (same ∙ append_assoc (whole_line l) (text_of before) bytes ∙ append_assoc (line_text l) (10 ∷ []) (text_of before ++ bytes)))
-split_off v (l ∷ before) (m ∷ lines) bytes front all same =
-    let (l_is, front_more) = and_parts (is_line v most_atoms l) (list_all (is_line v most_atoms) before) front in
-    let (m_is, all_more) = and_parts (is_line v most_atoms m) (list_all (is_line v most_atoms) lines) all in
-    let parts = one_whole (line_text m) (line_text l) (text_of lines) (text_of before ++ bytes) (line_in_one v most_atoms (omega arith) m m_is) (line_in_one v most_atoms (omega arith) l l_is)
+split_from (l ∷ before) (m ∷ lines) bytes place between after within h g same =
+    let (next, l_leads, h_more) = step_of (next_place place l) before between h in
+    let (then, m_leads, g_more) = step_of (next_place place m) lines after g in
+    let f : Format = format_at place in
+    let few : f.atoms ≤ most_atoms = few_atoms place within in
+    let l_is = leads_line place within l next l_leads in
+    let m_is = leads_line place within m then m_leads in
+    let parts = one_whole (line_text m) (line_text l) (text_of lines) (text_of before ++ bytes) (line_in_one f few m m_is) (line_in_one f few l l_is)
     (sym (first_line m lines) ∙ same ∙ append_assoc (whole_line l) (text_of before) bytes ∙ append_assoc (line_text l) (10 ∷ []) (text_of before ++ bytes)) in
-    let here : m ≡ l = one_line v most_atoms (omega arith) m l m_is l_is parts.0 in
-    let (rest, are, left) = split_off v before lines bytes front_more all_more parts.1 in
+    let here : m ≡ l = one_line f few m l m_is l_is parts.0 in
+    let there : then ≡ next = place_same then next (sym m_leads ∙ ap (next_place place) here ∙ l_leads) in
+    let (rest, are, left) =
+    split_from before lines bytes next between after (leads_within place within l next l_leads) h_more (subst (λ place. place_from place lines ≡ Some after) there g_more) parts.1 in
     (rest, (λ i. here i ∷ are i), left)
+
+-- lines that begin a certificate, and with which the text of one begins, are its first lines
+pub split_off : (c : NamedCertificate) → IsTrue (keeps_text_limits c) → (before : List TextLine) (bytes : List ℕ) → BeginCertificate before → text_of (text_lines c) ≡ text_of before ++ bytes
+    → (rest : List TextLine) × (text_lines c ≡ before ++ rest) × (bytes ≡ text_of rest)
+split_off c keeps before bytes begun same =
+    let (between, leads) = place_of_beginning before begun in
+    split_from before (text_lines c) bytes at_version between ended refl leads (end_of_whole (text_lines c) (c, keeps, refl)) same
+
+-- ---- where some lines lead
+
+within_from : (lines : List TextLine) (place after : CertificatePlace) → IsWithin place → place_from place lines ≡ Some after → IsWithin after
+within_from [] place after within leads = subst IsWithin (place_same place after leads) within
+within_from (line ∷ lines) place after within leads =
+    let (next, is, more) = step_of (next_place place line) lines after leads in
+    within_from lines next after (leads_within place within line next is) more
+
+-- the place after some lines is within the limits
+pub within_after : (lines : List TextLine) (place : CertificatePlace) → place_from at_version lines ≡ Some place → IsWithin place
+within_after lines place leads = within_from lines at_version place refl leads

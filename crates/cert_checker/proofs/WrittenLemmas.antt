@@ -1,13 +1,17 @@
 -- What is written of a certificate within the limits is a text that says it.
-use Rattle.std.proofs.Common.{◌≡◌, ℕ, suc, ◌*◌, ◌≤◌, Bool, true, false, cond, List, [], ◌∷◌, ◌++◌, codes, map, length, length-append, Option, None, Some, refl, sym, ap, ◌∙◌, subst, true≢false, arith}
-use Rattle.std.specs.Prelude.{◌&&◌, zero, ℤ, pos, negsuc, IsTrue, All, nat_le, nat_lt, slice_get, zip}
+use Rattle.std.proofs.Common.{◌≡◌, ℕ, suc, ◌+◌, ◌*◌, ◌<◌, ◌≤◌, Bool, true, false, cond, List, [], ◌∷◌, ◌++◌, codes, map, length, length-append, get_or, Option, None, Some, refl, sym, ap, ◌∙◌, subst, true≢false, arith}
+use Rattle.std.specs.Prelude.{◌&&◌, ◌==◌, zero, ℤ, pos, negsuc, IsTrue, All, nat_le, nat_lt, slice_get}
 use Rattle.std.specs.Char.{to_ascii_lowercase}
 use Rattle.std.specs.Cmp.Lexicographic.{pointwise}
+use Rattle.std.specs.Fmt.{signed_decimal}
 use Rattle.std.specs.List.{flat_map, list_all}
 use Rattle.std.specs.Option.{option_map, option_map_or}
-use Rattle.std.proofs.lemmas.Bool.{and_parts, leb-true, le-leb, lt-ltb}
-use Rattle.std.proofs.lemmas.List.{length-map}
+use Rattle.std.proofs.lemmas.Bool.{and_parts, eq-eqb, eqb-true, leb-true, le-leb, lt-ltb, ltb-true}
+use Rattle.std.proofs.lemmas.Fmt.{length-decimal-le}
+use Rattle.std.proofs.lemmas.List.{ext_get_or, get_or-map, get_or_append_left, get_or_past, get_or_push, length-map, length_push}
 use Rattle.std.proofs.lemmas.List.Folds.{list_all-append, list_all-map}
+use Rattle.std.proofs.lemmas.List.FromFn.{fill_by_all}
+use Rattle.std.proofs.lemmas.List.Recursion.{and_at}
 use Rattle.std.proofs.lemmas.Option.{slice_get-map, slice_get_within}
 use Rattle.model.specs.Task.{Name, Atom, Object, Predicate, Task, Union, Instance}
 use Rattle.model.specs.Meaning.{is_below, is_of}
@@ -17,16 +21,19 @@ use Rattle.model.specs.Resolution.{is_same}
 use Rattle.model.specs.PlanText.{object_names}
 use Rattle.model.specs.PlanWriting.{are_lower_names, differ, is_lower_name, object_name}
 use Rattle.model.specs.Fluents.{is_fluent}
-use Rattle.certificate_definitions.specs.Certificates.{Version, one, two, Certificate, IsClosedFor, are_potentials, is_claim, is_dead_end_weight, is_number, is_state_line, is_weight, keeps_limits}
+use Rattle.potential_functions.specs.PotentialFunctions.{PotentialFunction}
+use Rattle.table_functions.specs.TableFunctions.{Row, Table, is_among}
+use Rattle.certificate_definitions.specs.Certificates.{Version, one, two, three, Certificate, IsClosedFor, are_potentials, are_tables, are_weights, has_tables, is_dead_end_weight, is_number, is_row, is_state_line, is_table, is_value_count, is_weight, keeps_limits, rise}
 use Rattle.certificate_definitions.specs.CertificateRefusals.{IsPlanWithin}
 use Rattle.model.proofs.PlanWritingLemmas.{first_at}
 use Rattle.model.proofs.Tests.{passes_got}
-use Rattle.certificate_definitions.specs.CertificateText.{Weights, WeightedAtom, TextLine, atom, listed, last, after_blank, are_weights, is_line, line_text, longest_line, most_atoms, most_states, text_lines, weights_text}
-use Rattle.certificate_definitions.specs.CertificateNames.{AllName, AreNumbersOf, IsNumberOf, IsTextOf, Names, are_atoms_of, certificate_text, has_atom_names, named, named_atom, of_dead_end_or_zero, predicate_name, predicate_names, weighted_atom, weights_in}
-use Rattle.certificate_definitions.specs.CertificateChecking.{IsAccepted}
-use Rattle.cert_checker.proofs.NamesLemmas.{few_objects}
+use Rattle.certificate_definitions.specs.CertificateText.{WeightedAtom, TableLine, row, Format, TextLine, atom, tabled, listed, last, after_blank, begin_with_scope, format_of, is_line, is_weight_count, keeps_text_limits, line_text, longest_line, most_atoms, most_rows, most_states, most_tables, text_lines, weights_text}
+use Rattle.certificate_definitions.specs.CertificateNames.{AllName, AreNumbersOf, IsNumberOf, IsTextOf, Names, are_atoms_of, certificate_text, constants_of, dead_ends_said, has_atom_names, named, named_atom, predicate_name, predicate_names, table_lines, value_count, value_said, values_said, weight_said, weighted_atoms, weights_in, weights_of_atom}
+use Rattle.certificate_definitions.specs.CertificateChecking.{IsAccepted, is_checked}
+use Rattle.certificate_reader.proofs.LinesRead.{few_constants}
 use Rattle.certificate.proofs.NumbersLemmas.{potential_parts}
-use Rattle.cert_checker.proofs.SplitLemmas.{weights_short}
+use Rattle.cert_checker.proofs.LimitsLemmas.{AreLimits, limits_of, rows_are, said_kept, scopes_are}
+use Rattle.cert_checker.proofs.NamesLemmas.{few_objects}
 
 -- ---- the number of a name
 
@@ -64,75 +71,156 @@ names_short (name ∷ names) lower =
     let rest = names_short names others in
     omega (arith, few, rest, length-append (after_blank name) (flat_map after_blank names))
 
-atom_short : (v : Version) (weights : Weights) (predicate : Name) (objects : List Name) → IsTrue (are_weights v weights) → is_lower_name predicate ≡ true → list_all is_lower_name objects ≡ true
-    → length objects ≤ 8 → length (line_text (atom (record { weights = weights; atom = record { predicate = predicate; objects = objects } }))) ≤ longest_line
-atom_short v weights predicate objects are lower lowers few =
-    let digits = weights_short v weights are in
+weight_short : (w : ℤ) → is_weight w ≡ true → length (signed_decimal w) ≤ 11
+weight_short (pos n) is = let most = leb-true n 2147483647 is in let digits = length-decimal-le 10 n (omega arith) (omega (arith, most)) (omega (arith, most)) in omega (arith, digits)
+weight_short (negsuc n) is =
+    let most = ltb-true n 2147483647 is in
+    let digits = length-decimal-le 10 (suc n) (omega arith) (omega (arith, most)) (omega (arith, most)) in
+    omega (arith, digits)
+
+weights_short : (weights : List ℤ) → list_all is_weight weights ≡ true → length (weights_text weights) ≤ 12 * length weights
+weights_short [] all = omega arith
+weights_short (w ∷ weights) all =
+    let (here, more) = and_parts (is_weight w) (list_all is_weight weights) all in
+    let digits = weight_short w here in
+    let rest = weights_short weights more in
+    let word : length (after_blank (signed_decimal w)) ≡ 1 + length (signed_decimal w) = omega arith in
+    omega (arith, digits, rest, word, length-append (after_blank (signed_decimal w)) (weights_text weights))
+
+atom_short : (count : ℕ) (weights : List ℤ) (predicate : Name) (objects : List Name) → count ≤ 33 → are_weights count weights ≡ true → is_lower_name predicate ≡ true
+    → list_all is_lower_name objects ≡ true → length objects ≤ 8
+    → length (line_text (atom (record { weights = weights; atom = record { predicate = predicate; objects = objects } }))) ≤ longest_line
+atom_short count weights predicate objects few_weights are lower lowers few =
+    let (many, within) = and_parts (length weights == count) (list_all is_weight weights) are in
+    let as_many = eqb-true (length weights) count many in
+    let digits = weights_short weights within in
     let short = lower_short predicate lower in
     let rest = names_short objects lowers in
-    let front : List ℕ = codes "atom " ++ weights_text weights in
+    let front : List ℕ = codes "atom" ++ weights_text weights in
     let words = flat_map after_blank objects in
     omega (
       arith,
+      few_weights,
+      as_many,
       digits,
       few,
       short,
       rest,
-      length-append (codes "atom ") (weights_text weights),
+      length-append (codes "atom") (weights_text weights),
       length-append front (codes " ("),
       length-append (front ++ codes " (") predicate,
       length-append ((front ++ codes " (") ++ predicate) words,
       length-append (((front ++ codes " (") ++ predicate) ++ words) (codes ")"),
     )
 
--- ---- atoms and their weights
+-- ---- weights of values and of dead ends
 
--- what is written of two weights says them
-value_in : (v : Version) (value dead_end : ℤ) → (weights_in v value dead_end).of_value ≡ value
-value_in one value dead_end = refl
-value_in two value dead_end = refl
+-- what is written of weights says them
+value_in : (v : Version) (values : List ℤ) (dead_end : ℤ) (place : ℕ) → place < length values → weight_said place (weights_in v values dead_end) ≡ get_or values place (pos 0)
+value_in one values dead_end place below = refl
+value_in two values dead_end place below = get_or_append_left values (dead_end ∷ []) (pos 0) place below
+value_in three values dead_end place below = get_or_append_left values (dead_end ∷ []) (pos 0) place below
 
-dead_end_in : (v : Version) (value dead_end : ℤ) → is_dead_end_weight v dead_end ≡ true → of_dead_end_or_zero (weights_in v value dead_end) ≡ dead_end
-dead_end_in one value (pos zero) within = refl
-dead_end_in one value (pos (suc n)) within = absurd (true≢false (sym within))
-dead_end_in one value (negsuc n) within = absurd (true≢false (sym within))
-dead_end_in two value dead_end within = refl
+dead_end_in : (v : Version) (values : List ℤ) (dead_end : ℤ) (count : ℕ) → length values ≡ count → is_dead_end_weight v dead_end ≡ true
+    → weight_said count (weights_in v values dead_end) ≡ dead_end
+dead_end_in one values (pos zero) count same within = get_or_past values count (pos 0) (omega (arith, same))
+dead_end_in one values (pos (suc n)) count same within = absurd (true≢false (sym within))
+dead_end_in one values (negsuc n) count same within = absurd (true≢false (sym within))
+dead_end_in two values dead_end count same within = get_or_push values dead_end (pos 0) count same
+dead_end_in three values dead_end count same within = get_or_push values dead_end (pos 0) count same
 
-weights_keep : (v : Version) (value dead_end : ℤ) → is_weight value ≡ true → is_dead_end_weight v dead_end ≡ true → are_weights v (weights_in v value dead_end) ≡ true
-weights_keep one value dead_end is within = λ i. is i && true
-weights_keep two value dead_end is within = λ i. is i && within i
+-- of so many constants so many are of values, and each list of as many has as many
+values_in : (v : Version) (values : List ℤ) (dead_end : ℤ) → value_count v (length (weights_in v values dead_end)) ≡ length values
+values_in one values dead_end = refl
+values_in two values dead_end = let long = length_push values dead_end in omega (arith, long)
+values_in three values dead_end = let long = length_push values dead_end in omega (arith, long)
 
-module _ (task : Task) (v : Version) where
-  -- of atoms with two weights each the names are those of the atoms, and the weights are these
-  names_of_zip : (atoms : List Atom) (values dead_ends : List ℤ) → length values ≡ length atoms → length dead_ends ≡ length atoms
-      → map (λ (a : WeightedAtom). a.atom) (map (weighted_atom task v) (zip atoms (zip values dead_ends))) ≡ map (named_atom task) atoms
-  names_of_zip [] values dead_ends same others = refl
-  names_of_zip (a ∷ atoms) [] dead_ends same others = absurd (omega (arith, same))
-  names_of_zip (a ∷ atoms) (x ∷ values) [] same others = absurd (omega (arith, others))
-  names_of_zip (a ∷ atoms) (x ∷ values) (y ∷ dead_ends) same others =
-      ap (λ names. named_atom task a ∷ names) (names_of_zip atoms values dead_ends (omega (arith, same)) (omega (arith, others)))
+as_many_in : (v : Version) (values others : List ℤ) (x y : ℤ) → length values ≡ length others → length (weights_in v values x) ≡ length (weights_in v others y)
+as_many_in one values others x y same = same
+as_many_in two values others x y same = let long = length_push values x in let other = length_push others y in omega (arith, long, other, same)
+as_many_in three values others x y same = let long = length_push values x in let other = length_push others y in omega (arith, long, other, same)
 
-  values_of_zip : (atoms : List Atom) (values dead_ends : List ℤ) → length values ≡ length atoms → length dead_ends ≡ length atoms
-      → map (λ (a : WeightedAtom). a.weights.of_value) (map (weighted_atom task v) (zip atoms (zip values dead_ends))) ≡ values
-  values_of_zip [] [] dead_ends same others = refl
-  values_of_zip [] (x ∷ values) dead_ends same others = absurd (omega (arith, same))
-  values_of_zip (a ∷ atoms) [] dead_ends same others = absurd (omega (arith, same))
-  values_of_zip (a ∷ atoms) (x ∷ values) [] same others = absurd (omega (arith, others))
-  values_of_zip (a ∷ atoms) (x ∷ values) (y ∷ dead_ends) same others =
-      let rest = values_of_zip atoms values dead_ends (omega (arith, same)) (omega (arith, others)) in
-      λ i. value_in v x y i ∷ rest i
+-- in a version with tables one more than of values
+one_more_in : (v : Version) (values : List ℤ) (dead_end : ℤ) → has_tables v ≡ true → length values + 1 ≡ length (weights_in v values dead_end)
+one_more_in one values dead_end has = absurd (true≢false (sym has))
+one_more_in two values dead_end has = absurd (true≢false (sym has))
+one_more_in three values dead_end has = sym (length_push values dead_end)
 
-  dead_ends_of_zip : (atoms : List Atom) (values dead_ends : List ℤ) → length values ≡ length atoms → length dead_ends ≡ length atoms → list_all (is_dead_end_weight v) dead_ends ≡ true
-      → map (λ (a : WeightedAtom). of_dead_end_or_zero a.weights) (map (weighted_atom task v) (zip atoms (zip values dead_ends))) ≡ dead_ends
-  dead_ends_of_zip [] values [] same others within = refl
-  dead_ends_of_zip [] values (y ∷ dead_ends) same others within = absurd (omega (arith, others))
-  dead_ends_of_zip (a ∷ atoms) [] dead_ends same others within = absurd (omega (arith, same))
-  dead_ends_of_zip (a ∷ atoms) (x ∷ values) [] same others within = absurd (omega (arith, others))
-  dead_ends_of_zip (a ∷ atoms) (x ∷ values) (y ∷ dead_ends) same others within =
-      let (here, more) = and_parts (is_dead_end_weight v y) (list_all (is_dead_end_weight v) dead_ends) within in
-      let first = dead_end_in v x y here in
-      let rest = dead_ends_of_zip atoms values dead_ends (omega (arith, same)) (omega (arith, others)) more in
-      λ i. first i ∷ rest i
+count_in : (v : Version) (values : List ℤ) (dead_end : ℤ) → is_value_count v (length values) ≡ true → is_weight_count v (length (weights_in v values dead_end)) ≡ true
+count_in one values dead_end is = is
+count_in two values dead_end is =
+    let same = eqb-true (length values) 1 is in
+    let long = length_push values dead_end in
+    eq-eqb (length (values ++ dead_end ∷ [])) 2 (omega (arith, same, long))
+count_in three values dead_end is =
+    let (some, few) = and_parts (nat_le 1 (length values)) (nat_le (length values) 32) is in
+    let above = leb-true 1 (length values) some in
+    let below = leb-true (length values) 32 few in
+    let long = length_push values dead_end in
+    λ i. le-leb 2 (length (values ++ dead_end ∷ [])) (omega (arith, above, long)) i && le-leb (length (values ++ dead_end ∷ [])) 33 (omega (arith, below, long)) i
+
+weights_keep : (v : Version) (values : List ℤ) (dead_end : ℤ) → list_all is_weight values ≡ true → is_dead_end_weight v dead_end ≡ true
+    → list_all is_weight (weights_in v values dead_end) ≡ true
+weights_keep one values dead_end are within = are
+weights_keep two values dead_end are within = list_all-append is_weight values (dead_end ∷ []) ∙ (λ i. are i && (within i && true))
+weights_keep three values dead_end are within = list_all-append is_weight values (dead_end ∷ []) ∙ (λ i. are i && (within i && true))
+
+nothing_of_dead_ends : (v : Version) → is_dead_end_weight v (pos 0) ≡ true
+nothing_of_dead_ends one = refl
+nothing_of_dead_ends two = refl
+nothing_of_dead_ends three = refl
+
+-- what all values keep, each constant keeps, and each weight of an atom
+constants_keep : (count : ℕ) (values : List PotentialFunction) → list_all (are_potentials is_weight count) values ≡ true
+    → list_all is_weight (map (λ (p : PotentialFunction). p.constant) values) ≡ true
+constants_keep count [] all = refl
+constants_keep count (p ∷ values) all =
+    let (here, more) = and_parts (are_potentials is_weight count p) (list_all (are_potentials is_weight count) values) all in
+    λ i. (potential_parts is_weight count p here).0 i && constants_keep count values more i
+
+weights_there_keep : (count place : ℕ) (values : List PotentialFunction) → list_all (are_potentials is_weight count) values ≡ true
+    → list_all is_weight (map (λ (p : PotentialFunction). get_or p.weights place (pos 0)) values) ≡ true
+weights_there_keep count place [] all = refl
+weights_there_keep count place (p ∷ values) all =
+    let (here, more) = and_parts (are_potentials is_weight count p) (list_all (are_potentials is_weight count) values) all in
+    λ i. said_kept is_weight refl p.weights place (potential_parts is_weight count p here).2 i && weights_there_keep count place values more i
+
+-- ---- tables
+
+begins : (tables : List Table) → begin_with_scope (flat_map table_lines tables) ≡ true
+begins [] = refl
+begins (t ∷ tables) = refl
+
+-- the lines of tables keep the limits
+module _ (f : Format) where
+  abbrev keeps_line : TableLine → Bool
+  keeps_line t = is_line f (tabled t)
+
+  rows_keep : has_tables f.version ≡ true → (s : List ℕ) (rows : List Row) → list_all (is_row f.atoms f.weights s) rows ≡ true → list_all keeps_line (map (λ r. row r) rows) ≡ true
+  rows_keep has s [] all = refl
+  rows_keep has s (r ∷ rows) all =
+      let (here, more) = and_parts (is_row f.atoms f.weights s r) (list_all (is_row f.atoms f.weights s) rows) all in
+      let kept = (and_parts (are_weights f.weights r.weights && rise f.atoms 0 r.atoms) (list_all (is_among s) r.atoms) here).0 in
+      λ i. (has i && kept i) && rows_keep has s rows more i
+
+  tables_keep : (tables : List Table) → are_tables f.version f.atoms f.weights tables ≡ true → list_all keeps_line (flat_map table_lines tables) ≡ true
+  tables_keep [] all = refl
+  tables_keep (t ∷ tables) all =
+      let (here, more) = and_parts (has_tables f.version && is_table f.atoms f.weights t) (are_tables f.version f.atoms f.weights tables) all in
+      let (has, is) = and_parts (has_tables f.version) (is_table f.atoms f.weights t) here in
+      let (scope_is, rows_are) = and_parts (rise f.atoms 0 t.scope && nat_le 1 (length t.scope)) (list_all (is_row f.atoms f.weights t.scope) t.rows) is in
+      let rows : list_all keeps_line (map (λ r. row r) t.rows ++ flat_map table_lines tables) ≡ true =
+      list_all-append keeps_line (map (λ r. row r) t.rows) (flat_map table_lines tables) ∙ (λ i. rows_keep has t.scope t.rows rows_are i && tables_keep tables more i) in
+      λ i. (has i && scope_is i) && rows i
+
+-- with another count of weights, where that matters
+tables_with : (v : Version) (count weights others : ℕ) (tables : List Table) → (has_tables v ≡ true → weights ≡ others) → are_tables v count weights tables ≡ true
+    → are_tables v count others tables ≡ true
+tables_with v count weights others [] same all = refl
+tables_with v count weights others (t ∷ tables) same all =
+    let here = (and_parts (has_tables v && is_table count weights t) (are_tables v count weights tables) all).0 in
+    let has = (and_parts (has_tables v) (is_table count weights t) here).0 in
+    subst (λ k. are_tables v count k (t ∷ tables) ≡ true) (same has) all
 
 -- ---- the atoms
 
@@ -170,114 +258,188 @@ module _ (task : Task) (predicates_named : are_lower_names (predicate_names task
         lowers = lowers;
       }
 
-  atoms_named : (atoms : List Atom) → list_all (is_atom task) atoms ≡ true → AllName task (map (named_atom task) atoms) atoms
-  atoms_named [] typed = tt
-  atoms_named (a ∷ atoms) typed =
-      let (here, more) = and_parts (is_atom task a) (list_all (is_atom task) atoms) typed in
-      ((atom_named a here).names, atoms_named atoms more)
+  -- their lines keep the limits
+  atom_line : (f : Format) (weights : List ℤ) (a : Atom) → is_task task ≡ true → f.weights ≤ 33 → are_weights f.weights weights ≡ true → is_atom task a ≡ true
+      → is_line f (atom (record { weights = weights; atom = named_atom task a })) ≡ true
+  atom_line f weights a well few_weights are typed =
+      let at = atom_named a typed in
+      let few : length (map (object_name task) a.objects) ≤ 8 = subst (λ n. n ≤ 8) (sym (length-map a.objects (object_name task))) (few_objects task a well typed) in
+      let line : TextLine = atom (record { weights = weights; atom = named_atom task a }) in
+      let short = le-leb (length (line_text line)) longest_line
+      (atom_short f.weights weights (predicate_name task a.predicate) (map (object_name task) a.objects) few_weights are at.lower at.lowers few) in
+      λ i. (are i && (at.lower i && at.lowers i)) && short i
 
-  -- and their lines keep the limits
-  module _ (well : is_task task ≡ true) (v : Version) (count : ℕ) where
-    atom_line : (a : Atom) (value dead_end : ℤ) → is_atom task a ≡ true → is_weight value ≡ true → is_dead_end_weight v dead_end ≡ true
-        → is_line v count (atom (weighted_atom task v (a, (value, dead_end)))) ≡ true
-    atom_line a value dead_end typed is within =
-        let at = atom_named a typed in
-        let few : length (map (object_name task) a.objects) ≤ 8 = subst (λ n. n ≤ 8) (sym (length-map a.objects (object_name task))) (few_objects task a well typed) in
-        let are = weights_keep v value dead_end is within in
-        let short = le-leb (length (line_text (atom (weighted_atom task v (a, (value, dead_end)))))) longest_line
-        (atom_short v (weights_in v value dead_end) (predicate_name task a.predicate) (map (object_name task) a.objects) are at.lower at.lowers few) in
-        λ i. (are i && (at.lower i && at.lowers i)) && short i
+-- ---- the weights of atoms
 
-    atom_lines : (atoms : List Atom) (values dead_ends : List ℤ) → list_all (is_atom task) atoms ≡ true → list_all is_weight values ≡ true → list_all (is_dead_end_weight v) dead_ends ≡ true
-        → list_all (is_line v count) (map (λ a. atom a) (map (weighted_atom task v) (zip atoms (zip values dead_ends)))) ≡ true
-    atom_lines [] values dead_ends typed are within = refl
-    atom_lines (a ∷ atoms) [] dead_ends typed are within = refl
-    atom_lines (a ∷ atoms) (x ∷ values) [] typed are within = refl
-    atom_lines (a ∷ atoms) (x ∷ values) (y ∷ dead_ends) typed are within =
-        let (here, more) = and_parts (is_atom task a) (list_all (is_atom task) atoms) typed in
-        let (value, values_are) = and_parts (is_weight x) (list_all is_weight values) are in
-        let (dead_end, others) = and_parts (is_dead_end_weight v y) (list_all (is_dead_end_weight v) dead_ends) within in
-        λ i. atom_line a x y here value dead_end i && atom_lines atoms values dead_ends more values_are others i
+module _ (task : Task) (c : Certificate) where
+  as_many_weighted : (place : ℕ) (atoms : List Atom) → length (weighted_atoms task c place atoms) ≡ length atoms
+  as_many_weighted place [] = refl
+  as_many_weighted place (a ∷ atoms) = let rest = as_many_weighted (suc place) atoms in omega (arith, rest)
+
+  -- the weight of the value at this place, for the atom at that one
+  weight_at : (value place j : ℕ) (atoms : List Atom) → j < length atoms
+      → get_or (map (λ (a : WeightedAtom). weight_said value a.weights) (weighted_atoms task c place atoms)) j (pos 0) ≡ weight_said value (weights_of_atom c (place + j))
+  weight_at value place j [] below = absurd (omega (arith, below))
+  weight_at value place zero (a ∷ atoms) below =
+      let here : place ≡ place + zero = omega arith in
+      ap (λ k. weight_said value (weights_of_atom c k)) here
+  weight_at value place (suc j) (a ∷ atoms) below =
+      let next : suc place + j ≡ place + suc j = omega arith in
+      weight_at value (suc place) j atoms (omega (arith, below)) ∙ ap (λ k. weight_said value (weights_of_atom c k)) next
+
+  -- they are these, if each is
+  weights_back : (value : ℕ) (weights : List ℤ) → length weights ≡ length c.atoms
+      → ((j : ℕ) → j < length c.atoms → weight_said value (weights_of_atom c j) ≡ get_or weights j (pos 0))
+      → weights ≡ map (λ (a : WeightedAtom). weight_said value a.weights) (weighted_atoms task c 0 c.atoms)
+  weights_back value weights long same =
+      let weight_of : WeightedAtom → ℤ = λ a. weight_said value a.weights in
+      let written = weighted_atoms task c 0 c.atoms in
+      let as_long : length weights ≡ length (map weight_of written) = long ∙ sym (length-map written weight_of ∙ as_many_weighted 0 c.atoms) in
+      ext_get_or (pos 0) weights (map weight_of written) as_long
+      (λ j below.
+      let within : j < length c.atoms = omega (arith, below, long) in
+      let here : 0 + j ≡ j = omega arith in
+      sym (weight_at value 0 j c.atoms within ∙ ap (λ k. weight_said value (weights_of_atom c k)) here ∙ same j within))
 
 -- ---- the text
 
 module _ (task : Task) (c : Certificate) (well : IsTrue (is_task task)) (has_names : IsTrue (has_atom_names task)) (typed : IsTrue (are_atoms_of task c)) (keeps : IsTrue (keeps_limits c)) where
+  limits : AreLimits c
+  limits = limits_of c keeps
+
   names_both : (are_lower_names (predicate_names task) ≡ true) × (are_lower_names (object_names task) ≡ true)
   names_both = and_parts (are_lower_names (predicate_names task)) (are_lower_names (object_names task)) has_names
 
-  -- the limits are those of the claim and the counts, of the lines, and of the potential functions
-  record AreLimits : Type 0 where
-    counts : (is_claim c.claim && nat_le (length c.atoms) most_atoms && nat_le (length c.lines) most_states) ≡ true
-    states : list_all (is_state_line c.version (length c.atoms)) c.lines ≡ true
-    values : are_potentials is_weight (length c.atoms) c.potentials ≡ true
-    dead_ends : are_potentials (is_dead_end_weight c.version) (length c.atoms) c.dead_ends ≡ true
+  dead_end_parts : (is_dead_end_weight c.version c.dead_ends.constant ≡ true) × (length c.dead_ends.weights ≡ length c.atoms)
+      × (list_all (is_dead_end_weight c.version) c.dead_ends.weights ≡ true)
+  dead_end_parts = potential_parts (is_dead_end_weight c.version) (length c.atoms) c.dead_ends limits.dead_ends
 
-  limits : AreLimits
-  limits =
-      let most = is_claim c.claim && nat_le (length c.atoms) most_atoms && nat_le (length c.lines) most_states in
-      let lines = list_all (is_state_line c.version (length c.atoms)) c.lines in
-      let weighed = are_potentials is_weight (length c.atoms) c.potentials in
-      let (first, dead) = and_parts (most && lines && weighed) (are_potentials (is_dead_end_weight c.version) (length c.atoms) c.dead_ends) keeps in
-      let (second, valued) = and_parts (most && lines) weighed first in
-      let (third, listing) = and_parts most lines second in
-      record { counts = third; states = listing; values = valued; dead_ends = dead }
+  one_weight_an_atom : (value : ℕ) (d : PotentialFunction) → value < length c.values → length (get_or c.values value d).weights ≡ length c.atoms
+  one_weight_an_atom value d below =
+      let test = are_potentials is_weight (length c.atoms) in
+      (potential_parts is_weight (length c.atoms) (get_or c.values value d) (and_at (list_all test) test refl (λ p values. refl) c.values value d below limits.values)).1
 
-  as_many : length c.potentials.weights ≡ length c.atoms
-  as_many = (potential_parts is_weight (length c.atoms) c.potentials limits.values).1
+  -- the constants of values, and the weights of the atom at this place, of values and of dead ends
+  abbrev constants : List ℤ
+  constants = map (λ (p : PotentialFunction). p.constant) c.values
 
-  as_many_dead_ends : length c.dead_ends.weights ≡ length c.atoms
-  as_many_dead_ends = (potential_parts (is_dead_end_weight c.version) (length c.atoms) c.dead_ends limits.dead_ends).1
+  abbrev weights_of_values : ℕ → List ℤ
+  weights_of_values place = map (λ (p : PotentialFunction). get_or p.weights place (pos 0)) c.values
 
-  names_are : map (λ (a : WeightedAtom). a.atom) (named task c).atoms ≡ map (named_atom task) c.atoms
-  names_are = names_of_zip task c.version c.atoms c.potentials.weights c.dead_ends.weights as_many as_many_dead_ends
+  abbrev weight_of_dead_ends : ℕ → ℤ
+  weight_of_dead_ends place = get_or c.dead_ends.weights place (pos 0)
 
-  values_are : map (λ (a : WeightedAtom). a.weights.of_value) (named task c).atoms ≡ c.potentials.weights
-  values_are = values_of_zip task c.version c.atoms c.potentials.weights c.dead_ends.weights as_many as_many_dead_ends
+  as_many_constants : length constants ≡ length c.values
+  as_many_constants = length-map c.values (λ (p : PotentialFunction). p.constant)
 
-  dead_ends_are : map (λ (a : WeightedAtom). of_dead_end_or_zero a.weights) (named task c).atoms ≡ c.dead_ends.weights
-  dead_ends_are =
-      dead_ends_of_zip task c.version c.atoms c.potentials.weights c.dead_ends.weights as_many as_many_dead_ends
-      (potential_parts (is_dead_end_weight c.version) (length c.atoms) c.dead_ends limits.dead_ends).2
+  as_many_weights : (place : ℕ) → length (weights_of_values place) ≡ length c.values
+  as_many_weights place = length-map c.values (λ (p : PotentialFunction). get_or p.weights place (pos 0))
 
-  names_count : length (named task c).atoms ≡ length c.atoms
-  names_count = sym (length-map (named task c).atoms (λ (a : WeightedAtom). a.weights.of_value)) ∙ ap length values_are ∙ as_many
+  dead_end_within : (place : ℕ) → is_dead_end_weight c.version (weight_of_dead_ends place) ≡ true
+  dead_end_within place = said_kept (is_dead_end_weight c.version) (nothing_of_dead_ends c.version) c.dead_ends.weights place dead_end_parts.2
 
-  within_limits : (count : ℕ) → count ≡ length c.atoms
-      → (nat_le count most_atoms && nat_le (length c.lines) most_states && list_all (is_line c.version count) (text_lines (named task c))) ≡ true
-  within_limits count same =
-      let keeps_line : TextLine → Bool = is_line c.version count in
-      let (first, few_states) = and_parts (is_claim c.claim && nat_le (length c.atoms) most_atoms) (nat_le (length c.lines) most_states) limits.counts in
-      let (claim, few) = and_parts (is_claim c.claim) (nat_le (length c.atoms) most_atoms) first in
-      let (constant_is, _, values_within) = potential_parts is_weight (length c.atoms) c.potentials limits.values in
-      let (dead_constant_is, _, dead_ends_within) = potential_parts (is_dead_end_weight c.version) (length c.atoms) c.dead_ends limits.dead_ends in
-      let constants_are = weights_keep c.version c.potentials.constant c.dead_ends.constant constant_is dead_constant_is in
-      let (predicates, objects) = names_both in
+  -- what is written says the values, that of dead ends and the atoms
+  value_back : (value : ℕ) (d : PotentialFunction) → value < length c.values → get_or c.values value d ≡ value_said (named task c) value
+  value_back value d below =
+      let p : PotentialFunction = get_or c.values value d in
+      let constant : weight_said value (constants_of c) ≡ p.constant =
+      value_in c.version constants c.dead_ends.constant value (omega (arith, as_many_constants, below)) ∙ get_or-map (λ (p : PotentialFunction). p.constant) c.values value d (pos 0) below in
+      let weights = weights_back task c value p.weights (one_weight_an_atom value d below)
+      (λ place within. value_in c.version (weights_of_values place) (weight_of_dead_ends place) value (omega (arith, as_many_weights place, below))
+      ∙ get_or-map (λ (p : PotentialFunction). get_or p.weights place (pos 0)) c.values value d (pos 0) below) in
+      λ i. record { constant = sym constant i; weights = weights i }
+
+  values_counted : value_count c.version (length (constants_of c)) ≡ length c.values
+  values_counted = values_in c.version constants c.dead_ends.constant ∙ as_many_constants
+
+  values_back : c.values ≡ values_said (named task c)
+  values_back =
+      let d : PotentialFunction = record { constant = pos 0; weights = [] } in
+      fill_by_all (value_said (named task c)) c.values (value_count c.version (length (constants_of c))) d (sym values_counted)
+      (λ value below. value_back value d (omega (arith, below, values_counted)))
+
+  dead_ends_back : c.dead_ends ≡ dead_ends_said (named task c)
+  dead_ends_back =
+      let count = length c.values in
+      let constant : weight_said count (constants_of c) ≡ c.dead_ends.constant = dead_end_in c.version constants c.dead_ends.constant count as_many_constants dead_end_parts.0 in
+      let weights = weights_back task c count c.dead_ends.weights dead_end_parts.1
+      (λ place within. dead_end_in c.version (weights_of_values place) (weight_of_dead_ends place) count (as_many_weights place) (dead_end_within place)) in
+      let there : c.dead_ends ≡ value_said (named task c) count = λ i. record { constant = sym constant i; weights = weights i } in
+      there ∙ ap (value_said (named task c)) (sym values_counted)
+
+  atoms_named : (place : ℕ) (atoms : List Atom) → list_all (is_atom task) atoms ≡ true → AllName task (map (λ (a : WeightedAtom). a.atom) (weighted_atoms task c place atoms)) atoms
+  atoms_named place [] all = tt
+  atoms_named place (a ∷ atoms) all =
+      let (here, more) = and_parts (is_atom task a) (list_all (is_atom task) atoms) all in
+      ((atom_named task names_both.0 names_both.1 a here).names, atoms_named (suc place) atoms more)
+
+  -- its lines keep the limits
+  constants_within : list_all is_weight (constants_of c) ≡ true
+  constants_within = weights_keep c.version constants c.dead_ends.constant (constants_keep (length c.atoms) c.values limits.values) dead_end_parts.0
+
+  constant_count : is_weight_count c.version (length (constants_of c)) ≡ true
+  constant_count = count_in c.version constants c.dead_ends.constant (ap (is_value_count c.version) as_many_constants ∙ limits.value_count)
+
+  weights_within : (place : ℕ) → are_weights (length (constants_of c)) (weights_of_atom c place) ≡ true
+  weights_within place =
+      let same = as_many_in c.version (weights_of_values place) constants (weight_of_dead_ends place) c.dead_ends.constant (as_many_weights place ∙ sym as_many_constants) in
+      let many = eq-eqb (length (weights_of_atom c place)) (length (constants_of c)) same in
+      let within = weights_keep c.version (weights_of_values place) (weight_of_dead_ends place) (weights_there_keep (length c.atoms) place c.values limits.values) (dead_end_within place) in
+      λ i. many i && within i
+
+  atom_lines : (place : ℕ) (atoms : List Atom) → list_all (is_atom task) atoms ≡ true
+      → list_all (is_line (format_of (named task c))) (map (λ a. atom a) (weighted_atoms task c place atoms)) ≡ true
+  atom_lines place [] all = refl
+  atom_lines place (a ∷ atoms) all =
+      let (here, more) = and_parts (is_atom task a) (list_all (is_atom task) atoms) all in
+      let few = few_constants c.version (length (constants_of c)) constant_count in
+      let line = atom_line task names_both.0 names_both.1 (format_of (named task c)) (weights_of_atom c place) a well few (weights_within place) here in
+      λ i. line i && atom_lines (suc place) atoms more i
+
+  table_lines_within : list_all (λ t. is_line (format_of (named task c)) (tabled t)) (flat_map table_lines c.tables) ≡ true
+  table_lines_within =
+      let same : has_tables c.version ≡ true → length c.values + 1 ≡ length (constants_of c) =
+      λ has. ap (λ n. n + 1) (sym as_many_constants) ∙ one_more_in c.version constants c.dead_ends.constant has in
+      tables_keep (format_of (named task c)) c.tables
+      (ap (λ n. are_tables c.version n (length (constants_of c)) c.tables) (as_many_weighted task c 0 c.atoms)
+      ∙ tables_with c.version (length c.atoms) (length c.values + 1) (length (constants_of c)) c.tables same limits.tables)
+
+  lines_within : list_all (is_line (format_of (named task c))) (text_lines (named task c)) ≡ true
+  lines_within =
+      let test : TextLine → Bool = is_line (format_of (named task c)) in
       let atoms : List TextLine = map (λ a. atom a) (named task c).atoms in
-      let lines : List TextLine = map (λ l. listed l) c.lines in
+      let tables : List TextLine = map (λ t. tabled t) (flat_map table_lines c.tables) in
+      let states : List TextLine = map (λ l. listed l) c.lines in
       let end : List TextLine = last (length c.lines) ∷ [] in
-      let atoms_are : list_all keeps_line atoms ≡ true =
-      atom_lines task predicates objects well c.version count c.atoms c.potentials.weights c.dead_ends.weights typed values_within dead_ends_within in
-      let lines_are : list_all keeps_line lines ≡ true =
-      list_all-map keeps_line (λ l. listed l) c.lines ∙ ap (λ n. list_all (is_state_line c.version n) c.lines) same ∙ limits.states in
-      let below = leb-true (length c.lines) most_states few_states in
-      let number : is_number (length c.lines) ≡ true = lt-ltb (length c.lines) 1152921504606846976 (omega (arith, below)) in
-      let end_is : list_all keeps_line end ≡ true = λ i. number i && true in
-      let body : list_all keeps_line (atoms ++ lines) ≡ true = list_all-append keeps_line atoms lines ∙ (λ i. atoms_are i && lines_are i) in
-      let following : list_all keeps_line ((atoms ++ lines) ++ end) ≡ true = list_all-append keeps_line (atoms ++ lines) end ∙ (λ i. body i && end_is i) in
-      let few_atoms : nat_le count most_atoms ≡ true = ap (λ n. nat_le n most_atoms) same ∙ few in
-      λ i. (few_atoms i && few_states i) && (claim i && (constants_are i && following i))
+      let atoms_are : list_all test atoms ≡ true = atom_lines 0 c.atoms typed in
+      let tables_are : list_all test tables ≡ true = list_all-map test (λ t. tabled t) (flat_map table_lines c.tables) ∙ table_lines_within in
+      let states_are : list_all test states ≡ true =
+      list_all-map test (λ l. listed l) c.lines ∙ ap (λ n. list_all (is_state_line c.version n) c.lines) (as_many_weighted task c 0 c.atoms) ∙ limits.states in
+      let few = leb-true (length c.lines) most_states limits.few_states in
+      let number : is_number (length c.lines) ≡ true = lt-ltb (length c.lines) 1152921504606846976 (omega (arith, few)) in
+      let end_is : list_all test end ≡ true = λ i. number i && true in
+      let front : list_all test (atoms ++ tables) ≡ true = list_all-append test atoms tables ∙ (λ i. atoms_are i && tables_are i) in
+      let body : list_all test ((atoms ++ tables) ++ states) ≡ true = list_all-append test (atoms ++ tables) states ∙ (λ i. front i && states_are i) in
+      let following : list_all test (((atoms ++ tables) ++ states) ++ end) ≡ true = list_all-append test ((atoms ++ tables) ++ states) end ∙ (λ i. body i && end_is i) in
+      λ i. limits.claim i && ((constant_count i && constants_within i) && following i)
+
+  text_limits : keeps_text_limits (named task c) ≡ true
+  text_limits =
+      let few_atoms = ap (λ n. nat_le n most_atoms) (as_many_weighted task c 0 c.atoms) ∙ limits.few_atoms in
+      let few_tables = ap (λ n. nat_le n most_tables) (scopes_are c.tables) ∙ limits.few_tables in
+      let few_rows = ap (λ n. nat_le n most_rows) (rows_are c.tables) ∙ limits.few_rows in
+      λ i. ((few_atoms i && ((begins c.tables i && few_tables i) && few_rows i)) && limits.few_states i) && lines_within i
 
   pub written_reads_back : IsTextOf task (certificate_text task c) c
   written_reads_back = record {
     said = named task c;
-    text = record { within = within_limits (length (named task c).atoms) names_count; lines = refl };
+    text = record { within = text_limits; lines = refl };
     version = refl;
     claim = refl;
-    atoms = subst (λ names. AllName task names c.atoms) (sym names_are) (atoms_named task names_both.0 names_both.1 c.atoms typed);
-    potentials = λ i. record { constant = sym (value_in c.version c.potentials.constant c.dead_ends.constant) i; weights = sym values_are i };
-    dead_ends =
-        let constant_is = dead_end_in c.version c.potentials.constant c.dead_ends.constant (potential_parts (is_dead_end_weight c.version) (length c.atoms) c.dead_ends limits.dead_ends).0 in
-        λ i. record { constant = sym constant_is i; weights = sym dead_ends_are i };
+    atoms = atoms_named 0 c.atoms typed;
+    values = values_back;
+    dead_ends = dead_ends_back;
+    tables = refl;
     lines = refl;
   }
 
@@ -294,10 +456,11 @@ pub closed_reads_back : (task : Task) (c : Certificate) → IsTrue (is_task task
 closed_reads_back task c well has_names keeps closed = written_reads_back task c well has_names (typed_atoms task c.atoms closed.atoms_are_fluent) keeps
 
 pub closed_is_accepted : (task : Task) (c : Certificate) (plan : Option (List Instance)) → IsTrue (is_task task) → IsTrue (has_atom_names task) → IsTrue (keeps_limits c)
-    → IsClosedFor task c → IsPlanWithin task c.claim plan → IsAccepted task (certificate_text task c) plan
-closed_is_accepted task c plan well has_names keeps closed within = record {
+    → IsTrue (is_checked c.version) → IsClosedFor task c → IsPlanWithin task c.claim plan → IsAccepted task (certificate_text task c) plan
+closed_is_accepted task c plan well has_names keeps checked closed within = record {
   certificate = c;
   is_text = closed_reads_back task c well has_names keeps closed;
+  checked = checked;
   closed = closed;
   within = within;
 }

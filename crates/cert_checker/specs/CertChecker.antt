@@ -1,5 +1,5 @@
 -- What the answers of the checker of certificates say.
-use Rattle.std.specs.Prelude.{◌≡◌, ℕ, ◌+◌, ◌<◌, List, Contains, slice_get, MatchOption, Option, None, Some, IsSome}
+use Rattle.std.specs.Prelude.{◌≡◌, ℕ, ◌+◌, ◌<◌, List, [], ◌∷◌, Contains, slice_get, MatchOption, Option, None, Some, IsSome}
 use Rattle.cert_checker.specs.declared.checker.Accepted.{Accepted}
 use Rattle.cert_checker.specs.declared.checker.Accepted.TheVariants.{Optimal, AtLeast, Unsolvable}
 use Rattle.cert_checker.specs.declared.refusal.Refusal.{Refusal}
@@ -14,9 +14,11 @@ use Rattle.model.specs.NumberedAtoms.{numbered_atoms}
 use Rattle.model.specs.Instances.{successors_of}
 use Rattle.model.specs.Claims.{Claim, bound, none, opened, Line, IsListedWithin}
 use Rattle.potential_functions.specs.PotentialFunctions.{PotentialFunction}
-use Rattle.potential_functions.specs.Fair.{nothing, IsFairAt, IsFirstUnfairAt}
-use Rattle.certificate_definitions.specs.Certificates.{Certificate, lines_of}
-use Rattle.certificate_definitions.specs.CertificateRefusals.{Reason, limit, unfair, dead_unfair, successor_missing, successor_dearer, IsFirst, IsListed, HasState, IsWrong, IsWrongLine}
+use Rattle.potential_functions.specs.Fair.{nothing, IsFirstUnfairAt}
+use Rattle.table_functions.specs.TableFunctions.{TableFunction, functions_of, dead_ends_of}
+use Rattle.table_functions.specs.FairTables as tables
+use Rattle.certificate_definitions.specs.Certificates.{Version, one, two, three, Certificate, potentials_of, several_of, lines_of}
+use Rattle.certificate_definitions.specs.CertificateRefusals.{Reason, limit, unfair, dead_unfair, successor_missing, successor_dearer, IsFirst, IsListed, HasState, IsUnfairIn, IsDeadUnfairIn, IsWrong, IsWrongLine}
 
 -- What an accepted certificate shows is true, of all lists of instances: the plan that was given is optimal at
 -- this cost; every list that solves costs at least this; no list solves.
@@ -31,27 +33,40 @@ Answers claim plan (Optimal cost) = (claim ≡ bound cost) × IsSome plan
 Answers claim plan (AtLeast cost) = (claim ≡ bound cost) × (plan ≡ None)
 Answers claim plan Unsolvable = (claim ≡ none) × (plan ≡ None)
 
--- the instance is kept, and may lose more than it is allowed to, where the certificate's atoms have the first numbers
-abbrev pub IsUnfairAt : (allowance : Instance → ℕ) → Task → Certificate → PotentialFunction → Instance → Type 0
-IsUnfairAt allowance task c p i = Contains (kept_instances task) i × ¬ IsFairAt (allowance i) task (numbered_atoms task c.atoms) p.weights i
-
--- no kept instance before it may
+-- the first kept instance that may lose more of the potential function than it is allowed to, where the certificate's atoms have
+-- the first numbers
 abbrev pub IsFirstToLoseAt : (allowance : Instance → ℕ) → Task → Certificate → PotentialFunction → Instance → Type 0
 IsFirstToLoseAt allowance task c p i = (number : ℕ) × (first : IsFirstUnfairAt allowance task (numbered_atoms task c.atoms) p number) × (first.instance ≡ i)
 
--- it may lose more than it costs
+-- the same of one of these table functions, of which only an instance that is not shut out is asked
+abbrev pub IsFirstToLoseByTables : (allowance : Instance → ℕ) → Task → Certificate → List TableFunction → Instance → Type 0
+IsFirstToLoseByTables allowance task c functions i =
+    (h : TableFunction) × Contains functions h × (number : ℕ)
+    × (first : tables.IsFirstUnfairAt (tables.is_asked task (numbered_atoms task c.atoms) c.tables) allowance task (numbered_atoms task c.atoms) h number) × (first.instance ≡ i)
+
+abbrev pub IsFirstToLoseIn : Version → Task → Certificate → Instance → Type 0
+IsFirstToLoseIn one task c = IsFirstToLoseAt (cost_of task) task c (potentials_of c)
+IsFirstToLoseIn two task c = IsFirstToLoseAt (cost_of task) task c (potentials_of c)
+IsFirstToLoseIn three task c = IsFirstToLoseByTables (cost_of task) task c (functions_of (several_of c))
+
+abbrev pub IsFirstDeadToLoseIn : Version → Task → Certificate → Instance → Type 0
+IsFirstDeadToLoseIn one task c = IsFirstToLoseAt nothing task c c.dead_ends
+IsFirstDeadToLoseIn two task c = IsFirstToLoseAt nothing task c c.dead_ends
+IsFirstDeadToLoseIn three task c = IsFirstToLoseByTables nothing task c (dead_ends_of (several_of c) ∷ [])
+
+-- it may lose more than it costs, and none before it may
 abbrev pub IsUnfair : Task → Certificate → Instance → Type 0
-IsUnfair task c = IsUnfairAt (cost_of task) task c c.potentials
+IsUnfair task c = IsUnfairIn c.version task c
 
 abbrev pub IsFirstToLose : Task → Certificate → Instance → Type 0
-IsFirstToLose task c = IsFirstToLoseAt (cost_of task) task c c.potentials
+IsFirstToLose task c = IsFirstToLoseIn c.version task c
 
--- it may lose anything at all of what detects dead ends
+-- it may lose anything at all of what reports dead ends, and none before it may
 abbrev pub IsDeadUnfair : Task → Certificate → Instance → Type 0
-IsDeadUnfair task c = IsUnfairAt nothing task c c.dead_ends
+IsDeadUnfair task c = IsDeadUnfairIn c.version task c
 
 abbrev pub IsFirstDeadToLose : Task → Certificate → Instance → Type 0
-IsFirstDeadToLose task c = IsFirstToLoseAt nothing task c c.dead_ends
+IsFirstDeadToLose task c = IsFirstDeadToLoseIn c.version task c
 
 -- The refusal is true of the certificate, the plan that was given, if one was, and the limit of kept instances.
 abbrev pub IsTrueRefusal : Task → Certificate → Option (List Instance) → ℕ → Refusal → Type 0

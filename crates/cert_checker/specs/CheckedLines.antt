@@ -1,16 +1,15 @@
 -- What the checker finds out of a certificate's lines, one after another.
-use Rattle.std.specs.Prelude.{◌≡◌, ◌≢◌, ℕ, ◌+◌, ◌<◌, ◌≤◌, IsTrue, List, length, AllPairs, Contains, slice_get, Option, None, Some}
+use Rattle.std.specs.Prelude.{◌≡◌, ◌≢◌, ℕ, ◌+◌, ◌<◌, ◌≤◌, IsTrue, List, length, All, AllPairs, Contains, slice_get, Option, None, Some}
 use Rattle.cert_checker.specs.declared.refusal.Refusal.{Refusal}
 use Rattle.cert_checker.specs.FluentAtoms.{AreFluent}
 use Rattle.cert_checker.specs.CertChecker.{IsFirstRefusal, IsTrueRefusal}
 use Rattle.model.specs.Task.{Task, Instance}
 use Rattle.model.specs.Meaning.{State, initial_state, step, meets_goal, system_of}
-use Rattle.model.specs.NumberedAtoms.{numbered_atoms}
 use Rattle.model.specs.Limits.{max_numbered_atoms}
 use Rattle.model.specs.Grounding.{exceeded_limit}
 use Rattle.model.specs.Claims.{none, Allows, Mark, opened, cut, dead, Line, IsListedWithin}
-use Rattle.potential_functions.specs.Fair.{AreFair, AreDeadFair}
-use Rattle.certificate_definitions.specs.Certificates.{Certificate, StateLine, lines_of, value_of, is_dead_end_of}
+use Rattle.table_functions.specs.TableFunctions.{Row, Table}
+use Rattle.certificate_definitions.specs.Certificates.{Certificate, StateLine, keeps_limits, lines_of, value_of, is_dead_end_of, AreFairFor}
 
 -- the refusal is true, whatever plan is given and whatever the limit of kept instances
 abbrev pub IsTrueAnyway : Task → Certificate → Refusal → Type 0
@@ -47,25 +46,24 @@ pub record IsOpenClosed (task : Task) (c : Certificate) (state : State) (cost : 
 
 -- Of a state that is cut at this cost: the bound of what is still to pay is at most the state's value, and comes with the
 -- cost to no less than is claimed.
-abbrev pub IsCutClosed : Certificate → State → ℕ → ℕ → Type 0
-IsCutClosed c state cost rest = (rest ≤ value_of c state) × Allows c.claim (cost + rest)
+abbrev pub IsCutClosed : Task → Certificate → State → ℕ → ℕ → Type 0
+IsCutClosed task c state cost rest = (rest ≤ value_of task c state) × Allows c.claim (cost + rest)
 
 -- what is said of each line of a closed listing
 pub record IsLineClosed (task : Task) (c : Certificate) (line : Line State) : Type 0 where
   pub is_open : line.mark ≡ opened → IsOpenClosed task c line.state line.cost
-  pub is_cut : (rest : ℕ) → line.mark ≡ cut rest → IsCutClosed c line.state line.cost rest
-  pub is_dead : line.mark ≡ dead → IsTrue (is_dead_end_of c line.state)
+  pub is_cut : (rest : ℕ) → line.mark ≡ cut rest → IsCutClosed task c line.state line.cost rest
+  pub is_dead : line.mark ≡ dead → IsTrue (is_dead_end_of task c line.state)
 
--- the certificate's potential functions are fair and dead-fair for the ground task in which its atoms have the first numbers
-pub record AreFairFor (task : Task) (c : Certificate) : Type 0 where
-  pub fair : AreFair task (numbered_atoms task c.atoms) c.potentials
-  pub dead_fair : AreDeadFair task (numbered_atoms task c.atoms) c.dead_ends
+-- no table has a row twice
+abbrev pub AreRowsDistinct : Certificate → Type 0
+AreRowsDistinct c = All (λ (t : Table). AllPairs (λ (q r : Row). q.atoms ≢ r.atoms) t.rows) c.tables
 
--- All is right up to the state line at this place: the reading of the certificate, the limits of its ground task, its
--- potential functions, the initial state, and the state lines before.
+-- All is right up to the state line at this place: the reading of the certificate, the limits of its ground task, its values,
+-- the initial state, and the state lines before.
 pub record IsRightUpTo (task : Task) (c : Certificate) (most place : ℕ) : Type 0 where
-  pub weighed : length c.potentials.weights ≡ length c.atoms
-  pub dead_ends_weighed : length c.dead_ends.weights ≡ length c.atoms
+  pub keeps : IsTrue (keeps_limits c)
+  pub rows : AreRowsDistinct c
   pub atoms : AreFluent task c.atoms
   pub distinct : AllPairs (λ (k l : Line State). k.state ≢ l.state) (lines_of task c)
   pub allowed : CutsAreAllowed task c (length (lines_of task c))

@@ -1,49 +1,21 @@
 -- What lines of a certificate's text have reported for a task's certificate.
-use Rattle.std.specs.Prelude.{◌≡◌, ◌≢◌, ℤ, Bool, true, false, ◌&&◌, IsTrue, List, map, All, AllPairs, Contains, Option, None, Some}
-use Rattle.std.specs.List.{filter_map}
+use Rattle.std.specs.Prelude.{◌≡◌, ◌≢◌, ℕ, zero, suc, ◌+◌, ℤ, Bool, true, false, ◌&&◌, IsTrue, List, [], ◌∷◌, ◌++◌, length, map, All, AllPairs, Contains}
+use Rattle.std.specs.List.{flat_map, range_with_len}
 use Rattle.model.specs.Task.{Atom, Task}
 use Rattle.model.specs.WellTyped.{is_atom}
 use Rattle.model.specs.Fluents.{is_fluent}
 use Rattle.model.specs.Claims.{Claim, none}
-use Rattle.certificate_definitions.specs.Certificates.{Version, StateLine}
+use Rattle.certificate_definitions.specs.Certificates.{Version}
 use Rattle.potential_functions.specs.PotentialFunctions.{PotentialFunction}
-use Rattle.certificate_definitions.specs.CertificateText.{NamedAtom, Weights, WeightedAtom, TextLine, version, claims, constant, atom, listed, last}
-use Rattle.certificate_definitions.specs.CertificateNames.{AllName, of_dead_end_or_zero}
+use Rattle.table_functions.specs.TableFunctions.{SeveralValues}
+pub use Rattle.certificate_definitions.specs.CertificateLines.{atom_in, table_in, state_in, atoms_given, tables_given, states_given}
+use Rattle.certificate_definitions.specs.CertificateText.{NamedAtom, WeightedAtom, TextLine, version, claims, constant, atom, tabled, listed, last}
+use Rattle.certificate_definitions.specs.CertificateNames.{AllName, table_lines, value_count, weight_said}
 use Rattle.certificate_definitions.specs.CertificateChecking.{AreRight}
 
--- the atom that the line gives, with its weights, and the state that it lists
-abbrev pub atom_in : TextLine → Option WeightedAtom
-atom_in (version v) = None
-atom_in (claims claim) = None
-atom_in (constant k) = None
-atom_in (atom a) = Some a
-atom_in (listed l) = None
-atom_in (last count) = None
-
-abbrev pub state_in : TextLine → Option StateLine
-state_in (version v) = None
-state_in (claims claim) = None
-state_in (constant k) = None
-state_in (atom a) = None
-state_in (listed l) = Some l
-state_in (last count) = None
-
--- those of the lines, in order
-abbrev pub atoms_given : List TextLine → List WeightedAtom
-atoms_given lines = filter_map atom_in lines
-
--- the names of those atoms, and their weights: those of values, and those of dead ends
+-- the names of those atoms
 abbrev pub names_given : List TextLine → List NamedAtom
 names_given lines = map (λ (a : WeightedAtom). a.atom) (atoms_given lines)
-
-abbrev pub values_given : List TextLine → List ℤ
-values_given lines = map (λ (a : WeightedAtom). a.weights.of_value) (atoms_given lines)
-
-abbrev pub dead_ends_given : List TextLine → List ℤ
-dead_ends_given lines = map (λ (a : WeightedAtom). of_dead_end_or_zero a.weights) (atoms_given lines)
-
-abbrev pub states_given : List TextLine → List StateLine
-states_given lines = filter_map state_in lines
 
 -- the line lists a state, or is the last
 abbrev pub is_body : TextLine → Bool
@@ -51,27 +23,80 @@ is_body (version v) = false
 is_body (claims claim) = false
 is_body (constant k) = false
 is_body (atom a) = false
+is_body (tabled t) = false
 is_body (listed l) = true
 is_body (last count) = true
+
+-- what these constants and atoms give for the value at this place, from 0
+abbrev pub value_given : List ℤ → List WeightedAtom → ℕ → PotentialFunction
+value_given constants atoms place = record { constant = weight_said place constants; weights = map (λ (a : WeightedAtom). weight_said place a.weights) atoms }
+
+-- for all values of this version
+abbrev pub values_given : Version → List ℤ → List WeightedAtom → List PotentialFunction
+values_given v constants atoms = map (value_given constants atoms) (range_with_len 0 (value_count v (length constants)))
+
+-- and for dead ends
+abbrev pub dead_ends_given : Version → List ℤ → List WeightedAtom → PotentialFunction
+dead_ends_given v constants atoms = value_given constants atoms (value_count v (length constants))
 
 -- what a certificate says before its states
 pub record Heading : Type 0 where
   pub version : Version
   pub claim : Claim
   pub atoms : List Atom
-  pub potentials : PotentialFunction
-  pub dead_ends : PotentialFunction
+  pub bounds : SeveralValues
+
+-- there are as many values as the constants give, and they have the weights of the atoms
+pub record AreGiven (v : Version) (constants : List ℤ) (atoms : List WeightedAtom) (bounds : SeveralValues) : Type 0 where
+  pub values : bounds.values ≡ values_given v constants atoms
+  pub dead_ends : bounds.dead_ends ≡ dead_ends_given v constants atoms
+
+-- before the constants there is nothing
+pub record AreNotGiven (bounds : SeveralValues) : Type 0 where
+  pub values : bounds.values ≡ []
+  pub dead_ends : bounds.dead_ends.weights ≡ []
 
 -- The lines report this heading, as far as they go, and nothing is wrong with them.
 pub record HaveGiven (task : Task) (lines : List TextLine) (heading : Heading) : Type 0 where
   pub one_version : (v : Version) → Contains lines (version v) → heading.version ≡ v
   pub one_claim : (c : Claim) → Contains lines (claims c) → heading.claim ≡ c
   pub none_occurs : heading.claim ≡ none → Contains lines (claims none)
-  pub one_constant : (k : Weights) → Contains lines (constant k) → heading.potentials.constant ≡ k.of_value
-  pub one_dead_end_constant : (k : Weights) → Contains lines (constant k) → heading.dead_ends.constant ≡ of_dead_end_or_zero k
+  pub given : (k : List ℤ) → Contains lines (constant k) → AreGiven heading.version k (atoms_given lines) heading.bounds
+  pub not_given : ((k : List ℤ) → Contains lines (constant k) → ⊥) → AreNotGiven heading.bounds
+  pub tables : flat_map table_lines heading.bounds.tables ≡ tables_given lines
   pub named : AllName task (names_given lines) heading.atoms
-  pub weighed : heading.potentials.weights ≡ values_given lines
-  pub dead_ends_weighed : heading.dead_ends.weights ≡ dead_ends_given lines
   pub fluent : All (λ (a : Atom). IsTrue (is_atom task a && is_fluent task a.predicate)) heading.atoms
   pub distinct : AllPairs (λ (a b : Atom). a ≢ b) heading.atoms
   pub right : AreRight task lines
+
+-- ---- one more atom
+
+abbrev pub with_weight : PotentialFunction → ℤ → PotentialFunction
+with_weight p w = record { constant = p.constant; weights = p.weights ++ w ∷ [] }
+
+-- the value at this place, from 0, has this weight more
+abbrev pub push_at : ℕ → ℤ → List PotentialFunction → List PotentialFunction
+push_at place w [] = []
+push_at zero w (p ∷ values) = with_weight p w ∷ values
+push_at (suc place) w (p ∷ values) = p ∷ push_at place w values
+
+-- each value has one weight more, that at its place; the first is at this place
+abbrev pub with_weights_from : ℕ → List ℤ → List PotentialFunction → List PotentialFunction
+with_weights_from place weights [] = []
+with_weights_from place weights (p ∷ values) = with_weight p (weight_said place weights) ∷ with_weights_from (place + 1) weights values
+
+-- and dead ends have the one behind those
+abbrev pub with_weights : SeveralValues → List ℤ → SeveralValues
+with_weights s weights = record {
+  values = with_weights_from 0 weights s.values;
+  dead_ends = with_weight s.dead_ends (weight_said (length s.values) weights);
+  tables = s.tables;
+}
+
+-- as many values as there are constants of values in this version, without weights, after those before
+abbrev pub begun_with : Version → List ℤ → SeveralValues → SeveralValues
+begun_with v constants s = record {
+  values = s.values ++ values_given v constants [];
+  dead_ends = record { constant = weight_said (value_count v (length constants)) constants; weights = s.dead_ends.weights };
+  tables = s.tables;
+}

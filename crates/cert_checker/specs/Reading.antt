@@ -11,7 +11,7 @@ use Rattle.certificate_definitions.specs.CertificateNames.{IsTextOf}
 use Rattle.certificate_reader.specs.declared.line.CertLine.{CertLine}
 use Rattle.certificate_reader.specs.Lines.{claim_of, text_line_of}
 use Rattle.certificate_definitions.specs.CertificateText.{TextLine, AreWhole, text_of}
-use Rattle.certificate_definitions.specs.CertificateChecking.{AreRight, IsCut, IsLineFault}
+use Rattle.certificate_definitions.specs.CertificateChecking.{is_checked, AreRight, IsCut, IsLineFault}
 use Rattle.certificate_reader.specs.declared.reader.CertReader.{CertReader}
 use Rattle.certificate_reader.specs.Reader.{HasRead, has_failed, source_of, waits_in}
 use Rattle.certificate.specs.declared.header.Header.{Header}
@@ -90,6 +90,7 @@ pub record IsRead {R : Type 0} (remaining : R → Option (List ℕ)) (task : Tas
   pub lines : List TextLine
   pub text_is : text ≡ text_of lines
   pub right : AreRight task lines
+  pub checked : IsTrue (is_checked c.version)
   pub fluent : All (λ (a : Atom). IsTrue (is_atom task a && is_fluent task a.predicate)) c.atoms
   pub distinct : AllPairs (λ (a b : Atom). a ≢ b) c.atoms
   pub allowed : c.claim ≡ none → All (λ (l : StateLine). ¬ IsCut l.mark) c.lines

@@ -11,15 +11,14 @@ use Rattle.cert_checker.specs.declared.refusal.Refusal.{Refusal}
 use Rattle.cert_checker.specs.declared.refusal.Refusal.TheVariants as refusal
 use Rattle.cert_checker.specs.RefusalCode.{number_of}
 use Rattle.cert_checker.specs.Given.{Heading, HaveGiven, is_body, state_in}
-use Rattle.certificate.specs.CertificateParts.{potential_of}
+use Rattle.certificate.specs.CertificateParts.{bounds_of}
 
 abbrev pub heading_of : Header → Heading
 heading_of header = record {
   version = version_of header.version;
   claim = claim_of header.claim;
   atoms = map atom_of header.atoms.keys;
-  potentials = potential_of header.bounds.values;
-  dead_ends = potential_of header.bounds.dead_ends;
+  bounds = bounds_of header.bounds;
 }
 
 -- it is what these lines report

@@ -6,7 +6,7 @@ ghost use Rattle.std.specs.Option.{ForSome, option_map};
 ghost use Rattle.task.specs.Task.{task_of};
 ghost use Rattle.formulas.specs.State.{plan_of};
 ghost use Rattle.model.specs.Meaning.{is_instance};
-ghost use Rattle.certificate_definitions.specs.CertificateChecking.{IsAccepted};
+ghost use Rattle.certificate_definitions.specs.CertificateChecking.{is_checked, IsAccepted};
 ghost use Rattle.certificate_reader.specs.Reader.{source_of};
 ghost use Rattle.cert_checker.specs.Reading.{CountsRefusal, IsFresh};
 ghost use Rattle.certificate.specs.Certificate.{certificate_of};
@@ -97,6 +97,7 @@ fn judge(
     max_instances: u32,
 ) -> Result<Accepted, Refusal>
     requires instances { ForSome plan (λ p. IsTrue (list_all (is_instance (task_of task.now)) (plan_of p.now))) }
+    requires checked { IsTrue (is_checked (certificate_of cert).version) }
     requires fluent { AreFluent (task_of task.now) (certificate_of cert).atoms }
     requires allowed { CutsAreAllowed (task_of task.now) (certificate_of cert) (length (lines_of (task_of task.now) (certificate_of cert))) }
     ensures shown { IfOk result (IsShown (task_of task.now) (option_map (λ p. plan_of p.now) plan.entry)) }

@@ -1,26 +1,30 @@
 //! What a certificate says before its states, read line by line.
-ghost use Rattle.std.specs.Prelude.{◌≡◌, pos, ◌+◌, ◌++◌, ◌∷◌, [], IfErr, IfOk, List, OnOk, length};
+ghost use Rattle.std.specs.Prelude.{◌≡◌, ℕ, ◌<◌, pos, ◌+◌, ◌++◌, ◌∷◌, [], IfErr, IfOk, List, OnOk, length, map};
 ghost use Rattle.task.specs.Task.{task_of};
 ghost use Rattle.formulas.specs.FluentTable.{AreFluentsOf};
 ghost use Rattle.model.specs.Task as model;
-ghost use Rattle.certificate_reader.specs.Lines.{named_atom_of, text_line_of};
-ghost use Rattle.certificate_definitions.specs.CertificateNames.{weight_said};
+ghost use Rattle.certificate_reader.specs.Lines.{named_atom_of, text_line_of, version_of};
+ghost use Rattle.certificate_definitions.specs.CertificateNames.{value_count, weight_said};
 ghost use Rattle.certificate_definitions.specs.CertificateText.{TextLine, BeginCertificate, atom};
+ghost use Rattle.cert_checker.specs.declared.refusal.Refusal.TheVariants as refusal;
+ghost use Rattle.cert_checker.specs.declared.refusal.RefusalCode.TheVariants.{CertVersion};
+ghost use Rattle.cert_checker.specs.Given.{begun_with, push_at, with_weights};
 ghost use Rattle.cert_checker.specs.Taking.{HasTaken, IsTaken, IsWrongNow};
 ghost use Rattle.certificate_reader.specs.Reader.{source_of};
-ghost use Rattle.certificate.specs.CertificateParts.{potential_of};
+ghost use Rattle.certificate.specs.CertificateParts.{bounds_of, potential_of};
 ghost use Rattle.cert_checker.specs.Reading.{CountsRefusal, IsBegun, IsFresh, IsLineRefusal};
 
 use crate::named_atoms::fluent_atom_named;
 use crate::refusal::{Refusal, RefusalCode};
 use certificate::{Bounds, CertLine, CertReader, Claim, Header, NamedAtom, Potential, Version};
 use devices::Source;
+use faults::NoMemory;
 use formulas::FluentPredicates;
 use indexmap::IndexSet;
 use std::alloc::Global;
 use task::Task;
 
-/// What no lines have reported: version 1, a bound of 0, which is always true, and the constants 0, until their lines come.
+/// What no lines have reported: version 1, a bound of 0, which is always true, and no values, until their lines come.
 fn nothing_reported(alloc: Global) -> Header
     ensures { (task : model.Task) → HasTaken task [] result }
 {
@@ -29,18 +33,19 @@ fn nothing_reported(alloc: Global) -> Header
         claim: Claim::Bound(0),
         atoms: IndexSet::new(alloc),
         bounds: Bounds {
-            values: zero_potential(alloc),
-            dead_ends: zero_potential(alloc),
+            values: Vec::new(alloc),
+            dead_ends: of_no_atoms(alloc, 0),
+            tables: Vec::new(alloc),
         },
     }
 }
 
-/// The potential function of no atoms that is 0.
-fn zero_potential(alloc: Global) -> Potential
-    ensures { potential_of result ≡ record { constant = pos 0; weights = [] } }
+/// The potential function of no atoms with this constant.
+fn of_no_atoms(alloc: Global, constant: i64) -> Potential
+    ensures { potential_of result ≡ record { constant = constant; weights = [] } }
 {
     Potential {
-        constant: 0,
+        constant,
         weights: Vec::new(alloc),
     }
 }
@@ -55,8 +60,58 @@ fn weight_at(weights: &[i64], place: usize) -> i64
     }
 }
 
+/// How many of so many constants are those of values: all but that of dead ends, which version 1 does not write.
+fn value_count(version: Version, constant_count: usize) -> usize
+    ensures { result ≡ value_count (version_of version) constant_count }
+{
+    match version {
+        Version::One => constant_count,
+        Version::Two | Version::Three => constant_count.saturating_sub(1),
+    }
+}
+
+/// Takes the constants: with them the values begin.
+fn take_constants(
+    alloc: Global,
+    bounds: &mut Bounds,
+    version: Version,
+    constants: &[i64],
+) -> Result<(), NoMemory>
+    ensures { OnOk result (bounds_of bounds.new ≡ begun_with (version_of version) constants.now (bounds_of bounds.old)) }
+{
+    let count = value_count(version, constants.len());
+    for place in 0..count {
+        let value = of_no_atoms(alloc, weight_at(constants, place));
+        bounds.values.push(value)?;
+    }
+    bounds.dead_ends.constant = weight_at(constants, count);
+    Ok(())
+}
+
+/// Takes the weights of one more atom: each value has the one at its place, and dead ends have the one behind those.
+fn take_weights(bounds: &mut Bounds, weights: &[i64]) -> Result<(), NoMemory>
+    ensures { OnOk result (bounds_of bounds.new ≡ with_weights (bounds_of bounds.old) weights.now) }
+{
+    let count = bounds.values.len();
+    for place in 0..count {
+        push_weight(&mut bounds.values, place, weight_at(weights, place))?;
+    }
+    bounds.dead_ends.weights.push(weight_at(weights, count))?;
+    Ok(())
+}
+
+/// Puts the weight after those of the value at this place.
+fn push_weight(values: &mut Vec<Potential>, place: usize, weight: i64) -> Result<(), NoMemory>
+    requires { place < length values.old.items }
+    ensures { OnOk result (map potential_of values.new.items ≡ push_at place weight (map potential_of values.old.items)) }
+{
+    values[place].weights.push(weight)?;
+    Ok(())
+}
+
 /// Takes the line of this number, from 1; a line that lists a state, or is the last, is given back.
 fn take(
+    alloc: Global,
     header: &mut Header,
     task: &Task,
     fluents: &FluentPredicates,
@@ -66,15 +121,11 @@ fn take(
     requires { AreFluentsOf (task_of task.now) fluents.now }
     ensures taken { IfOk result (λ back. (before : List TextLine) → BeginCertificate (before ++ text_line_of line ∷ [])
         → HasTaken (task_of task.now) before header.old → IsTaken (task_of task.now) before (text_line_of line) header.new back) }
-    ensures wrong { IfErr result (λ refusal. (before : List TextLine) → number ≡ length before + 1
+    ensures wrong { IfErr result (λ refusal. (before : List TextLine) → BeginCertificate (before ++ text_line_of line ∷ []) → number ≡ length before + 1
         → HasTaken (task_of task.now) before header.old → IsWrongNow (task_of task.now) before (text_line_of line) refusal) }
 {
     match line {
-        // That a certificate of version 3 is closed is not tested yet.
-        CertLine::Head(Version::Three) => Err(Refusal::Line {
-            code: RefusalCode::CertVersion,
-            line: number,
-        }),
+        CertLine::Head(Version::Three) => Err(not_checked(number)),
         CertLine::Head(version) => {
             header.version = version;
             Ok(None)
@@ -84,8 +135,7 @@ fn take(
             Ok(None)
         }
         CertLine::Constant(constants) => {
-            header.bounds.values.constant = weight_at(&constants, 0);
-            header.bounds.dead_ends.constant = weight_at(&constants, 1);
+            take_constants(alloc, &mut header.bounds, header.version, &constants)?;
             Ok(None)
         }
         CertLine::Weight {
@@ -97,12 +147,19 @@ fn take(
             add_atom(header, task, fluents, &atom, &weights, number)?;
             Ok(None)
         }
-        // No text of version 1 or 2 has a table.
-        CertLine::Table { .. } | CertLine::Row { .. } => Err(Refusal::Line {
-            code: RefusalCode::CertVersion,
-            line: number,
-        }),
+        // Only version 3 has tables, and its first line was refused.
+        CertLine::Table { .. } | CertLine::Row { .. } => Err(not_checked(number)),
         CertLine::Listed(_) | CertLine::Last { .. } => Ok(Some(line)),
+    }
+}
+
+/// The refusal of version 3 at this line: that a certificate of it is closed is not tested yet.
+fn not_checked(number: u64) -> Refusal
+    ensures { result ≡ refusal.Line CertVersion number }
+{
+    Refusal::Line {
+        code: RefusalCode::CertVersion,
+        line: number,
     }
 }
 
@@ -116,7 +173,7 @@ fn add_atom(
     number: u64,
 ) -> Result<(), Refusal>
     requires { AreFluentsOf (task_of task.now) fluents.now }
-    ensures reported { OnOk result ((before : List TextLine) → HasTaken (task_of task.now) before header.old
+    ensures reported { OnOk result ((before : List TextLine) → BeginCertificate (before ++ atom (record { weights = weights.now; atom = named_atom_of name.now }) ∷ []) → HasTaken (task_of task.now) before header.old
         → HasTaken (task_of task.now) (before ++ atom (record { weights = weights.now; atom = named_atom_of name.now }) ∷ []) header.new) }
     ensures wrong { IfErr result (λ refusal. (before : List TextLine) → number ≡ length before + 1 → HasTaken (task_of task.now) before header.old
         → IsWrongNow (task_of task.now) before (atom (record { weights = weights.now; atom = named_atom_of name.now })) refusal) }
@@ -133,8 +190,7 @@ fn add_atom(
             line: number,
         });
     }
-    header.bounds.values.weights.push(weight_at(weights, 0))?;
-    header.bounds.dead_ends.weights.push(weight_at(weights, 1))?;
+    take_weights(&mut header.bounds, weights)?;
     Ok(())
 }
 
@@ -155,7 +211,7 @@ pub(crate) fn read_header<R: Source>(
         let Some(line) = reader.next_line()? else {
             return Ok((header, None));
         };
-        if let Some(line) = take(&mut header, task, &fluents, line, reader.lines())? {
+        if let Some(line) = take(alloc, &mut header, task, &fluents, line, reader.lines())? {
             return Ok((header, Some(line)));
         }
     }

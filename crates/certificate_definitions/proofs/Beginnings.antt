@@ -5,36 +5,10 @@ use Rattle.std.specs.List.{filter_map}
 use Rattle.std.proofs.lemmas.List.Elements.{filter_map-append}
 use Rattle.model.specs.Claims.{Claim}
 use Rattle.certificate_definitions.specs.Certificates.{Version, StateLine}
+use Rattle.certificate_definitions.specs.CertificateLines.{atom_in, table_in, state_in}
 use Rattle.certificate_definitions.specs.CertificateText.{WeightedAtom, TableLine, NamedCertificate, TextLine, version, claims, constant, atom, tabled, listed, last, text_lines, Beginning, head_lines}
 
 -- ---- the lines of one kind
-
-abbrev pub atom_in : TextLine → Option WeightedAtom
-atom_in (atom a) = Some a
-atom_in (version v) = None
-atom_in (claims claim) = None
-atom_in (constant k) = None
-atom_in (tabled t) = None
-atom_in (listed l) = None
-atom_in (last count) = None
-
-abbrev pub table_line_in : TextLine → Option TableLine
-table_line_in (tabled t) = Some t
-table_line_in (version v) = None
-table_line_in (claims claim) = None
-table_line_in (constant k) = None
-table_line_in (atom a) = None
-table_line_in (listed l) = None
-table_line_in (last count) = None
-
-abbrev pub state_in : TextLine → Option StateLine
-state_in (listed l) = Some l
-state_in (version v) = None
-state_in (claims claim) = None
-state_in (constant k) = None
-state_in (atom a) = None
-state_in (tabled t) = None
-state_in (last count) = None
 
 abbrev pub count_in : TextLine → Option ℕ
 count_in (last count) = Some count
@@ -55,7 +29,7 @@ atoms_of_body [] [] (l ∷ states) = atoms_of_body [] [] states
 atoms_of_body [] (t ∷ tables) states = atoms_of_body [] tables states
 atoms_of_body (a ∷ atoms) tables states = ap (λ atoms. a ∷ atoms) (atoms_of_body atoms tables states)
 
-pub tables_of_body : (atoms : List WeightedAtom) (tables : List TableLine) (states : List StateLine) → filter_map table_line_in (body_lines atoms tables states) ≡ tables
+pub tables_of_body : (atoms : List WeightedAtom) (tables : List TableLine) (states : List StateLine) → filter_map table_in (body_lines atoms tables states) ≡ tables
 tables_of_body [] [] [] = refl
 tables_of_body [] [] (l ∷ states) = tables_of_body [] [] states
 tables_of_body [] (t ∷ tables) states = ap (λ tables. t ∷ tables) (tables_of_body [] tables states)
@@ -83,7 +57,7 @@ pub one_beginning : (g h : Beginning) → head_lines g ≡ head_lines h → g �
 one_beginning g h same =
     let (versions, claim, constants) = first_lines g.version h.version g.claim h.claim g.constants h.constants (body_lines g.atoms g.tables g.states) (body_lines h.atoms h.tables h.states) same in
     let atoms = sym (atoms_of_body g.atoms g.tables g.states) ∙ ap (filter_map atom_in) same ∙ atoms_of_body h.atoms h.tables h.states in
-    let tables = sym (tables_of_body g.atoms g.tables g.states) ∙ ap (filter_map table_line_in) same ∙ tables_of_body h.atoms h.tables h.states in
+    let tables = sym (tables_of_body g.atoms g.tables g.states) ∙ ap (filter_map table_in) same ∙ tables_of_body h.atoms h.tables h.states in
     let states = sym (states_of_body g.atoms g.tables g.states) ∙ ap (filter_map state_in) same ∙ states_of_body h.atoms h.tables h.states in
     λ i. record { version = versions i; claim = claim i; constants = constants i; atoms = atoms i; tables = tables i; states = states i }
 
@@ -110,12 +84,12 @@ one_whole_text c d same =
     (body_lines c.atoms c.tables c.lines ++ end_of c) (body_lines d.atoms d.tables d.lines ++ end_of d) same in
     let atoms_read : (c : NamedCertificate) → filter_map atom_in (text_lines c) ≡ c.atoms =
     λ c. filter_map-append atom_in (body_lines c.atoms c.tables c.lines) (end_of c) ∙ nothing_more (filter_map atom_in (body_lines c.atoms c.tables c.lines)) ∙ atoms_of_body c.atoms c.tables c.lines in
-    let tables_read : (c : NamedCertificate) → filter_map table_line_in (text_lines c) ≡ c.tables =
-    λ c. filter_map-append table_line_in (body_lines c.atoms c.tables c.lines) (end_of c) ∙ nothing_more (filter_map table_line_in (body_lines c.atoms c.tables c.lines)) ∙ tables_of_body c.atoms c.tables c.lines in
+    let tables_read : (c : NamedCertificate) → filter_map table_in (text_lines c) ≡ c.tables =
+    λ c. filter_map-append table_in (body_lines c.atoms c.tables c.lines) (end_of c) ∙ nothing_more (filter_map table_in (body_lines c.atoms c.tables c.lines)) ∙ tables_of_body c.atoms c.tables c.lines in
     let states_read : (c : NamedCertificate) → filter_map state_in (text_lines c) ≡ c.lines =
     λ c. filter_map-append state_in (body_lines c.atoms c.tables c.lines) (end_of c) ∙ nothing_more (filter_map state_in (body_lines c.atoms c.tables c.lines)) ∙ states_of_body c.atoms c.tables c.lines in
     let atoms = sym (atoms_read c) ∙ ap (filter_map atom_in) same ∙ atoms_read d in
-    let tables = sym (tables_read c) ∙ ap (filter_map table_line_in) same ∙ tables_read d in
+    let tables = sym (tables_read c) ∙ ap (filter_map table_in) same ∙ tables_read d in
     let states = sym (states_read c) ∙ ap (filter_map state_in) same ∙ states_read d in
     λ i. record { version = versions i; claim = claim i; constants = constants i; atoms = atoms i; tables = tables i; lines = states i }
   where

@@ -1,6 +1,6 @@
 -- What the definitions say of the worked certificates.
 use Rattle.std.proofs.Common.{◌≡◌, ◌⊎◌, ◌+◌, ◌≤◌, inl, inr, Bool, true, false, true≢false, ◌&&◌, ◌||◌, [], ◌∷◌, None, Some, refl, sym, ◌∙◌, ap, subst, arith}
-use Rattle.std.specs.Prelude.{◌≢◌, ℕ, ℤ, pos, negsuc, ◌+ℤ◌, ◌≤ℤ◌, List, if◌then◌else◌, All, Contains, IsTrue}
+use Rattle.std.specs.Prelude.{◌≢◌, ℕ, ℤ, pos, negsuc, ◌+ℤ◌, ◌≤ℤ◌, List, if◌then◌else◌, length, All, AllPairs, Contains, IsTrue}
 use Rattle.std.specs.Int.Signed.{le_z_yes}
 use Rattle.std.proofs.lemmas.Int.{ints}
 use Rattle.std.specs.Ordering.{eq_by_cmp}
@@ -20,6 +20,7 @@ use Rattle.model.specs.Fluents.{is_fluent}
 use Rattle.certificate_definitions.specs.Certificates.{two, StateLine, state_of_line, IsClosedFor}
 use Rattle.certificate_definitions.specs.CertificateRefusals.{IsWrong, IsWrongLine, unfair, unfair_goal, dead_unfair, dead_unfair_goal, not_dead}
 use Rattle.certificate_definitions.specs.CertificateExamples.{AreJudged, open_at, cut_at, linked, tied, claims, weighs, zeros, token_reported}
+use Rattle.table_functions.specs.TableFunctions.{Row, Table}
 use Rattle.potential_functions.specs.PotentialFunctions.{PotentialFunction, or_zero, value_of_state, is_dead_by, is_dead_state}
 use Rattle.potential_functions.specs.Fair.{IsFairAt, IsFairAtGoals, AreFair, nothing, AreDeadFair}
 use Rattle.potential_functions.specs.FairExamples.{token_task, token_atoms, one_missing, minus}
@@ -157,12 +158,20 @@ the_one_line P l line at of_l = by_first (Contains-cases l [] line at)
     by_first (inl is) = subst P is of_l
     by_first (inr none) = absurd (Contains-none line none)
 
+one_value : (count : ℕ) (p : PotentialFunction) → length p.weights ≡ count → All (λ (p : PotentialFunction). length p.weights ≡ count) (p ∷ [])
+one_value count p many = All-cons (λ (p : PotentialFunction). length p.weights ≡ count) p [] many (All-nil (λ (p : PotentialFunction). length p.weights ≡ count))
+
+no_rows : All (λ (t : Table). AllPairs (λ (q r : Row). q.atoms ≢ r.atoms) t.rows) []
+no_rows = All-nil (λ (t : Table). AllPairs (λ (q r : Row). q.atoms ≢ r.atoms) t.rows)
+
 cut_closed : IsClosedFor tie_task (weighs (bound 1) (pos 1) (negsuc 0) (cut_at 0 1 [] ∷ []))
 cut_closed = record {
-  one_weight_an_atom = refl;
+  as_many_values = refl;
+  one_weight_an_atom = one_value 1 (potentials (pos 1) (negsuc 0)) refl;
   one_dead_end_weight_an_atom = refl;
-  potentials_are_fair = worth_one;
-  dead_ends_are_fair = zero_is_dead_fair;
+  tables_are_over_atoms = refl;
+  are_fair = record { values = worth_one; dead_ends = zero_is_dead_fair };
+  rows_are_distinct = no_rows;
   atoms_are_fluent = All-cons (λ (a : Atom). IsTrue (is_atom tie_task a && is_fluent tie_task a.predicate)) tied [] refl (All-nil (λ (a : Atom). IsTrue (is_atom tie_task a && is_fluent tie_task a.predicate)));
   atoms_are_distinct = λ i j d before within. absurd (omega (arith, before, within));
   states_are_distinct = λ i j d before within. absurd (omega (arith, before, within));
@@ -183,9 +192,11 @@ cut_closed = record {
 worth_two : IsWrong tie_task (weighs (bound 1) (pos 2) (negsuc 1) (cut_at 0 1 [] ∷ [])) None 1 unfair
 worth_two = (
   the_instance,
-  subst (λ l. Contains l the_instance) (sym kept_are) (0, omega arith, refl),
-  subst (λ atoms. ¬ IsFairAt (cost_of tie_task the_instance) tie_task atoms (weights_of (negsuc 1)) the_instance) (sym atoms_are)
-      (is_unfair_at tie_task (tied ∷ []) (weights_of (negsuc 1)) the_instance 1 (pos 2) refl refl (λ h. absurd (omega (arith, ints)))),
+  (
+    subst (λ l. Contains l the_instance) (sym kept_are) (0, omega arith, refl),
+    subst (λ atoms. ¬ IsFairAt (cost_of tie_task the_instance) tie_task atoms (weights_of (negsuc 1)) the_instance) (sym atoms_are)
+        (is_unfair_at tie_task (tied ∷ []) (weights_of (negsuc 1)) the_instance 1 (pos 2) refl refl (λ h. absurd (omega (arith, ints)))),
+  ),
 )
 
 more_than_none : (z : ℤ) → z ≡ pos 1 → z ≤ℤ pos 0 → ⊥
@@ -212,10 +223,15 @@ dead_line = record { state = at_x; cost = 0; mark = dead }
 
 dead_closed : (claim : Claim) → IsClosedFor token_task (token_reported two claim (pos 2) (minus 1))
 dead_closed claim = record {
-  one_weight_an_atom = refl;
+  as_many_values = refl;
+  one_weight_an_atom = one_value 2 (zeros token_atoms) refl;
   one_dead_end_weight_an_atom = refl;
-  potentials_are_fair = subst (λ atoms. AreFair token_task atoms (zeros token_atoms)) (sym token_atoms_are) (zero-fair token_task token_atoms);
-  dead_ends_are_fair = subst (λ atoms. AreDeadFair token_task atoms one_missing) (sym token_atoms_are) fair_proofs.are_judged.token_is_dead_fair;
+  tables_are_over_atoms = refl;
+  are_fair = record {
+    values = subst (λ atoms. AreFair token_task atoms (zeros token_atoms)) (sym token_atoms_are) (zero-fair token_task token_atoms);
+    dead_ends = subst (λ atoms. AreDeadFair token_task atoms one_missing) (sym token_atoms_are) fair_proofs.are_judged.token_is_dead_fair;
+  };
+  rows_are_distinct = no_rows;
   atoms_are_fluent =
       let P = λ (a : Atom). IsTrue (is_atom token_task a && is_fluent token_task a.predicate) in
       All-cons P (ground 0 []) (ground 1 [] ∷ []) refl (All-cons P (ground 1 []) [] refl (All-nil P));
@@ -250,9 +266,11 @@ dead_left =
 fore_loses : IsWrong token_task (token_reported two model.none (pos 2) (minus 2)) None 1 dead_unfair
 fore_loses = (
   fore,
-  subst (λ l. Contains l fore) (sym kept) (0, omega arith, refl),
-  subst (λ atoms. ¬ IsFairAt 0 token_task atoms (minus 1 ∷ minus 2 ∷ []) fore) (sym token_atoms_are)
-      (is_unfair_within token_task token_atoms nothing (minus 1 ∷ minus 2 ∷ []) fore 0 (pos 1) refl refl (λ h. absurd (omega (arith, ints)))),
+  (
+    subst (λ l. Contains l fore) (sym kept) (0, omega arith, refl),
+    subst (λ atoms. ¬ IsFairAt 0 token_task atoms (minus 1 ∷ minus 2 ∷ []) fore) (sym token_atoms_are)
+        (is_unfair_within token_task token_atoms nothing (minus 1 ∷ minus 2 ∷ []) fore 0 (pos 1) refl refl (λ h. absurd (omega (arith, ints)))),
+  ),
 )
   where
     fore : Instance
@@ -267,10 +285,12 @@ are_judged = record {
   tied_is_fluent = refl;
   static_at_start = refl;
   closed = record {
-    one_weight_an_atom = refl;
+    as_many_values = refl;
+    one_weight_an_atom = one_value 1 (zeros (tied ∷ [])) refl;
     one_dead_end_weight_an_atom = refl;
-    potentials_are_fair = zero_is_fair;
-    dead_ends_are_fair = zero_is_dead_fair;
+    tables_are_over_atoms = refl;
+    are_fair = record { values = zero_is_fair; dead_ends = zero_is_dead_fair };
+    rows_are_distinct = no_rows;
     atoms_are_fluent = All-cons (λ (a : Atom). IsTrue (is_atom tie_task a && is_fluent tie_task a.predicate)) tied [] refl (All-nil (λ (a : Atom). IsTrue (is_atom tie_task a && is_fluent tie_task a.predicate)));
     atoms_are_distinct = λ i j d before within. absurd (omega (arith, before, within));
     states_are_distinct = AllPairs-cons (λ (k l : Line State). k.state ≢ l.state) first (second ∷ []) (All-cons (λ (l : Line State). first.state ≢ l.state) second [] apart (All-nil (λ (l : Line State). first.state ≢ l.state)))

@@ -1,6 +1,6 @@
--- Of a certificate of version 1 or 2 that is closed nothing is wrong.
-use Rattle.std.proofs.Common.{◌≡◌, ℕ, ◌+◌, ◌<◌, ◌&&◌, List, get_or, Option, None, Some, inl, inr, true≢false, refl, sym, ◌∙◌, subst, arith}
-use Rattle.std.specs.Prelude.{◌≢◌, IsTrue, AllPairs, slice_get}
+-- Of a certificate that is closed nothing is wrong.
+use Rattle.std.proofs.Common.{◌≡◌, ℕ, suc, ◌+◌, ◌<◌, ◌&&◌, List, [], ◌∷◌, get_or, Option, None, Some, inl, inr, ⊎_elim, true≢false, refl, sym, ap, ◌∙◌, subst, arith}
+use Rattle.std.specs.Prelude.{◌≢◌, IsTrue, AllPairs, Contains, slice_get}
 use Rattle.std.proofs.lemmas.Option.{slice_get_within, get_or_from_slice_get}
 use Rattle.std.proofs.lemmas.List.Elements.{All-contains}
 use Rattle.model.specs.Task.{Atom, Task, Instance}
@@ -11,10 +11,14 @@ use Rattle.model.specs.StaticallyFalse.{kept_instances}
 use Rattle.model.specs.NumberedAtoms.{numbered_atoms}
 use Rattle.model.specs.Claims.{Claim, bound, none, Allows, Line}
 use Rattle.model.specs.Fluents.{is_fluent}
-use Rattle.certificate_definitions.specs.Certificates.{Certificate, potentials_of, lines_of, IsClosedByPotentials}
-use Rattle.certificate_definitions.specs.CertificateRefusals.{Reason, not_fluent, repeated, no_initial, unfair, unfair_goal, goal_open, successor_missing, successor_dearer, cut_weak, cut_not_allowed, plan_invalid, plan_dearer, limit, dead_unfair, dead_unfair_goal, not_dead, IsWrongLine, IsWrong, IsPlanWithin}
-use Rattle.potential_functions.specs.Fair.{IsFairAt}
-use Rattle.model.proofs.ListLemmas.{Contains-got}
+use Rattle.certificate_definitions.specs.Certificates.{Version, one, two, three, Certificate, potentials_of, several_of, lines_of, AreFairIn, IsClosedFor}
+use Rattle.certificate_definitions.specs.CertificateRefusals.{Reason, not_fluent, repeated, no_initial, unfair, unfair_goal, goal_open, successor_missing, successor_dearer, cut_weak, cut_not_allowed, plan_invalid, plan_dearer, limit, dead_unfair, dead_unfair_goal, not_dead, MayLose, MayLoseByTables, IsUnfairIn, IsUnfairAtGoalsIn, IsDeadUnfairIn, IsDeadUnfairAtGoalsIn, IsWrongLine, IsWrong, IsPlanWithin}
+use Rattle.potential_functions.specs.PotentialFunctions.{PotentialFunction}
+use Rattle.potential_functions.specs.Fair.{nothing, IsFairAt, AreFairAt}
+use Rattle.table_functions.specs.TableFunctions.{TableFunction, over_tables, functions_of, dead_ends_of}
+use Rattle.table_functions.specs.FairTables as fair_tables
+use Rattle.table_functions.specs.FairTables.{is_asked}
+use Rattle.model.proofs.ListLemmas.{Contains-cases, Contains-got, Contains-none}
 
 -- ---- elements at their places
 
@@ -28,9 +32,62 @@ plan_solves : (task : Task) (claim : Claim) (p : List Instance) → IsPlanWithin
 plan_solves task (bound least) p within = within.0
 plan_solves task none p within = absurd within
 
+-- ---- fair values
+
+module _ (task : Task) (c : Certificate) where
+  none_loses : (allowance : Instance → ℕ) (p : PotentialFunction) → AreFairAt allowance task (numbered_atoms task c.atoms) p → (i : Instance) → MayLose (allowance i) task c p i → ⊥
+  none_loses allowance p fair i (kept, wrong) =
+      wrong (All-contains (λ (i : Instance). IsFairAt (allowance i) task (numbered_atoms task c.atoms) p.weights i) (kept_instances task) i fair.instances kept)
+
+  none_loses_by_tables : (allowance : Instance → ℕ) (functions : List TableFunction)
+      → ((h : TableFunction) → Contains functions h → fair_tables.AreFairAt (is_asked task (numbered_atoms task c.atoms) c.tables) allowance task (numbered_atoms task c.atoms) h)
+      → (i : Instance) → MayLoseByTables (allowance i) task c functions i → ⊥
+  none_loses_by_tables allowance functions fair i (h, among, kept, asked, wrong) =
+      wrong (All-contains (λ (i : Instance). IsTrue (is_asked task (numbered_atoms task c.atoms) c.tables i) → fair_tables.IsFairAt (allowance i) task (numbered_atoms task c.atoms) h i)
+      (kept_instances task) i (fair h among).instances kept asked)
+
+  -- each of several fair ones is fair over the certificate's tables
+  each_is_fair : fair_tables.AreFair task (numbered_atoms task c.atoms) (several_of c) → (h : TableFunction) → Contains (functions_of (several_of c)) h
+      → fair_tables.AreFairAt (is_asked task (numbered_atoms task c.atoms) c.tables) (cost_of task) task (numbered_atoms task c.atoms) h
+  each_is_fair fair h among =
+      subst (λ tables. fair_tables.AreFairAt (is_asked task (numbered_atoms task c.atoms) tables) (cost_of task) task (numbered_atoms task c.atoms) h) (tables_are c.values 0 among)
+      (All-contains (fair_tables.IsFair task (numbered_atoms task c.atoms)) (functions_of (several_of c)) h fair.values among)
+    where
+      tables_are : (values : List PotentialFunction) (place : ℕ) → Contains (over_tables c.tables place values) h → h.tables ≡ c.tables
+      tables_are [] place among = absurd (Contains-none h among)
+      tables_are (p ∷ values) place among =
+          ⊎_elim (λ is. ap (λ (h : TableFunction). h.tables) (sym is)) (λ later. tables_are values (suc place) later)
+          (Contains-cases (record { potentials = p; tables = c.tables; place = place }) (over_tables c.tables (suc place) values) h among)
+
+  dead_is_fair : fair_tables.AreFair task (numbered_atoms task c.atoms) (several_of c) → (h : TableFunction) → Contains (dead_ends_of (several_of c) ∷ []) h
+      → fair_tables.AreFairAt (is_asked task (numbered_atoms task c.atoms) c.tables) nothing task (numbered_atoms task c.atoms) h
+  dead_is_fair fair h among =
+      ⊎_elim (λ is. subst (fair_tables.AreFairAt (is_asked task (numbered_atoms task c.atoms) c.tables) nothing task (numbered_atoms task c.atoms)) is fair.dead_ends)
+      (λ none. absurd (Contains-none h none)) (Contains-cases (dead_ends_of (several_of c)) [] h among)
+
+  pub none_unfair : (v : Version) → AreFairIn v task c → (i : Instance) → IsUnfairIn v task c i → ⊥
+  none_unfair one fair i wrong = none_loses (cost_of task) (potentials_of c) fair.values i wrong
+  none_unfair two fair i wrong = none_loses (cost_of task) (potentials_of c) fair.values i wrong
+  none_unfair three fair i wrong = none_loses_by_tables (cost_of task) (functions_of (several_of c)) (each_is_fair fair) i wrong
+
+  pub goals_fair : (v : Version) → AreFairIn v task c → IsUnfairAtGoalsIn v task c → ⊥
+  goals_fair one fair wrong = wrong fair.values.goals
+  goals_fair two fair wrong = wrong fair.values.goals
+  goals_fair three fair (h, among, wrong) = wrong (each_is_fair fair h among).goals
+
+  pub none_dead_unfair : (v : Version) → AreFairIn v task c → (i : Instance) → IsDeadUnfairIn v task c i → ⊥
+  none_dead_unfair one fair i wrong = none_loses nothing c.dead_ends fair.dead_ends i wrong
+  none_dead_unfair two fair i wrong = none_loses nothing c.dead_ends fair.dead_ends i wrong
+  none_dead_unfair three fair i wrong = none_loses_by_tables nothing (dead_ends_of (several_of c) ∷ []) (dead_is_fair fair) i wrong
+
+  pub dead_goals_fair : (v : Version) → AreFairIn v task c → IsDeadUnfairAtGoalsIn v task c → ⊥
+  dead_goals_fair one fair wrong = wrong fair.dead_ends.goals
+  dead_goals_fair two fair wrong = wrong fair.dead_ends.goals
+  dead_goals_fair three fair (h, among, wrong) = wrong (dead_is_fair fair h among).goals
+
 -- ---- a closed certificate's lines
 
-module _ (task : Task) (c : Certificate) (closed : IsClosedByPotentials task c) where
+module _ (task : Task) (c : Certificate) (closed : IsClosedFor task c) where
   abbrev listed : List (Line State)
   listed = lines_of task c
 
@@ -73,12 +130,10 @@ module _ (task : Task) (c : Certificate) (closed : IsClosedByPotentials task c) 
   -- and nothing else is wrong but the count of instances
   pub right : (plan : Option (List Instance)) (most : ℕ) (reason : Reason) → IsPlanWithin task c.claim plan → IsWrong task c plan most reason → reason ≡ limit
   right plan most no_initial within wrong = absurd (wrong closed.listing_is_closed.initial_listed)
-  right plan most unfair within (i, kept, wrong) =
-      absurd (wrong (All-contains (λ (i : Instance). IsFairAt (cost_of task i) task (numbered_atoms task c.atoms) (potentials_of c).weights i) (kept_instances task) i closed.potentials_are_fair.instances kept))
-  right plan most unfair_goal within wrong = absurd (wrong closed.potentials_are_fair.goals)
-  right plan most dead_unfair within (i, kept, wrong) =
-      absurd (wrong (All-contains (λ (i : Instance). IsFairAt 0 task (numbered_atoms task c.atoms) c.dead_ends.weights i) (kept_instances task) i closed.dead_ends_are_fair.instances kept))
-  right plan most dead_unfair_goal within wrong = absurd (wrong closed.dead_ends_are_fair.goals)
+  right plan most unfair within (i, wrong) = absurd (none_unfair task c c.version closed.are_fair i wrong)
+  right plan most unfair_goal within wrong = absurd (goals_fair task c c.version closed.are_fair wrong)
+  right plan most dead_unfair within (i, wrong) = absurd (none_dead_unfair task c c.version closed.are_fair i wrong)
+  right plan most dead_unfair_goal within wrong = absurd (dead_goals_fair task c c.version closed.are_fair wrong)
   right None most plan_invalid within wrong = absurd wrong
   right (Some p) most plan_invalid within wrong = absurd (wrong (plan_solves task c.claim p within))
   right None most plan_dearer within wrong = absurd wrong

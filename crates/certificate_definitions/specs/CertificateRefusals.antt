@@ -1,5 +1,5 @@
--- What is wrong with a certificate of version 1 or 2, or with the plan that was given with it, where the checker refuses it.
-use Rattle.std.specs.Prelude.{◌≡◌, ℕ, ◌+◌, ◌<◌, ◌≤◌, ◌⊎◌, ◌&&◌, false, IsTrue, List, length, Contains, slice_get, Option, None, Some, IsSome, MatchOption}
+-- What is wrong with a certificate, or with the plan that was given with it, where the checker refuses it.
+use Rattle.std.specs.Prelude.{◌≡◌, ℕ, ◌+◌, ◌<◌, ◌≤◌, ◌⊎◌, ◌&&◌, false, IsTrue, List, [], ◌∷◌, length, Contains, slice_get, Option, None, Some, IsSome, MatchOption}
 use Rattle.model.specs.Task.{Atom, Task, Instance}
 use Rattle.model.specs.WellTyped.{is_atom}
 use Rattle.model.specs.Runs.{cost_of_all, Solves}
@@ -9,9 +9,13 @@ use Rattle.model.specs.StaticallyFalse.{kept_instances}
 use Rattle.model.specs.NumberedAtoms.{numbered_atoms}
 use Rattle.model.specs.Grounding.{exceeded_limit}
 use Rattle.model.specs.Claims.{Claim, bound, none, Allows, opened, cut, dead, Line, IsListedWithin}
+use Rattle.potential_functions.specs.PotentialFunctions.{PotentialFunction}
 use Rattle.potential_functions.specs.Fair.{IsFairAt, IsFairAtGoals}
+use Rattle.table_functions.specs.TableFunctions.{TableFunction, functions_of, dead_ends_of}
+use Rattle.table_functions.specs.FairTables as fair_tables
+use Rattle.table_functions.specs.FairTables.{is_asked}
 use Rattle.model.specs.Fluents.{is_fluent}
-use Rattle.certificate_definitions.specs.Certificates.{Certificate, potentials_of, lines_of, value_of, is_dead_end_of}
+use Rattle.certificate_definitions.specs.Certificates.{Version, one, two, three, Certificate, potentials_of, several_of, lines_of, value_of, is_dead_end_of}
 
 -- the reasons, each with the number that is reported
 pub data Reason : Type 0 where
@@ -81,12 +85,49 @@ IsWrongLine task c successor_dearer line =
     × ¬ IsListedWithin (lines_of task c) next (l.cost + (system_of task).cost i)
 -- its cut's bound is more than the state's value, or what it claims is less than what is claimed
 IsWrongLine task c cut_weak line =
-    (l : Line State) × (rest : ℕ) × HasState task c line l × (l.mark ≡ cut rest) × ((value_of c l.state < rest) ⊎ ¬ Allows c.claim (l.cost + rest))
+    (l : Line State) × (rest : ℕ) × HasState task c line l × (l.mark ≡ cut rest) × ((value_of task c l.state < rest) ⊎ ¬ Allows c.claim (l.cost + rest))
 -- it is a cut, and it is claimed that no list solves
 IsWrongLine task c cut_not_allowed line = (l : Line State) × (rest : ℕ) × HasState task c line l × (l.mark ≡ cut rest) × (c.claim ≡ none)
 -- it is listed as a dead end, and its value is not at least 1
-IsWrongLine task c not_dead line = (l : Line State) × HasState task c line l × (l.mark ≡ dead) × (is_dead_end_of c l.state ≡ false)
+IsWrongLine task c not_dead line = (l : Line State) × HasState task c line l × (l.mark ≡ dead) × (is_dead_end_of task c l.state ≡ false)
 IsWrongLine task c _ line = ⊥
+
+-- ---- values that are not fair
+
+-- the kept instance may lose more of the potential function than it is allowed to, where the certificate's atoms have the first
+-- numbers
+abbrev pub MayLose : (allowance : ℕ) → Task → Certificate → PotentialFunction → Instance → Type 0
+MayLose allowance task c p i = Contains (kept_instances task) i × ¬ IsFairAt allowance task (numbered_atoms task c.atoms) p.weights i
+
+-- so of one of these table functions, where it is not shut out
+abbrev pub MayLoseByTables : (allowance : ℕ) → Task → Certificate → List TableFunction → Instance → Type 0
+MayLoseByTables allowance task c functions i =
+    (h : TableFunction) × Contains functions h × Contains (kept_instances task) i × IsTrue (is_asked task (numbered_atoms task c.atoms) c.tables i)
+    × ¬ fair_tables.IsFairAt allowance task (numbered_atoms task c.atoms) h i
+
+-- more than 0 of one of these may be left at a goal
+abbrev pub MayBeLeftByTables : Task → Certificate → List TableFunction → Type 0
+MayBeLeftByTables task c functions = (h : TableFunction) × Contains functions h × ¬ fair_tables.IsFairAtGoals task (numbered_atoms task c.atoms) h
+
+abbrev pub IsUnfairIn : Version → Task → Certificate → Instance → Type 0
+IsUnfairIn one task c i = MayLose (cost_of task i) task c (potentials_of c) i
+IsUnfairIn two task c i = MayLose (cost_of task i) task c (potentials_of c) i
+IsUnfairIn three task c i = MayLoseByTables (cost_of task i) task c (functions_of (several_of c)) i
+
+abbrev pub IsUnfairAtGoalsIn : Version → Task → Certificate → Type 0
+IsUnfairAtGoalsIn one task c = ¬ IsFairAtGoals task (numbered_atoms task c.atoms) (potentials_of c)
+IsUnfairAtGoalsIn two task c = ¬ IsFairAtGoals task (numbered_atoms task c.atoms) (potentials_of c)
+IsUnfairAtGoalsIn three task c = MayBeLeftByTables task c (functions_of (several_of c))
+
+abbrev pub IsDeadUnfairIn : Version → Task → Certificate → Instance → Type 0
+IsDeadUnfairIn one task c i = MayLose 0 task c c.dead_ends i
+IsDeadUnfairIn two task c i = MayLose 0 task c c.dead_ends i
+IsDeadUnfairIn three task c i = MayLoseByTables 0 task c (dead_ends_of (several_of c) ∷ []) i
+
+abbrev pub IsDeadUnfairAtGoalsIn : Version → Task → Certificate → Type 0
+IsDeadUnfairAtGoalsIn one task c = ¬ IsFairAtGoals task (numbered_atoms task c.atoms) c.dead_ends
+IsDeadUnfairAtGoalsIn two task c = ¬ IsFairAtGoals task (numbered_atoms task c.atoms) c.dead_ends
+IsDeadUnfairAtGoalsIn three task c = MayBeLeftByTables task c (dead_ends_of (several_of c) ∷ [])
 
 -- What is wrong, and not with a line: with the whole certificate, with the plan, if one is given, or with the
 -- ground task in which the certificate's atoms have the first numbers, of whose instances at most `most` may be kept.
@@ -99,15 +140,13 @@ IsWrong task c plan most plan_invalid = MatchOption plan ⊥ (λ p. ¬ Solves (s
 IsWrong task c plan most plan_dearer =
     MatchOption plan ⊥ (λ p. (least : ℕ) × (c.claim ≡ bound least) × Solves (system_of task) p × (least < cost_of_all (system_of task) p))
 -- a kept instance may lose more than it costs
-IsWrong task c plan most unfair =
-    (i : Instance) × Contains (kept_instances task) i × ¬ IsFairAt (cost_of task i) task (numbered_atoms task c.atoms) (potentials_of c).weights i
+IsWrong task c plan most unfair = (i : Instance) × IsUnfairIn c.version task c i
 -- more than 0 may be left at a goal
-IsWrong task c plan most unfair_goal = ¬ IsFairAtGoals task (numbered_atoms task c.atoms) (potentials_of c)
--- a kept instance may make the second sum of weights fall
-IsWrong task c plan most dead_unfair =
-    (i : Instance) × Contains (kept_instances task) i × ¬ IsFairAt 0 task (numbered_atoms task c.atoms) c.dead_ends.weights i
+IsWrong task c plan most unfair_goal = IsUnfairAtGoalsIn c.version task c
+-- a kept instance may make what reports dead ends fall
+IsWrong task c plan most dead_unfair = (i : Instance) × IsDeadUnfairIn c.version task c i
 -- more than 0 of it may be left at a goal
-IsWrong task c plan most dead_unfair_goal = ¬ IsFairAtGoals task (numbered_atoms task c.atoms) c.dead_ends
+IsWrong task c plan most dead_unfair_goal = IsDeadUnfairAtGoalsIn c.version task c
 -- more instances are kept, or too many atoms have numbers
 IsWrong task c plan most limit = IsSome (exceeded_limit most max_numbered_atoms task c.atoms)
 IsWrong task c plan most _ = ⊥

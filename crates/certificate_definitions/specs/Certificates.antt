@@ -139,58 +139,53 @@ abbrev pub lines_of : Task → Certificate → List (Line State)
 lines_of task certificate =
     map (λ (l : StateLine). record { state = state_of_line task certificate l; cost = l.cost; mark = l.mark }) certificate.lines
 
--- ---- versions 1 and 2
+-- ---- what it says of states
 
--- the value that the certificate's potential function gives to a state
-abbrev pub value_of : Certificate → State → ℕ
-value_of certificate state = value_of_state certificate.atoms (potentials_of certificate) state
+-- The value that the certificate gives to a state: in versions 1 and 2 that of its potential function, to which an atom that has
+-- no number adds nothing, and in version 3 the greatest of its values.
+abbrev pub value_in : Version → Task → Certificate → State → ℕ
+value_in one task c state = value_of_state c.atoms (potentials_of c) state
+value_in two task c state = value_of_state c.atoms (potentials_of c) state
+value_in three task c state = greatest_of_state task (numbered_atoms task c.atoms) (functions_of (several_of c)) state
+
+abbrev pub value_of : Task → Certificate → State → ℕ
+value_of task c = value_in c.version task c
 
 -- the certificate says that the state is a dead end
-abbrev pub is_dead_end_of : Certificate → State → Bool
-is_dead_end_of certificate state = is_dead_state certificate.atoms certificate.dead_ends state
+abbrev pub is_dead_end_in : Version → Task → Certificate → State → Bool
+is_dead_end_in one task c state = is_dead_state c.atoms c.dead_ends state
+is_dead_end_in two task c state = is_dead_state c.atoms c.dead_ends state
+is_dead_end_in three task c state = tables.is_dead_state task (numbered_atoms task c.atoms) (dead_ends_of (several_of c)) state
 
--- Its potential functions, which have a weight for each of its atoms, are fair and dead-fair for the ground task in which they
--- have the first numbers, and its listing is closed by what they say of states.
-pub record IsClosedByPotentials (task : Task) (certificate : Certificate) : Type 0 where
-  pub one_weight_an_atom : length (potentials_of certificate).weights ≡ length certificate.atoms
-  pub one_dead_end_weight_an_atom : length certificate.dead_ends.weights ≡ length certificate.atoms
-  pub potentials_are_fair : AreFair task (numbered_atoms task certificate.atoms) (potentials_of certificate)
-  pub dead_ends_are_fair : AreDeadFair task (numbered_atoms task certificate.atoms) certificate.dead_ends
-  pub atoms_are_fluent : All (λ (a : Atom). IsTrue (is_atom task a && is_fluent task a.predicate)) certificate.atoms
-  pub atoms_are_distinct : AllPairs (λ (a b : Atom). a ≢ b) certificate.atoms
-  pub states_are_distinct : AllPairs (λ (k l : Line State). k.state ≢ l.state) (lines_of task certificate)
-  pub listing_is_closed : IsClosed (system_of task) (value_of certificate) (is_dead_end_of certificate) certificate.claim (lines_of task certificate)
+abbrev pub is_dead_end_of : Task → Certificate → State → Bool
+is_dead_end_of task c = is_dead_end_in c.version task c
 
--- ---- version 3
+-- ---- closed certificates
 
--- the greatest of the values that the certificate gives to a state
-abbrev pub greatest_of : Task → Certificate → State → ℕ
-greatest_of task certificate = greatest_of_state task (numbered_atoms task certificate.atoms) (functions_of (several_of certificate))
+-- the potential functions of versions 1 and 2 are fair and dead-fair for the ground task in which its atoms have the first numbers
+pub record ArePotentialsFair (task : Task) (c : Certificate) : Type 0 where
+  pub values : AreFair task (numbered_atoms task c.atoms) (potentials_of c)
+  pub dead_ends : AreDeadFair task (numbered_atoms task c.atoms) c.dead_ends
 
--- by the last weights of its tables the certificate says that the state is a dead end
-abbrev pub is_dead_by_tables : Task → Certificate → State → Bool
-is_dead_by_tables task certificate = tables.is_dead_state task (numbered_atoms task certificate.atoms) (dead_ends_of (several_of certificate))
+-- so are all values of version 3, each by itself, and that of dead ends
+abbrev pub AreFairIn : Version → Task → Certificate → Type 0
+AreFairIn one task c = ArePotentialsFair task c
+AreFairIn two task c = ArePotentialsFair task c
+AreFairIn three task c = fair_tables.AreFair task (numbered_atoms task c.atoms) (several_of c)
 
--- Its values, which have a weight for each of its atoms, are fair, and that of dead ends is dead-fair, for the ground task in
--- which its atoms have the first numbers, and its listing is closed by what they say of states.
-pub record IsClosedByTables (task : Task) (certificate : Certificate) : Type 0 where
+abbrev pub AreFairFor : Task → Certificate → Type 0
+AreFairFor task c = AreFairIn c.version task c
+
+-- Its values, which have a weight for each of its atoms, are fair, that of dead ends is dead-fair, and its listing is closed by
+-- what they say of states.
+pub record IsClosedFor (task : Task) (certificate : Certificate) : Type 0 where
+  pub as_many_values : IsTrue (is_value_count certificate.version (length certificate.values))
   pub one_weight_an_atom : All (λ (p : PotentialFunction). length p.weights ≡ length certificate.atoms) certificate.values
   pub one_dead_end_weight_an_atom : length certificate.dead_ends.weights ≡ length certificate.atoms
-  pub tables_are_over_atoms : IsTrue (list_all (is_table (length certificate.atoms) (length certificate.values + 1)) certificate.tables)
-  pub values_are_fair : fair_tables.AreFair task (numbered_atoms task certificate.atoms) (several_of certificate)
+  pub tables_are_over_atoms : IsTrue (are_tables certificate.version (length certificate.atoms) (length certificate.values + 1) certificate.tables)
+  pub are_fair : AreFairFor task certificate
   pub atoms_are_fluent : All (λ (a : Atom). IsTrue (is_atom task a && is_fluent task a.predicate)) certificate.atoms
   pub atoms_are_distinct : AllPairs (λ (a b : Atom). a ≢ b) certificate.atoms
   pub rows_are_distinct : All (λ (t : Table). AllPairs (λ (q r : Row). q.atoms ≢ r.atoms) t.rows) certificate.tables
   pub states_are_distinct : AllPairs (λ (k l : Line State). k.state ≢ l.state) (lines_of task certificate)
-  pub listing_is_closed : IsClosed (system_of task) (greatest_of task certificate) (is_dead_by_tables task certificate) certificate.claim (lines_of task certificate)
-
--- ---- all versions
-
-abbrev pub IsClosedIn : Version → Task → Certificate → Type 0
-IsClosedIn one = IsClosedByPotentials
-IsClosedIn two = IsClosedByPotentials
-IsClosedIn three = IsClosedByTables
-
--- the certificate is closed for the task
-abbrev pub IsClosedFor : Task → Certificate → Type 0
-IsClosedFor task certificate = IsClosedIn certificate.version task certificate
+  pub listing_is_closed : IsClosed (system_of task) (value_of task certificate) (is_dead_end_of task certificate) certificate.claim (lines_of task certificate)

@@ -4,6 +4,7 @@ pub mod CertificateRefusals
 pub mod CertificateExamples
 pub mod CertificateText
 pub mod CertificateMachine
+pub mod CertificateLines
 pub mod CertificateNames
 pub mod CertificateChecking
 pub mod CertificateTextExamples

@@ -5,23 +5,26 @@ ghost use Rattle.certificate.specs.Certificate.{certificate_of, store_in};
 ghost use Rattle.cert_checker.specs.PackedLines.{IsPackedListing};
 ghost use Rattle.cert_checker.specs.Weights.{HasItsWeights};
 ghost use Rattle.potentials.specs.Potentials.{potentials_of};
-ghost use Rattle.std.specs.Prelude.{length};
+ghost use Rattle.std.specs.Prelude.{IsTrue, length};
+ghost use Rattle.certificate_definitions.specs.Certificates as certificates;
+ghost use Rattle.certificate_definitions.specs.CertificateChecking.{is_checked};
 
 use certificate::Cert;
 use grounding::Ground;
 use packed_state::{Packed, StateStore};
 use potentials::Potentials;
 
-/// A certificate of a ground task in which the certificate's atoms have the first numbers, with its states packed as the
-/// ground task's are, and its potentials and those of dead ends with a weight for each numbered atom.
+/// A certificate of version 1 or 2 of a ground task in which the certificate's atoms have the first numbers, with its states
+/// packed as the ground task's are, and its potentials and those of dead ends with a weight for each numbered atom.
 #[derive(Drop)]
 pub(super) struct PackedListing<'a, 't> {
     pub(super) grounded: &'a Ground<'t>,
     pub(super) cert: &'a Cert,
     potentials: &'a Potentials,
     dead_ends: &'a Potentials,
+    ghost checked: { IsTrue (is_checked (certificate_of cert.now).version) } by { Prim.hlevel props },
     ghost listed: { IsPackedListing (task_in grounded.now) (atoms_in grounded.now) (certificate_of cert.now) (store_in cert.now) } by { Prim.hlevel props },
-    ghost valued: { HasItsWeights (certificate_of cert.now).potentials (length (atoms_in grounded.now)) (potentials_of potentials.now) } by { Prim.hlevel props },
+    ghost valued: { HasItsWeights (certificates.potentials_of (certificate_of cert.now)) (length (atoms_in grounded.now)) (potentials_of potentials.now) } by { Prim.hlevel props },
     ghost dead_ends_valued: { HasItsWeights (certificate_of cert.now).dead_ends (length (atoms_in grounded.now)) (potentials_of dead_ends.now) } by { Prim.hlevel props },
 }
 
@@ -43,10 +46,11 @@ impl<'a, 't> PackedListing<'a, 't> {
         potentials: &'a Potentials,
         dead_ends: &'a Potentials,
     ) -> PackedListing<'a, 't>
+        requires checked { IsTrue (is_checked (certificate_of cert.now).version) }
         requires fluent { AreFluent (task_in grounded.now) (certificate_of cert.now).atoms }
         requires numbered { atoms_in grounded.now ≡ numbered_atoms (task_in grounded.now) (certificate_of cert.now).atoms }
         requires width { pooled_width (store_in cert.now) ≡ length (atoms_in grounded.now) }
-        requires weights { HasItsWeights (certificate_of cert.now).potentials (length (atoms_in grounded.now)) (potentials_of potentials.now) }
+        requires weights { HasItsWeights (certificates.potentials_of (certificate_of cert.now)) (length (atoms_in grounded.now)) (potentials_of potentials.now) }
         requires dead_ends { HasItsWeights (certificate_of cert.now).dead_ends (length (atoms_in grounded.now)) (potentials_of dead_ends.now) }
         ensures same { (task_at result ≡ task_in grounded.now) × (certificate_at result ≡ certificate_of cert.now) }
     {
@@ -85,7 +89,7 @@ impl<'a, 't> PackedListing<'a, 't> {
     /// The state's value, which what is still to pay from it on does not fall short of.
     pub(super) fn value(&self, state: &Packed) -> u64
         requires { IsPacked self.now state.now }
-        ensures { result ≡ value_of (certificate_at self.now) (state_at self.now state.now) }
+        ensures { result ≡ value_of (task_at self.now) (certificate_at self.now) (state_at self.now state.now) }
     {
         self.potentials.value(state)
     }
@@ -93,7 +97,7 @@ impl<'a, 't> PackedListing<'a, 't> {
     /// Whether the certificate's second potentials say that the state is a dead end.
     pub(super) fn is_dead_end(&self, state: &Packed) -> bool
         requires { IsPacked self.now state.now }
-        ensures { result ≡ is_dead_end_of (certificate_at self.now) (state_at self.now state.now) }
+        ensures { result ≡ is_dead_end_of (task_at self.now) (certificate_at self.now) (state_at self.now state.now) }
     {
         1 <= self.dead_ends.value(state)
     }

@@ -7,7 +7,7 @@ ghost use Rattle.certificate_reader.specs.Lines.{claim_of};
 ghost use Rattle.certificate.specs.Certificate.{certificate_of};
 ghost use Rattle.cert_checker.specs.CertChecker.{IsFirstRefusal, IsTrueRefusal};
 ghost use Rattle.cert_checker.specs.FluentAtoms.{AreFluent};
-ghost use Rattle.cert_checker.specs.CheckedLines.{AreFairFor, CutsAreAllowed, IsCutClosed, IsFirstGrounded, IsLineClosed, IsOpenClosed, IsRightGrounded, IsRightUpTo, IsTrueAnyway, IsListedAs};
+ghost use Rattle.cert_checker.specs.CheckedLines.{CutsAreAllowed, IsCutClosed, IsFirstGrounded, IsLineClosed, IsOpenClosed, IsRightGrounded, IsRightUpTo, IsTrueAnyway, IsListedAs};
 ghost use Rattle.cert_checker.specs.PackedListing.{task_at, atoms_at, certificate_at, state_at, IsPacked};
 ghost use Rattle.model.specs.Task as model_task;
 ghost use Rattle.model.specs.Meaning.{system_of};
@@ -16,7 +16,8 @@ ghost use Rattle.model.specs.Claims as claims;
 ghost use Rattle.model.specs.Claims.{opened, cut, dead, Allows, IsListedWithin};
 ghost use Rattle.model.specs.NumberedAtoms.{numbered_atoms};
 ghost use Rattle.model.specs.Grounding.{applicable_numbers};
-ghost use Rattle.certificate_definitions.specs.Certificates.{is_dead_end_of, lines_of};
+ghost use Rattle.certificate_definitions.specs.Certificates.{is_dead_end_of, lines_of, AreFairFor};
+ghost use Rattle.certificate_definitions.specs.CertificateChecking.{is_checked};
 ghost use Rattle.certificate_definitions.specs.CertificateRefusals.{state_line};
 ghost use Rattle.cert_checker.specs.declared.refusal.Refusal.TheVariants as Refusal;
 
@@ -37,6 +38,7 @@ pub(super) fn check_cert(
     cert: Cert,
     max_instances: u32,
 ) -> Result<(), Refusal>
+    requires checked { IsTrue (is_checked (certificate_of cert).version) }
     requires atoms { AreFluent (task_of task.now) (certificate_of cert).atoms }
     requires distinct { AllPairs (λ (k l : claims.Line meaning.State). k.state ≢ l.state) (lines_of (task_of task.now) (certificate_of cert)) }
     requires allowed { CutsAreAllowed (task_of task.now) (certificate_of cert) (length (lines_of (task_of task.now) (certificate_of cert))) }
@@ -71,6 +73,7 @@ fn ground_task<'t>(
 
 /// Checks the certificate by the ground task in which its atoms have the first numbers.
 fn check_grounded(alloc: Global, grounded: &Ground<'_>, cert: Cert) -> Result<(), Refusal>
+    requires checked { IsTrue (is_checked (certificate_of cert).version) }
     requires fluent { AreFluent (task_in grounded.now) (certificate_of cert).atoms }
     requires numbered { atoms_in grounded.now ≡ numbered_atoms (task_in grounded.now) (certificate_of cert).atoms }
     ensures right { OnOk result (IsRightGrounded (task_in grounded.now) (certificate_of cert)) }
@@ -253,7 +256,7 @@ fn check_cut(
     requires state { IsPacked listing.now state.now }
     requires listed { IsListedAs (task_at listing.now) (certificate_at listing.now) place (state_at listing.now state.now) cost (cut rest) }
     requires small { (cost < 1152921504606846976) × (rest < 1152921504606846976) }
-    ensures right { OnOk result (IsCutClosed (certificate_at listing.now) (state_at listing.now state.now) cost rest) }
+    ensures right { OnOk result (IsCutClosed (task_at listing.now) (certificate_at listing.now) (state_at listing.now state.now) cost rest) }
     ensures wrong { IfErr result (IsTrueAnyway (task_at listing.now) (certificate_at listing.now)) }
     ensures first { IfErr result (λ e. (plan : Option (List model_task.Instance)) (most : ℕ) → IsRightUpTo (task_at listing.now) (certificate_at listing.now) most place
         → IsFirstRefusal (task_at listing.now) (certificate_at listing.now) plan most e) }
@@ -270,7 +273,7 @@ fn check_dead(listing: &PackedListing, place: usize, state: &Packed) -> Result<(
     requires within { place < length (certificate_at listing.now).lines }
     requires state { IsPacked listing.now state.now }
     requires listed { (cost : ℕ) × IsListedAs (task_at listing.now) (certificate_at listing.now) place (state_at listing.now state.now) cost dead }
-    ensures right { OnOk result (IsTrue (is_dead_end_of (certificate_at listing.now) (state_at listing.now state.now))) }
+    ensures right { OnOk result (IsTrue (is_dead_end_of (task_at listing.now) (certificate_at listing.now) (state_at listing.now state.now))) }
     ensures wrong { IfErr result (IsTrueAnyway (task_at listing.now) (certificate_at listing.now)) }
     ensures first { IfErr result (λ e. (plan : Option (List model_task.Instance)) (most : ℕ) → IsRightUpTo (task_at listing.now) (certificate_at listing.now) most place
         → IsFirstRefusal (task_at listing.now) (certificate_at listing.now) plan most e) }

@@ -1,10 +1,13 @@
-//! A certificate's potentials in its ground task.
+//! The potentials of a certificate of version 1 or 2 in its ground task.
 ghost use Rattle.std.specs.Prelude.{◌≡◌, ◌<◌, ◌≤◌, ◌↔◌, pos, All, IsTrue, Some, IfErr, IfOk, OnOk, length, slice_get};
 ghost use Rattle.formulas.specs.State.{instance_of};
 ghost use Rattle.grounding.specs.Ground.{task_in, atoms_in};
 ghost use Rattle.potentials.specs.Fairness.{DetectsDead};
 ghost use Rattle.potentials.specs.Potentials.{potentials_of};
 ghost use Rattle.certificate.specs.Certificate.{certificate_of};
+ghost use Rattle.certificate.specs.CertificateParts.{potential_of};
+ghost use Rattle.certificate_definitions.specs.Certificates as certificates;
+ghost use Rattle.certificate_definitions.specs.CertificateChecking.{is_checked};
 ghost use Rattle.cert_checker.specs.FluentAtoms.{AreFluent};
 ghost use Rattle.cert_checker.specs.CheckedLines.{IsFirstGrounded, IsTrueAnyway};
 ghost use Rattle.cert_checker.specs.Weights.{HasItsWeights};
@@ -14,7 +17,7 @@ ghost use Rattle.potential_functions.specs.PotentialFunctions.{AreInRange};
 ghost use Rattle.potential_functions.specs.Fair.{AreFair, AreDeadFair};
 
 use crate::refusal::{Refusal, RefusalCode};
-use certificate::Cert;
+use certificate::{Cert, Potential};
 use faults::NoMemory;
 use formulas::{Instance, copied};
 use grounding::Ground;
@@ -27,14 +30,15 @@ pub(super) fn fair_potentials(
     cert: &Cert,
     grounded: &Ground<'_>,
 ) -> Result<Potentials, Refusal>
+    requires checked { IsTrue (is_checked (certificate_of cert.now).version) }
     requires fluent { AreFluent (task_in grounded.now) (certificate_of cert.now).atoms }
     requires numbered { atoms_in grounded.now ≡ numbered_atoms (task_in grounded.now) (certificate_of cert.now).atoms }
-    ensures weights { IfOk result (λ p. HasItsWeights (certificate_of cert.now).potentials (length (atoms_in grounded.now)) (potentials_of p)) }
-    ensures fair { OnOk result (AreFair (task_in grounded.now) (numbered_atoms (task_in grounded.now) (certificate_of cert.now).atoms) (certificate_of cert.now).potentials) }
+    ensures weights { IfOk result (λ p. HasItsWeights (certificates.potentials_of (certificate_of cert.now)) (length (atoms_in grounded.now)) (potentials_of p)) }
+    ensures fair { OnOk result (AreFair (task_in grounded.now) (numbered_atoms (task_in grounded.now) (certificate_of cert.now).atoms) (certificates.potentials_of (certificate_of cert.now))) }
     ensures wrong { IfErr result (IsTrueAnyway (task_in grounded.now) (certificate_of cert.now)) }
     ensures first { IfErr result (IsFirstGrounded (task_in grounded.now) (certificate_of cert.now)) }
 {
-    let potentials = at_width(alloc, cert.constant(), cert.weights(), grounded.width())?;
+    let potentials = at_width(alloc, &cert.bounds().values[0], grounded.width())?;
     match potentials.fair(alloc, grounded)? {
         Fairness::Fair => Ok(potentials),
         Fairness::Instance(number) => Err(Refusal::Unfair(kept_instance(grounded, number))),
@@ -49,20 +53,16 @@ pub(super) fn dead_fair_potentials(
     cert: &Cert,
     grounded: &Ground<'_>,
 ) -> Result<Potentials, Refusal>
+    requires checked { IsTrue (is_checked (certificate_of cert.now).version) }
     requires fluent { AreFluent (task_in grounded.now) (certificate_of cert.now).atoms }
     requires numbered { atoms_in grounded.now ≡ numbered_atoms (task_in grounded.now) (certificate_of cert.now).atoms }
-    requires fair { AreFair (task_in grounded.now) (numbered_atoms (task_in grounded.now) (certificate_of cert.now).atoms) (certificate_of cert.now).potentials }
+    requires fair { AreFair (task_in grounded.now) (numbered_atoms (task_in grounded.now) (certificate_of cert.now).atoms) (certificates.potentials_of (certificate_of cert.now)) }
     ensures weights { IfOk result (λ p. HasItsWeights (certificate_of cert.now).dead_ends (length (atoms_in grounded.now)) (potentials_of p)) }
     ensures dead_fair { OnOk result (AreDeadFair (task_in grounded.now) (numbered_atoms (task_in grounded.now) (certificate_of cert.now).atoms) (certificate_of cert.now).dead_ends) }
     ensures wrong { IfErr result (IsTrueAnyway (task_in grounded.now) (certificate_of cert.now)) }
     ensures first { IfErr result (IsFirstGrounded (task_in grounded.now) (certificate_of cert.now)) }
 {
-    let potentials = at_width(
-        alloc,
-        cert.dead_end_constant(),
-        cert.dead_end_weights(),
-        grounded.width(),
-    )?;
+    let potentials = at_width(alloc, &cert.bounds().dead_ends, grounded.width())?;
     match dead_fairness(alloc, &potentials, grounded)? {
         Fairness::Fair => Ok(potentials),
         Fairness::Instance(number) => Err(Refusal::DeadUnfair(kept_instance(grounded, number))),
@@ -94,20 +94,15 @@ fn are_zero(weights: &[i64]) -> bool
     weights.iter().all(|weight| *weight == 0)
 }
 
-/// The potentials of this constant and these weights, with the weight 0 for each further number below the width.
-fn at_width(
-    alloc: Global,
-    constant: i64,
-    weights: &[i64],
-    width: u32,
-) -> Result<Potentials, NoMemory>
-    requires range { AreInRange (record { constant = constant; weights = weights.now }) }
-    requires enough { length weights.now ≤ width }
-    ensures { IfOk result (λ p. HasItsWeights (record { constant = constant; weights = weights.now }) width (potentials_of p)) }
+/// These potentials, with the weight 0 for each further number below the width.
+fn at_width(alloc: Global, said: &Potential, width: u32) -> Result<Potentials, NoMemory>
+    requires range { AreInRange (potential_of said.now) }
+    requires enough { length (potential_of said.now).weights ≤ width }
+    ensures { IfOk result (λ p. HasItsWeights (potential_of said.now) width (potentials_of p)) }
 {
-    let mut weights = Vec::from_slice(alloc, weights)?;
+    let mut weights = Vec::from_slice(alloc, &said.weights)?;
     weights.resize(width as usize, 0)?;
-    Ok(Potentials::new(constant, weights).unwrap())
+    Ok(Potentials::new(said.constant, weights).unwrap())
 }
 
 /// A copy of the kept instance of this number.

@@ -49,16 +49,17 @@ returns-in_err-line-2-clause-refused g c =
     let at = at_line g (goal.at.returns-in_err-line-2-clause-refused g c).In-Some in
     passed_on (IsLineRefusal g.R.Source.remaining task c.args.reader.now c.next_line.new.self) c.from_residual-in_err-line-2.result c.in_err-line-2.field-0.0 c.from_residual-in_err-line-2.ensures.1
     (wrong_reported g.R.Source.remaining c.args.reader.now c.next_line.new.self task so_far.lines line at so_far.reported.right c.in_err-line-2.field-0.0
-    (c.in_err-line-2.ensures.wrong so_far.lines (c.lines-in-lines.ensures ∙ one_read c.next_line.new.self so_far.lines line (handed g (goal.at.returns-in_err-line-2-clause-refused g c).In-Some).read) so_far.reported))
+    (c.in_err-line-2.ensures.wrong so_far.lines (have_begun g.R.Source.remaining c.args.reader.now c.next_line.new.self (so_far.lines ++ line ∷ []) at) (c.lines-in-lines.ensures ∙ one_read c.next_line.new.self so_far.lines line (handed g (goal.at.returns-in_err-line-2-clause-refused g c).In-Some).read) so_far.reported))
 
 pub returns-in_err-line-2-clause-failures : goal.returns-in_err-line-2-clause-failures
 returns-in_err-line-2-clause-failures g c =
     let task = task_of c.args.task.now in
     let so_far = c.lines.invariant in
     let line = text_line_of c.in-Some.line in
+    let at = at_line g (goal.at.returns-in_err-line-2-clause-failures g c).In-Some in
     wrong_counts task so_far.lines line (g.R.Source.failures (source_of c.args.reader.now)) (g.R.Source.failures (source_of c.next_line.new.self))
     c.from_residual-in_err-line-2.result c.in_err-line-2.field-0.0 c.from_residual-in_err-line-2.ensures.1
-    (c.in_err-line-2.ensures.wrong so_far.lines (c.lines-in-lines.ensures ∙ one_read c.next_line.new.self so_far.lines line (handed g (goal.at.returns-in_err-line-2-clause-failures g c).In-Some).read) so_far.reported)
+    (c.in_err-line-2.ensures.wrong so_far.lines (have_begun g.R.Source.remaining c.args.reader.now c.next_line.new.self (so_far.lines ++ line ∷ []) at) (c.lines-in-lines.ensures ∙ one_read c.next_line.new.self so_far.lines line (handed g (goal.at.returns-in_err-line-2-clause-failures g c).In-Some).read) so_far.reported)
     (c.in_ok-line.ensures.failures ∙ so_far.failures)
 
 pub returns-in-Some-2-clause-begun : goal.returns-in-Some-2-clause-begun
