@@ -214,7 +214,7 @@ module _ (cert : Cert) where
   as_many : length marks ≡ length sets
   as_many = length-map cert.states.marks.items listed_of ∙ cert.marked
 
-  limits : Limits (certificate_of cert)
+  pub limits : Limits (certificate_of cert)
   limits = limits_of (certificate_of cert) cert.within_limits
 
   rises : All (Rises count) sets

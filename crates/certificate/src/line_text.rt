@@ -111,8 +111,7 @@ fn add_dead_end_weight(version: Version, weight: i64, text: &mut Vec<u8>) -> Res
 {
     match version {
         Version::One => Ok(()),
-        Version::Two => add_weight(weight, text),
-        Version::Three => add_weight(weight, text),
+        Version::Two | Version::Three => add_weight(weight, text),
     }
 }
 

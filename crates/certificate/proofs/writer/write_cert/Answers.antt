@@ -1,4 +1,4 @@
-use Rattle.std.proofs.Common.{◌≡◌, ◌∙◌, ◌++◌, [], ap, map, subst}
+use Rattle.std.proofs.Common.{◌≡◌, ℕ, ◌∙◌, ◌++◌, List, [], ap, map, subst}
 use Rattle.std.specs.Io.KnownBytes.{Appends}
 use Rattle.std.specs.List.{flat_map}
 use Rattle.std.specs.Prelude.{OnOk}
@@ -58,7 +58,7 @@ whole g c fourth =
     let task = task_of c.args.task.now in
     let cert = certificate_of c.args.cert.now in
     last_held _ _ _ (to_states task cert) fourth _ (certificate_text task cert) (last_text cert) (by_states task cert)
-    (c.in_ok-add_last.ensures ∙ ap (λ n. c.write_states.new.held.items ++ whole_line (last n)) c.line_count.ensures)
+    (◌∙◌ {A = List ℕ} c.in_ok-add_last.ensures (ap (λ n. c.write_states.new.held.items ++ whole_line (last n)) c.line_count.ensures))
 
 pub returns-in_err-write_atoms-clause-beginning : goal.returns-in_err-write_atoms-clause-beginning
 returns-in_err-write_atoms-clause-beginning g c =
