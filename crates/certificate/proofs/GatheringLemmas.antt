@@ -1,19 +1,18 @@
 -- A text that goes to a sink in large pieces.
-use Rattle.std.proofs.Common.{◌≡◌, ℕ, ◌+◌, ◌<◌, ◌≤◌, List, [], ◌∷◌, ◌++◌, length, map, take, get_or, Option, sym, ap, ◌∙◌, subst, append_assoc, append-nil, arith}
+use Rattle.std.proofs.Common.{◌≡◌, ℕ, zero, suc, ◌+◌, ◌<◌, ◌≤◌, List, [], ◌∷◌, ◌++◌, length, map, take, drop, get_or, Option, refl, sym, ap, ◌∙◌, subst, append_assoc, append-nil, arith}
 use Rattle.std.specs.Io.KnownBytes.{Appends}
 use Rattle.std.specs.List.{flat_map}
+use Rattle.std.specs.Option.{option_map}
 use Rattle.std.proofs.KnownBytes.{Appends-nil, Appends-trans}
-use Rattle.std.specs.Prelude.{ℤ, pos, zip, slice_get, Some}
-use Rattle.std.proofs.lemmas.Option.{slice_get-get_or, slice_get_within, get_or_from_slice_get}
-use Rattle.std.proofs.Math.ListN.{get_or-map}
+use Rattle.std.specs.Prelude.{Result, Ok, Err, OnOk, slice_get, Some}
+use Rattle.std.proofs.lemmas.Option.{slice_get-map, slice_get_read, slice_get_within, get_or_from_slice_get}
 use Rattle.std.proofs.lemmas.List.{length-map}
-use Rattle.std.proofs.lemmas.Slice.Zip.{get_or-zip, length-zip}
 use Rattle.model.specs.Task.{Atom, Task}
-use Rattle.model.proofs.Pieces.{parts_more, parts_all}
+use Rattle.model.proofs.Pieces.{parts_split, parts_more, parts_all}
 use Rattle.devices.specs.Devices.{AppendsBeginning}
-use Rattle.certificate_definitions.specs.Certificates.{Certificate, potentials_of}
-use Rattle.certificate_definitions.specs.CertificateNames.{weights_in}
-use Rattle.certificate.specs.Gathering.{IsPassedOn, atom_line, atoms_weighed, line_of_atom}
+use Rattle.certificate_definitions.specs.Certificates.{Certificate}
+use Rattle.certificate_definitions.specs.CertificateNames.{named_atom, weighted_atoms, weights_of_atom}
+use Rattle.certificate.specs.Gathering.{IsPassedOn, atoms_weighed}
 
 module _ (before : Option (List ℕ)) where
   -- nothing yet
@@ -67,26 +66,74 @@ module _ (before : Option (List ℕ)) where
 pub line_more : {Y : Type 0} (f : Y → List ℕ) (ys : List Y) (i : ℕ) (y : Y) → slice_get ys i ≡ Some y → flat_map f (take (i + 1) ys) ≡ flat_map f (take i ys) ++ f y
 line_more f ys i y at = parts_more f ys i y (slice_get_within ys i y at) (get_or_from_slice_get ys i y y at)
 
--- the lines of a certificate's atoms, by what is read at their places
-module _ {X : Type 0} (task : Task) (c : Certificate) (v : X → Atom) (atoms : List X) (are : map v atoms ≡ c.atoms) (i : ℕ) where
-  abbrev lines : List (Atom × (ℤ × ℤ)) → List ℕ
-  lines = flat_map (atom_line task c.version)
+-- a piece is held, and what is held is passed on or not
+module _ (now after : Option (List ℕ)) (held held_added piece : List ℕ) (is : held_added ≡ held ++ piece) where
+  pub added_passed : (held_after : List ℕ) → IsPassedOn now after held_added held_after [] → IsPassedOn now after held held_after piece
+  added_passed held_after (written, taken, same) = (written, taken, sym is ∙ sym (append-nil held_added) ∙ same)
 
-  count : length atoms ≡ length c.atoms
-  count = sym (length-map atoms v) ∙ ap length are
+  pub added_begun : AppendsBeginning now after held_added → AppendsBeginning now after (held ++ piece)
+  added_begun begun = subst (AppendsBeginning now after) is begun
 
-  pub atom_more : (a : X) (weights : List ℤ) → i < length atoms → length (potentials_of c).weights ≡ length c.atoms → length c.dead_ends.weights ≡ length c.atoms → get_or atoms i a ≡ a
-      → weights ≡ weights_in c.version (get_or (potentials_of c).weights i (pos 0) ∷ []) (get_or c.dead_ends.weights i (pos 0))
-      → lines (take (i + 1) (atoms_weighed c)) ≡ lines (take i (atoms_weighed c)) ++ line_of_atom task weights (v a)
-  atom_more a weights within ws ds at is =
-      let both = zip (potentials_of c).weights c.dead_ends.weights in
-      let many : length both ≡ length c.atoms = omega (arith, length-zip (potentials_of c).weights c.dead_ends.weights, ws, ds) in
-      let atom : get_or c.atoms i (v a) ≡ v a = ap (λ xs. get_or xs i (v a)) (sym are) ∙ get_or-map v atoms i a ∙ ap v at in
-      let two = get_or-zip (potentials_of c).weights c.dead_ends.weights i (pos 0, pos 0) (omega (arith, within, count, ws)) (omega (arith, within, count, ds)) in
-      let all = get_or-zip c.atoms both i (v a, (pos 0, pos 0)) (omega (arith, within, count)) (omega (arith, within, count, many)) ∙ (λ j. (atom j, two j)) in
-      line_more (atom_line task c.version) (atoms_weighed c) i (v a, (get_or (potentials_of c).weights i (pos 0), get_or c.dead_ends.weights i (pos 0)))
-      (slice_get-get_or (atoms_weighed c) i (v a, (pos 0, pos 0)) (omega (arith, length-zip c.atoms both, many, within, count)) ∙ ap (λ x. Some x) all)
-      ∙ ap (λ weights. lines (take i (atoms_weighed c)) ++ line_of_atom task weights (v a)) (sym is)
+-- pieces, of which those up to a place are passed on
+module _ {Y : Type 0} (f : Y → List ℕ) (ys : List Y) (before now : Option (List ℕ)) (held held_now : List ℕ) (i : ℕ) (passed : IsPassedOn before now held held_now (flat_map f (take i ys))) where
+  -- they are a beginning of all
+  pub so_far_begun : AppendsBeginning before now (held ++ flat_map f ys)
+  so_far_begun =
+      subst (AppendsBeginning before now) (ap (λ xs. held ++ xs) (sym (parts_split f ys i))) (passed_partly before now held held_now (flat_map f (take i ys)) passed (flat_map f (drop i ys)))
 
-  pub atoms_all : length atoms ≤ i → lines (take i (atoms_weighed c)) ≡ lines (atoms_weighed c)
-  atoms_all past = parts_all (atom_line task c.version) (atoms_weighed c) i (omega (arith, length-zip c.atoms (zip (potentials_of c).weights c.dead_ends.weights), count, past))
+  pub all_passed : length ys ≤ i → IsPassedOn before now held held_now (flat_map f ys)
+  all_passed past = subst (IsPassedOn before now held held_now) (parts_all f ys i past) passed
+
+  -- one piece more is passed on, or a beginning of it is written
+  module _ (y : Y) (at : slice_get ys i ≡ Some y) (after : Option (List ℕ)) where
+    pub next_passed : (held_after : List ℕ) → IsPassedOn now after held_now held_after (f y) → IsPassedOn before after held held_after (flat_map f (take (i + 1) ys))
+    next_passed held_after then =
+        subst (IsPassedOn before after held held_after) (sym (line_more f ys i y at)) (passed_then before now held held_now (flat_map f (take i ys)) passed after held_after (f y) then)
+
+    pub next_begun : AppendsBeginning now after (held_now ++ f y) → AppendsBeginning before after (held ++ flat_map f ys)
+    next_begun begun =
+        let later = flat_map f (drop (i + 1) ys) in
+        let whole : flat_map f (take i ys) ++ (f y ++ later) ≡ flat_map f ys =
+        sym (append_assoc (flat_map f (take i ys)) (f y) later) ∙ ap (λ xs. xs ++ later) (sym (line_more f ys i y at)) ∙ sym (parts_split f ys (i + 1)) in
+        subst (AppendsBeginning before after) (ap (λ xs. held ++ xs) whole) (passed_beginning before now held held_now (flat_map f (take i ys)) passed after (f y) later begun)
+
+-- the atom at a place, by its name, with its weights
+weighed_from : (task : Task) (c : Certificate) (place : ℕ) (atoms : List Atom) (i : ℕ) (a : Atom) → slice_get atoms i ≡ Some a
+    → slice_get (weighted_atoms task c place atoms) i ≡ Some (record { weights = weights_of_atom c (place + i); atom = named_atom task a })
+weighed_from task c place [] i a at = absurd (cc)
+weighed_from task c place (b ∷ atoms) zero a at =
+    let same : b ≡ a = cc in
+    let here : place ≡ place + 0 = omega arith in
+    λ k. Some (record { weights = weights_of_atom c (here k); atom = named_atom task (same k) })
+weighed_from task c place (b ∷ atoms) (suc i) a at =
+    let further : suc place + i ≡ place + suc i = omega arith in
+    weighed_from task c (suc place) atoms i a at ∙ ap (λ n. Some (record { weights = weights_of_atom c n; atom = named_atom task a })) further
+
+pub weighed_at : {X : Type 0} (task : Task) (c : Certificate) (v : X → Atom) (atoms : List X) → map v atoms ≡ c.atoms → (i : ℕ) (a : X) → i < length atoms → a ≡ get_or atoms i a
+    → slice_get (atoms_weighed task c) i ≡ Some (record { weights = weights_of_atom c i; atom = named_atom task (v a) })
+weighed_at task c v atoms are i a within is =
+    weighed_from task c 0 c.atoms i (v a)
+    (ap (λ xs. slice_get xs i) (sym are) ∙ slice_get-map v atoms i ∙ ap (option_map v) (slice_get_read atoms (length atoms) i a refl within is))
+    ∙ ap (λ n. Some (record { weights = weights_of_atom c n; atom = named_atom task (v a) })) (at_zero i)
+  where
+    at_zero : (n : ℕ) → 0 + n ≡ n
+    at_zero n = omega arith
+
+-- there are as many as atoms
+length-weighed : (task : Task) (c : Certificate) (place : ℕ) (atoms : List Atom) → length (weighted_atoms task c place atoms) ≡ length atoms
+length-weighed task c place [] = refl
+length-weighed task c place (a ∷ atoms) = ap suc (length-weighed task c (suc place) atoms)
+
+pub atoms_past : {X : Type 0} (task : Task) (c : Certificate) (v : X → Atom) (atoms : List X) → map v atoms ≡ c.atoms → (i : ℕ) → length atoms ≤ i → length (atoms_weighed task c) ≤ i
+atoms_past task c v atoms are i past = omega (arith, length-weighed task c 0 c.atoms, ap length are, length-map atoms v, past)
+
+-- a part that is passed on after one that was
+pub then_where_ok : {T E : Type 0} (r : Result T E) (before now after : Option (List ℕ)) (held held_now held_after text more : List ℕ) → IsPassedOn before now held held_now text
+    → OnOk r (IsPassedOn now after held_now held_after more) → OnOk r (IsPassedOn before after held held_after (text ++ more))
+then_where_ok (Ok value) before now after held held_now held_after text more passed then = passed_then before now held held_now text passed after held_after more then
+then_where_ok (Err error) before now after held held_now held_after text more passed then = tt
+
+pub then_begun : (before now after : Option (List ℕ)) (held held_now text more : List ℕ) → IsPassedOn before now held held_now text → AppendsBeginning now after (held_now ++ more)
+    → AppendsBeginning before after (held ++ (text ++ more))
+then_begun before now after held held_now text more passed begun =
+    subst (AppendsBeginning before after) (ap (λ xs. held ++ (text ++ xs)) (append-nil more)) (passed_beginning before now held held_now text passed after more [] begun)

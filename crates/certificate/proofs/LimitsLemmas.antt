@@ -1,18 +1,20 @@
 -- What it says that a certificate keeps its limits.
-use Rattle.std.proofs.Common.{◌≡◌, ℕ, ◌+◌, Bool, true, false, List, [], ◌∷◌, length, refl, sym, ap, ◌∙◌}
+use Rattle.std.proofs.Common.{◌≡◌, ℕ, ◌+◌, Bool, true, List, [], ◌∷◌, length}
 use Rattle.std.specs.Prelude.{◌&&◌, IsTrue, All, nat_le}
 use Rattle.std.specs.List.{list_all}
 use Rattle.std.proofs.lemmas.Bool.{and_parts}
 use Rattle.std.proofs.lemmas.List.Elements.{All-cons, All-nil}
-use Rattle.certificate_definitions.specs.Certificates.{Certificate, Version, one, two, three, StateLine, are_potentials, are_tables, is_value_count, rows_of, is_claim, is_dead_end_weight, is_mark, is_number, is_state_line, is_weight, keeps_limits, rise}
+use Rattle.certificate_definitions.specs.Certificates.{Certificate, Version, StateLine, are_potentials, are_tables, is_value_count, rows_of, is_claim, is_dead_end_weight, is_mark, is_number, is_state_line, is_weight, keeps_limits, rise}
 
--- the limits are those of the counts, of the lines, and of the potential functions
+-- the limits are those of the counts, of the lines, and of what bounds the costs
 pub record Limits (c : Certificate) : Type 0 where
   pub few_atoms : nat_le (length c.atoms) 1048576 ≡ true
   pub few_lines : nat_le (length c.lines) 16777216 ≡ true
   pub lines : list_all (is_state_line c.version (length c.atoms)) c.lines ≡ true
+  pub value_count : is_value_count c.version (length c.values) ≡ true
   pub values : list_all (are_potentials is_weight (length c.atoms)) c.values ≡ true
   pub dead_ends : are_potentials (is_dead_end_weight c.version) (length c.atoms) c.dead_ends ≡ true
+  pub tables : are_tables c.version (length c.atoms) (length c.values + 1) c.tables ≡ true
 
 pub limits_of : (c : Certificate) → keeps_limits c ≡ true → Limits c
 limits_of c keeps =
@@ -26,28 +28,13 @@ limits_of c keeps =
     let tables = are_tables c.version (length c.atoms) (length c.values + 1) c.tables in
     let first = (and_parts (most && few_lines && each && count && values && dead_ends && tables && nat_le (length c.tables) 4194304) (nat_le (length (rows_of c.tables)) 4194304) keeps).0 in
     let first = (and_parts (most && few_lines && each && count && values && dead_ends && tables) (nat_le (length c.tables) 4194304) first).0 in
-    let first = (and_parts (most && few_lines && each && count && values && dead_ends) tables first).0 in
+    let (first, tables) = and_parts (most && few_lines && each && count && values && dead_ends) tables first in
     let (first, dead_ends) = and_parts (most && few_lines && each && count && values) dead_ends first in
     let (first, values) = and_parts (most && few_lines && each && count) values first in
-    let first = (and_parts (most && few_lines && each) count first).0 in
+    let (first, value_count) = and_parts (most && few_lines && each) count first in
     let (first, lines) = and_parts (most && few_lines) each first in
     let (first, few_lines) = and_parts most few_lines first in
-    record { few_atoms = (and_parts (is_claim c.claim) few_atoms first).1; few_lines = few_lines; lines = lines; values = values; dead_ends = dead_ends }
-
--- the limits of a certificate of one value and no tables
-one_value_kept : (v : Version) → is_value_count v 1 ≡ true
-one_value_kept one = refl
-one_value_kept two = refl
-one_value_kept three = refl
-
-and_more : (a p q : Bool) → a && p && q ≡ (((a && true && (p && true)) && q && true) && true) && true
-and_more true true true = refl
-and_more true true false = refl
-and_more true false q = refl
-and_more false p q = refl
-
-pub with_one_value : (v : Version) (a p q : Bool) → a && p && q ≡ (((a && is_value_count v 1 && (p && true)) && q && true) && true) && true
-with_one_value v a p q = and_more a p q ∙ ap (λ b. (((a && b && (p && true)) && q && true) && true) && true) (sym (one_value_kept v))
+    record { few_atoms = (and_parts (is_claim c.claim) few_atoms first).1; few_lines = few_lines; lines = lines; value_count = value_count; values = values; dead_ends = dead_ends; tables = tables }
 
 -- the numbers of each line rise
 pub rising_lines : (version : Version) (count : ℕ) (lines : List StateLine) → list_all (is_state_line version count) lines ≡ true → All (λ (l : StateLine). IsTrue (rise count 0 l.atoms)) lines

@@ -1,16 +1,23 @@
 -- The bytes of lines that are added piece by piece.
-use Rattle.std.proofs.Common.{◌≡◌, ℕ, List, [], ◌∷◌, ◌++◌, codes, map, refl, sym, ap, ◌∙◌, append_assoc, append-nil}
-use Rattle.std.specs.Fmt.{digits, signed_decimal}
+use Rattle.std.proofs.Common.{◌≡◌, ℕ, ◌+◌, ◌<◌, ◌≤◌, List, [], ◌∷◌, ◌++◌, codes, get_or, length, map, take, refl, sym, ap, ◌∙◌, append_assoc, append-nil}
+use Rattle.std.specs.Fmt.{digits}
 use Rattle.std.specs.List.{flat_map}
 use Rattle.std.specs.Result.{OnOk}
 use Rattle.std.specs.Prelude.{ℤ, Result, Ok, Err, is_ok, if◌then◌else◌}
+use Rattle.std.proofs.lemmas.Grind.{flat_map-append}
+use Rattle.std.proofs.lemmas.List.{take_all}
+use Rattle.std.proofs.lemmas.List.Folds.{flat_map-map}
 use Rattle.model.specs.Claims.{Claim}
 use Rattle.model.specs.Task.{Atom, Task}
+use Rattle.model.proofs.Pieces.{pieces_more}
+use Rattle.potential_functions.specs.PotentialFunctions.{PotentialFunction}
 use Rattle.certificate_definitions.specs.Certificates.{Version, one, two, three, StateLine}
 use Rattle.model.specs.PlanWriting.{object_name, object_text}
 use Rattle.certificate_definitions.specs.CertificateText.{after_blank, claims, constant, line_text, mark_text, version, weights_text, whole_line}
-use Rattle.certificate_definitions.specs.CertificateNames.{predicate_name}
-use Rattle.certificate.specs.Gathering.{line_of_atom, number_text, state_line}
+use Rattle.certificate_definitions.specs.CertificateNames.{named_atom, predicate_name, weights_in}
+use Rattle.certificate.specs.declared.header.Potential.{Potential}
+use Rattle.certificate.specs.CertificateParts.{potential_of}
+use Rattle.certificate.specs.Gathering.{atom_line, number_text, row_line, scope_line, state_line, weight_text}
 
 -- what the bytes are where the last piece was added
 pub where_added : {T E : Type 0} (r : Result T E) (new old piece whole : List ℕ) → new ≡ (if is_ok r then old ++ piece else old) → old ++ piece ≡ whole
@@ -18,12 +25,14 @@ pub where_added : {T E : Type 0} (r : Result T E) (new old piece whole : List �
 where_added (Ok value) new old piece whole added is = added ∙ is
 where_added (Err error) new old piece whole added is = tt
 
+-- the same by another name of what the bytes are
+pub where_ok : {T E : Type 0} (r : Result T E) (new a b : List ℕ) → OnOk r (new ≡ a) → a ≡ b → OnOk r (new ≡ b)
+where_ok (Ok value) new a b is same = is ∙ same
+where_ok (Err error) new a b is same = tt
+
 -- a piece, and a piece after it
 pub pieces : (old a b : List ℕ) → (old ++ a) ++ b ≡ old ++ (a ++ b)
 pieces old a b = append_assoc old a b
-
-five : (old a b n c d : List ℕ) → (((old ++ a) ++ b) ++ ((n ++ c) ++ d)) ++ n ≡ old ++ ((a ++ (b ++ n)) ++ ((c ++ d) ++ n))
-five old a b n c d = simp append_assoc
 
 -- the line of each version
 pub line_of_one : codes "pddl-cert 1\n" ≡ whole_line (version one)
@@ -38,32 +47,68 @@ pub line_of_three : codes "pddl-cert 3\n" ≡ whole_line (version three)
 unfolding digits
 line_of_three = refl
 
--- one weight, and two
-pub one_weight_text : (w : ℤ) → codes " " ++ signed_decimal w ≡ weights_text (w ∷ [])
-one_weight_text w = sym (append-nil (codes " " ++ signed_decimal w))
+-- one weight
+pub one_weight_text : (w : ℤ) → weight_text w ≡ weights_text (w ∷ [])
+one_weight_text w = sym (append-nil (weight_text w))
 
-pub two_weights_text : (w v : ℤ) → (codes " " ++ signed_decimal w) ++ (codes " " ++ signed_decimal v) ≡ weights_text (w ∷ v ∷ [])
-two_weights_text w v = ap (λ bytes. (codes " " ++ signed_decimal w) ++ bytes) (one_weight_text v)
+-- the weights of values, and after them that of dead ends
+pub then_dead_end : (v : Version) (ws : List ℤ) (dead_end : ℤ) → weights_text ws ++ weights_text (weights_in v [] dead_end) ≡ weights_text (weights_in v ws dead_end)
+then_dead_end one ws dead_end = append-nil (weights_text ws)
+then_dead_end two ws dead_end = sym (flat_map-append weight_text ws (dead_end ∷ []))
+then_dead_end three ws dead_end = sym (flat_map-append weight_text ws (dead_end ∷ []))
+
+-- one value more, of which each has this number
+pub value_more : (of : PotentialFunction → ℤ) (values : List Potential) (i : ℕ) (p : Potential) → i < length values → p ≡ get_or values i p
+    → weights_text (map of (map potential_of (take (i + 1) values))) ≡ weights_text (map of (map potential_of (take i values))) ++ weight_text (of (potential_of p))
+value_more of values i p within is =
+    flat_map-map weight_text of (map potential_of (take (i + 1) values))
+    ∙ pieces_more (λ (q : PotentialFunction). weight_text (of q)) potential_of values i p within is
+    ∙ ap (λ bytes. bytes ++ weight_text (of (potential_of p))) (sym (flat_map-map weight_text of (map potential_of (take i values))))
+
+-- all values
+pub values_all : (of : PotentialFunction → ℤ) (values : List Potential) (i : ℕ) → length values ≤ i → weights_text (map of (map potential_of (take i values))) ≡ weights_text (map of (map potential_of values))
+values_all of values i past = ap (λ ps. weights_text (map of (map potential_of ps))) (take_all i values past)
+
+-- bytes after those that were added to others
+pub added_after : (old front more bytes : List ℕ) → bytes ≡ old ++ front → bytes ++ more ≡ old ++ (front ++ more)
+added_after old front more bytes is = ap (λ xs. xs ++ more) is ∙ append_assoc old front more
+
+six : (old a b n c d : List ℕ) → ((((old ++ a) ++ b) ++ (n ++ c)) ++ d) ++ n ≡ old ++ ((a ++ (b ++ n)) ++ ((c ++ d) ++ n))
+six old a b n c d = simp append_assoc
 
 pub head_text : (old : List ℕ) (v : Version) (claim : Claim) (k : List ℤ)
-    → (((old ++ whole_line (version v)) ++ line_text (claims claim)) ++ (codes "\nconstant" ++ weights_text k)) ++ codes "\n"
+    → ((((old ++ whole_line (version v)) ++ line_text (claims claim)) ++ codes "\nconstant") ++ weights_text k) ++ codes "\n"
     ≡ old ++ (whole_line (version v) ++ whole_line (claims claim) ++ whole_line (constant k))
-head_text old v claim k = five old (whole_line (version v)) (line_text (claims claim)) (codes "\n") (codes "constant") (weights_text k)
+head_text old v claim k = six old (whole_line (version v)) (line_text (claims claim)) (codes "\n") (codes "constant") (weights_text k)
 
 -- the names of objects, as a plan's text spells them
 names_text : (task : Task) (objects : List ℕ) → flat_map (object_text task) objects ≡ flat_map after_blank (map (object_name task) objects)
 names_text task [] = refl
 names_text task (o ∷ objects) = ap (λ xs. object_text task o ++ xs) (names_text task objects)
 
-seven : (old a w b c d e n : List ℕ) → ((((old ++ (a ++ w)) ++ b) ++ c) ++ d) ++ (e ++ n) ≡ old ++ ((((((a ++ w) ++ b) ++ c) ++ d) ++ e) ++ n)
+seven : (old a w b c d e n : List ℕ) → (((((old ++ a) ++ w) ++ b) ++ c) ++ d) ++ (e ++ n) ≡ old ++ ((((((a ++ w) ++ b) ++ c) ++ d) ++ e) ++ n)
 seven old a w b c d e n = simp append_assoc
 
 pub atom_text : (task : Task) (a : Atom) (weights : List ℤ) (old : List ℕ)
-    → (((((old ++ (codes "atom" ++ weights_text weights)) ++ codes " (") ++ predicate_name task a.predicate) ++ flat_map (object_text task) a.objects) ++ codes ")\n")
-    ≡ old ++ line_of_atom task weights a
+    → ((((((old ++ codes "atom") ++ weights_text weights) ++ codes " (") ++ predicate_name task a.predicate) ++ flat_map (object_text task) a.objects) ++ codes ")\n")
+    ≡ old ++ atom_line (record { weights = weights; atom = named_atom task a })
 atom_text task a weights old =
-    ap (λ xs. ((((old ++ (codes "atom" ++ weights_text weights)) ++ codes " (") ++ predicate_name task a.predicate) ++ xs) ++ codes ")\n") (names_text task a.objects)
+    ap (λ xs. (((((old ++ codes "atom") ++ weights_text weights) ++ codes " (") ++ predicate_name task a.predicate) ++ xs) ++ codes ")\n") (names_text task a.objects)
     ∙ seven old (codes "atom") (weights_text weights) (codes " (") (predicate_name task a.predicate) (flat_map after_blank (map (object_name task) a.objects)) (codes ")") (codes "\n")
+
+-- the lines of tables
+three_pieces : (old a b n : List ℕ) → ((old ++ a) ++ b) ++ n ≡ old ++ ((a ++ b) ++ n)
+three_pieces old a b n = simp append_assoc
+
+pub scope_text : (numbers old : List ℕ) → ((old ++ codes "table") ++ flat_map number_text numbers) ++ codes "\n" ≡ old ++ scope_line numbers
+scope_text numbers old = three_pieces old (codes "table") (flat_map number_text numbers) (codes "\n")
+
+four : (old a b c n : List ℕ) → (((old ++ a) ++ b) ++ c) ++ n ≡ old ++ (((a ++ b) ++ c) ++ n)
+four old a b c n = simp append_assoc
+
+pub row_text : (weights : List ℤ) (atoms old : List ℕ)
+    → (((old ++ codes "row") ++ weights_text weights) ++ flat_map number_text atoms) ++ codes "\n" ≡ old ++ row_line (record { atoms = atoms; weights = weights })
+row_text weights atoms old = four old (codes "row") (weights_text weights) (flat_map number_text atoms) (codes "\n")
 
 pub state_text : (l : StateLine) (old : List ℕ) → ((old ++ mark_text l.mark l.cost) ++ flat_map number_text l.atoms) ++ codes "\n" ≡ old ++ state_line l
 state_text l old =

@@ -16,18 +16,18 @@ use Rattle.packed_state.specs.Store.{sets_in}
 use Rattle.packed_state.specs.Words.{bits_in}
 use Rattle.packed_state.proofs.PackedLemmas.{length-bits}
 use Rattle.potential_functions.specs.PotentialFunctions.{PotentialFunction}
-use Rattle.certificate_definitions.specs.Certificates.{Version, one, two, three, StateLine, are_potentials, is_dead_end_weight, is_mark, is_number, is_state_line, is_weight, rise}
+use Rattle.certificate_definitions.specs.Certificates.{Version, one, two, three, StateLine, are_potentials, are_tables, is_dead_end_weight, is_mark, is_number, is_state_line, is_value_count, is_weight, rise}
 use Rattle.model.proofs.ListLemmas.{Contains-cases, Contains-filter, Contains-here, Contains-none, Contains-range, Contains-there, filter-Contains}
 use Rattle.certificate_reader.proofs.NumbersRead.{rise_parts}
 use Rattle.certificate.specs.ListedSets.{Marked, line_with, lines_with, marked, numbers_of}
 use Rattle.certificate.specs.declared.cert.Cert.{Cert}
 use Rattle.certificate.specs.CertificateParts.{listed_of}
+use Rattle.certificate.specs.declared.header.Potential.{Potential}
 use Rattle.certificate.specs.declared.states.Listed.{Listed}
 use Rattle.certificate.specs.declared.states.States.{States}
 use Rattle.certificate.specs.CertificateParts.{certificate_with, potential_of}
 use Rattle.certificate.specs.Certificate.{certificate_of, store_in}
 use Rattle.certificate.proofs.LimitsLemmas.{Limits, limits_of}
-use Rattle.certificate.proofs.WholeText.{IsPlain}
 use Rattle.certificate.proofs.SetsLemmas.{numbers_back, rise_below}
 use Rattle.certificate.proofs.WideningLemmas.{IsBelow, has-at_width, length-at_width}
 
@@ -168,6 +168,9 @@ potential_parts is_in_range count p are =
     let (constant_is, many) = and_parts (is_in_range p.constant) (length p.weights == count) first in
     (constant_is, eqb-true (length p.weights) count many, weights)
 
+pub weight_count : (count : ℕ) (p : PotentialFunction) → are_potentials is_weight count p ≡ true → length p.weights ≡ count
+weight_count count p are = let (_, many, _) = potential_parts is_weight count p are in many
+
 -- what detects dead ends is a weight, in version 1 too, where it is 0
 dead_end_weight : (version : Version) (w : ℤ) → is_dead_end_weight version w ≡ true → is_weight w ≡ true
 dead_end_weight one (pos zero) is = refl
@@ -181,6 +184,19 @@ dead_end_weights_are version [] are = refl
 dead_end_weights_are version (w ∷ weights) are =
     let (here, more) = and_parts (is_dead_end_weight version w) (list_all (is_dead_end_weight version) weights) are in
     λ i. dead_end_weight version w here i && dead_end_weights_are version weights more i
+
+dead_ends_are : (version : Version) (count : ℕ) (p : PotentialFunction) → are_potentials (is_dead_end_weight version) count p ≡ true → are_potentials is_weight count p ≡ true
+dead_ends_are version count p are =
+    let (first, weights) = and_parts (is_dead_end_weight version p.constant && (length p.weights == count)) (list_all (is_dead_end_weight version) p.weights) are in
+    let (constant_is, many) = and_parts (is_dead_end_weight version p.constant) (length p.weights == count) first in
+    λ i. (dead_end_weight version p.constant constant_is i && many i) && dead_end_weights_are version p.weights weights i
+
+-- what a test says of all of a list, by a view, it says of each
+all_kept : {X Y : Type 0} (p : Y → Bool) (v : X → Y) (xs : List X) → list_all p (map v xs) ≡ true → All (λ x. p (v x) ≡ true) xs
+all_kept p v [] all = All-nil (λ x. p (v x) ≡ true)
+all_kept p v (x ∷ xs) all =
+    let (here, more) = and_parts (p (v x)) (list_all p (map v xs)) all in
+    All-cons (λ x. p (v x) ≡ true) x xs here (all_kept p v xs more)
 
 module _ (cert : Cert) where
   abbrev marks : List Marked
@@ -198,32 +214,23 @@ module _ (cert : Cert) where
   as_many : length marks ≡ length sets
   as_many = length-map cert.states.marks.items listed_of ∙ cert.marked
 
-  limits : Limits (certificate_of cert)
+  pub limits : Limits (certificate_of cert)
   limits = limits_of (certificate_of cert) cert.within_limits
 
   rises : All (Rises count) sets
   rises = all_rise version count marks sets as_many limits.lines
 
-  first_value : are_potentials is_weight count (potential_of cert.header.bounds.values) ≡ true
-  first_value = (and_parts (are_potentials is_weight count (potential_of cert.header.bounds.values)) true limits.values).0
+  pub value_count_kept : is_value_count version (length cert.header.bounds.values.items) ≡ true
+  value_count_kept = ap (is_value_count version) (sym (length-map cert.header.bounds.values.items potential_of)) ∙ limits.value_count
 
-  pub constant_within : is_weight cert.header.bounds.values.constant ≡ true
-  constant_within = (potential_parts is_weight count (potential_of cert.header.bounds.values) first_value).0
+  pub values_kept : All (λ (p : Potential). are_potentials is_weight count (potential_of p) ≡ true) cert.header.bounds.values.items
+  values_kept = all_kept (are_potentials is_weight count) potential_of cert.header.bounds.values.items limits.values
 
-  pub weights_within : (length cert.header.bounds.values.weights.items ≡ count) × (list_all is_weight cert.header.bounds.values.weights.items ≡ true)
-  weights_within = let (_, many, weights) = potential_parts is_weight count (potential_of cert.header.bounds.values) first_value in (many, weights)
+  pub dead_ends_kept : are_potentials is_weight count (potential_of cert.header.bounds.dead_ends) ≡ true
+  dead_ends_kept = dead_ends_are version count (potential_of cert.header.bounds.dead_ends) limits.dead_ends
 
-  pub dead_end_constant_within : is_weight cert.header.bounds.dead_ends.constant ≡ true
-  dead_end_constant_within =
-      dead_end_weight version cert.header.bounds.dead_ends.constant (potential_parts (is_dead_end_weight version) count (potential_of cert.header.bounds.dead_ends) limits.dead_ends).0
-
-  pub dead_end_weights_within : (length cert.header.bounds.dead_ends.weights.items ≡ count) × (list_all is_weight cert.header.bounds.dead_ends.weights.items ≡ true)
-  dead_end_weights_within =
-      let (_, many, weights) = potential_parts (is_dead_end_weight version) count (potential_of cert.header.bounds.dead_ends) limits.dead_ends in
-      (many, dead_end_weights_are version cert.header.bounds.dead_ends.weights.items weights)
-
-  pub is_plain : IsPlain (certificate_of cert)
-  is_plain = record { one_value = refl; no_tables = refl; weights = weights_within.0; dead_end_weights = dead_end_weights_within.0 }
+  pub tables_kept : are_tables version count (length cert.header.bounds.values.items + 1) (certificate_of cert).tables ≡ true
+  tables_kept = ap (λ n. are_tables version count (n + 1) (certificate_of cert).tables) (sym (length-map cert.header.bounds.values.items potential_of)) ∙ limits.tables
 
   pub marks_are : map listed_of cert.states.marks.items ≡ map marked (certificate_of cert).lines
   marks_are = sym (marked_back marks sets as_many)

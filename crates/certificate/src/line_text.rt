@@ -57,11 +57,7 @@ fn add_claim(claim: Claim, text: &mut Vec<u8>) -> Result<(), AllocError>
 }
 
 /// Adds the constants of the values and, from version 2 on, that of dead ends, with a blank before each.
-fn add_constants(
-    version: Version,
-    bounds: &Bounds,
-    text: &mut Vec<u8>,
-) -> Result<(), AllocError>
+fn add_constants(version: Version, bounds: &Bounds, text: &mut Vec<u8>) -> Result<(), AllocError>
     ensures { OnOk result (text.new.items ≡ text.old.items ++ weights_text (constants_in (version_of version) (bounds_of bounds.now))) }
 {
     for value in &bounds.values {
@@ -110,17 +106,12 @@ fn add_weights_at(
 }
 
 /// Adds a constant or a weight of dead ends, with a blank before it; version 1 writes none.
-fn add_dead_end_weight(
-    version: Version,
-    weight: i64,
-    text: &mut Vec<u8>,
-) -> Result<(), AllocError>
+fn add_dead_end_weight(version: Version, weight: i64, text: &mut Vec<u8>) -> Result<(), AllocError>
     ensures { OnOk result (text.new.items ≡ text.old.items ++ weights_text (weights_in (version_of version) [] weight)) }
 {
     match version {
         Version::One => Ok(()),
-        Version::Two => add_weight(weight, text),
-        Version::Three => add_weight(weight, text),
+        Version::Two | Version::Three => add_weight(weight, text),
     }
 }
 
@@ -145,11 +136,7 @@ pub(crate) fn add_scope(scope: &[u32], text: &mut Vec<u8>) -> Result<(), AllocEr
 }
 
 /// Adds the line of a row with these weights, in which these atoms are true.
-pub(crate) fn add_row(
-    weights: &[i64],
-    atoms: &[u32],
-    text: &mut Vec<u8>,
-) -> Result<(), AllocError>
+pub(crate) fn add_row(weights: &[i64], atoms: &[u32], text: &mut Vec<u8>) -> Result<(), AllocError>
     ensures { OnOk result (text.new.items ≡ text.old.items ++ row_line (record { atoms = atoms.now; weights = weights.now })) }
 {
     text.extend_from_slice(b"row")?;

@@ -1,2 +1,5 @@
 pub mod RowLemmas
 pub mod StoreLemmas
+pub mod PlacesLemmas
+pub mod AddingLemmas
+pub mod TableLemmas

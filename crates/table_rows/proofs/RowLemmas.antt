@@ -4,6 +4,7 @@ use Rattle.std.specs.Prelude.{IsTrue, Contains, MatchOption, MatchBool, IfSome, 
 use Rattle.std.specs.List.{find}
 use Rattle.std.specs.Cmp.Lexicographic.{pointwise}
 use Rattle.std.proofs.lemmas.Bool.{and_parts, and_from, eq-eqb, false_from_ne_true, ltb-true}
+use Rattle.std.proofs.Math.Seq.{drop-nil}
 use Rattle.std.proofs.Math.Nat.{mul-suc, mul-le-mul_left}
 use Rattle.std.proofs.lemmas.List.{length-append, take-append-le, drop-append-le, get_or-take, get_or-drop}
 use Rattle.std.proofs.lemmas.Option.{slice_get_within}
@@ -28,7 +29,7 @@ take-whole zero xs is = sym (none-of-length xs is)
 take-whole (suc n) [] is = absurd (cc)
 take-whole (suc n) (x ∷ xs) is = ap (λ l. x ∷ l) (take-whole n xs (let e = is in cc))
 
-length-dropped : {X : Type 0} (n m : ℕ) (xs : List X) → length xs ≡ n + m → length (drop n xs) ≡ m
+pub length-dropped : {X : Type 0} (n m : ℕ) (xs : List X) → length xs ≡ n + m → length (drop n xs) ≡ m
 length-dropped zero m xs is = omega (arith, is)
 length-dropped (suc n) m [] is = absurd (omega (arith, is))
 length-dropped (suc n) m (x ∷ xs) is = length-dropped n m xs (omega (arith, is))
@@ -50,7 +51,7 @@ rows-more count scope (first ∷ sets) weights bits more long more_long =
 
 -- ---- sets by their atoms
 
-head-above : (n : ℕ) (scope : List ℕ) (bits : List Bool) (m : ℕ) (rest : List ℕ) → IsTrue (are_rising (n ∷ scope)) → atoms_at scope bits ≡ m ∷ rest → n < m
+pub head-above : (n : ℕ) (scope : List ℕ) (bits : List Bool) (m : ℕ) (rest : List ℕ) → IsTrue (are_rising (n ∷ scope)) → atoms_at scope bits ≡ m ∷ rest → n < m
 head-above n [] bits m rest rising is = absurd (cc)
 head-above n (k ∷ scope) [] m rest rising is = absurd (cc)
 head-above n (k ∷ scope) (true ∷ bits) m rest rising is =
@@ -78,7 +79,7 @@ same-set (n ∷ scope) (false ∷ xs) (false ∷ ys) rising long other same = ap
 same-set (n ∷ scope) (true ∷ xs) (false ∷ ys) rising long other same = let above = head-above n scope ys n (atoms_at scope xs) rising (sym same) in absurd (omega arith)
 same-set (n ∷ scope) (false ∷ xs) (true ∷ ys) rising long other same = let above = head-above n scope xs n (atoms_at scope ys) rising same in absurd (omega arith)
 
-same-themselves : (xs : List ℕ) → pointwise (λ k number. k == number) xs xs ≡ true
+pub same-themselves : (xs : List ℕ) → pointwise (λ k number. k == number) xs xs ≡ true
 same-themselves [] = refl
 same-themselves (x ∷ xs) = and_from (x == x) (pointwise (λ k number. k == number) xs xs) (eq-eqb x x refl) (same-themselves xs)
 
@@ -200,3 +201,26 @@ weight-within count row place rows many below within is =
     let least : count * suc row ≤ count * rows = mul-le-mul_left count (omega arith) in
     let split = mul-suc count row in
     omega (arith, least, split, is, within)
+
+drop-both : {X : Type 0} (n m : ℕ) (xs : List X) → drop (n + m) xs ≡ drop m (drop n xs)
+drop-both zero m xs = ap (λ k. drop k xs) (let e : 0 + m ≡ m = omega arith in e)
+drop-both (suc n) m [] = drop-nil (suc n + m) ∙ sym (drop-nil m)
+drop-both (suc n) m (x ∷ xs) = ap (λ k. drop k (x ∷ xs)) (let e : suc n + m ≡ suc (n + m) = omega arith in e) ∙ drop-both n m xs
+
+-- all weights of the row at a place
+pub row-weights : (count : ℕ) (scope : List ℕ) (sets : List (List Bool)) (weights : List ℤ) (row : ℕ) (r : Row) → slice_get (rows_from count scope sets weights) row ≡ Some r
+    → take count (drop (count * row) weights) ≡ r.weights
+row-weights count scope [] weights row r at = absurd (cc)
+row-weights count scope (set ∷ sets) weights zero r at =
+    let same : record { atoms = atoms_at scope set; weights = take count weights } ≡ r = cc in
+    ap (λ k. take count (drop k weights)) (let e : count * 0 ≡ 0 = omega arith in e) ∙ ap (λ (q : Row). q.weights) same
+row-weights count scope (set ∷ sets) weights (suc row) r at =
+    let split = mul-suc count row in
+    let shifted : count * suc row ≡ count + count * row = omega (arith, split) in
+    ap (λ k. take count (drop k weights)) shifted ∙ ap (take count) (drop-both count (count * row) weights) ∙ row-weights count scope sets (drop count weights) row r at
+
+pub weights-within : (count row rows many : ℕ) → row < rows → many ≡ count * rows → count * row + count ≤ many
+weights-within count row rows many below is =
+    let least : count * suc row ≤ count * rows = mul-le-mul_left count (omega arith) in
+    let split = mul-suc count row in
+    omega (arith, least, split, is)

@@ -16,6 +16,7 @@ use Rattle.tables.specs.declared.placed.PlacedLiteral as code
 use Rattle.tables.specs.Placed.{PlacedLiteral, placed_of, place_in, placed_in, is_so}
 use Rattle.table_rows.specs.Rows.{are_rising, atoms_at}
 use Rattle.table_rows.proofs.RowLemmas.{rising-tail}
+pub use Rattle.table_rows.proofs.PlacesLemmas.{place-within, no-place, among-got, above-got}
 
 -- ---- one literal after another
 
@@ -34,31 +35,6 @@ place-below width literals i d below all =
     (all i (placed_of d) (omega (arith, below, length-map literals placed_of)))
 
 -- ---- places
-
-pub place-within : (scope : List ℕ) (number k : ℕ) → place_in scope number ≡ Some k → (k < length scope) × (get_or scope k 0 ≡ number)
-place-within scope number k is =
-    let there = position-Some (λ n. n == number) scope k 0 is in
-    (there.0, eqb-true (get_or scope k 0) number there.1)
-
-some-place : (p : ℕ → Bool) (xs : List ℕ) → list_any p xs ≡ true → position_or_len p xs < length xs
-some-place p [] some = absurd (true≢false (sym some))
-some-place p (x ∷ xs) some =
-    elim (p x) as (λ b. (b || list_any p xs) ≡ true → cond (not b) (1 + position_or_len p xs) 0 < suc (length xs)) [
-      | true ↦ λ _. omega arith
-      | false ↦ λ later. let rest = some-place p xs later in omega arith
-    ] some
-
-pub no-place : (scope : List ℕ) (number : ℕ) → place_in scope number ≡ None → is_among scope number ≡ false
-no-place scope number none =
-    false_from_ne_true (is_among scope number) (λ some.
-    let place = position_or_len (λ n. n == number) scope in
-    let found : place_in scope number ≡ Some place = ap (λ b. cond b (Some place) None) (lt-ltb place (length scope) (some-place (λ n. n == number) scope some)) in
-    absurd (cc))
-
-pub among-got : (scope : List ℕ) (k : ℕ) → k < length scope → is_among scope (get_or scope k 0) ≡ true
-among-got [] k below = absurd (omega (arith, below))
-among-got (n ∷ scope) zero below = or_left (n == n) (is_among scope n) (eq-eqb n n refl)
-among-got (n ∷ scope) (suc k) below = or_right (n == get_or scope k 0) (is_among scope (get_or scope k 0)) (among-got scope k (omega (arith, below)))
 
 placed-within : (scope : List ℕ) (n : NumberedLiteral) (l : PlacedLiteral) → placed_in scope n ≡ Some l → l.place < length scope
 placed-within scope n l is =
@@ -81,14 +57,6 @@ all-within scope (n ∷ literals) =
     ] refl
 
 -- ---- atoms of a rising scope
-
-pub above-got : (n : ℕ) (scope : List ℕ) (k : ℕ) → IsTrue (are_rising (n ∷ scope)) → k < length scope → n < get_or scope k 0
-above-got n [] k rising below = absurd (omega (arith, below))
-above-got n (m ∷ scope) zero rising below = ltb-true n m (and_parts (nat_lt n m) (are_rising (m ∷ scope)) rising).0
-above-got n (m ∷ scope) (suc k) rising below =
-    let parts = and_parts (nat_lt n m) (are_rising (m ∷ scope)) rising in
-    let rest = above-got m scope k parts.1 (omega (arith, below)) in
-    omega (arith, rest, ltb-true n m parts.0)
 
 above-each : (n : ℕ) (scope : List ℕ) (bits : List Bool) (m : ℕ) → IsTrue (are_rising (n ∷ scope)) → is_among (atoms_at scope bits) m ≡ true → n < m
 above-each n [] bits m rising at = absurd (true≢false (sym at))

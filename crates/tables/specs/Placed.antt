@@ -1,9 +1,9 @@
 -- Literals by the places of their atoms in a scope.
-use Rattle.std.specs.Prelude.{ℕ, ◌==◌, Bool, List, Option}
+use Rattle.std.specs.Prelude.{ℕ, Bool, List, Option}
 use Rattle.std.specs.Bool.{beq}
-use Rattle.std.specs.List.{position}
 use Rattle.std.specs.Option.{option_map}
 use Rattle.packed_state.specs.Sets.{has}
+pub use Rattle.table_rows.specs.Rows.{place_in}
 use Rattle.model.specs.NumberedLiterals.{NumberedLiteral}
 use Rattle.tables.specs.declared.placed.PlacedLiteral as code
 
@@ -14,10 +14,6 @@ pub record PlacedLiteral : Type 0 where
 
 abbrev pub placed_of : code.PlacedLiteral → PlacedLiteral
 placed_of l = record { place = l.place; value = l.value }
-
--- the place of an atom in the scope, from 0, if it is there
-abbrev pub place_in : List ℕ → ℕ → Option ℕ
-place_in scope number = position (λ n. n == number) scope
 
 -- the literal by its atom's place, if it is of an atom of the scope
 abbrev pub placed_in : List ℕ → NumberedLiteral → Option PlacedLiteral

@@ -10,6 +10,7 @@ use faults::NoMemory;
 use grounding::NumberedLiteral;
 use packed_state::Packed;
 use std::alloc::Global;
+use table_rows::place_in;
 
 /// A literal of an atom of a scope.
 #[derive(Clone, Copy, Debug)]
@@ -55,24 +56,6 @@ fn add_placed(
         }
         None => Ok(()),
     }
-}
-
-/// The place of the atom in the scope, from 0, if it is there.
-pub(crate) fn place_in(scope: &[u32], atom: u32) -> Option<u32>
-    requires { length scope.now < 2 ^ 32 }
-    ensures { result ≡ model.place_in scope.now atom }
-{
-    match position_in(scope, atom) {
-        Some(place) => Some(place as u32),
-        None => None,
-    }
-}
-
-/// The index of the atom in the scope, if it is there.
-fn position_in(scope: &[u32], atom: u32) -> Option<usize>
-    ensures { result ≡ model.place_in scope.now atom }
-{
-    scope.iter().position(|number| *number == atom)
 }
 
 /// Whether each of the literals is true of the set.

@@ -9,11 +9,12 @@ ghost use Rattle.tables.specs.Afters.{certain_place, when_in, placed_changes};
 ghost use Rattle.tables.specs.PlacedChanges.{when_of, changes_of};
 
 use crate::afters::{PlacedChanges, When};
-use crate::placed::{place_in, placed};
+use crate::placed::placed;
 use faults::NoMemory;
 use grounding::CountingChange;
 use packed_state::Mask;
 use std::alloc::Global;
+use table_rows::place_in;
 
 impl PlacedChanges {
     /// Those of the changes that are of atoms of the scope.

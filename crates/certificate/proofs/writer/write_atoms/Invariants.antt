@@ -10,7 +10,7 @@ abbrev pub invariant-loop-place : goal.invariant-loop-place
 invariant-loop-place g l =
     record {
       passed : IsPassedOn (g.W.Sink.taken l.initial.out) (g.W.Sink.taken l.out) l.initial.held.items l.held.items
-          (flat_map (atom_line (task_of l.task) (certificate_of l.cert).version) (take l.place (atoms_weighed (certificate_of l.cert))));
+          (flat_map atom_line (take l.place (atoms_weighed (task_of l.task) (certificate_of l.cert))));
       failures : g.W.Sink.failures l.out ≡ g.W.Sink.failures l.initial.out;
       name : g.W.Sink.name l.out ≡ g.W.Sink.name l.initial.out;
     }

@@ -1,79 +1,109 @@
-use Rattle.std.specs.Int.{w64}
-use Rattle.std.proofs.lemmas.Int.{to_z-of_z}
-use Rattle.std.proofs.Common.{rules, ◌≡◌, ◌∙◌, ◌++◌, [], ap, subst, to_z, of_z}
+use Rattle.std.proofs.Common.{◌≡◌, ℕ, ◌∙◌, ◌++◌, List, [], ap, map, subst}
 use Rattle.std.specs.Io.KnownBytes.{Appends}
+use Rattle.std.specs.List.{flat_map}
 use Rattle.std.specs.Prelude.{OnOk}
 use Rattle.task.specs.Task.{task_of}
+use Rattle.table_functions.specs.TableFunctions.{SeveralValues}
+use Rattle.table_rows.specs.Tables.{table_of}
 use Rattle.devices.specs.Devices.{AppendsBeginning}
 use Rattle.certificate_definitions.specs.CertificateText.{last, whole_line}
-use Rattle.certificate_definitions.specs.CertificateNames.{certificate_text, weights_in}
-use Rattle.certificate.specs.Weights.{weights_of}
-use Rattle.std.specs.Prelude.{ℤ, List, ◌∷◌}
-use Rattle.certificate_definitions.specs.Certificates.{potentials_of}
-use Rattle.certificate.specs.Gathering.{IsPassedOn}
-use Rattle.certificate.proofs.NumbersLemmas.{is_plain}
-use Rattle.certificate.proofs.WholeText.{head, head_of, to_atoms, to_states, head_held, atoms_held, atoms_begun, states_held, states_begun, last_begun, all_held, all_begun, all_where_ok}
+use Rattle.certificate_definitions.specs.CertificateNames.{certificate_text}
+use Rattle.certificate.specs.CertificateParts.{constants_in}
+use Rattle.certificate.specs.Gathering.{IsPassedOn, table_text}
+use Rattle.certificate.proofs.WholeText.{head, head_of, atoms_text, tables_text, states_text, last_text, to_atoms, to_tables, to_states, by_atoms, by_tables, by_states, head_held, part_held, part_begun, last_begun, last_held, all_begun, all_where_ok}
 use Rattle.certificate.specs.Certificate.{certificate_of}
 use Rattle.certificate.proofs.writer.write_cert.Goals as goal
-use Rattle.certificate.proofs.writer.write_cert.Goals.{In_ok-add_head, In_ok-write_atoms, In_ok-write_states, In_ok-add_last}
+use Rattle.certificate.proofs.writer.write_cert.Goals.{In_ok-add_head, In_ok-write_atoms, After-write_tables, In_ok-write_tables, In_ok-write_states, In_ok-add_last}
 use Rattle.certificate.proofs.writer.write_cert.Given.{Over}
 
--- what is passed on, or held, once the beginning, the atoms, the states and the last line were added
+-- what is passed on, or held, once the beginning, the atoms, the tables, the states and the last line were added
 first : (g : Over) (c : In_ok-add_head g) → IsPassedOn (g.W.Sink.taken c.args.out.now) (g.W.Sink.taken c.args.out.now) [] c.add_head.new.text.items
     (head_of (certificate_of c.args.cert.now))
 first g c =
-    let cert = certificate_of c.args.cert.now in
-    let of_value : to_z w64 (of_z w64 c.constant.result) ≡ (potentials_of cert).constant = to_z-of_z w64 c.constant.result (search rules) ∙ c.constant.ensures.constant in
-    let of_dead_end : to_z w64 (of_z w64 c.dead_end_constant.result) ≡ cert.dead_ends.constant = to_z-of_z w64 c.dead_end_constant.result (search rules) ∙ c.dead_end_constant.ensures.constant in
-    let constants : weights_of c.weights_in-constants.result ≡ weights_in cert.version ((potentials_of cert).constant ∷ []) cert.dead_ends.constant =
-    ◌∙◌ {A = List ℤ} c.weights_in-constants.ensures (λ i. weights_in (c.version-version.ensures i) (of_value i ∷ []) (of_dead_end i)) in
-    head_held _ (g.W.Sink.taken c.args.out.now) (task_of c.args.task.now) cert (is_plain c.args.cert.now) c.new-held.result.items _ c.new-held.ensures.items
-    (c.in_ok-add_head.ensures ∙ (λ i. c.new-held.result.items ++ head (c.version-version.ensures i) (c.claim.ensures i) (constants i)))
+    head_held (g.W.Sink.taken c.args.out.now) c.new-held.result.items _ (head_of (certificate_of c.args.cert.now)) c.new-held.ensures.items
+    (c.in_ok-add_head.ensures ∙ (λ i. c.new-held.result.items ++ head (c.version.ensures i) (c.claim.ensures i) (constants_in (c.version.ensures i) (c.bounds.ensures.bounds i))))
 
 second : (g : Over) (c : In_ok-write_atoms g) → IsPassedOn (g.W.Sink.taken c.args.out.now) (g.W.Sink.taken c.args.out.now) [] c.add_head.new.text.items
     (head_of (certificate_of c.args.cert.now))
     → IsPassedOn (g.W.Sink.taken c.args.out.now) (g.W.Sink.taken c.write_atoms.new.out) [] c.write_atoms.new.held.items
     (to_atoms (task_of c.args.task.now) (certificate_of c.args.cert.now))
 second g c first =
-    atoms_held _ (g.W.Sink.taken c.write_atoms.new.out) (task_of c.args.task.now) (certificate_of c.args.cert.now) (is_plain c.args.cert.now) _ _ first c.in_ok-write_atoms.ensures.text
+    part_held _ _ _ (head_of (certificate_of c.args.cert.now)) first (g.W.Sink.taken c.write_atoms.new.out) _ (atoms_text (task_of c.args.task.now) (certificate_of c.args.cert.now)) c.in_ok-write_atoms.ensures.text
 
-third : (g : Over) (c : In_ok-write_states g) → IsPassedOn (g.W.Sink.taken c.args.out.now) (g.W.Sink.taken c.write_atoms.new.out) [] c.write_atoms.new.held.items
+-- the tables that are written are the certificate's
+tables_are : (g : Over) (c : After-write_tables g) → flat_map table_text (map table_of c.deref.result.now) ≡ tables_text (certificate_of c.args.cert.now)
+tables_are g c = ap (λ tables. flat_map table_text (map table_of tables)) c.deref.ensures.value ∙ ap (λ (s : SeveralValues). flat_map table_text s.tables) c.bounds-2.ensures.bounds
+
+third : (g : Over) (c : In_ok-write_tables g) → flat_map table_text (map table_of c.deref.result.now) ≡ tables_text (certificate_of c.args.cert.now)
+    → IsPassedOn (g.W.Sink.taken c.args.out.now) (g.W.Sink.taken c.write_atoms.new.out) [] c.write_atoms.new.held.items
     (to_atoms (task_of c.args.task.now) (certificate_of c.args.cert.now))
+    → IsPassedOn (g.W.Sink.taken c.args.out.now) (g.W.Sink.taken c.write_tables.new.out) [] c.write_tables.new.held.items
+    (to_tables (task_of c.args.task.now) (certificate_of c.args.cert.now))
+third g c are second =
+    part_held _ _ _ (to_atoms (task_of c.args.task.now) (certificate_of c.args.cert.now)) second (g.W.Sink.taken c.write_tables.new.out) _ (tables_text (certificate_of c.args.cert.now))
+    (subst (IsPassedOn _ _ _ _) are c.in_ok-write_tables.ensures.text)
+
+fourth : (g : Over) (c : In_ok-write_states g) → IsPassedOn (g.W.Sink.taken c.args.out.now) (g.W.Sink.taken c.write_tables.new.out) [] c.write_tables.new.held.items
+    (to_tables (task_of c.args.task.now) (certificate_of c.args.cert.now))
     → IsPassedOn (g.W.Sink.taken c.args.out.now) (g.W.Sink.taken c.write_states.new.out) [] c.write_states.new.held.items
     (to_states (task_of c.args.task.now) (certificate_of c.args.cert.now))
-third g c second =
-    states_held _ (g.W.Sink.taken c.write_atoms.new.out) (task_of c.args.task.now) (certificate_of c.args.cert.now) (is_plain c.args.cert.now) (g.W.Sink.taken c.write_states.new.out) _ _ second c.in_ok-write_states.ensures.text
+fourth g c third =
+    part_held _ _ _ (to_tables (task_of c.args.task.now) (certificate_of c.args.cert.now)) third (g.W.Sink.taken c.write_states.new.out) _ (states_text (certificate_of c.args.cert.now)) c.in_ok-write_states.ensures.text
 
 whole : (g : Over) (c : In_ok-add_last g) → IsPassedOn (g.W.Sink.taken c.args.out.now) (g.W.Sink.taken c.write_states.new.out) [] c.write_states.new.held.items
     (to_states (task_of c.args.task.now) (certificate_of c.args.cert.now))
     → IsPassedOn (g.W.Sink.taken c.args.out.now) (g.W.Sink.taken c.write_states.new.out) [] c.add_last.new.text.items
     (certificate_text (task_of c.args.task.now) (certificate_of c.args.cert.now))
-whole g c third =
-    all_held _ _ (task_of c.args.task.now) (certificate_of c.args.cert.now) (is_plain c.args.cert.now) _ _ third (c.in_ok-add_last.ensures ∙ ap (λ n. c.write_states.new.held.items ++ whole_line (last n)) c.line_count.ensures)
+whole g c fourth =
+    let task = task_of c.args.task.now in
+    let cert = certificate_of c.args.cert.now in
+    last_held _ _ _ (to_states task cert) fourth _ (certificate_text task cert) (last_text cert) (by_states task cert)
+    (◌∙◌ {A = List ℕ} c.in_ok-add_last.ensures (ap (λ n. c.write_states.new.held.items ++ whole_line (last n)) c.line_count.ensures))
 
 pub returns-in_err-write_atoms-clause-beginning : goal.returns-in_err-write_atoms-clause-beginning
 returns-in_err-write_atoms-clause-beginning g c =
-    atoms_begun _ _ (task_of c.args.task.now) (certificate_of c.args.cert.now) (is_plain c.args.cert.now) _ (first g (goal.at.returns-in_err-write_atoms-clause-beginning g c).In_ok-add_head)
+    let task = task_of c.args.task.now in
+    let cert = certificate_of c.args.cert.now in
+    part_begun _ _ _ (head_of cert) (first g (goal.at.returns-in_err-write_atoms-clause-beginning g c).In_ok-add_head) _ (certificate_text task cert) (atoms_text task cert) _ (by_atoms task cert)
     c.write_atoms.ensures.beginning
+
+pub returns-in_err-write_tables-clause-beginning : goal.returns-in_err-write_tables-clause-beginning
+returns-in_err-write_tables-clause-beginning g c =
+    let task = task_of c.args.task.now in
+    let cert = certificate_of c.args.cert.now in
+    let at = goal.at.returns-in_err-write_tables-clause-beginning g c in
+    part_begun _ _ _ (to_atoms task cert) (second g at.In_ok-write_atoms (first g at.In_ok-add_head)) _ (certificate_text task cert) (tables_text cert) _ (by_tables task cert)
+    (subst (λ text. AppendsBeginning (g.W.Sink.taken c.write_atoms.new.out) (g.W.Sink.taken c.write_tables.new.out) (c.write_atoms.new.held.items ++ text)) (tables_are g at.After-write_tables) c.write_tables.ensures.beginning)
 
 pub returns-in_err-write_states-clause-beginning : goal.returns-in_err-write_states-clause-beginning
 returns-in_err-write_states-clause-beginning g c =
+    let task = task_of c.args.task.now in
+    let cert = certificate_of c.args.cert.now in
     let at = goal.at.returns-in_err-write_states-clause-beginning g c in
-    states_begun _ _ (task_of c.args.task.now) (certificate_of c.args.cert.now) (is_plain c.args.cert.now) _ _ (second g at.In_ok-write_atoms (first g at.In_ok-add_head)) c.write_states.ensures.beginning
+    part_begun _ _ _ (to_tables task cert) (third g at.In_ok-write_tables (tables_are g at.After-write_tables) (second g at.In_ok-write_atoms (first g at.In_ok-add_head))) _ (certificate_text task cert) (states_text cert) _ (by_states task cert)
+    c.write_states.ensures.beginning
 
 pub returns-in_err-add_last-clause-beginning : goal.returns-in_err-add_last-clause-beginning
 returns-in_err-add_last-clause-beginning g c =
+    let task = task_of c.args.task.now in
+    let cert = certificate_of c.args.cert.now in
     let at = goal.at.returns-in_err-add_last-clause-beginning g c in
-    last_begun _ _ (task_of c.args.task.now) (certificate_of c.args.cert.now) (is_plain c.args.cert.now) _ (third g at.In_ok-write_states (second g at.In_ok-write_atoms (first g at.In_ok-add_head)))
+    last_begun _ _ _ (to_states task cert)
+    (fourth g at.In_ok-write_states (third g at.In_ok-write_tables (tables_are g at.After-write_tables) (second g at.In_ok-write_atoms (first g at.In_ok-add_head))))
+    (certificate_text task cert) (last_text cert) (by_states task cert)
 
 pub returns-clause-text : goal.returns-clause-text
 returns-clause-text g c =
     let at = goal.at.returns-clause-text g c in
-    all_where_ok _ _ (task_of c.args.task.now) (certificate_of c.args.cert.now) (is_plain c.args.cert.now) _ _ c.write_all.result (whole g at.In_ok-add_last (third g at.In_ok-write_states (second g at.In_ok-write_atoms (first g at.In_ok-add_head))))
+    all_where_ok _ _ _ (certificate_text (task_of c.args.task.now) (certificate_of c.args.cert.now))
+    (whole g at.In_ok-add_last (fourth g at.In_ok-write_states (third g at.In_ok-write_tables (tables_are g at.After-write_tables) (second g at.In_ok-write_atoms (first g at.In_ok-add_head)))))
+    _ c.write_all.result
     (subst (λ bytes. OnOk c.write_all.result (Appends (g.W.Sink.taken c.write_states.new.out) (g.W.Sink.taken c.write_all.new.sink) bytes)) c.as_slice.ensures.value c.write_all.ensures.ok)
 
 pub returns-clause-beginning : goal.returns-clause-beginning
 returns-clause-beginning g c =
     let at = goal.at.returns-clause-beginning g c in
-    all_begun _ _ (task_of c.args.task.now) (certificate_of c.args.cert.now) (is_plain c.args.cert.now) _ _ (whole g at.In_ok-add_last (third g at.In_ok-write_states (second g at.In_ok-write_atoms (first g at.In_ok-add_head))))
+    all_begun _ _ _ (certificate_text (task_of c.args.task.now) (certificate_of c.args.cert.now))
+    (whole g at.In_ok-add_last (fourth g at.In_ok-write_states (third g at.In_ok-write_tables (tables_are g at.After-write_tables) (second g at.In_ok-write_atoms (first g at.In_ok-add_head)))))
+    _
     (subst (AppendsBeginning (g.W.Sink.taken c.write_states.new.out) (g.W.Sink.taken c.write_all.new.sink)) c.as_slice.ensures.value c.write_all.ensures.beginning)
