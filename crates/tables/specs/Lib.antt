@@ -10,3 +10,5 @@ pub mod Giving
 pub mod ByAtom
 pub mod AllTables
 pub mod Fairness
+pub mod Together
+pub mod Several

@@ -11,10 +11,12 @@ mod lists;
 mod losses;
 mod placed;
 mod placing;
+mod several;
 mod tables;
 #[cfg(test)]
 mod tests;
 
 pub use fairness::{TableValue, is_instance_shut_out};
 pub use indexed::IndexedTable;
+pub use several::{TableFunctions, ValuesFairness};
 pub use tables::IndexedTables;
