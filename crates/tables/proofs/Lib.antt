@@ -10,3 +10,4 @@ pub mod LossLemmas
 pub mod GivingLemmas
 pub mod TablesLemmas
 pub mod FairnessLemmas
+pub mod SeveralLemmas

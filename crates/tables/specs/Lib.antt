@@ -12,3 +12,4 @@ pub mod AllTables
 pub mod Fairness
 pub mod Together
 pub mod Several
+pub mod Rooms

@@ -11,12 +11,15 @@ mod lists;
 mod losses;
 mod placed;
 mod placing;
+mod rooms;
 mod several;
 mod tables;
 #[cfg(test)]
 mod tests;
+mod values;
 
 pub use fairness::{TableValue, is_instance_shut_out};
 pub use indexed::IndexedTable;
+pub use rooms::Room;
 pub use several::{TableFunctions, ValuesFairness};
 pub use tables::IndexedTables;

@@ -61,6 +61,13 @@ impl<'a> IndexedTables<'a> {
         })
     }
 
+    /// The tables.
+    pub(crate) fn tables(&self) -> &[IndexedTable<'a>]
+        ensures { result.now ≡ self.now.tables.items }
+    {
+        &self.tables
+    }
+
     /// How many tables there are.
     pub fn len(&self) -> usize
         ensures { result ≡ length (tables_of self.now) }
