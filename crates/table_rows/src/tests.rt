@@ -98,7 +98,7 @@ fn atoms_of(alloc: Global, table: &Table, row: u32) -> Result<Vec<u32>, NoMemory
 
 /// Whether these are the weights of the row at this place.
 fn has_weights(table: &Table, row: u32, weights: [i64; 2]) -> bool {
-    (row as usize) < table.row_count() && table.weights(row) == weights
+    (row as usize) < table.row_count() && table.weights(row) == weights.as_slice()
 }
 
 #[test]
@@ -111,7 +111,7 @@ fn rows_are_added_by_their_atoms(rt: HostRuntime) -> Result<(), Fail> {
     let other = added(alloc, &mut table, &[], [5, 1])?;
     assert!(rt; new == Some(Added::New) && outside == Some(Added::OutsideScope));
     assert!(rt; repeated == Some(Added::Repeated) && other == Some(Added::New));
-    assert!(rt; atoms_of(alloc, &table, 0)?.as_slice() == [1, 4]);
+    assert!(rt; atoms_of(alloc, &table, 0)?.as_slice() == [1, 4].as_slice());
     assert!(rt; has_weights(&table, 0, [3, 0]) && has_weights(&table, 1, [5, 1]));
     Ok(())
 }

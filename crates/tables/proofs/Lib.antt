@@ -11,3 +11,5 @@ pub mod GivingLemmas
 pub mod TablesLemmas
 pub mod FairnessLemmas
 pub mod SeveralLemmas
+pub mod RoomLemmas
+pub mod ValueLemmas

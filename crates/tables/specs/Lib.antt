@@ -11,5 +11,5 @@ pub mod ByAtom
 pub mod AllTables
 pub mod Fairness
 pub mod Together
-pub mod Several
 pub mod Rooms
+pub mod Several

@@ -6,8 +6,10 @@ use Rattle.potentials.specs.Potentials.{potentials_of}
 use Rattle.potential_functions.specs.Fair.{nothing}
 use Rattle.table_functions.specs.TableFunctions.{TableFunction, SeveralValues, functions_of, dead_ends_of}
 use Rattle.table_functions.specs.FairTables.{IsFair, IsFairAtGoals, IsFirstUnfair, IsFirstDeadUnfair, AreFair}
-use Rattle.tables.specs.AllTables.{tables_of}
+use Rattle.tables.specs.AllTables.{tables_of, count_of}
 use Rattle.tables.specs.Fairness.{AreInstancesFairAt}
+use Rattle.tables.specs.Rooms.{HasRoom}
+use Rattle.tables.specs.declared.rooms.Room.{Room}
 use Rattle.tables.specs.declared.several.TableFunctions.{TableFunctions}
 use Rattle.tables.specs.declared.several.ValuesFairness.{ValuesFairness}
 use Rattle.tables.specs.declared.several.ValuesFairness.TheVariants as reported
@@ -18,6 +20,10 @@ several_of f = record { values = map potentials_of f.values.items; dead_ends = p
 -- how many atoms have a weight
 abbrev pub width_of : TableFunctions → ℕ
 width_of f = length (potentials_of f.dead_ends).weights
+
+-- there is room for the rows of a state and for what they give to each value
+abbrev pub HasRoomFor : TableFunctions → Room → Type 0
+HasRoomFor f room = HasRoom (tables_of f.tables) (count_of f.tables) room
 
 -- the function is that of the value at this place, and all before it are fair
 pub record IsFirstValue (task : Task) (atoms : List Atom) (s : SeveralValues) (place : ℕ) (function : TableFunction) : Type 0 where

@@ -10,5 +10,6 @@ use Rattle.tables.specs.declared.tables.IndexedTables.{IndexedTables}
 pub record FitTogether (values : List Potentials) (dead_ends : Potentials) (tables : IndexedTables) : Type 0 where
   pub counts : count_of tables ≡ length values + 1
   pub widths : All (λ (p : Potentials). length (potentials_of p).weights ≡ length (potentials_of dead_ends).weights) values
+  pub few_values : length values < 2 ^ 32
   pub few : length (potentials_of dead_ends).weights < 2 ^ 24
   pub scopes : IsTrue (are_over (length (potentials_of dead_ends).weights) (tables_of tables))

@@ -1,5 +1,5 @@
 //! What the rows of a state give, added up in memory that is lent.
-ghost use Rattle.std.specs.Prelude.{◌≡◌, ◌<◌, All, IfOk, IsTrue, Some, is_some, length, map, nat_lt, slice_index_or, slice_set};
+ghost use Rattle.std.specs.Prelude.{◌≡◌, ◌<◌, ◌^◌, All, IfOk, IsTrue, Some, is_some, length, map, nat_lt, slice_index_or, slice_set};
 ghost use Rattle.std.specs.List.{list_all};
 ghost use Rattle.packed_state.specs.Packed.{bits_of};
 ghost use Rattle.packed_state.specs.Sets.{has};
@@ -85,6 +85,7 @@ impl Room {
 
 /// Makes it the set of the places of those atoms of the scope that are true in the state.
 fn project(scope: &[u32], state: &Packed, set: &mut Packed)
+    requires few { length scope.now < 2 ^ 32 }
     requires width { length (bits_of set.old) ≡ length scope.now }
     requires scope { IsTrue (list_all (λ number. nat_lt number (length (bits_of state.now))) scope.now) }
     ensures { bits_of set.new ≡ map (has (bits_of state.now)) scope.now }
