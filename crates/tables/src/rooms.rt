@@ -1,5 +1,5 @@
 //! What the rows of a state give, added up in memory that is lent.
-ghost use Rattle.std.specs.Prelude.{◌≡◌, ◌<◌, ◌^◌, All, IfOk, IsTrue, Some, is_some, length, map, nat_lt, slice_index_or, slice_set};
+ghost use Rattle.std.specs.Prelude.{◌≡◌, ℕ, pos, ◌<◌, ◌^◌, All, IfOk, IsTrue, Some, is_some, length, map, nat_lt, slice_index_or, slice_set};
 ghost use Rattle.std.specs.List.{list_all};
 ghost use Rattle.packed_state.specs.Packed.{bits_of};
 ghost use Rattle.packed_state.specs.Sets.{has};
@@ -49,9 +49,10 @@ impl IndexedTables<'_> {
         ensures totals { IsTrue result → AreTotals (bits_of state.now) (tables_of self.now) (count_of self.now) room.new.totals.items }
         ensures room { HasRoom (tables_of self.now) (count_of self.now) room.new }
     {
-        room.totals.fill(0);
-        for place in 0..self.tables().len() {
-            if !room.add_row(place, &self.tables()[place], state) {
+        let tables = self.tables();
+        clear(&mut room.totals);
+        for place in 0..tables.len() {
+            if !room.add_row(place, &tables[place], state) {
                 return false;
             }
         }
@@ -104,6 +105,16 @@ fn put(set: &mut Packed, place: u32, value: bool)
         set.insert(place);
     } else {
         set.remove(place);
+    }
+}
+
+/// Makes each total 0.
+fn clear(totals: &mut Vec<i64>)
+    ensures long { length totals.new.items ≡ length totals.old.items }
+    ensures zero { (place : ℕ) → slice_index_or totals.new.items place (pos 0) ≡ pos 0 }
+{
+    for place in 0..totals.len() {
+        totals[place] = 0;
     }
 }
 
