@@ -1,5 +1,5 @@
-//! Tables with an index of their rows by atoms: which rows agree with literals, what an instance may lose by them, and whether
-//! a value over tables is fair for a ground task.
+//! Tables with an index of their rows by atoms: which rows agree with literals, what an instance may lose by them, whether
+//! values over tables are fair for a ground task, and the values of states.
 #![tactic(auto)]
 
 mod afters;
