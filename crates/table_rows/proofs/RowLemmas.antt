@@ -4,9 +4,8 @@ use Rattle.std.specs.Prelude.{IsTrue, Contains, MatchOption, MatchBool, IfSome, 
 use Rattle.std.specs.List.{find}
 use Rattle.std.specs.Cmp.Lexicographic.{pointwise}
 use Rattle.std.proofs.lemmas.Bool.{and_parts, and_from, eq-eqb, false_from_ne_true, ltb-true}
-use Rattle.std.proofs.Math.Seq.{drop-nil}
 use Rattle.std.proofs.Math.Nat.{mul-suc, mul-le-mul_left}
-use Rattle.std.proofs.lemmas.List.{length-append, take-append-le, drop-append-le, get_or-take, get_or-drop}
+use Rattle.std.proofs.lemmas.List.{length-append, take-append-le, drop-append-le, drop-drop, get_or-take, get_or-drop}
 use Rattle.std.proofs.lemmas.Option.{slice_get_within}
 use Rattle.packed_state.specs.Store.{AreDistinct}
 use Rattle.table_functions.specs.TableFunctions.{Row, Table, row_of, weight_at}
@@ -202,11 +201,6 @@ weight-within count row place rows many below within is =
     let split = mul-suc count row in
     omega (arith, least, split, is, within)
 
-drop-both : {X : Type 0} (n m : ℕ) (xs : List X) → drop (n + m) xs ≡ drop m (drop n xs)
-drop-both zero m xs = ap (λ k. drop k xs) (let e : 0 + m ≡ m = omega arith in e)
-drop-both (suc n) m [] = drop-nil (suc n + m) ∙ sym (drop-nil m)
-drop-both (suc n) m (x ∷ xs) = ap (λ k. drop k (x ∷ xs)) (let e : suc n + m ≡ suc (n + m) = omega arith in e) ∙ drop-both n m xs
-
 -- all weights of the row at a place
 pub row-weights : (count : ℕ) (scope : List ℕ) (sets : List (List Bool)) (weights : List ℤ) (row : ℕ) (r : Row) → slice_get (rows_from count scope sets weights) row ≡ Some r
     → take count (drop (count * row) weights) ≡ r.weights
@@ -217,7 +211,7 @@ row-weights count scope (set ∷ sets) weights zero r at =
 row-weights count scope (set ∷ sets) weights (suc row) r at =
     let split = mul-suc count row in
     let shifted : count * suc row ≡ count + count * row = omega (arith, split) in
-    ap (λ k. take count (drop k weights)) shifted ∙ ap (take count) (drop-both count (count * row) weights) ∙ row-weights count scope sets (drop count weights) row r at
+    ap (λ k. take count (drop k weights)) shifted ∙ ap (take count) (sym (drop-drop (count * row) count weights)) ∙ row-weights count scope sets (drop count weights) row r at
 
 pub weights-within : (count row rows many : ℕ) → row < rows → many ≡ count * rows → count * row + count ≤ many
 weights-within count row rows many below is =

@@ -1,5 +1,8 @@
 //! A table over three atoms.
-use crate::Table;
+ghost use Rattle.std.specs.Prelude.{IsTrue};
+ghost use Rattle.table_rows.specs.Rows.{are_rising};
+
+use crate::{Added, Table};
 use faults::NoMemory;
 use packed_state::Packed;
 use std::alloc::Global;
@@ -63,5 +66,52 @@ fn rows_are_found_by_their_atoms(rt: HostRuntime) -> Result<(), Fail> {
     assert!(rt; second_weight(alloc, &table, &[0, 2])? == Some((0, true)));
     assert!(rt; second_weight(alloc, &table, &[1])? == Some((1, true)));
     assert!(rt; second_weight(alloc, &table, &[2])?.is_none());
+    Ok(())
+}
+
+/// What comes of a row of these atoms and two weights.
+fn added(
+    alloc: Global,
+    table: &mut Table,
+    atoms: &[u32],
+    weights: [i64; 2],
+) -> Result<Option<Added>, NoMemory>
+    requires { IsTrue (are_rising atoms.now) }
+{
+    if table.weight_count() != 2 || table.row_count() > 8 {
+        return Ok(None);
+    }
+    let added = table.add(alloc, atoms, &weights)?;
+    Ok(Some(added))
+}
+
+/// The atoms of the row at this place, if there is one.
+fn atoms_of(alloc: Global, table: &Table, row: u32) -> Result<Vec<u32>, NoMemory> {
+    let mut atoms = Vec::new(alloc);
+    let mut set = set_of(alloc, &[])?;
+    if row as usize >= table.row_count() || table.scope().len() != set.width() as usize {
+        return Ok(atoms);
+    }
+    table.list_atoms(row, &mut set, &mut atoms)?;
+    Ok(atoms)
+}
+
+/// Whether these are the weights of the row at this place.
+fn has_weights(table: &Table, row: u32, weights: [i64; 2]) -> bool {
+    (row as usize) < table.row_count() && table.weights(row) == weights.as_slice()
+}
+
+#[test]
+fn rows_are_added_by_their_atoms(rt: HostRuntime) -> Result<(), Fail> {
+    let alloc = rt.alloc();
+    let mut table = Table::new(alloc, vec![in alloc; 1, 3, 4]?, 2)?;
+    let new = added(alloc, &mut table, &[1, 4], [3, 0])?;
+    let outside = added(alloc, &mut table, &[1, 2], [5, 1])?;
+    let repeated = added(alloc, &mut table, &[1, 4], [5, 1])?;
+    let other = added(alloc, &mut table, &[], [5, 1])?;
+    assert!(rt; new == Some(Added::New) && outside == Some(Added::OutsideScope));
+    assert!(rt; repeated == Some(Added::Repeated) && other == Some(Added::New));
+    assert!(rt; atoms_of(alloc, &table, 0)?.as_slice() == [1, 4].as_slice());
+    assert!(rt; has_weights(&table, 0, [3, 0]) && has_weights(&table, 1, [5, 1]));
     Ok(())
 }

@@ -10,3 +10,6 @@ pub mod LossLemmas
 pub mod GivingLemmas
 pub mod TablesLemmas
 pub mod FairnessLemmas
+pub mod SeveralLemmas
+pub mod RoomLemmas
+pub mod ValueLemmas

@@ -10,3 +10,6 @@ pub mod Giving
 pub mod ByAtom
 pub mod AllTables
 pub mod Fairness
+pub mod Together
+pub mod Rooms
+pub mod Several

@@ -8,11 +8,11 @@ use Rattle.tables.specs.Fates.{IsLoss}
 use Rattle.table_rows.specs.Tables.{table_of, weight_count_of}
 
 abbrev pub indexed_of : IndexedTable → model.Table
-indexed_of t = table_of t.table
+indexed_of t = table_of t.table.now
 
 -- how many weights each row has
 abbrev pub indexed_count_of : IndexedTable → ℕ
-indexed_count_of t = weight_count_of t.table
+indexed_count_of t = weight_count_of t.table.now
 
 -- the instance leads from rows to rows, and loses this much
 pub record LosesByTable (place : ℕ) (literals : List NumberedLiteral) (changes : List ConditionalChange) (table : model.Table) (lost : ℤ) : Type 0 where

@@ -16,11 +16,11 @@ use std::alloc::Global;
 
 /// One of several values: potentials, and of tables the weights at this place.
 #[derive(Clone, Copy)]
-pub struct TableValue<'a> {
+pub struct TableValue<'a, 't> {
     /// The constant and the weights of atoms.
     pub potentials: &'a Potentials,
     /// The tables.
-    pub tables: &'a IndexedTables,
+    pub tables: &'a IndexedTables<'t>,
     /// The place, from 0, of its weights in their rows.
     pub place: u32,
 }
@@ -34,7 +34,7 @@ pub(crate) enum Allowance {
     Nothing,
 }
 
-impl TableValue<'_> {
+impl TableValue<'_, '_> {
     /// Whether the value is fair for the ground task: each instance that is not shut out leads from rows to rows and loses no
     /// more than it costs, and at a goal the value is at most 0.
     ///
@@ -164,7 +164,7 @@ impl TableValue<'_> {
 pub fn is_instance_shut_out(
     alloc: Global,
     ground: &Ground<'_>,
-    tables: &IndexedTables,
+    tables: &IndexedTables<'_>,
     number: u32,
 ) -> Result<bool, NoMemory>
     requires { number < length (kept_instances (task_in ground.now)) }

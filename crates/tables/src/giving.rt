@@ -21,7 +21,7 @@ use grounding::NumberedLiteral;
 use packed_state::Packed;
 use std::alloc::Global;
 
-impl IndexedTable {
+impl IndexedTable<'_> {
     /// Whether some row of the table agrees with the literals.
     ///
     /// # Errors
@@ -38,7 +38,7 @@ impl IndexedTable {
     fn some_are_so(&self, literals: &[PlacedLiteral], set: &mut Packed) -> bool
         requires width { length (bits_of set.old) ≡ length (indexed_of self.now).scope }
         requires below { All (λ (l : by_places.PlacedLiteral). l.place < length (indexed_of self.now).scope) (map placed_of literals.now) }
-        ensures { result ≡ list_any (λ bits. list_all (is_so bits) (map placed_of literals.now)) (sets_of self.now.table) }
+        ensures { result ≡ list_any (λ bits. list_all (is_so bits) (map placed_of literals.now)) (sets_of self.now.table.now) }
     {
         let candidates = self.candidates(literals);
         for k in 0..candidates.len() {

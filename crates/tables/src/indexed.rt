@@ -17,15 +17,16 @@ use table_rows::Table;
 
 /// A table, and for each atom of its scope the rows in which it is true.
 #[derive(Drop)]
-pub struct IndexedTable {
-    pub(crate) table: Table,
+pub struct IndexedTable<'a> {
+    pub(crate) table: &'a Table,
     index: Lists,
-    ghost indexed: { IsIndexOf (sets_of table) (length (sets_of table)) index } by { Prim.hlevel props },
-    ghost in_range: { All (λ (r : Row). All IsInRange r.weights) (table_of table).rows } by { Prim.hlevel props },
+    ghost indexed: { IsIndexOf (sets_of table.now) (length (sets_of table.now)) index } by { Prim.hlevel props },
+    ghost in_range: { All (λ (r : Row). All IsInRange r.weights) (table_of table.now).rows } by { Prim.hlevel props },
 }
 
-impl IndexedTable {
+impl<'a> IndexedTable<'a> {
     ghost use Rattle.tables.specs.Candidates.{candidates_of, AreCandidates};
+    ghost use Rattle.tables.specs.Losses.{indexed_of};
     ghost use Rattle.tables.specs.Placed as by_places;
     ghost use Rattle.tables.specs.Placed.{placed_of};
 
@@ -33,24 +34,24 @@ impl IndexedTable {
     ///
     /// # Errors
     /// Where memory is refused.
-    pub fn new(alloc: Global, table: Table) -> Result<IndexedTable, NoMemory>
-        requires { All (λ (r : Row). All IsInRange r.weights) (table_of table).rows }
-        ensures { IfOk result (λ t. table_of t.table ≡ table_of table) }
+    pub fn new(alloc: Global, table: &'a Table) -> Result<IndexedTable<'a>, NoMemory>
+        requires { All (λ (r : Row). All IsInRange r.weights) (table_of table.now).rows }
+        ensures { IfOk result (λ t. indexed_of t ≡ table_of table.now) }
     {
-        let index = index_of(alloc, &table)?;
+        let index = index_of(alloc, table)?;
         Ok(IndexedTable { table, index })
     }
 
     /// The table.
-    pub fn table(&self) -> &Table
-        ensures { result.now ≡ self.now.table }
+    pub fn table(&self) -> &'a Table
+        ensures { result.now ≡ self.now.table.now }
     {
-        &self.table
+        self.table
     }
 
     /// The rows with the rarest of the atoms that are to be true, or all where none is.
     pub(crate) fn candidates(&self, literals: &[PlacedLiteral]) -> Candidates<'_>
-        ensures { AreCandidates (sets_of self.now.table) (map placed_of literals.now) (candidates_of result) }
+        ensures { AreCandidates (sets_of self.now.table.now) (map placed_of literals.now) (candidates_of result) }
     {
         let mut best = Candidates::All(self.table.row_count() as u32);
         for literal in literals {
@@ -60,7 +61,7 @@ impl IndexedTable {
     }
 
     /// The rows with the atom of the literal, if it is to be true and these are fewer.
-    fn narrowed<'a>(&'a self, best: Candidates<'a>, literal: &PlacedLiteral) -> Candidates<'a>
+    fn narrowed<'b>(&'b self, best: Candidates<'b>, literal: &PlacedLiteral) -> Candidates<'b>
         ensures { (candidates_of result ≡ candidates_of best.entry) ⊎ ((candidates_of result ≡ list_at self.now.index literal.now.place) × (literal.now.value ≡ true)) }
     {
         if !literal.value {

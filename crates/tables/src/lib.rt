@@ -1,5 +1,5 @@
-//! Tables with an index of their rows by atoms: which rows agree with literals, what an instance may lose by them, and whether
-//! a value over tables is fair for a ground task.
+//! Tables with an index of their rows by atoms: which rows agree with literals, what an instance may lose by them, whether
+//! values over tables are fair for a ground task, and the values of states.
 #![tactic(auto)]
 
 mod afters;
@@ -11,10 +11,15 @@ mod lists;
 mod losses;
 mod placed;
 mod placing;
+mod rooms;
+mod several;
 mod tables;
 #[cfg(test)]
 mod tests;
+mod values;
 
 pub use fairness::{TableValue, is_instance_shut_out};
 pub use indexed::IndexedTable;
+pub use rooms::Room;
+pub use several::{TableFunctions, ValuesFairness};
 pub use tables::IndexedTables;

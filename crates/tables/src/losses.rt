@@ -42,7 +42,7 @@ pub(crate) enum Fate {
     Loses(i64),
 }
 
-impl IndexedTable {
+impl IndexedTable<'_> {
     /// The most that an instance of these literals and changes may lose by the weights at this place, which may be negative; 0
     /// where no change is of an atom of the scope. None where the instance leads from a row that agrees to what is no row.
     ///
@@ -80,8 +80,8 @@ impl IndexedTable {
         alloc: Global,
         question: &Question<'_>,
     ) -> Result<Option<i64>, NoMemory>
-        requires { FitsTable self.now.table question.now }
-        ensures { IfOk result (MostLostInAll (question_of self.now.table question.now)) }
+        requires { FitsTable self.now.table.now question.now }
+        ensures { IfOk result (MostLostInAll (question_of self.now.table.now question.now)) }
     {
         let width = self.table.width();
         let mut set = Packed::empty(alloc, width)?;
@@ -109,13 +109,13 @@ impl IndexedTable {
         left: &mut Packed,
         free: &mut Vec<u32>,
     ) -> Result<Fate, NoMemory>
-        requires fits { FitsTable self.now.table question.now }
-        requires there { row < length (table_of self.now.table).rows }
-        requires set { length (bits_of set.old) ≡ length (table_of self.now.table).scope }
-        requires left { length (bits_of left.old) ≡ length (table_of self.now.table).scope }
-        ensures fate { IfOk result (IsFate (question_of self.now.table question.now) row) }
-        ensures set { OnOk result (length (bits_of set.new) ≡ length (table_of self.now.table).scope) }
-        ensures left { OnOk result (length (bits_of left.new) ≡ length (table_of self.now.table).scope) }
+        requires fits { FitsTable self.now.table.now question.now }
+        requires there { row < length (table_of self.now.table.now).rows }
+        requires set { length (bits_of set.old) ≡ length (table_of self.now.table.now).scope }
+        requires left { length (bits_of left.old) ≡ length (table_of self.now.table.now).scope }
+        ensures fate { IfOk result (IsFate (question_of self.now.table.now question.now) row) }
+        ensures set { OnOk result (length (bits_of set.new) ≡ length (table_of self.now.table.now).scope) }
+        ensures left { OnOk result (length (bits_of left.new) ≡ length (table_of self.now.table.now).scope) }
     {
         self.table.get(row, set);
         if !all_are_so(set, question.literals) {
@@ -134,11 +134,11 @@ impl IndexedTable {
     /// The most of this weight that is lost to the rows of this set with any of these places turned, and none where one of them
     /// is no row. The set stays as it is.
     fn most_lost_to(&self, set: &mut Packed, free: &[u32], weight: i64, place: u32) -> Option<i64>
-        requires width { length (bits_of set.old) ≡ length (table_of self.now.table).scope }
-        requires free { All (λ k. k < length (table_of self.now.table).scope) free.now }
+        requires width { length (bits_of set.old) ≡ length (table_of self.now.table.now).scope }
+        requires free { All (λ k. k < length (table_of self.now.table.now).scope) free.now }
         requires weight { IsInRange weight }
-        requires place { place < weight_count_of self.now.table }
-        ensures lost { MostLost (table_of self.now.table) place weight (ways (bits_of set.old) free.now) result }
+        requires place { place < weight_count_of self.now.table.now }
+        ensures lost { MostLost (table_of self.now.table.now) place weight (ways (bits_of set.old) free.now) result }
         ensures set { bits_of set.new ≡ bits_of set.old }
     {
         match free {
@@ -160,10 +160,10 @@ impl IndexedTable {
 
     /// This weight less that of the row of this set, if there is one.
     fn lost_to(&self, set: &Packed, weight: i64, place: u32) -> Option<i64>
-        requires width { length (bits_of set.now) ≡ length (table_of self.now.table).scope }
+        requires width { length (bits_of set.now) ≡ length (table_of self.now.table.now).scope }
         requires weight { IsInRange weight }
-        requires place { place < weight_count_of self.now.table }
-        ensures { MostLost (table_of self.now.table) place weight (bits_of set.now ∷ []) result }
+        requires place { place < weight_count_of self.now.table.now }
+        ensures { MostLost (table_of self.now.table.now) place weight (bits_of set.now ∷ []) result }
     {
         match self.table.find(set) {
             Some(row) => Some(weight - self.table.weight(row, place)),

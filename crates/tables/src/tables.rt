@@ -15,8 +15,8 @@ use std::alloc::Global;
 
 /// Tables whose rows have as many weights, and for each atom those that have it in their scope.
 #[derive(Drop)]
-pub struct IndexedTables {
-    tables: Vec<IndexedTable>,
+pub struct IndexedTables<'a> {
+    tables: Vec<IndexedTable<'a>>,
     count: u32,
     by_atom: Lists,
     ghost few: { length tables.items < 2 ^ 24 },
@@ -24,7 +24,7 @@ pub struct IndexedTables {
     ghost named: { IsByAtom (map indexed_of tables.items) (length tables.items) by_atom } by { Prim.hlevel props },
 }
 
-impl IndexedTables {
+impl<'a> IndexedTables<'a> {
     ghost use Rattle.std.specs.Prelude.{◌∷◌, [], ℕ, ℤ, pos, neg_ℤ, ◌*◌, ◌≤ℤ◌, OnOk, Some, slice_get};
     ghost use Rattle.std.specs.List.{list_any};
     ghost use Rattle.grounding.specs.Changes.{counting_of, conditional_of};
@@ -45,8 +45,8 @@ impl IndexedTables {
         alloc: Global,
         width: u32,
         count: u32,
-        tables: Vec<IndexedTable>,
-    ) -> Result<IndexedTables, NoMemory>
+        tables: Vec<IndexedTable<'a>>,
+    ) -> Result<IndexedTables<'a>, NoMemory>
         requires few { length tables.items < 2 ^ 24 }
         requires counts { All (λ (t : declared.IndexedTable). indexed_count_of t ≡ count) tables.items }
         requires scopes { IsTrue (are_over width (map indexed_of tables.items)) }
@@ -59,6 +59,13 @@ impl IndexedTables {
             count,
             by_atom,
         })
+    }
+
+    /// The tables.
+    pub(crate) fn tables(&self) -> &[IndexedTable<'a>]
+        ensures { result.now ≡ self.now.tables.items }
+    {
+        &self.tables
     }
 
     /// How many tables there are.
@@ -212,7 +219,7 @@ impl IndexedTables {
 }
 
 /// For each of so many atoms the tables that have it in their scope.
-fn by_atom(alloc: Global, width: u32, tables: &[IndexedTable]) -> Result<Lists, NoMemory>
+fn by_atom(alloc: Global, width: u32, tables: &[IndexedTable<'_>]) -> Result<Lists, NoMemory>
     requires few { length tables.now < 2 ^ 24 }
     requires scopes { IsTrue (are_over width (map indexed_of tables.now)) }
     ensures { IfOk result (IsByAtom (map indexed_of tables.now) (length tables.now)) }

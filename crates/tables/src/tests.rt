@@ -1,5 +1,5 @@
 //! A table over three atoms.
-use crate::{IndexedTable, IndexedTables};
+use crate::IndexedTable;
 use faults::NoMemory;
 use grounding::NumberedLiteral;
 use packed_state::Packed;
@@ -20,7 +20,8 @@ fn table_of_one_row(alloc: Global) -> Result<Table, NoMemory> {
 #[test]
 fn literals_agree_with_rows(rt: HostRuntime) -> Result<(), Fail> {
     let alloc = rt.alloc();
-    let table = IndexedTable::new(alloc, table_of_one_row(alloc)?)?;
+    let rows = table_of_one_row(alloc)?;
+    let table = IndexedTable::new(alloc, &rows)?;
     let of_row = [
         NumberedLiteral {
             atom: 4,

@@ -10,7 +10,7 @@ use Rattle.tables.proofs.indexed.IndexedTable.+most_lost_to.Goals as goal
 
 pub returns-in-Some-changed-clause-lost : goal.returns-in-Some-changed-clause-lost
 returns-in-Some-changed-clause-lost t c =
-    let table = table_of c.args.self.now.table in
+    let table = table_of c.args.self.now.table.now in
     let set = bits_of c.args.set.now in
     let free = c.args.free.now in
     let first = get_or free 0 0 in

@@ -5,4 +5,4 @@ use Rattle.tables.specs.Placed.{placed_of}
 use Rattle.tables.proofs.indexed.IndexedTable.candidates.Given as goal
 
 abbrev pub invariant-loop-literal : goal.invariant-loop-literal
-invariant-loop-literal l = AreCandidates (pooled_states l.self.table.rows.sets) (map placed_of (take l.literal-index l.literals)) (candidates_of l.best)
+invariant-loop-literal l = AreCandidates (pooled_states l.self.table.now.rows.sets) (map placed_of (take l.literal-index l.literals)) (candidates_of l.best)

@@ -1,14 +1,12 @@
 use Rattle.std.proofs.Common.{rules, ◌≡◌, ◌∙◌, length, sym, ap, subst, arith, to_z, of_z, w64}
 use Rattle.std.proofs.lemmas.Int.{ints}
 use Rattle.packed_state.specs.Packed.{bits_of}
-use Rattle.packed_state.specs.PooledView.{pooled_states}
 use Rattle.tables.specs.Afters.{left_of, free_places, ways}
 use Rattle.tables.specs.Fates.{question_of, LosesTo, LosesFrom, are_rows}
 use Rattle.tables.specs.PlacedChanges.{changes_of}
 use Rattle.table_rows.specs.Tables.{table_of}
 use Rattle.tables.proofs.AfterLemmas.{length-changed}
 use Rattle.tables.proofs.FateLemmas.{row-range, row-there, free-below, fate-loses, fate-leaves, weight-is}
-use Rattle.table_rows.proofs.RowLemmas.{length-rows}
 use Rattle.tables.proofs.indexed.IndexedTable.fate.Goals as goal
 
 pub list_free-requires-clause-left : goal.list_free-requires-clause-left
@@ -18,23 +16,22 @@ list_free-requires-clause-left c =
 
 pub weight-weight-requires-clause-there : goal.weight-weight-requires-clause-there
 weight-weight-requires-clause-there c =
-    let t = c.args.self.now.table in
-    omega (arith, c.requires.there, length-rows t.count t.scope.items (pooled_states t.rows.sets) t.rows.weights.items)
+    c.requires.there
 
 pub most_lost_to-requires-clause-width : goal.most_lost_to-requires-clause-width
 most_lost_to-requires-clause-width c =
     let changes = changes_of c.args.question.now.changes.now in
-    ap length c.leave.ensures ∙ length-changed (bits_of c.copy_from.new.self) changes.deletes changes.adds ∙ ap length c.copy_from.ensures ∙ c.get.ensures.width ∙ c.args.self.now.table.wide
+    ap length c.leave.ensures ∙ length-changed (bits_of c.copy_from.new.self) changes.deletes changes.adds ∙ ap length c.copy_from.ensures ∙ c.get.ensures.width
 
 pub most_lost_to-requires-clause-free : goal.most_lost_to-requires-clause-free
 most_lost_to-requires-clause-free c =
     let changes = changes_of c.args.question.now.changes.now in
-    free-below (bits_of c.get.new.into) (bits_of c.leave.new.row) (length c.args.self.now.table.scope.items) changes.whens c.deref.result.now (c.deref.ensures.value ∙ c.in_ok-list_free.ensures) c.requires.fits.changes.whens
+    free-below (bits_of c.get.new.set) (bits_of c.leave.new.row) (length c.args.self.now.table.now.scope.items) changes.whens c.deref.result.now (c.deref.ensures.value ∙ c.in_ok-list_free.ensures) c.requires.fits.changes.whens
 
 pub most_lost_to-requires-clause-weight : goal.most_lost_to-requires-clause-weight
 most_lost_to-requires-clause-weight c =
-    let t = table_of c.args.self.now.table in
-    let it = row-there t.rows c.args.row (omega (arith, c.requires.there, length-rows c.args.self.now.table.count c.args.self.now.table.scope.items (pooled_states c.args.self.now.table.rows.sets) c.args.self.now.table.rows.weights.items)) in
+    let t = table_of c.args.self.now.table.now in
+    let it = row-there t.rows c.args.row c.requires.there in
     let is = c.weight-weight.ensures it.0 it.1 in
     let range = row-range t.rows c.args.row c.args.question.now.place it.0 c.args.self.now.in_range it.1 in
     let least = range.least in
@@ -44,20 +41,20 @@ most_lost_to-requires-clause-weight c =
 pub returns-in-Some-clause-left : goal.returns-in-Some-clause-left
 returns-in-Some-clause-left c =
     let changes = changes_of c.args.question.now.changes.now in
-    ap length c.in-Some.ensures.set ∙ ap length c.leave.ensures ∙ length-changed (bits_of c.copy_from.new.self) changes.deletes changes.adds ∙ ap length c.copy_from.ensures ∙ c.get.ensures.width ∙ c.args.self.now.table.wide
+    ap length c.in-Some.ensures.set ∙ ap length c.leave.ensures ∙ length-changed (bits_of c.copy_from.new.self) changes.deletes changes.adds ∙ ap length c.copy_from.ensures ∙ c.get.ensures.width
 
 pub returns-in-None-clause-left : goal.returns-in-None-clause-left
 returns-in-None-clause-left c =
     let changes = changes_of c.args.question.now.changes.now in
-    ap length c.in-None.ensures.set ∙ ap length c.leave.ensures ∙ length-changed (bits_of c.copy_from.new.self) changes.deletes changes.adds ∙ ap length c.copy_from.ensures ∙ c.get.ensures.width ∙ c.args.self.now.table.wide
+    ap length c.in-None.ensures.set ∙ ap length c.leave.ensures ∙ length-changed (bits_of c.copy_from.new.self) changes.deletes changes.adds ∙ ap length c.copy_from.ensures ∙ c.get.ensures.width
 
 pub returns-in-Some-clause-fate : goal.returns-in-Some-clause-fate
 returns-in-Some-clause-fate c =
-    let t = table_of c.args.self.now.table in
-    let q = question_of c.args.self.now.table c.args.question.now in
+    let t = table_of c.args.self.now.table.now in
+    let q = question_of c.args.self.now.table.now c.args.question.now in
     let changes = changes_of c.args.question.now.changes.now in
-    let set = bits_of c.get.new.into in
-    let it = row-there t.rows c.args.row (omega (arith, c.requires.there, length-rows c.args.self.now.table.count c.args.self.now.table.scope.items (pooled_states c.args.self.now.table.rows.sets) c.args.self.now.table.rows.weights.items)) in
+    let set = bits_of c.get.new.set in
+    let it = row-there t.rows c.args.row c.requires.there in
     let is = c.weight-weight.ensures it.0 it.1 in
     let left : bits_of c.leave.new.row ≡ left_of changes set = c.leave.ensures ∙ ap (left_of changes) c.copy_from.ensures in
     let free : c.deref.result.now ≡ free_places changes.whens set (left_of changes set) = c.deref.ensures.value ∙ c.in_ok-list_free.ensures ∙ ap (free_places changes.whens set) left in
@@ -70,10 +67,10 @@ returns-in-Some-clause-fate c =
 
 pub returns-in-None-clause-fate : goal.returns-in-None-clause-fate
 returns-in-None-clause-fate c =
-    let t = table_of c.args.self.now.table in
-    let q = question_of c.args.self.now.table c.args.question.now in
+    let t = table_of c.args.self.now.table.now in
+    let q = question_of c.args.self.now.table.now c.args.question.now in
     let changes = changes_of c.args.question.now.changes.now in
-    let set = bits_of c.get.new.into in
+    let set = bits_of c.get.new.set in
     let left : bits_of c.leave.new.row ≡ left_of changes set = c.leave.ensures ∙ ap (left_of changes) c.copy_from.ensures in
     let free : c.deref.result.now ≡ free_places changes.whens set (left_of changes set) = c.deref.ensures.value ∙ c.in_ok-list_free.ensures ∙ ap (free_places changes.whens set) left in
     fate-leaves q c.args.row set c.get.ensures.set (sym c.all_are_so.ensures ∙ c.if-not-all_are_so.false)

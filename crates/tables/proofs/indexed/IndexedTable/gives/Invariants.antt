@@ -7,6 +7,6 @@ use Rattle.tables.proofs.indexed.IndexedTable.gives.Given as goal
 
 abbrev pub invariant-loop-row : goal.invariant-loop-row
 invariant-loop-row l = record {
-  wide : length (bits_of l.set) ≡ length (table_of l.self.table).scope;
-  most : l.most ≡ most_given (table_of l.self.table).scope l.self.table.rising (table_of l.self.table).rows (map numbered_of l.literals) l.place (take l.row (table_of l.self.table).rows);
+  wide : length (bits_of l.set) ≡ length (table_of l.self.table.now).scope;
+  most : l.most ≡ most_given (table_of l.self.table.now).scope l.self.table.now.rising (table_of l.self.table.now).rows (map numbered_of l.literals) l.place (take l.row (table_of l.self.table.now).rows);
 }

@@ -19,14 +19,14 @@ use Rattle.tables.proofs.indexed.IndexedTable.loses.Goals as goal
 
 pub returns-then-not-touches_scope : goal.returns-then-not-touches_scope
 returns-then-not-touches_scope c =
-    let table = table_of c.args.self.now.table in
+    let table = table_of c.args.self.now.table.now in
     let changes = map conditional_of c.args.changes.now in
     loses-nothing c.args.place (map numbered_of c.args.literals.now) changes table
     (sym (ap (λ s. touches_scope changes (record { scope = s; rows = table.rows })) c.scope-scope.ensures) ∙ sym (c.touches_scope.ensures table.rows) ∙ c.if-not-touches_scope.true)
 
 pub most_lost-requires : goal.most_lost-requires
 most_lost-requires c =
-    let t = c.args.self.now.table in
+    let t = c.args.self.now.table.now in
     let literals = map numbered_of c.args.literals.now in
     let placed : map placed_of c.as_slice.result.now ≡ filter_map (placed_in t.scope.items) literals =
     ap (map placed_of) c.as_slice.ensures.value ∙ c.in_ok-literals.ensures ∙ ap (λ scope. filter_map (placed_in scope) literals) c.scope-scope.ensures in
@@ -40,7 +40,7 @@ most_lost-requires c =
 
 pub returns : goal.returns
 returns c =
-    let t = c.args.self.now.table in
+    let t = c.args.self.now.table.now in
     let literals = map numbered_of c.args.literals.now in
     let changes = map conditional_of c.args.changes.now in
     let placed : map placed_of c.as_slice.result.now ≡ filter_map (placed_in t.scope.items) literals =

@@ -7,7 +7,7 @@ use Rattle.tables.proofs.indexed.IndexedTable.lost_to.Goals as goal
 
 pub overflow_sub-result : goal.overflow_sub-result
 overflow_sub-result c =
-    let t = table_of c.args.self.now.table in
+    let t = table_of c.args.self.now.table.now in
     let it = row-there t.rows c.in-Some.row c.in-Some.ensures.there in
     let is = c.weight.ensures it.0 it.1 in
     let after = row-range t.rows c.in-Some.row c.args.place it.0 c.args.self.now.in_range it.1 in
@@ -20,7 +20,7 @@ overflow_sub-result c =
 
 pub returns-in-Some : goal.returns-in-Some
 returns-in-Some c =
-    let t = table_of c.args.self.now.table in
+    let t = table_of c.args.self.now.table.now in
     let it = row-there t.rows c.in-Some.row c.in-Some.ensures.there in
     let is = c.weight.ensures it.0 it.1 in
     let after = row-range t.rows c.in-Some.row c.args.place it.0 c.args.self.now.in_range it.1 in

@@ -8,7 +8,7 @@ use Rattle.tables.proofs.indexed.IndexedTable.most_lost.Given as goal
 
 abbrev pub invariant-loop-k : goal.invariant-loop-k
 invariant-loop-k l = record {
-  set : length (bits_of l.set) ≡ length (table_of l.self.table).scope;
-  left : length (bits_of l.left) ≡ length (table_of l.self.table).scope;
-  lost : LosesSoFar (question_of l.self.table l.question) (take l.k (candidates_of l.candidates)) l.most;
+  set : length (bits_of l.set) ≡ length (table_of l.self.table.now).scope;
+  left : length (bits_of l.left) ≡ length (table_of l.self.table.now).scope;
+  lost : LosesSoFar (question_of l.self.table.now l.question) (take l.k (candidates_of l.candidates)) l.most;
 }

@@ -2,7 +2,7 @@ use Rattle.std.proofs.Common.{◌≡◌, ◌∙◌, ◌<◌, [], Bool, List, len
 use Rattle.std.specs.Prelude.{All}
 use Rattle.std.specs.List.{list_any, list_all, filter_map}
 use Rattle.grounding.specs.Views.{numbered_of}
-use Rattle.packed_state.specs.PooledView.{pooled_states, pooled_width}
+use Rattle.packed_state.specs.PooledView.{pooled_states}
 use Rattle.packed_state.proofs.PackedLemmas.{length-set_of}
 use Rattle.tables.specs.Placed.{PlacedLiteral, placed_of, placed_in, is_so}
 use Rattle.tables.proofs.AgreeingLemmas.{rows-agree}
@@ -15,16 +15,15 @@ some_are_so-requires-clause-width c = ap length c.in_ok-set.ensures ∙ length-s
 
 pub some_are_so-requires-clause-below : goal.some_are_so-requires-clause-below
 some_are_so-requires-clause-below c =
-    let t = c.args.self.now.table in
+    let t = c.args.self.now.table.now in
     let literals = map numbered_of c.args.literals.now in
     let placed : map placed_of c.as_slice.result.now ≡ filter_map (placed_in t.scope.items) literals =
     ap (map placed_of) c.as_slice.ensures.value ∙ c.in_ok-placed.ensures ∙ ap (λ scope. filter_map (placed_in scope) literals) c.scope.ensures in
-    subst (All (λ (l : PlacedLiteral). l.place < pooled_width t.rows.sets)) (sym placed)
-    (subst (λ width. All (λ (l : PlacedLiteral). l.place < width) (filter_map (placed_in t.scope.items) literals)) (sym t.wide) (all-within t.scope.items literals))
+    subst (All (λ (l : PlacedLiteral). l.place < length t.scope.items)) (sym placed) (all-within t.scope.items literals)
 
 pub returns : goal.returns
 returns c =
-    let t = c.args.self.now.table in
+    let t = c.args.self.now.table.now in
     let literals = map numbered_of c.args.literals.now in
     let placed : map placed_of c.as_slice.result.now ≡ filter_map (placed_in t.scope.items) literals =
     ap (map placed_of) c.as_slice.ensures.value ∙ c.in_ok-placed.ensures ∙ ap (λ scope. filter_map (placed_in scope) literals) c.scope.ensures in

@@ -19,7 +19,7 @@ returns-then-not-has c = λ t at.
     let items = s.tables.items in
     let within : c.args.table < length items = omega (arith, c.requires.there, length-map items indexed_of) in
     let read = slice_get_read items (length items) c.args.table c.index.result.now refl within c.index.ensures in
-    ap (nat_lt 0) (c.row_count.ensures ∙ ap (λ u. length (table_of u).rows) c.table.ensures ∙ ap (λ (u : Table). length u.rows) (read-at items c.args.table c.index.result.now t read at))
+    ap (nat_lt 0) (c.row_count.ensures.rows ∙ ap (λ u. length (table_of u).rows) c.table.ensures ∙ ap (λ (u : Table). length u.rows) (read-at items c.args.table c.index.result.now t read at))
     ∙ sym (all-agree (tables_of s) s.by_atom (by-all s) c.args.table t at (bits_of c.args.named.now) (sym c.has.ensures ∙ c.if-not-has.true) (map numbered_of c.args.literals.now) c.requires.named)
 
 pub returns : goal.returns

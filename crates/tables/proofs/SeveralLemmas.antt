@@ -1,0 +1,30 @@
+-- Several values over the same tables, one after another.
+use Rattle.std.proofs.Common.{◌≡◌, ◌∙◌, ℕ, zero, suc, ◌+◌, ◌<◌, List, [], ◌∷◌, ◌++◌, length, take, map, Some, refl, sym, ap, subst, arith}
+use Rattle.std.specs.Prelude.{All, slice_get}
+use Rattle.std.proofs.lemmas.List.{length-map}
+use Rattle.std.proofs.lemmas.List.Elements.{All-append, All-cons, All-nil}
+use Rattle.potential_functions.specs.PotentialFunctions.{PotentialFunction}
+use Rattle.table_functions.specs.TableFunctions.{Table, TableFunction, over_tables}
+use Rattle.tables.proofs.FateLemmas.{take-at}
+
+abbrev pub function_at : List Table → PotentialFunction → ℕ → TableFunction
+function_at tables p place = record { potentials = p; tables = tables; place = place }
+
+pub over-at : (tables : List Table) (first : ℕ) (values : List PotentialFunction) (k : ℕ) (p : PotentialFunction) → slice_get values k ≡ Some p
+    → slice_get (over_tables tables first values) k ≡ Some (function_at tables p (first + k))
+over-at tables first [] k p at = absurd (cc)
+over-at tables first (q ∷ others) zero p at =
+    let is : q ≡ p = cc in
+    let same : first ≡ first + 0 = omega arith in
+    (λ i. Some (function_at tables (is i) (same i)))
+over-at tables first (q ∷ others) (suc k) p at =
+    let same : suc first + k ≡ first + suc k = omega arith in
+    over-at tables (suc first) others k p at ∙ ap (λ n. Some (function_at tables p n)) same
+
+pub length-over : (tables : List Table) (first : ℕ) (values : List PotentialFunction) → length (over_tables tables first values) ≡ length values
+length-over tables first [] = refl
+length-over tables first (p ∷ others) = ap suc (length-over tables (suc first) others)
+
+-- one more of which it holds
+pub one-more-holds : {X : Type 0} (P : X → Type 0) (xs : List X) (k : ℕ) (x : X) → slice_get xs k ≡ Some x → All P (take k xs) → P x → All P (take (k + 1) xs)
+one-more-holds P xs k x at all here = subst (All P) (sym (take-at xs k x at)) (All-append P (take k xs) (x ∷ []) all (All-cons P x [] here (All-nil P)))
