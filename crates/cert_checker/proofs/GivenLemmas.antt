@@ -168,6 +168,19 @@ no_tables_yet task before t right begun = let at = placed before (tabled t) begu
     by_place (in_body b) body next leads = refused b body (has_them b t next leads)
     by_place ended are next leads = never next leads
 
+-- and a certificate in whose lines nothing is wrong is of a version that is checked
+pub checked_there : (task : Task) (v : Version) (rest : List TextLine) → AreRight task (version v ∷ rest) → IsTrue (is_checked v)
+checked_there task v rest right = by_test (is_checked v) refl
+  where
+    by_test : (b : Bool) → is_checked v ≡ b → b ≡ true
+    by_test true is = refl
+    by_test false is = absurd (right [] rest (version v) 41 refl (not_checked v is))
+
+pub checked_has_no_tables : (v : Version) → IsTrue (is_checked v) → has_tables v ≡ false
+checked_has_no_tables one checked = refl
+checked_has_no_tables two checked = refl
+checked_has_no_tables three checked = absurd (true≢false (sym checked))
+
 -- ---- one line more
 
 nothing_before : (front : List TextLine) (other : TextLine) (rest : List TextLine) → [] ≡ front ++ other ∷ rest → ⊥

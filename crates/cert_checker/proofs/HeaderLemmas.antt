@@ -21,7 +21,7 @@ pushed_to start (suc count) weights [] = []
 pushed_to start (suc count) weights (p ∷ values) = with_weight p (weight_said start weights) ∷ pushed_to (start + 1) count weights values
 
 pub pushed_more : (start count : ℕ) (weights : List ℤ) (values : List PotentialFunction) → count < length values
-    → push_at count (weight_said (start + count) weights) (pushed_to start count weights values) ≡ pushed_to start (count + 1) weights values
+    → push_at count (weight_said (start + count) weights) (pushed_to start count weights values) ≡ pushed_to start (suc count) weights values
 pushed_more start zero weights [] below = absurd (omega (arith, below))
 pushed_more start zero weights (p ∷ values) below = let same : start + 0 ≡ start = omega arith in ap (λ n. with_weight p (weight_said n weights) ∷ values) same
 pushed_more start (suc count) weights [] below = absurd (omega (arith, below))
@@ -44,7 +44,7 @@ length-pushed start (suc count) weights (p ∷ values) = ap suc (length-pushed (
 
 -- one value more begins
 pub begun_more : (constants : List ℤ) (start count : ℕ)
-    → map (value_given constants []) (range_with_len start (count + 1)) ≡ map (value_given constants []) (range_with_len start count) ++ record { constant = weight_said (start + count) constants; weights = [] } ∷ []
+    → map (value_given constants []) (range_with_len start (suc count)) ≡ map (value_given constants []) (range_with_len start count) ++ record { constant = weight_said (start + count) constants; weights = [] } ∷ []
 begun_more constants start zero = let same : start + 0 ≡ start = omega arith in ap (λ n. value_given constants [] n ∷ []) (sym same)
 begun_more constants start (suc count) =
     let same : (start + 1) + count ≡ start + suc count = omega arith in

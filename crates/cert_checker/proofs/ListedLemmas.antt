@@ -11,8 +11,8 @@ use Rattle.model.specs.Claims.{Claim, none}
 use Rattle.certificate_definitions.specs.Certificates.{StateLine, rise}
 use Rattle.model.proofs.ListLemmas.{Contains-filter_map, filter_map-Contains, Contains-map, Contains-place, map-Contains}
 use Rattle.model.proofs.Tests.{passes_got}
-use Rattle.certificate_definitions.specs.CertificateText.{TextLine, version, claims, constant, atom, listed, last}
-use Rattle.certificate_definitions.specs.CertificateChecking.{IsCut, IsWrongAfter, ListsAtoms, not_fluent, repeated_atom, repeated_state, cut_not_allowed}
+use Rattle.certificate_definitions.specs.CertificateText.{TextLine, version, claims, constant, atom, tabled, listed, last}
+use Rattle.certificate_definitions.specs.CertificateChecking.{IsCut, IsWrongAfter, ListsAtoms, not_checked, not_of_scope, repeated_row, not_fluent, repeated_atom, repeated_state, cut_not_allowed}
 use Rattle.certificate.specs.ListedSets.{Marked, marked}
 use Rattle.cert_checker.specs.Given.{Heading, HaveGiven, state_in, states_given}
 use Rattle.cert_checker.specs.Listed.{HaveListed}
@@ -33,6 +33,7 @@ reported_state lines l reported = let (line, there, is) = filter_map-Contains st
     line_is (claims claim) is = absurd (cc is)
     line_is (constant k) is = absurd (cc is)
     line_is (atom a) is = absurd (cc is)
+    line_is (tabled t) is = absurd (cc is)
     line_is (listed m) is = let same : m ≡ l = cc in ap (λ l. listed l) same
     line_is (last count) is = absurd (cc is)
 
@@ -75,6 +76,9 @@ module _ (before : List TextLine) (claim : Claim) (width : ℕ) (marks : List Ma
     -- the line is not wrong where its set is new, and it is no cut that is not allowed
     right_state : (Contains sets (set_of width l.atoms) → ⊥) → ((claim ≡ none) × IsCut l.mark → ⊥) → (line : TextLine) (number : ℕ) → IsWrongAfter task before line number → line ≡ listed l → ⊥
     right_state new allowed line number (not_fluent b none_is) same = absurd (cc same)
+    right_state new allowed line number (not_checked v unchecked) same = absurd (cc same)
+    right_state new allowed line number (not_of_scope r atoms rows here no_scope) same = absurd (cc same)
+    right_state new allowed line number (repeated_row r atoms rows here of_scope there) same = absurd (cc same)
     right_state new allowed line number (repeated_atom b is there) same = absurd (cc same)
     right_state new allowed line number (repeated_state m there) same =
         let is : m ≡ l = cc in new (set_is_listed (subst (λ (m : StateLine). ListsAtoms before m.atoms) is there))
@@ -83,7 +87,7 @@ module _ (before : List TextLine) (claim : Claim) (width : ℕ) (marks : List Ma
 
     pub state_reported_more : (Contains sets (set_of width l.atoms) → ⊥) → ((claim ≡ none) × IsCut l.mark → ⊥) → HaveGiven task (before ++ listed l ∷ []) heading
     state_reported_more new allowed =
-        reported_else task before heading reported (listed l) (λ v same. cc same) (λ d same. cc same) (λ k same. cc same) refl (λ number wrong. right_state new allowed (listed l) number wrong refl)
+        reported_else task before heading reported (listed l) (λ v same. cc same) (λ d same. cc same) (λ k same. cc same) refl refl (λ number wrong. right_state new allowed (listed l) number wrong refl)
 
     pub state_again : Contains sets (set_of width l.atoms) → IsWrongAfter task before (listed l) 44
     state_again there = repeated_state l (set_was_listed there)

@@ -1,6 +1,6 @@
 -- The lines of a text, taken one after another, to its end.
 use Rattle.std.proofs.Common.{◌≡◌, ℕ, ◌+◌, ◌-◌, ◌<◌, ◌≤◌, Bool, true, false, List, [], ◌∷◌, ◌++◌, map, length, Option, None, Some, refl, sym, ap, ◌∙◌, subst, append-nil, length-append, arith}
-use Rattle.std.specs.Prelude.{Ok, All, Contains}
+use Rattle.std.specs.Prelude.{Ok, All, Contains, IsTrue}
 use Rattle.std.specs.List.{list_all}
 use Rattle.std.specs.Option.{option_map_or}
 use Rattle.std.proofs.lemmas.Bool.{and_parts}
@@ -10,25 +10,25 @@ use Rattle.task.specs.TaskParts.{atom_of}
 use Rattle.model.specs.Task.{Atom, Task}
 use Rattle.model.specs.Claims.{Claim}
 use Rattle.certificate_definitions.specs.Certificates.{Certificate, StateLine, rise}
-use Rattle.certificate_definitions.specs.CertificateChecking.{IsCut}
+use Rattle.certificate_definitions.specs.CertificateChecking.{is_checked, AreRight, IsCut}
 use Rattle.certificate_reader.specs.declared.line.CertLine.{CertLine}
 use Rattle.certificate_reader.specs.Lines.{claim_of, text_line_of, version_of}
-use Rattle.certificate_definitions.specs.CertificateText.{WeightedAtom, NamedCertificate, TextLine, AreWhole, BeginCertificate, atom, claims, constant, last, listed, most_atoms, text_lines, text_of, version}
-use Rattle.certificate_definitions.specs.CertificateNames.{AllName, of_dead_end_or_zero}
+use Rattle.certificate_definitions.specs.CertificateText.{WeightedAtom, NamedCertificate, TextLine, AreWhole, BeginCertificate, atom, claims, constant, last, listed, tabled, most_atoms, text_lines, text_of, version}
+use Rattle.certificate_definitions.specs.CertificateNames.{AllName}
 use Rattle.certificate_reader.specs.declared.reader.CertReader.{CertReader}
 use Rattle.certificate_reader.specs.Reader.{IsAnswer, has_failed, lines_read}
 use Rattle.model.proofs.ListLemmas.{Contains-here, Contains-there}
 use Rattle.certificate.specs.ListedSets.{Marked, line_with, lines_with, marked}
-use Rattle.cert_checker.specs.Given.{atoms_given, is_body, names_given, states_given}
+use Rattle.cert_checker.specs.Given.{atoms_given, tables_given, is_body, names_given, states_given, values_given, dead_ends_given}
 use Rattle.certificate.specs.declared.states.Listed.{Listed}
 use Rattle.cert_checker.specs.Listed.{HaveListed, IsFit}
-use Rattle.certificate.specs.CertificateParts.{listed_of, potential_of}
+use Rattle.certificate.specs.CertificateParts.{listed_of, bounds_of}
 use Rattle.certificate.specs.declared.header.Header.{Header}
 use Rattle.cert_checker.specs.Taking.{HasTaken}
 use Rattle.cert_checker.specs.Reading.{IsAt, IsBegun, IsListedSoFar, IsRead}
 use Rattle.certificate.proofs.SetsLemmas.{numbers_back}
-use Rattle.cert_checker.proofs.GivenLemmas.{begin_front}
-use Rattle.cert_checker.proofs.PlacedLemmas.{atoms_of_text, body_follows, few_atoms_reported, fit_there, named_length, states_of_text}
+use Rattle.cert_checker.proofs.GivenLemmas.{begin_front, checked_there}
+use Rattle.cert_checker.proofs.PlacedLemmas.{atoms_of_text, body_follows, few_atoms_reported, fit_there, named_length, states_of_text, tables_of_text}
 use Rattle.cert_checker.proofs.ReadingLemmas.{at_last, at_next, few_read, have_begun}
 
 -- there are as many atoms as lines that give one
@@ -48,7 +48,7 @@ lines_back width (l ∷ lines) rising =
 
 -- the lines after the first three
 abbrev body_of : NamedCertificate → List TextLine
-body_of c = (map (λ a. atom a) c.atoms ++ map (λ l. listed l) c.lines) ++ last (length c.lines) ∷ []
+body_of c = map (λ a. atom a) c.atoms ++ map (λ t. tabled t) c.tables ++ map (λ l. listed l) c.lines ++ last (length c.lines) ∷ []
 
 version_occurs : (c : NamedCertificate) → Contains (text_lines c) (version c.version)
 version_occurs c = Contains-here (version c.version) (claims c.claim ∷ constant c.constants ∷ body_of c)
@@ -109,8 +109,9 @@ module _ {R : Type 0} (remaining : R → Option (List ℕ)) (task : Task) (first
       version = version_of header.version;
       claim = claim;
       atoms = atoms;
-      potentials = potential_of header.bounds.values;
-      dead_ends = potential_of header.bounds.dead_ends;
+      values = (bounds_of header.bounds).values;
+      dead_ends = (bounds_of header.bounds).dead_ends;
+      tables = (bounds_of header.bounds).tables;
       lines = lines_with marks sets;
     }
 
@@ -121,29 +122,29 @@ module _ {R : Type 0} (remaining : R → Option (List ℕ)) (task : Task) (first
         states_are = (λ i. lines_with (have.marks_are i) (have.sets_are i)) ∙ lines_back width (states_given lines) have.rising
 
         by_certificate : AreWhole lines → IsRead remaining task first now certificate
-        by_certificate (c, keeps, are) = record {
+        by_certificate (c, keeps, are) =
+            let version_is = reported.one_version c.version (subst (λ lines. Contains lines (version c.version)) are (version_occurs c)) in
+            let given = reported.given c.constants (subst (λ lines. Contains lines (constant c.constants)) are (constant_occurs c)) in
+            let atoms_are : atoms_given lines ≡ c.atoms = ap atoms_given (sym are) ∙ atoms_of_text c in
+            record {
           text = text_of lines;
           consumed = over.consumed;
           at_end = over.at_end;
           is_text = record {
             said = c;
             text = record { within = keeps; lines = ap text_of (sym are) };
-            version = sym (reported.one_version c.version (subst (λ lines. Contains lines (version c.version)) are (version_occurs c)));
+            version = sym version_is;
             claim = sym (reported.one_claim c.claim (subst (λ lines. Contains lines (claims c.claim)) are (claim_occurs c)));
             atoms = subst (λ (said : List WeightedAtom). AllName task (map (λ a. a.atom) said) atoms) (ap atoms_given (sym are) ∙ atoms_of_text c) reported.named;
-            potentials =
-                let constant_is = reported.one_constant c.constants (subst (λ lines. Contains lines (constant c.constants)) are (constant_occurs c)) in
-                let weights_are = reported.weighed ∙ ap (map (λ (a : WeightedAtom). a.weights.of_value)) (ap atoms_given (sym are) ∙ atoms_of_text c) in
-                λ i. record { constant = constant_is i; weights = weights_are i };
-            dead_ends =
-                let constant_is = reported.one_dead_end_constant c.constants (subst (λ lines. Contains lines (constant c.constants)) are (constant_occurs c)) in
-                let weights_are = reported.dead_ends_weighed ∙ ap (map (λ (a : WeightedAtom). of_dead_end_or_zero a.weights)) (ap atoms_given (sym are) ∙ atoms_of_text c) in
-                λ i. record { constant = constant_is i; weights = weights_are i };
+            values = given.values ∙ (λ i. values_given (version_is i) c.constants (atoms_are i));
+            dead_ends = given.dead_ends ∙ (λ i. dead_ends_given (version_is i) c.constants (atoms_are i));
+            tables = sym (tables_of_text c) ∙ ap tables_given are ∙ sym reported.tables;
             lines = sym (states_are ∙ ap states_given (sym are) ∙ states_of_text c);
           };
           lines = lines;
           text_is = refl;
           right = reported.right;
+          checked = subst (λ v. IsTrue (is_checked v)) (sym version_is) (checked_there task c.version (claims c.claim ∷ constant c.constants ∷ body_of c) (subst (AreRight task) (sym are) reported.right));
           fluent = reported.fluent;
           distinct = reported.distinct;
           allowed = λ is_none. subst (All (λ (l : StateLine). ¬ IsCut l.mark)) (sym states_are) (have.allowed is_none);

@@ -5,6 +5,7 @@ ghost use Rattle.formulas.specs.FluentTable.{AreFluentsOf};
 ghost use Rattle.model.specs.Task as model;
 ghost use Rattle.certificate_reader.specs.Lines.{named_atom_of, text_line_of, version_of};
 ghost use Rattle.certificate_definitions.specs.CertificateNames.{value_count, weight_said};
+ghost use Rattle.certificate_definitions.specs.CertificateChecking.{is_checked};
 ghost use Rattle.certificate_definitions.specs.CertificateText.{TextLine, BeginCertificate, atom};
 ghost use Rattle.cert_checker.specs.declared.refusal.Refusal.TheVariants as refusal;
 ghost use Rattle.cert_checker.specs.declared.refusal.RefusalCode.TheVariants.{CertVersion};
@@ -125,8 +126,10 @@ fn take(
         → HasTaken (task_of task.now) before header.old → IsWrongNow (task_of task.now) before (text_line_of line) refusal) }
 {
     match line {
-        CertLine::Head(Version::Three) => Err(not_checked(number)),
         CertLine::Head(version) => {
+            if !is_checked(version) {
+                return Err(not_checked(number));
+            }
             header.version = version;
             Ok(None)
         }
@@ -147,13 +150,24 @@ fn take(
             add_atom(header, task, fluents, &atom, &weights, number)?;
             Ok(None)
         }
-        // Only version 3 has tables, and its first line was refused.
-        CertLine::Table { .. } | CertLine::Row { .. } => Err(not_checked(number)),
+        // Only version 3 has tables, and its first line is refused.
+        CertLine::Table { .. } => Err(not_checked(number)),
+        CertLine::Row { .. } => Err(not_checked(number)),
         CertLine::Listed(_) | CertLine::Last { .. } => Ok(Some(line)),
     }
 }
 
-/// The refusal of version 3 at this line: that a certificate of it is closed is not tested yet.
+/// Whether certificates of this version are checked: that one of version 3 is closed is not tested yet.
+fn is_checked(version: Version) -> bool
+    ensures { result ≡ is_checked (version_of version) }
+{
+    match version {
+        Version::One | Version::Two => true,
+        Version::Three => false,
+    }
+}
+
+/// The refusal of a version that is not checked, at this line.
 fn not_checked(number: u64) -> Refusal
     ensures { result ≡ refusal.Line CertVersion number }
 {
