@@ -54,7 +54,7 @@ impl<'a> IndexedTables<'a> {
         requires few { length tables.items < 2 ^ 24 }
         requires counts { All (λ (t : declared.IndexedTable). indexed_count_of t ≡ count) tables.items }
         requires scopes { IsTrue (are_over width (map indexed_of tables.items)) }
-        ensures tables { IfOk result (λ all. tables_of all ≡ map indexed_of tables.items) }
+        ensures tables { IfOk result (λ all. tables_of all ≡ map indexed_of tables.entry.items) }
         ensures count { IfOk result (λ all. count_of all ≡ count) }
     {
         let by_atom = by_atom(alloc, width, &tables)?;

@@ -1,4 +1,4 @@
-use Rattle.std.proofs.Common.{◌≡◌, ◌∙◌, ◌+◌, ◌<◌, ◌≤◌, ◌^◌, length, map, get_or, Some, refl, sym, ap, arith, pos}
+use Rattle.std.proofs.Common.{◌≡◌, ◌∙◌, ◌+◌, ◌<◌, ◌≤◌, ◌^◌, length, map, get_or, Some, refl, sym, ap, arith, pos, ◌+ℤ◌, to_z, of_z, w64}
 use Rattle.std.specs.Prelude.{slice_get}
 use Rattle.std.proofs.lemmas.Int.{ints}
 use Rattle.std.proofs.lemmas.List.{length-map, take_all}
@@ -64,7 +64,7 @@ loop-place-preserved c =
     let read = slice_get_read items (length items) k c.index.result.now refl within c.index.ensures in
     let same : 0 + k ≡ k = omega arith in
     let named = over-at tables 0 (map potentials_of items) k p (mapped-at potentials_of items k c.index.result.now read) ∙ ap (λ n. Some (function_at tables p n)) same in
-    let value = value-is (function_at tables p k) bits c.or_zero.result _ (score p bits) (get_or c.args.room.now.totals.items k (pos 0)) c.or_zero.ensures c.requires.rows refl (c.requires.totals k (below here)) (omega (arith, ints)) in
+    let value = value-is (function_at tables p k) bits c.or_zero.result (to_z w64 (of_z w64 (to_z w64 (of_z w64 c.score.result) +ℤ to_z w64 (of_z w64 c.index-in-loop-place.result.now)))) (score p bits) (get_or c.args.room.now.totals.items k (pos 0)) c.or_zero.ensures c.requires.rows refl (c.requires.totals k (below here)) (omega (arith, ints)) in
     greatest-more (functions_of (several_of self)) k (function_at tables p k) bits c.loop-place.greatest c.greater-greatest.result c.or_zero.result named c.loop-place.invariant value c.greater-greatest.ensures
 
 pub returns : goal.returns

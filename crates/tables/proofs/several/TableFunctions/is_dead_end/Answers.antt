@@ -1,4 +1,4 @@
-use Rattle.std.proofs.Common.{◌≡◌, ◌∙◌, ◌<◌, ◌^◌, length, map, get_or, refl, sym, ap, subst, arith, pos}
+use Rattle.std.proofs.Common.{◌≡◌, ◌∙◌, ◌<◌, ◌^◌, length, map, get_or, refl, sym, ap, subst, arith, pos, ◌+ℤ◌, to_z, of_z, w64}
 use Rattle.std.specs.Prelude.{IsTrue, nat_lt}
 use Rattle.std.proofs.lemmas.Int.{ints}
 use Rattle.std.proofs.lemmas.List.{length-map}
@@ -70,5 +70,5 @@ returns-clause-dead c =
     let range = total-range bits tables (count_of self.tables) c.add_up.new.room.totals.items place (all-ranged self.tables) (few-tables self.tables) (below here) are in
     let least = range.0 in
     let most = range.1 in
-    let value = value-is (function_at tables p place) bits c.or_zero.result _ (score p bits) (get_or c.add_up.new.room.totals.items place (pos 0)) c.or_zero.ensures (sym c.add_up.ensures.has ∙ c.if-not-add_up.false) refl (are place (below here)) (omega (arith, ints)) in
+    let value = value-is (function_at tables p place) bits c.or_zero.result (to_z w64 (of_z w64 (to_z w64 (of_z w64 c.score.result) +ℤ to_z w64 (of_z w64 c.index.result.now)))) (score p bits) (get_or c.add_up.new.room.totals.items place (pos 0)) c.or_zero.ensures (sym c.add_up.ensures.has ∙ c.if-not-add_up.false) refl (are place (below here)) (omega (arith, ints)) in
     ap (nat_lt 0) value
