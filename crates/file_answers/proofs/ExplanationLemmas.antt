@@ -10,7 +10,6 @@ use Rattle.file_answers.specs.declared.explanation.Explanation.{Explanation}
 use Rattle.file_answers.specs.declared.explanation.Subject.{Subject}
 use Rattle.file_answers.specs.declared.explanation.Subject.TheVariants.{Fault, Plan, Task}
 use Rattle.file_answers.specs.Explanations.{IsTrueOf, IsHeaded, IsHeadedIn, IsHeading, IsOfFault, IsOfVerdict, IsOfGrounded, headed_as, headed_in}
-use Rattle.std.specs.String.{string_bytes}
 use Rattle.faults.specs.declared.code.Code.{Code}
 use Rattle.faults.specs.declared.refused.Span.{Span}
 use Rattle.source_text.specs.declared.texts.NamedText.{NamedText}
@@ -38,7 +37,7 @@ module _ (domain problem : List ℕ) (most : ℕ) where
     verdict_explained text steps is_plan (Fault file code span) is = absurd is
     verdict_explained text steps is_plan (Plan verdict) is =
         record { task = task; steps = steps; are_read = record { is_task = is_task; is_plan = is_plan }; is_true = is }
-    verdict_explained text steps is_plan (Task grounded) is = absurd is
+    verdict_explained text steps is_plan (Task holds grounded) is = absurd is
 
     -- the verdict on a plan
     pub steps_explained : (text : List ℕ) (steps : List model.Instance) → IsPlanText task text steps → (r : Result Explanation NoMemory)
@@ -49,7 +48,7 @@ module _ (domain problem : List ℕ) (most : ℕ) where
     grounded_explained : (subject : Subject) → IsOfGrounded task most subject → IsTrueOf domain problem None most subject
     grounded_explained (Fault file code span) is = absurd is
     grounded_explained (Plan verdict) is = absurd is
-    grounded_explained (Task grounded) is = (task, is_task, is)
+    grounded_explained (Task holds grounded) is = (task, is_task, is)
 
     -- a task, where no plan is given
     pub task_explained : (plan : Option (List ℕ)) → plan ≡ None → (r : Result Explanation NoMemory)
@@ -60,30 +59,30 @@ module _ (domain problem : List ℕ) (most : ℕ) where
 -- The heading of a fault of these texts is that of the files that are given.
 module _ (texts : NamedTexts) (domain problem : NamedText) (plan : Option NamedText)
     (same_domain : texts.domain ≡ domain) (same_problem : texts.problem ≡ problem) (same_plan : IfSome plan (λ named. texts.plan ≡ named)) where
-  plan_headed : (code : Code) (span : Span) (lines : List ℕ) (handed : Option NamedText) → IfSome handed (λ named. texts.plan ≡ named)
-      → IsHeading texts.plan code span lines → IfSome handed (λ named. IsHeading named code span lines)
-  plan_headed code span lines None same is = tt
-  plan_headed code span lines (Some named) same is = subst (λ (named : NamedText). IsHeading named code span lines) same is
+  plan_headed : (code : Code) (span : Span) (e : Explanation) (handed : Option NamedText) → IfSome handed (λ named. texts.plan ≡ named)
+      → IsHeading texts.plan code span e → IfSome handed (λ named. IsHeading named code span e)
+  plan_headed code span e None same is = tt
+  plan_headed code span e (Some named) same is = subst (λ (named : NamedText). IsHeading named code span e) same is
 
-  lines_headed : (lines : List ℕ) (subject : Subject) → headed_in texts lines subject → headed_as domain problem plan lines subject
-  lines_headed lines (Fault kind.Domain code span) is = subst (λ (named : NamedText). IsHeading named code span lines) same_domain is
-  lines_headed lines (Fault kind.Problem code span) is = subst (λ (named : NamedText). IsHeading named code span lines) same_problem is
-  lines_headed lines (Fault kind.Plan code span) is = plan_headed code span lines plan same_plan is
-  lines_headed lines (Plan verdict) is = tt
-  lines_headed lines (Task grounded) is = tt
+  lines_headed : (e : Explanation) (subject : Subject) → headed_in texts e subject → headed_as domain problem plan e subject
+  lines_headed e (Fault kind.Domain code span) is = subst (λ (named : NamedText). IsHeading named code span e) same_domain is
+  lines_headed e (Fault kind.Problem code span) is = subst (λ (named : NamedText). IsHeading named code span e) same_problem is
+  lines_headed e (Fault kind.Plan code span) is = plan_headed code span e plan same_plan is
+  lines_headed e (Plan verdict) is = tt
+  lines_headed e (Task holds grounded) is = tt
 
   pub files_headed : (r : Result Explanation NoMemory) → IfOk r (IsHeadedIn texts) → IfOk r (IsHeaded domain problem plan)
-  files_headed (Ok e) is = lines_headed (string_bytes e.text) e.subject is
+  files_headed (Ok e) is = lines_headed e e.subject is
   files_headed (Err failed) is = tt
 
 -- Of a task there is no fault.
-no_heading : (domain problem : NamedText) (plan : Option NamedText) (task : model.Task) (most : ℕ) (lines : List ℕ) (subject : Subject)
-    → IsOfGrounded task most subject → headed_as domain problem plan lines subject
-no_heading domain problem plan task most lines (Fault file code span) is = absurd is
-no_heading domain problem plan task most lines (Plan verdict) is = absurd is
-no_heading domain problem plan task most lines (Task grounded) is = tt
+no_heading : (domain problem : NamedText) (plan : Option NamedText) (task : model.Task) (most : ℕ) (e : Explanation) (subject : Subject)
+    → IsOfGrounded task most subject → headed_as domain problem plan e subject
+no_heading domain problem plan task most e (Fault file code span) is = absurd is
+no_heading domain problem plan task most e (Plan verdict) is = absurd is
+no_heading domain problem plan task most e (Task holds grounded) is = tt
 
 pub task_headed : (domain problem : NamedText) (plan : Option NamedText) (task : model.Task) (most : ℕ) (r : Result Explanation NoMemory)
     → IfOk r (λ e. IsOfGrounded task most e.subject) → IfOk r (IsHeaded domain problem plan)
-task_headed domain problem plan task most (Ok e) is = no_heading domain problem plan task most (string_bytes e.text) e.subject is
+task_headed domain problem plan task most (Ok e) is = no_heading domain problem plan task most e e.subject is
 task_headed domain problem plan task most (Err failed) is = tt

@@ -1,5 +1,5 @@
 -- What an explanation of some files is about.
-use Rattle.std.specs.Prelude.{◌≡◌, ℕ, List, [], length, Option, None, Some, IfSome}
+use Rattle.std.specs.Prelude.{◌≡◌, ℕ, ◌-◌, List, [], length, Option, None, Some, IfSome}
 use Rattle.std.specs.Option.{option_map}
 use Rattle.validator.specs.Verdict.{verdict_of}
 use Rattle.std.specs.String.{string_bytes}
@@ -15,7 +15,10 @@ use Rattle.source_text.specs.Files.{name_in}
 use Rattle.source_text.specs.Files.{text_in as text_of}
 use Rattle.explained_faults.specs.Explained.{BeginsWith, heading}
 use Rattle.file_answers.specs.declared.explanation.Explanation.{Explanation}
+use Rattle.file_answers.specs.declared.explanation.Location.{Location}
 use Rattle.grounding_kept.specs.Numbering.{limit_of}
+use Rattle.explained_plans.specs.Said.{IsSummaryOf}
+use Rattle.explained_plans.specs.declared.summary.Summary.{Summary}
 use Rattle.file_answers.specs.Files.{fault_at}
 use Rattle.file_answers.specs.Inputs.{IsInputFault}
 use Rattle.file_answers.specs.declared.files.FileFault.{FileFault}
@@ -45,14 +48,18 @@ IsGrounded task most (Within instances atoms) =
     × (exceeded_limit most max_numbered_atoms task [] ≡ None)
 IsGrounded task most (Beyond limit) = exceeded_limit most max_numbered_atoms task [] ≡ Some (limit_of limit)
 
+-- the task holds this, and grounding makes this of it
+abbrev pub IsHeld : model.Task → (most : ℕ) → Summary → Grounded → Type 0
+IsHeld task most holds grounded = IsSummaryOf task holds × IsGrounded task most grounded
+
 -- What is explained is true of the texts of a domain and a problem, and of a plan, where one is given: the first fault; or
--- else the verdict on the plan; or else, with no plan, what grounding makes of the task.
+-- else the verdict on the plan; or else, with no plan, what the task holds and grounding makes of it.
 abbrev pub IsTrueOf : (domain problem : List ℕ) → (plan : Option (List ℕ)) → (most : ℕ) → Subject → Type 0
 IsTrueOf domain problem plan most (Fault file code span) = IsInputFault domain problem plan (fault_at file code span)
 IsTrueOf domain problem (Some plan) most (Plan verdict) = IsVerdictOf domain problem plan (verdict_of verdict)
 IsTrueOf domain problem None most (Plan verdict) = ⊥
-IsTrueOf domain problem (Some plan) most (Task grounded) = ⊥
-IsTrueOf domain problem None most (Task grounded) = (task : model.Task) × IsTaskOf domain problem task × IsGrounded task most grounded
+IsTrueOf domain problem (Some plan) most (Task holds grounded) = ⊥
+IsTrueOf domain problem None most (Task holds grounded) = (task : model.Task) × IsTaskOf domain problem task × IsHeld task most holds grounded
 
 -- the file of this kind with its text, where it is given
 abbrev pub named_in : (domain problem : NamedText) → (plan : Option NamedText) → File → Option NamedText
@@ -60,33 +67,42 @@ named_in domain problem plan Domain = Some domain
 named_in domain problem plan Problem = Some problem
 named_in domain problem plan PlanFile = plan
 
--- the lines begin with that of this fault: its file, the line and the column of the first byte of its span, its number and name
-abbrev pub IsHeading : NamedText → Code → Span → (lines : List ℕ) → Type 0
-IsHeading named code span lines =
-    (place : LineColumn) × IsPlace named.text.now span.start place × BeginsWith lines (heading named.name.now place code)
+-- the location is that of a span which begins at this place of the file of this name
+abbrev pub IsLocated : (name : List ℕ) → LineColumn → Span → Option Location → Type 0
+IsLocated name place span None = ⊥
+IsLocated name place span (Some l) =
+    (string_bytes l.file ≡ name) × (l.line ≡ place.line) × (l.column ≡ place.column) × (l.length ≡ span.end - span.start)
+
+-- The lines begin with that of this fault: its file, the line and the column of the first byte of its span, its number and name; and
+-- the location is that of its span.
+abbrev pub IsHeading : NamedText → Code → Span → Explanation → Type 0
+IsHeading named code span e =
+    (place : LineColumn) × IsPlace named.text.now span.start place × BeginsWith (string_bytes e.text) (heading named.name.now place code)
+    × IsLocated named.name.now place span e.location
 
 -- of a fault the first line has its place
-abbrev pub headed_as : (domain problem : NamedText) → (plan : Option NamedText) → (lines : List ℕ) → Subject → Type 0
-headed_as domain problem plan lines (Fault file code span) =
-    IfSome (named_in domain problem plan file) (λ named. IsHeading named code span lines)
-headed_as domain problem plan lines (Plan verdict) = Unit {0}
-headed_as domain problem plan lines (Task grounded) = Unit {0}
+abbrev pub headed_as : (domain problem : NamedText) → (plan : Option NamedText) → Explanation → Subject → Type 0
+headed_as domain problem plan e (Fault file code span) =
+    IfSome (named_in domain problem plan file) (λ named. IsHeading named code span e)
+headed_as domain problem plan e (Plan verdict) = Unit {0}
+headed_as domain problem plan e (Task holds grounded) = Unit {0}
 
 abbrev pub IsHeaded : (domain problem : NamedText) → (plan : Option NamedText) → Explanation → Type 0
-IsHeaded domain problem plan e = headed_as domain problem plan (string_bytes e.text) e.subject
+IsHeaded domain problem plan e = headed_as domain problem plan e e.subject
 
 -- ---- on the way
 
 -- the same of texts that are together
-abbrev pub headed_in : NamedTexts → (lines : List ℕ) → Subject → Type 0
-headed_in texts lines (Fault file code span) =
+abbrev pub headed_in : NamedTexts → Explanation → Subject → Type 0
+headed_in texts e (Fault file code span) =
     (place : LineColumn) × IsPlace (text_of texts file) span.start place
-    × BeginsWith lines (heading (name_in texts file) place code)
-headed_in texts lines (Plan verdict) = Unit {0}
-headed_in texts lines (Task grounded) = Unit {0}
+    × BeginsWith (string_bytes e.text) (heading (name_in texts file) place code)
+    × IsLocated (name_in texts file) place span e.location
+headed_in texts e (Plan verdict) = Unit {0}
+headed_in texts e (Task holds grounded) = Unit {0}
 
 abbrev pub IsHeadedIn : NamedTexts → Explanation → Type 0
-IsHeadedIn texts e = headed_in texts (string_bytes e.text) e.subject
+IsHeadedIn texts e = headed_in texts e e.subject
 
 -- the fault is what is explained; running out of memory is not
 abbrev pub IsOfFault : FileFault → Subject → Type 0
@@ -97,10 +113,10 @@ IsOfFault refused.NoMemory subject = ⊥
 abbrev pub IsOfVerdict : model.Task → List model.Instance → Subject → Type 0
 IsOfVerdict task steps (Fault file code span) = ⊥
 IsOfVerdict task steps (Plan verdict) = IsVerdict (system_of task) steps (verdict_of verdict)
-IsOfVerdict task steps (Task grounded) = ⊥
+IsOfVerdict task steps (Task holds grounded) = ⊥
 
 -- what grounding makes of the task is
 abbrev pub IsOfGrounded : model.Task → (most : ℕ) → Subject → Type 0
 IsOfGrounded task most (Fault file code span) = ⊥
 IsOfGrounded task most (Plan verdict) = ⊥
-IsOfGrounded task most (Task grounded) = IsGrounded task most grounded
+IsOfGrounded task most (Task holds grounded) = IsHeld task most holds grounded

@@ -1,4 +1,5 @@
 //! What is said of some files.
+use explained_plans::Summary;
 use faults::{Code, Span};
 use grounding_kept::GroundLimit;
 use source_text::File;
@@ -11,6 +12,23 @@ pub struct Explanation {
     pub subject: Subject,
     /// The lines that say it, each with LF.
     pub text: String,
+    /// The place of a fault, or of the first step that is not applicable.
+    pub location: Option<Location>,
+    /// What is quietly wrong with a task, a line each, without LF.
+    pub notes: Vec<String>,
+}
+
+/// A place in a file, as an editor shows it.
+#[derive(Drop)]
+pub struct Location {
+    /// The name of the file, as it was given.
+    pub file: String,
+    /// The number of the line, from 1.
+    pub line: usize,
+    /// The number of the first byte in its line, from 1.
+    pub column: usize,
+    /// How many bytes it has.
+    pub length: usize,
 }
 
 /// What an explanation is about.
@@ -28,7 +46,12 @@ pub enum Subject {
     /// The plan, of which this is true.
     Plan(Verdict),
     /// The task of two files, where no plan is given.
-    Task(Grounded),
+    Task {
+        /// What it holds.
+        holds: Summary,
+        /// What grounding makes of it.
+        grounded: Grounded,
+    },
 }
 
 /// What grounding makes of a task.

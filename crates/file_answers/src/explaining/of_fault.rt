@@ -3,7 +3,7 @@ ghost use Rattle.std.specs.Prelude.{◌≡◌, IfOk};
 ghost use Rattle.file_answers.specs.Explanations.{IsHeadedIn, IsOfFault};
 ghost use Rattle.file_answers.specs.declared.explanation.Subject.TheVariants.{Fault};
 
-use crate::explanation::{Explanation, Subject};
+use crate::explanation::{Explanation, Location, Subject};
 use crate::files::FileFault;
 use explained_faults::{FileRefusal, explain_fault};
 use faults::{Code, NoMemory, Span};
@@ -39,6 +39,16 @@ fn explain_at(
     let fault = FileRefusal { file, code, span };
     let explained = explain_fault(alloc, texts, fault)?;
     let text = explained.text(alloc, texts)?;
-    let subject = Subject::Fault { file, code, span };
-    Ok(Explanation { subject, text })
+    let location = Location {
+        file: String::from_str(alloc, texts.name(file))?,
+        line: explained.place.line,
+        column: explained.place.column,
+        length: span.end.saturating_sub(span.start),
+    };
+    Ok(Explanation {
+        subject: Subject::Fault { file, code, span },
+        text,
+        location: Some(location),
+        notes: Vec::new(alloc),
+    })
 }

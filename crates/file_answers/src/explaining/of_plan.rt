@@ -10,7 +10,7 @@ ghost use Rattle.model.specs.Files.{IsTaskOf};
 ghost use Rattle.model.specs.Meaning.{is_instance, system_of};
 
 use crate::explaining::of_fault::explain_refused;
-use crate::explanation::{Explanation, Subject};
+use crate::explanation::{Explanation, Location, Subject};
 use crate::files::plan_of_file;
 use explained_plans::{PlanExplanation, explain_plan, report_details, report_verdict, step_place};
 use faults::NoMemory;
@@ -50,8 +50,34 @@ fn explain_steps(
     let explained = explain_plan(alloc, task, plan)?;
     let verdict = verdict_in(&explained);
     let text = text_of(alloc, task, file, plan, &explained)?;
-    let subject = Subject::Plan(verdict);
-    Ok(Explanation { subject, text })
+    let location = location_of(alloc, file, verdict)?;
+    Ok(Explanation {
+        subject: Subject::Plan(verdict),
+        text,
+        location,
+        notes: Vec::new(alloc),
+    })
+}
+
+/// The place of the step that is not applicable, if the plan has one.
+fn location_of(
+    alloc: Global,
+    file: NamedText<'_>,
+    verdict: Verdict,
+) -> Result<Option<Location>, NoMemory> {
+    let Verdict::NotApplicable { step } = verdict else {
+        return Ok(None);
+    };
+    let Some(span) = step_place(file.text, step) else {
+        return Ok(None);
+    };
+    let place = place_of(file.text, span.start);
+    Ok(Some(Location {
+        file: String::from_str(alloc, file.name)?,
+        line: place.line,
+        column: place.column,
+        length: span.end.saturating_sub(span.start),
+    }))
 }
 
 /// The verdict that is explained.

@@ -26,21 +26,40 @@ pub(super) fn explain_task(
 ) -> Result<Explanation, NoMemory>
     ensures { IfOk result (λ e. IsOfGrounded (task_of task.now) max_instances e.subject) }
 {
-    let grounding = ground(alloc, task, max_instances)?;
-    let text = text_of(alloc, task, &grounding)?;
-    let subject = Subject::Task(grounding.grounded);
-    Ok(Explanation { subject, text })
+    let holds = Summary::of(task);
+    let Grounding { grounded, notes } = ground(alloc, task, max_instances)?;
+    let notes = with_task_notes(alloc, task, notes)?;
+    let text = text_of(alloc, holds, grounded, &notes)?;
+    Ok(Explanation {
+        subject: Subject::Task { holds, grounded },
+        text,
+        location: None,
+        notes,
+    })
+}
+
+/// The notes, and behind them what the files show to be wrong.
+fn with_task_notes(
+    alloc: Global,
+    task: &Task,
+    notes: Vec<String>,
+) -> Result<Vec<String>, NoMemory> {
+    let mut lines = notes;
+    TaskNotes::of(alloc, task)?.add_lines(alloc, task, &mut lines)?;
+    Ok(lines)
 }
 
 /// The lines that say it.
-fn text_of(alloc: Global, task: &Task, grounding: &Grounding) -> Result<String, NoMemory> {
-    let mut text = Summary::of(task).text(alloc)?;
-    let line = grounded_line(alloc, grounding.grounded)?;
+fn text_of(
+    alloc: Global,
+    holds: Summary,
+    grounded: Grounded,
+    notes: &[String],
+) -> Result<String, NoMemory> {
+    let mut text = holds.text(alloc)?;
+    let line = grounded_line(alloc, grounded)?;
     text.push_str(line.as_str())?;
-    add_lines(&grounding.notes, &mut text)?;
-    let mut notes = Vec::new(alloc);
-    TaskNotes::of(alloc, task)?.add_lines(alloc, task, &mut notes)?;
-    add_lines(&notes, &mut text)?;
+    add_lines(notes, &mut text)?;
     Ok(text)
 }
 
