@@ -33,17 +33,18 @@ abbrev name_member : Code → Member
 name_member code = member (codes "name") (text (name_in names (number_of code)))
 
 -- a fault at this place of the file of this name
-abbrev pub of_located_fault : Code → (name : List ℕ) → (line column length : ℕ) → (lines : List ℕ) → List Member
-of_located_fault code name line column length lines =
-    code_member code ∷ numbered (codes "column") column ∷ explain ∷ member (codes "file") (text name) ∷ numbered (codes "length") length
-    ∷ numbered (codes "line") line ∷ name_member code ∷ result (codes "fault") ∷ told lines ∷ []
+abbrev pub of_located_fault : Code → (name : List ℕ) → (line column length : ℕ) → (hints : List (List ℕ)) → (lines : List ℕ) → List Member
+of_located_fault code name line column length hints lines =
+    code_member code ∷ numbered (codes "column") column ∷ explain ∷ member (codes "file") (text name) ∷ member (codes "hints") (texts hints)
+    ∷ numbered (codes "length") length ∷ numbered (codes "line") line ∷ name_member code ∷ result (codes "fault") ∷ told lines ∷ []
 
-abbrev pub of_plain_fault : Code → (lines : List ℕ) → List Member
-of_plain_fault code lines = code_member code ∷ explain ∷ name_member code ∷ result (codes "fault") ∷ told lines ∷ []
+abbrev pub of_plain_fault : Code → (hints : List (List ℕ)) → (lines : List ℕ) → List Member
+of_plain_fault code hints lines =
+    code_member code ∷ explain ∷ member (codes "hints") (texts hints) ∷ name_member code ∷ result (codes "fault") ∷ told lines ∷ []
 
-abbrev pub of_fault : Code → Option Location → (lines : List ℕ) → List Member
-of_fault code (Some at) lines = of_located_fault code (string_bytes at.file) at.line at.column at.length lines
-of_fault code None lines = of_plain_fault code lines
+abbrev pub of_fault : Code → Option Location → (hints : List (List ℕ)) → (lines : List ℕ) → List Member
+of_fault code (Some at) hints lines = of_located_fault code (string_bytes at.file) at.line at.column at.length hints lines
+of_fault code None hints lines = of_plain_fault code hints lines
 
 -- a plan that solves the task, or misses the goal
 abbrev pub of_valid : (cost : ℕ) → (lines : List ℕ) → List Member
@@ -92,10 +93,11 @@ abbrev pub of_task : Summary → Grounded → (notes : List (List ℕ)) → (lin
 of_task holds (Within instances atoms) notes lines = of_grounded holds instances atoms notes lines
 of_task holds (Beyond limit) notes lines = of_beyond holds (limit_name limit) notes lines
 
-abbrev of_subject : Subject → Option Location → (notes : List (List ℕ)) → (lines : List ℕ) → List Member
-of_subject (subject.Fault file code span) location notes lines = of_fault code location lines
-of_subject (subject.Plan verdict) location notes lines = of_plan (verdict_of verdict) location lines
-of_subject (subject.Task holds grounded) location notes lines = of_task holds grounded notes lines
+abbrev of_subject : Subject → Option Location → (hints notes : List (List ℕ)) → (lines : List ℕ) → List Member
+of_subject (subject.Fault file code span) location hints notes lines = of_fault code location hints lines
+of_subject (subject.Plan verdict) location hints notes lines = of_plan (verdict_of verdict) location lines
+of_subject (subject.Task holds grounded) location hints notes lines = of_task holds grounded notes lines
 
 abbrev pub of_explanation : Explanation → List Member
-of_explanation e = of_subject e.subject e.location (map string_bytes e.notes.items) (string_bytes e.text)
+of_explanation e =
+    of_subject e.subject e.location (map string_bytes e.hints.items) (map string_bytes e.notes.items) (string_bytes e.text)

@@ -21,7 +21,10 @@ pub(crate) fn explanation_object(
 {
     let lines = explanation.text.as_str();
     match explanation.subject {
-        Subject::Fault { code, .. } => fault_object(alloc, code, &explanation.location, lines),
+        Subject::Fault { code, .. } => {
+            let hints = explanation.hints.as_slice();
+            fault_object(alloc, code, &explanation.location, hints, lines)
+        }
         Subject::Plan(verdict) => plan_object(alloc, verdict, &explanation.location, lines),
         Subject::Task { holds, grounded } => {
             task_object(alloc, holds, grounded, &explanation.notes, lines)
@@ -34,13 +37,14 @@ fn fault_object(
     alloc: Global,
     code: Code,
     location: &Option<Location>,
+    hints: &[String],
     lines: &str,
 ) -> Result<String, AllocError>
-    ensures { IfOk result (λ text. string_bytes text ≡ object_text (defined.of_fault code location.now lines.now)) }
+    ensures { IfOk result (λ text. string_bytes text ≡ object_text (defined.of_fault code location.now (map string_bytes hints.now) lines.now)) }
 {
     match location {
-        Some(at) => located_fault_object(alloc, code, at.file.as_str(), at, lines),
-        None => plain_fault_object(alloc, code, lines),
+        Some(at) => located_fault_object(alloc, code, at.file.as_str(), at, hints, lines),
+        None => plain_fault_object(alloc, code, hints, lines),
     }
 }
 
@@ -50,35 +54,43 @@ fn located_fault_object(
     code: Code,
     name: &str,
     at: &Location,
+    hints: &[String],
     lines: &str,
 ) -> Result<String, AllocError>
-    ensures { IfOk result (λ text. string_bytes text ≡ object_text (defined.of_located_fault code name.now at.now.line at.now.column at.now.length lines.now)) }
+    ensures { IfOk result (λ text. string_bytes text ≡ object_text (defined.of_located_fault code name.now at.now.line at.now.column at.now.length (map string_bytes hints.now) lines.now)) }
 {
     let numbered = Member::number("code", u64::from(code.number()));
     let column = Member::number("column", at.column as u64);
     let command = Member::text("command", "explain");
     let file = Member::text("file", name);
+    let told = Member::texts("hints", hints);
     let length = Member::number("length", at.length as u64);
     let line = Member::number("line", at.line as u64);
     let named = Member::text("name", code.name());
     let result = Member::text("result", "fault");
     let text = Member::text("text", lines);
     let members = [
-        numbered, column, command, file, length, line, named, result, text,
+        numbered, column, command, file, told, length, line, named, result, text,
     ];
     object_text(alloc, &members)
 }
 
 /// The object of a fault whose place is not known.
-fn plain_fault_object(alloc: Global, code: Code, lines: &str) -> Result<String, AllocError>
-    ensures { IfOk result (λ text. string_bytes text ≡ object_text (defined.of_plain_fault code lines.now)) }
+fn plain_fault_object(
+    alloc: Global,
+    code: Code,
+    hints: &[String],
+    lines: &str,
+) -> Result<String, AllocError>
+    ensures { IfOk result (λ text. string_bytes text ≡ object_text (defined.of_plain_fault code (map string_bytes hints.now) lines.now)) }
 {
     let numbered = Member::number("code", u64::from(code.number()));
     let command = Member::text("command", "explain");
+    let told = Member::texts("hints", hints);
     let named = Member::text("name", code.name());
     let result = Member::text("result", "fault");
     let text = Member::text("text", lines);
-    object_text(alloc, &[numbered, command, named, result, text])
+    object_text(alloc, &[numbered, command, told, named, result, text])
 }
 
 /// The object of a verdict on a plan.
