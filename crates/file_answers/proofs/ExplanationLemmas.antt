@@ -13,6 +13,7 @@ use Rattle.source_text.specs.declared.texts.NamedText.{NamedText}
 use Rattle.source_text.specs.declared.texts.NamedTexts.{NamedTexts}
 use Rattle.validator.specs.Verdict.{verdict_of}
 use Rattle.validator.specs.declared.verdict.Verdict.{Verdict}
+use Rattle.validator.specs.declared.verdict.Verdict.TheVariants.{NotApplicable}
 use Rattle.file_answers.specs.ExplanationLines.{Files, Named, IsLocated, IsSaidOf, IsStepLocated, IsSubjectLocated, SaySubject, SayVerdict, IsStepAt, file_in, files_of, named_of}
 use Rattle.file_answers.specs.Explanations.{IsFaultExplained, IsLocatedIf, IsOfFault, IsStepFound, IsStepOf, IsTaskExplained, IsTrueOf, IsVerdictExplained, IsVerdictSaid, files_in, in_texts, text_in}
 use Rattle.file_answers.specs.Files.{fault_at, reported_in}
@@ -28,7 +29,7 @@ use Rattle.model.specs.Meaning.{system_of}
 use Rattle.model.specs.Runs as runs
 use Rattle.model.specs.Runs.{IsVerdict}
 use Rattle.model.specs.Files.{IsTaskOf}
-use Rattle.model.specs.PlanText.{AllMean, IsPlanText, Step, placed_from}
+use Rattle.model.specs.PlanText.{AllMean, AreSteps, IsPlanText, Step, placed_from}
 use Rattle.model.specs.Words.{AreParts, Part}
 use Rattle.explained_plans.specs.StepPlaces.{IsStepPlace, span_of}
 
@@ -125,10 +126,19 @@ step_of_text task text plan (runs.not_applicable n) (steps, has, mean) is =
 step_of_text task text plan runs.goal_missed is_plan is = tt
 
 -- what is found of it is its span
-pub step_found : (text : List ℕ) (step : ℕ) (parts : List Part) → AreParts text parts → (found : Option Span)
+found_at : (text : List ℕ) (step : ℕ) (parts : List Part) → AreParts text parts → (found : Option Span)
     → IsSomeAnd found (λ span. IsStepPlace (placed_from 0 parts) step (span_of span)) → IsSomeAnd found (IsStepAt text step)
-step_found text step parts cut None is = absurd is
-step_found text step parts cut (Some span) is = (parts, cut, is)
+found_at text step parts cut None is = absurd is
+found_at text step parts cut (Some span) is = (parts, cut, is)
+
+pub step_found : (text : List ℕ) (verdict : Verdict) (step : ℕ) (found : Option Span) → verdict ≡ NotApplicable step → IsStepOf text (verdict_of verdict)
+    → ((parts : List Part) (steps : List Step) → AreParts text parts → AreSteps (placed_from 0 parts) steps → 1 ≤ step → step ≤ length steps
+        → IsSomeAnd found (λ span. IsStepPlace (placed_from 0 parts) step (span_of span)))
+    → IsStepFound text (verdict_of verdict) found
+step_found text verdict step found is within placed =
+    let here : IsStepOf text (runs.not_applicable step) = subst (λ (v : Verdict). IsStepOf text (verdict_of v)) is within in
+    subst (λ (v : Verdict). IsStepFound text (verdict_of v) found) (sym is)
+    (found_at text step here.1.parts here.1.cut found (placed here.1.parts here.0 here.1.cut here.1.steps_of_parts here.2 here.3))
 
 -- and the location is that span's
 pub step_located : (file : Named) (verdict : runs.Verdict) (found : Option Span) (at : Option Location) → IsStepFound file.text verdict found

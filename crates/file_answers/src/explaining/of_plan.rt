@@ -47,7 +47,7 @@ fn explain_steps(
     plan: &Plan,
 ) -> Result<Explanation, NoMemory>
     requires instances { IsTrue (list_all (is_instance (task_of task.now)) (plan_of plan.now)) }
-    requires text { IsPlanText (task_of task.now) file.entry.text.now (plan_of plan.now) }
+    requires text { IsPlanText (task_of task.now) file.text.now (plan_of plan.now) }
     ensures { IfOk result (IsVerdictExplained (task_of task.now) (plan_of plan.now) (named_of file.entry)) }
 {
     let explained = explain_plan(alloc, task, plan)?;
@@ -62,7 +62,7 @@ fn explain_verdict(
     plan: &Plan,
     explained: &PlanExplanation<'_>,
 ) -> Result<Explanation, NoMemory>
-    requires { IsStepOf file.entry.text.now (plans.verdict_of explained.now) }
+    requires { IsStepOf file.text.now (plans.verdict_of explained.now) }
     ensures { IfOk result (IsVerdictSaid (named_of file.entry) (plans.verdict_of explained.now)) }
 {
     let verdict = verdict_in(explained);
