@@ -2,8 +2,7 @@
 ghost use Rattle.std.specs.Prelude.{IsTrue};
 ghost use Rattle.table_rows.specs.Rows.{are_rising};
 
-use crate::helpers::Reported::Line;
-use crate::helpers::check_text;
+use crate::helpers::{Reported, check_text};
 use cert_checker::RefusalCode;
 use certificate::{Bounds, Cert, Claim, Header, Mark, Potential, StateLine, Version, write_cert};
 use devices::Memory;
@@ -90,9 +89,13 @@ fn a_certificate_with_tables_is_written(rt: HostRuntime) -> Result<(), Fail> {
 
 #[test]
 fn version_3_is_not_checked_yet(rt: HostRuntime) -> Result<(), Fail> {
+    let refused = Reported::Line {
+        code: RefusalCode::CertVersion,
+        line: 1,
+    };
     on_task(&rt, rt.alloc(), &GO, |rt, alloc, task| {
         let answer = check_text(alloc, task, TEXT.to_vec(alloc)?, 1);
-        assert_eq!(rt; answer, Err(Line(RefusalCode::CertVersion, 1)));
+        assert_eq!(rt; answer, Err(refused));
         Ok(())
     })
 }
