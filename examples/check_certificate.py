@@ -45,13 +45,12 @@ class Refused(Exception):
 # ---- tables
 
 class Table:
-    """A table: its rows, each as bits, one for each atom of the scope that is true, with its weights, one for each function."""
+    """A table: its rows, each as bits, one for each atom of the scope that is true, with their weights, one for each function."""
 
-    def __init__(self, atoms, numbers):
-        self.bit_of = {atoms[number]: 1 << at for at, number in enumerate(numbers)}
-        self.bit_of_word = {str(number): 1 << at for at, number in enumerate(numbers)}
+    def __init__(self, numbers):
+        self.bits = {str(number): 1 << at for at, number in enumerate(numbers)}
         self.rows = {}
-        self.rows_with = {bit: [] for bit in self.bit_of.values()}
+        self.rows_with = {bit: [] for bit in self.bits.values()}
         self.losses_of = {}
 
     def add(self, bits, weights):
@@ -60,34 +59,19 @@ class Table:
         for bit in bits:
             self.rows_with[bit].append(row)
 
-    def bits(self, atoms):
-        """Those of the atoms that are in the scope, as bits."""
-        return sum(self.bit_of.get(atom, 0) for atom in atoms)
-
-    def asked(self, literals):
-        """The atoms of the scope that the literals say to be true, and those that they say to be false."""
-        return tuple(self.bits({atom for atom, is_true in literals if is_true == it}) for it in (True, False))
-
     def agreeing(self, wanted, unwanted):
-        """The rows that agree with literals."""
+        """The rows that have these bits and not those."""
         lists = [rows for bit, rows in self.rows_with.items() if wanted & bit]
         return [row for row in min(lists, key=len, default=self.rows) if row & wanted == wanted and not row & unwanted]
 
-    def changed(self, changes):
-        """The changes in the scope: what is added and what is deleted outright, and each other one with what its condition asks."""
-        inside = [it for it in changes if it.atom in self.bit_of]
-        adds, deletes = (self.bits({it.atom for it in inside if it.when is None and it.adds == adds}) for adds in (True, False))
-        return adds, deletes, frozenset((self.bit_of[it.atom], it.adds, *self.asked(it.when)) for it in inside if it.when is not None)
-
-    def losses(self, literals, changes):
-        """What each function may lose at most by an instance; None where no row agrees with it, without end where a row after is no row."""
-        asked, changed = self.asked(literals), self.changed(changes)
+    def losses(self, asked, changed):
+        """What each function may lose at most by an instance; None where no row agrees with it, and no end where one after is no row."""
         if (asked, changed) not in self.losses_of:
             self.losses_of[asked, changed] = self.worst(self.agreeing(*asked), *changed)
         return self.losses_of[asked, changed]
 
     def worst(self, rows, adds, deletes, others):
-        """The same of these rows and changes."""
+        """The same, of the rows that agree and of what is changed in the scope."""
         worst = None
         for row in rows:
             before = self.rows[row]
@@ -100,22 +84,22 @@ class Table:
 
 
 def rows_after(row, adds, deletes, others):
-    """The rows that may follow a row: each of the other changes whose condition the row does not contradict may be made or not."""
-    after, open_bits = row & ~deletes | adds, 0
+    """The rows that may follow a row: each of the other changes may be made or not, unless the row contradicts its condition."""
+    after, free = row & ~deletes | adds, 0
     for bit, is_added, wanted, unwanted in others:
         if row & wanted == wanted and not row & unwanted and not adds & bit and is_added != bool(after & bit):
-            open_bits |= bit
-    chosen = open_bits
+            free |= bit
+    chosen = free
     while chosen:
         yield after ^ chosen
-        chosen = (chosen - 1) & open_bits
+        chosen = (chosen - 1) & free
     yield after
 
 
 # ---- fairness
 
-def changes_of_weight(atom, literals, changes):
-    """What an atom may be before, less what it may be after, in each way that may be."""
+def ways_of(atom, literals, changes):
+    """The ways in which an instance may change an atom: what it is before, 0 or 1, less what it is after."""
     made = {(it.adds, it.when is None) for it in changes if it.atom == atom}
     found = set()
     for before in (0, 1):
@@ -134,57 +118,68 @@ def changes_of_weight(atom, literals, changes):
 class Fairness:
     """What the functions of a certificate may lose by an instance, and what they may keep at goals.
 
-    Only in version 3 an instance can be shut out. Atoms have numbers that are in the certificate, true at the start or changed by
-    an instance that is kept: the others are never true.
+    Atoms have numbers that are in the certificate, true at the start or changed by an instance that is kept: no other is ever true.
     """
 
     def __init__(self, said, numbered):
         self.said, self.numbered = said, numbered
-        self.tables_of = {}
-        for table in said.tables:
-            for atom in table.bit_of:
-                self.tables_of.setdefault(atom, []).append(table)
+        self.weights = {atom: weights for atom, weights in said.weights.items() if any(weights)}
         self.is_all_shut_out = any(not table.rows for table in said.tables)
 
-    def is_possible(self, literals):
-        """Whether no literal wants an atom that has no number."""
-        return all(atom in self.numbered for atom, is_true in literals if is_true)
-
     def losses(self, instance):
-        """What each function may lose by an instance at most, and None where it is shut out."""
-        if self.said.version == 3 and (self.is_all_shut_out or not self.is_possible(instance.literals)):
+        """What each function may lose by an instance at most, and None where it is shut out, as it can be in version 3 alone."""
+        if self.said.version == 3 and (self.is_all_shut_out or not instance.wanted <= self.numbered):
             return None
         losses = self.losses_by_atoms(instance)
-        changes = [it for it in instance.changes if it.when is None or self.is_possible(it.when)]
-        atoms = {atom for atom, _ in instance.literals} | {it.atom for it in changes}
-        for table in {id(it): it for atom in atoms for it in self.tables_of.get(atom, [])}.values():
-            by_rows = table.losses(instance.literals, changes)
+        for at, (asked, changed) in self.seen_by_tables(instance).items():
+            by_rows = self.said.tables[at].losses(asked, changed)
             if by_rows is None:
                 return None
             losses = list(map(sum, zip(losses, by_rows)))
         return losses
 
+    def seen_by_tables(self, instance):
+        """What an instance asks and changes, in bits, in each scope of which it names an atom."""
+        asked = [self.said.bits_of(atoms) for atoms in (instance.wanted, instance.unwanted)]
+        outright = [self.said.bits_of(atoms) for atoms in (instance.adds, instance.deletes)]
+        others = self.other_changes(instance)
+        at_table = lambda at, found: tuple(it.get(at, 0) for it in found)
+        return {at: (at_table(at, asked), (*at_table(at, outright), frozenset(others.get(at, ()))))
+                for at in {at for found in (*asked, *outright, others) for at in found}}
+
+    def other_changes(self, instance):
+        """Of each table the changes under a `when` in its scope: the bit, whether it is added, and the bits that the condition asks."""
+        found = {}
+        for change in instance.changes:
+            if change.when is not None:
+                wanted, unwanted = ({atom for atom, is_true in change.when if is_true == it} for it in (True, False))
+                if wanted <= self.numbered:
+                    asked = self.said.bits_of(wanted), self.said.bits_of(unwanted)
+                    for at, bit in self.said.places.get(change.atom, ()):
+                        found.setdefault(at, []).append((bit, change.adds, *(it.get(at, 0) for it in asked)))
+        return found
+
     def losses_by_atoms(self, instance):
         losses = [0] * len(self.said.constants)
-        for atom in {it.atom for it in instance.changes} & self.said.weights.keys():
-            ways = changes_of_weight(atom, instance.literals, instance.changes)
-            for at, weight in enumerate(self.said.weights[atom]):
+        for atom in self.weights.keys() & {it.atom for it in instance.changes}:
+            ways = ways_of(atom, instance.literals, instance.changes)
+            for at, weight in enumerate(self.weights[atom]):
                 losses[at] += max((weight * way for way in ways), default=0)
         return losses
 
     def kept_at_goals(self, literals):
-        """What each function may keep at most where these literals of the goal hold, and None where a table has no row for them."""
-        kept = list(self.said.constants)
-        for atom, weights in self.said.weights.items():
+        """What each function may keep at goals at most, by the goal's sure literals; None where a table has no row for them."""
+        parts = [self.said.constants]
+        for atom, weights in self.weights.items():
             if (atom, False) not in literals:
-                is_true = (atom, True) in literals
-                kept = [sum_ + (weight if is_true else max(0, weight)) for sum_, weight in zip(kept, weights)]
-        for table in self.said.tables:
-            rows = [table.rows[row] for row in table.agreeing(*table.asked(literals))]
+                parts.append(weights if (atom, True) in literals else [max(0, weight) for weight in weights])
+        wanted, unwanted = (self.said.bits_of(atom for atom, is_true in literals if is_true == it) for it in (True, False))
+        for at, table in enumerate(self.said.tables):
+            rows = table.agreeing(wanted.get(at, 0), unwanted.get(at, 0))
             if not rows:
                 return None
-            kept = [sum_ + max(weights) for sum_, weights in zip(kept, zip(*rows))]
-        return kept
+            parts.append([max(weights) for weights in zip(*map(table.rows.get, rows))])
+        return list(map(sum, zip(*parts)))
 
 
 def look_whether_fair(said, goal, instances, fairness):
@@ -241,7 +236,7 @@ class Certificate:
     def __init__(self):
         self.version = self.claim = None
         self.constants, self.atoms, self.weights = [], [], {}
-        self.tables, self.rows = [], 0
+        self.tables, self.rows, self.places = [], 0, {}
         self.states, self.listed = [], {}
 
     def read_constants(self, words):
@@ -287,12 +282,14 @@ class Certificate:
             raise ValueError
         if len(self.tables) == MOST_TABLES:
             raise Refused(55)
-        self.tables.append(Table(self.atoms, numbers))
+        for at, it in enumerate(numbers):
+            self.places.setdefault(self.atoms[it], []).append((len(self.tables), 1 << at))
+        self.tables.append(Table(numbers))
 
     def read_row(self, count, words):
         table, width = self.tables[-1], len(self.constants)
         weights = self.read_weights(words[:width])
-        bits = [table.bit_of_word[word] for word in words[width:]]
+        bits = [table.bits[word] for word in words[width:]]
         if any(a >= b for a, b in zip(bits, bits[1:])):
             raise ValueError
         if self.rows == MOST_ROWS:
@@ -317,15 +314,21 @@ class Certificate:
         self.listed[state] = cost
         self.states.append((count, kind, cost, rest, state))
 
+    def bits_of(self, atoms):
+        """Of each table that has some of the atoms in its scope, their bits."""
+        found = {}
+        for atom in atoms:
+            for at, bit in self.places.get(atom, ()):
+                found[at] = found.get(at, 0) | bit
+        return found
+
     def sums(self, state):
-        """What each function says of a state, and zeros where a table has no row for it."""
-        found = [self.constants, *(self.weights[atom] for atom in state if atom in self.weights)]
-        for table in self.tables:
-            row = table.rows.get(table.bits(state))
-            if row is None:
-                return [0] * len(self.constants)
-            found.append(row)
-        return list(map(sum, zip(*found)))
+        """What each function gives a state, and zeros where a table has no row for it."""
+        bits = self.bits_of(state)
+        rows = [table.rows.get(bits.get(at, 0)) for at, table in enumerate(self.tables)]
+        if None in rows:
+            return [0] * len(self.constants)
+        return list(map(sum, zip(self.constants, *(self.weights[atom] for atom in state if atom in self.weights), *rows)))
 
     def value(self, state):
         return max(0, *self.sums(state)[:-1])
@@ -444,6 +447,14 @@ def cost_of_plan(task, plan):
     return cost if task.holds(task.goal, state, {}) else None
 
 
+def answer(task, data, plan=None, limit=1000000):
+    """What is printed of a certificate, and the status."""
+    try:
+        return check(task, data, plan, limit), 0
+    except Refused as refused:
+        return str(refused), 12
+
+
 def main():
     words = argparse.ArgumentParser()
     for file in ("domain", "problem", "cert"):
@@ -454,12 +465,9 @@ def main():
     text_of = lambda name: open(name, encoding="latin-1").read()
     task = Task(text_of(words.domain), text_of(words.problem))
     with open(words.cert, "rb") as file:
-        data = file.read()
-    try:
-        print(check(task, data, words.plan and text_of(words.plan), words.instances))
-    except Refused as refused:
-        print(refused)
-        sys.exit(12)
+        said, status = answer(task, file.read(), words.plan and text_of(words.plan), words.instances)
+    print(said)
+    sys.exit(status)
 
 
 if __name__ == "__main__":
