@@ -8,9 +8,11 @@ It prints `at least C`, `unsolvable` or, with a plan, `optimal cost C`, and ends
 be well-formed, as `optplan` has said of them. It goes through all instances of each open state: it is for small tasks.
 """
 import argparse
+import collections
 import functools
 import itertools
 import math
+import operator
 import os
 import re
 import sys
@@ -51,7 +53,7 @@ class Table:
         self.bits = {str(number): 1 << at for at, number in enumerate(numbers)}
         self.rows = {}
         self.rows_with = {bit: [] for bit in self.bits.values()}
-        self.losses_of = {}
+        self.found_agreeing, self.found_losses = {}, {}
 
     def add(self, bits, weights):
         row = sum(bits)
@@ -64,18 +66,23 @@ class Table:
         lists = [rows for bit, rows in self.rows_with.items() if wanted & bit]
         return [row for row in min(lists, key=len, default=self.rows) if row & wanted == wanted and not row & unwanted]
 
-    def losses(self, asked, changed):
-        """What each function may lose at most by an instance; None where no row agrees with it, and no end where one after is no row."""
-        if (asked, changed) not in self.losses_of:
-            self.losses_of[asked, changed] = self.worst(self.agreeing(*asked), *changed)
-        return self.losses_of[asked, changed]
+    def has_agreeing(self, *asked):
+        """Whether a row has these bits and not those."""
+        if asked not in self.found_agreeing:
+            self.found_agreeing[asked] = bool(self.agreeing(*asked))
+        return self.found_agreeing[asked]
 
-    def worst(self, rows, adds, deletes, others):
-        """The same, of the rows that agree and of what is changed in the scope."""
+    def losses(self, *seen):
+        """What each function may lose at most by an instance that asks and changes this; without end where a row after is no row."""
+        if seen not in self.found_losses:
+            self.found_losses[seen] = self.worst(*seen)
+        return self.found_losses[seen]
+
+    def worst(self, asked, changed):
         worst = None
-        for row in rows:
+        for row in self.agreeing(*asked):
             before = self.rows[row]
-            for after in rows_after(row, adds, deletes, others):
+            for after in rows_after(row, *changed):
                 if after not in self.rows:
                     return [math.inf] * len(before)
                 losses = map(int.__sub__, before, self.rows[after])
@@ -127,25 +134,25 @@ class Fairness:
         self.is_all_shut_out = any(not table.rows for table in said.tables)
 
     def losses(self, instance):
-        """What each function may lose by an instance at most, and None where it is shut out, as it can be in version 3 alone."""
-        if self.said.version == 3 and (self.is_all_shut_out or not instance.wanted <= self.numbered):
-            return None
-        losses = self.losses_by_atoms(instance)
-        for at, (asked, changed) in self.seen_by_tables(instance).items():
-            by_rows = self.said.tables[at].losses(asked, changed)
-            if by_rows is None:
-                return None
-            losses = list(map(sum, zip(losses, by_rows)))
-        return losses
+        """What each function may lose at most by an instance that is not shut out."""
+        by_tables = (self.said.tables[at].losses(*seen) for at, seen in self.seen(instance).items())
+        return list(map(sum, zip(self.losses_by_atoms(instance), *by_tables)))
 
-    def seen_by_tables(self, instance):
-        """What an instance asks and changes, in bits, in each scope of which it names an atom."""
-        asked = [self.said.bits_of(atoms) for atoms in (instance.wanted, instance.unwanted)]
-        outright = [self.said.bits_of(atoms) for atoms in (instance.adds, instance.deletes)]
+    def is_shut_out(self, instance):
+        """Whether a table has no row that agrees with an instance, or it wants an atom without a number: never in versions 1 and 2."""
+        if self.said.version < 3:
+            return False
+        if self.is_all_shut_out or not instance.wanted <= self.numbered:
+            return True
+        wanted, unwanted = map(self.said.bits_of, (instance.wanted, instance.unwanted))
+        return not all(self.said.tables[at].has_agreeing(wanted.get(at, 0), unwanted.get(at, 0)) for at in {**wanted, **unwanted})
+
+    def seen(self, instance):
+        """What an instance asks and changes, in bits, in each scope in which it changes something."""
+        wanted, unwanted, adds, deletes = map(self.said.bits_of, (instance.wanted, instance.unwanted, instance.adds, instance.deletes))
         others = self.other_changes(instance)
-        at_table = lambda at, found: tuple(it.get(at, 0) for it in found)
-        return {at: (at_table(at, asked), (*at_table(at, outright), frozenset(others.get(at, ()))))
-                for at in {at for found in (*asked, *outright, others) for at in found}}
+        return {at: ((wanted.get(at, 0), unwanted.get(at, 0)), (adds.get(at, 0), deletes.get(at, 0), frozenset(others.get(at, ()))))
+                for at in {**adds, **deletes, **others}}
 
     def other_changes(self, instance):
         """Of each table the changes under a `when` in its scope: the bit, whether it is added, and the bits that the condition asks."""
@@ -186,7 +193,7 @@ def look_whether_fair(said, goal, instances, fairness):
     """Refused where an instance may lose more of a value than it costs, or any of the second one, or a goal may keep more than 0."""
     unfair, dead = {}, len(said.constants) - 1
     for instance in instances:
-        for at, loss in enumerate(fairness.losses(instance) or ()):
+        for at, loss in enumerate(() if fairness.is_shut_out(instance) else fairness.losses(instance)):
             if loss > (0 if at == dead else instance.cost):
                 unfair.setdefault(at, instance)
         if 0 in unfair:
@@ -391,11 +398,20 @@ def kept_instances(task, said, limit):
     return instances, numbered
 
 
+def by_wanted_atom(instances):
+    """The instances with their numbers, by an atom that each wants: that which the fewest want, and None for those that want none."""
+    counts, found = collections.Counter(atom for it in instances for atom in it.wanted), {}
+    for numbered in enumerate(instances):
+        found.setdefault(min(numbered[1].wanted, key=counts.get, default=None), []).append(numbered)
+    return found
+
+
 def look_at_open(task, said, instances, line, cost, state):
     """Refused(48), Refused(49) or Refused(50) where the line of an open state is wrong."""
     if task.holds(task.goal, state, {}) and (said.claim is None or cost < said.claim):
         raise Refused(48, line)
-    for instance in instances:
+    tried = [numbered for atom in (None, *state) for numbered in instances.get(atom, ())]
+    for _, instance in sorted(tried, key=operator.itemgetter(0)):
         after = instance.after(state)
         if after is None:
             continue
@@ -407,6 +423,7 @@ def look_at_open(task, said, instances, line, cost, state):
 
 def look_at_states(task, said, instances):
     """Refused where the line of a state is wrong: the first such line."""
+    instances = by_wanted_atom(instances)
     for line, kind, cost, rest, state in said.states:
         if kind == "open":
             look_at_open(task, said, instances, line, cost, state)

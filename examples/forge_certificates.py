@@ -29,6 +29,7 @@ class Draft:
 
     def __init__(self, task, data):
         self.task, self.said = task, read_certificate(task, data)
+        self.said.version = 3
         self.instances, self.numbered = kept_instances(task, self.said, MOST_INSTANCES)
         self.fairness = Fairness(self.said, self.numbered)
         self.goal = task.sure(task.goal, {})
@@ -40,8 +41,8 @@ class Draft:
             self.said.weights[atom] = [0, 0]
 
     def seen(self, at):
-        """What each instance asks and changes in the scope of a table."""
-        found = ((it, self.fairness.seen_by_tables(it).get(at)) for it in self.instances)
+        """What each instance asks and changes in the scope of a table, where it changes something."""
+        found = ((it, self.fairness.seen(it).get(at)) for it in self.instances)
         return {instance: seen for instance, seen in found if seen is not None}
 
     def add_table(self, scope):
@@ -57,7 +58,7 @@ class Draft:
             return
         for row in rows:
             table.add([bit for bit in table.bits.values() if row & bit], [])
-        self.instances = [it for it in self.instances if it not in seen or table.agreeing(*seen[it][0])]
+        self.instances = [it for it in self.instances if not self.fairness.is_shut_out(it)]
 
     def take(self, at):
         """Weights of a table's rows by which it takes as much as it can of what is left: of each row what is still to pay by it."""
