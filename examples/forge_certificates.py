@@ -27,18 +27,25 @@ STATES = ("open", "cut", "dead")
 class Draft:
     """A certificate without tables that is given some, and what is left of its instances' costs while they are divided."""
 
-    def __init__(self, task, data):
+    def __init__(self, task, data, chance):
         self.task, self.said = task, read_certificate(task, data)
         self.said.version = 3
-        self.instances, self.numbered = kept_instances(task, self.said, MOST_INSTANCES)
-        self.fairness = Fairness(self.said, self.numbered)
+        self.list_atoms(chance.choice(("all", "those of the text", "few")))
+        self.instances, numbered = kept_instances(task, self.said, MOST_INSTANCES)
+        self.fairness = Fairness(self.said, numbered)
         self.goal = task.sure(task.goal, {})
         self.left = {}
 
-    def name_all_atoms(self):
-        for atom in sorted(self.numbered - self.said.weights.keys()):
-            self.said.atoms.append(atom)
-            self.said.weights[atom] = [0, 0]
+    def list_atoms(self, which):
+        """Lists all atoms that have numbers, or those that states have or that have weights, or leaves them as they are."""
+        weights = self.said.weights
+        if which == "all":
+            _, numbered = kept_instances(self.task, self.said, MOST_INSTANCES)
+            weights.update((atom, [0, 0]) for atom in sorted(numbered - weights.keys()))
+        elif which == "few":
+            kept = {atom for _, _, _, _, state in self.said.states for atom in state} | {atom for atom in weights if any(weights[atom])}
+            self.said.weights = {atom: weights[atom] for atom in weights if atom in kept}
+        self.said.atoms = list(self.said.weights)
 
     def seen(self, at):
         """What each instance asks and changes in the scope of a table, where it changes something."""
@@ -151,9 +158,7 @@ def with_tables(task, data, chance):
 
     One value has the potentials of the text, and each cut's bound is the value of its state.
     """
-    draft = Draft(task, data)
-    if chance.random() < 0.5:
-        draft.name_all_atoms()
+    draft = Draft(task, data, chance)
     for _ in range(chance.randint(0, 4) if draft.said.atoms else 0):
         draft.add_table(random_scope(draft.said.atoms, chance))
     order, functions = list(range(len(draft.said.tables))), []
