@@ -1,14 +1,15 @@
 #!/usr/bin/env python3
 """Compares optplan's checker with examples/check_certificate.py, which shares no line with it, on the tasks of examples/.
 
-    compare_checkers.py [TASK..] [--tables N] [--seed S]
+    compare_checkers.py [TASK..] [--random M] [--tables N] [--seed S]
 
 For each task it has `optplan solve` write a certificate, and then changes it in one place at a time: each constant and each
 weight by one, up and down, and each of the first states to another kind of line. Both checkers are asked of each text, and what
 they answer is compared. It prints a line for each task, and each text on which they differ; it ends with status 1 where one does.
 
-With --tables they are asked of N texts of version 3 of each task besides, as forge_certificates.py makes them at random; S is 0
-where it is not given. By itself it leaves version 3 out, which optplan refuses as yet.
+With --random it does so with M random tasks as well (random_tasks.py). With --tables both are asked of N texts of version 3 of
+each task besides, as forge_certificates.py makes them at random; by itself it leaves version 3 out, which optplan refuses as
+yet. S is the seed of what is random, and 0 where it is not given.
 """
 import argparse
 import itertools
@@ -25,6 +26,7 @@ sys.path.insert(0, HERE)
 from check_certificate import answer  # noqa: E402
 from forge_certificates import random_texts  # noqa: E402
 from pddl_task import Task  # noqa: E402
+from random_tasks import random_task  # noqa: E402
 
 PROGRAM = os.environ.get("OPTPLAN", os.path.join(os.path.dirname(HERE), "optplan"))
 # How many states are listed by another kind of line.
@@ -64,35 +66,50 @@ def text_of(name):
         return file.read()
 
 
-def compare(name, count, seed):
-    """How many texts were compared, and how many were told apart; of version 3 so many, by this seed."""
-    domain, problem = (f"{HERE}/{name}/{it}.pddl" for it in ("domain", "problem"))
-    task, asked, differ = Task(text_of(domain), text_of(problem)), 0, 0
-    with tempfile.TemporaryDirectory() as room:
-        cert = f"{room}/cert.txt"
-        said(PROGRAM, "solve", domain, problem, "--cert", cert)
-        written = text_of(cert)
-        texts = itertools.chain(changed(written), random_texts(task, written.encode("ascii"), random.Random(seed), count))
-        for asked, (what, text) in enumerate(texts, 1):
-            with open(cert, "w", encoding="ascii") as file:
-                file.write(text)
-            theirs, status = answer(task, text.encode("ascii"))
-            ours, theirs = said(PROGRAM, "check", domain, problem, cert), (f"{theirs}\n", status)
-            if ours != theirs:
-                differ += 1
-                print(f"{name}, {what}: optplan says {ours}, and check_certificate.py {theirs}")
+def write(name, text):
+    with open(name, "w", encoding="ascii") as file:
+        file.write(text)
+
+
+def files_of(names, count, seed):
+    """The name, domain and problem of each of these tasks of examples/, all where none is named, and of so many random ones."""
+    for name in names or sorted(it for it in os.listdir(HERE) if os.path.isfile(f"{HERE}/{it}/domain.pddl")):
+        yield name, *(text_of(f"{HERE}/{name}/{it}.pddl") for it in ("domain", "problem"))
+    for at in range(seed, seed + count):
+        yield f"random {at}", *random_task(random.Random(at))
+
+
+def compare(name, texts, room, count, chance):
+    """How many certificates were compared, and how many were told apart; of version 3 so many."""
+    domain, problem, cert = (f"{room}/{it}" for it in ("domain.pddl", "problem.pddl", "cert.txt"))
+    for file, text in zip((domain, problem), texts):
+        write(file, text)
+    solved = said(PROGRAM, "solve", domain, problem, "--cert", cert)
+    if not os.path.isfile(cert):
+        print(f"{name}: optplan says {solved} and writes no certificate")
+        return 0, 1
+    task, written, asked, differ = Task(*texts), text_of(cert), 0, 0
+    certificates = itertools.chain(changed(written), random_texts(task, written.encode("ascii"), chance, count))
+    for asked, (what, text) in enumerate(certificates, 1):
+        write(cert, text)
+        theirs, status = answer(task, text.encode("ascii"))
+        ours, theirs = said(PROGRAM, "check", domain, problem, cert), (f"{theirs}\n", status)
+        if ours != theirs:
+            differ += 1
+            print(f"{name}, {what}: optplan says {ours}, and check_certificate.py {theirs}")
     return asked, differ
 
 
 def main():
     words = argparse.ArgumentParser()
     words.add_argument("tasks", nargs="*")
-    words.add_argument("--tables", type=int, default=0)
-    words.add_argument("--seed", type=int, default=0)
+    for name in ("--random", "--tables", "--seed"):
+        words.add_argument(name, type=int, default=0)
     words = words.parse_args()
     bad = 0
-    for name in words.tasks or sorted(it for it in os.listdir(HERE) if os.path.isdir(f"{HERE}/{it}") and not it.startswith("_")):
-        count, differ = compare(name, words.tables, words.seed)
+    for name, *texts in files_of(words.tasks, words.random, words.seed):
+        with tempfile.TemporaryDirectory() as room:
+            count, differ = compare(name, texts, room, words.tables, random.Random(words.seed))
         bad += differ
         print(f"{name}: {count} texts, {differ} differ", flush=True)
     sys.exit(1 if bad else 0)
