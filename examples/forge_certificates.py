@@ -266,7 +266,9 @@ def dead_weights_cleared(lines, chance):
 
 
 def values_swapped(lines, chance):
-    first, second = chance.sample(range(1, width(lines) + 1), 2) if width(lines) > 1 else chance.choice([])
+    if width(lines) == 1:
+        raise IndexError
+    first, second = chance.sample(range(1, width(lines) + 1), 2)
     kinds = chance.choice((["row"], ["atom"], ["atom", "row"], ["constant", "atom", "row"]))
     for at in lines_of(lines, *kinds):
         lines[at][first], lines[at][second] = lines[at][second], lines[at][first]
@@ -295,7 +297,10 @@ def state_dropped(lines, chance):
 
 
 def claim_changed(lines, chance):
-    lines[1] = chance.choice((["claim", "none"], ["claim", "bound", moved(lines[1][-1], chance)] if lines[1][-1] != "none" else ["claim", "bound", "1"]))
+    if lines[1] == ["claim", "none"]:
+        lines[1] = ["claim", "bound", "1"]
+    else:
+        lines[1] = chance.choice((["claim", "none"], ["claim", "bound", moved(lines[1][-1], chance)]))
     return "another claim"
 
 
@@ -309,13 +314,15 @@ def line_moved(lines, chance):
 def word_changed(lines, chance):
     words = chance.choice(lines)
     at = chance.randrange(len(words))
-    words[at:at + 1] = chance.choice(([], [words[at]] * 2, [words[at], "0"], [""], ["-0"], ["01"], ["x"], ["2147483648"], ["1152921504606846976"]))
+    other = chance.choice(("", "-0", "01", "x", "2147483648", "1152921504606846976"))
+    words[at:at + 1] = chance.choice(([], [words[at]] * 2, [words[at], "0"], [other]))
     return "a word is changed"
 
 
-CHANGES = (weight_moved, weight_moved, weight_moved, constant_moved, row_dropped, row_dropped, row_added, row_repeated, table_added, table_moved,
-           scope_left, dead_weights_swapped, dead_weights_cleared, values_swapped, state_changed, state_cost_moved, state_dropped, claim_changed,
-           line_moved, word_changed)
+# Those that stand here more than once are taken more often.
+CHANGES = (weight_moved, weight_moved, weight_moved, constant_moved, row_dropped, row_dropped, row_added, row_repeated, table_added,
+           table_moved, scope_left, dead_weights_swapped, dead_weights_cleared, values_swapped, state_changed, state_cost_moved,
+           state_dropped, claim_changed, line_moved, word_changed)
 
 
 def forged(text, chance):

@@ -216,8 +216,9 @@ class Instance:
         self.literals = task.sure(action["precondition"], bound)
         self.wanted, self.unwanted = (frozenset(atom for atom, is_true in self.literals if is_true == it) for it in (True, False))
         self.changes = task.counting(action["effect"], bound)
-        self.adds, self.deletes = (frozenset(it.atom for it in self.changes if it.when is None and it.adds == adds) for adds in (True, False))
-        self.is_said_outright = is_of_literals(action["precondition"]) and all(it.when is None for it in self.changes)
+        outright = [it for it in self.changes if it.when is None]
+        self.adds, self.deletes = (frozenset(it.atom for it in outright if it.adds == adds) for adds in (True, False))
+        self.is_said_outright = is_of_literals(action["precondition"]) and outright == self.changes
 
     def after(self, state):
         """The state behind it, and None where it is not applicable."""
