@@ -89,12 +89,12 @@ class Draft:
         for atom in self.said.atoms:
             weights[atom] = self.said.weights[atom][0] if has_potentials else 0
         for instance in self.instances:
-            self.left[instance] = instance.cost - (self.fairness.losses_by_atoms(instance)[0] if has_potentials else 0)
+            self.left[instance] = max(0, instance.cost - (self.fairness.losses_by_atoms(instance)[0] if has_potentials else 0))
         rows = {at: self.take(at)[0] for at in order}
         return constant, weights, [rows[at] for at in range(len(self.said.tables))]
 
     def dead_ends(self):
-        """The second value: its constant, its weights of atoms, and of rows, which are 1 where no goal is reached."""
+        """The second value: its constant, and its weights of atoms and of rows, which are 1 where a row has no way to the goal."""
         self.left = dict.fromkeys(self.instances, 0)
         ways = [self.take(at)[1] for at in range(len(self.said.tables))]
         rows = [{row: 0 if row in ways[at] else 1 for row in table.rows} for at, table in enumerate(self.said.tables)]
@@ -112,7 +112,7 @@ class Draft:
             for row in table.rows:
                 weights = [str(function[2][at][row]) for function in functions]
                 lines.append(["row", *weights, *(word for word, bit in table.bits.items() if row & bit)])
-        for _, kind, cost, rest, state in self.said.states:
+        for _, kind, cost, _, state in self.said.states:
             numbers = sorted((number_of[atom] for atom in state), key=int)
             lines.append([kind, str(cost), *(["0"] if kind == "cut" else []), *numbers])
         return [*lines, ["end", str(len(self.said.states))]]
