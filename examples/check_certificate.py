@@ -8,11 +8,23 @@ It prints `at least C`, `unsolvable` or, with a plan, `optimal cost C`, and ends
 be well-formed, as `optplan` has said of them. It goes through all instances of each open state: it is for small tasks.
 """
 import argparse
+import collections
+import functools
 import itertools
+import math
+import operator
+import os
 import re
 import sys
 
-MOST_ATOMS, MOST_STATES, LONGEST_LINE = 1048576, 16777216, 16777216
+sys.dont_write_bytecode = True
+sys.path.insert(0, os.path.dirname(os.path.realpath(__file__)))
+
+from pddl_task import Task, lists_of  # noqa: E402
+
+MOST_ATOMS, MOST_TABLES, MOST_ROWS, MOST_STATES, LONGEST_LINE = 1048576, 4194304, 4194304, 16777216, 16777216
+# How many numbers the line of the constants has at least and at most, by the version.
+CONSTANTS = {1: (1, 1), 2: (2, 2), 3: (2, 33)}
 NAME = r"[a-z][a-z0-9_-]{0,254}"
 NAMES = {40: "CertForm", 41: "CertVersion", 42: "Truncated", 43: "NotFluent", 44: "Repeated", 45: "NoInitial",
          46: "Unfair", 47: "UnfairGoal", 48: "GoalOpen", 49: "SuccessorMissing", 50: "SuccessorDearer", 51: "CutWeak", 52: "CutNotAllowed",
@@ -32,203 +44,71 @@ class Refused(Exception):
         return f"not accepted {self.number} {NAMES[self.number]}{line}{instance}"
 
 
-# ---- reading PDDL
+# ---- tables
 
-def lists_of(text):
-    """The lists of a text, as lists of words in lower case."""
-    words = re.findall(r"[()]|[^\s()]+", re.sub(r";[^\n]*", " ", text).lower())
-    stack = [[]]
-    for word in words:
-        if word == "(":
-            stack.append([])
-        elif word == ")":
-            done = stack.pop()
-            stack[-1].append(done)
-        else:
-            stack[-1].append(word)
-    return stack[0]
+class Table:
+    """A table: its rows, each as bits, one for each atom of the scope that is true, with their weights, one for each function."""
 
+    def __init__(self, numbers):
+        self.bits = {str(number): 1 << at for at, number in enumerate(numbers)}
+        self.rows = {}
+        self.rows_with = {bit: [] for bit in self.bits.values()}
+        self.found_agreeing, self.found_losses = {}, {}
 
-def typed(words):
-    """The names of a typed list, each with the types of which it has to be of one."""
-    found, waiting, words = [], [], iter(words)
-    for word in words:
-        if word == "-":
-            types = next(words)
-            types = types[1:] if isinstance(types, list) else [types]
-            found += [(name, types) for name in waiting]
-            waiting = []
-        else:
-            waiting.append(word)
-    return found + [(name, ["object"]) for name in waiting]
+    def add(self, bits, weights):
+        row = sum(bits)
+        self.rows[row] = weights
+        for bit in bits:
+            self.rows_with[bit].append(row)
 
+    def agreeing(self, wanted, unwanted):
+        """The rows that have these bits and not those."""
+        lists = [rows for bit, rows in self.rows_with.items() if wanted & bit]
+        return [row for row in min(lists, key=len, default=self.rows) if row & wanted == wanted and not row & unwanted]
 
-class Task:
-    """A task: its objects by type, its static predicates, the values of its functions, and its instances that are kept."""
+    def has_agreeing(self, *asked):
+        """Whether a row has these bits and not those."""
+        if asked not in self.found_agreeing:
+            self.found_agreeing[asked] = bool(self.agreeing(*asked))
+        return self.found_agreeing[asked]
 
-    def __init__(self, domain, problem):
-        domain, problem = lists_of(domain)[0], lists_of(problem)[0]
-        section = lambda parts, name: next((p[1:] for p in parts[2:] if p[0] == name), [])
-        self.parents = {name: types[0] for name, types in typed(section(domain, ":types"))}
-        self.objects = typed(section(domain, ":constants")) + typed(section(problem, ":objects"))
-        self.type_of = {name: types[0] for name, types in self.objects}
-        self.predicates = {p[0]: [types for _, types in typed(p[1:])] for p in section(domain, ":predicates")}
-        self.actions = [self.action(part) for part in domain[2:] if part[0] == ":action"]
-        self.has_metric = bool(section(problem, ":metric"))
-        self.values = {tuple(fact[1]): int(fact[2]) for fact in section(problem, ":init") if fact[0] == "="}
-        self.fluent = {p for action in self.actions for p in changed_predicates(action["effect"])}
-        atoms = {tuple(atom) for atom in section(problem, ":init") if atom[0] != "="}
-        self.static = frozenset(a for a in atoms if a[0] not in self.fluent)
-        self.initial = frozenset(atoms) - self.static
-        goal = section(problem, ":goal")
-        self.goal = goal[0] if goal else ["and"]
+    def losses(self, *seen):
+        """What each function may lose at most by an instance that asks and changes this; without end where a row after is no row."""
+        if seen not in self.found_losses:
+            self.found_losses[seen] = self.worst(*seen)
+        return self.found_losses[seen]
 
-    @staticmethod
-    def action(part):
-        parts = dict(zip(part[2::2], part[3::2]))
-        return {"name": part[1], "parameters": typed(parts.get(":parameters", [])),
-                "precondition": parts.get(":precondition") or ["and"], "effect": parts.get(":effect") or ["and"]}
-
-    def is_of(self, name, types):
-        """Whether the object is of one of these types, or of one below."""
-        its = self.type_of.get(name)
-        while its is not None:
-            if its in types:
-                return True
-            its = self.parents.get(its) or (None if its == "object" else "object")
-        return False
-
-    def of_types(self, types):
-        return [name for name, _ in self.objects if self.is_of(name, types)]
-
-    def bindings(self, variables):
-        """Each way to give these variables objects, in order."""
-        names = [name for name, _ in variables]
-        for objects in itertools.product(*(self.of_types(types) for _, types in variables)):
-            yield dict(zip(names, objects))
-
-    def is_fluent_atom(self, atom):
-        predicate, *objects = atom
-        types = self.predicates.get(predicate)
-        return (predicate in self.fluent and len(types) == len(objects)
-                and all(name in self.type_of and self.is_of(name, of) for name, of in zip(objects, types)))
-
-    def holds(self, formula, state, bound):
-        """Whether the formula holds in the state, where the variables have these objects."""
-        head, *rest = formula
-        if head == "and":
-            return all(self.holds(part, state, bound) for part in rest)
-        if head == "or":
-            return any(self.holds(part, state, bound) for part in rest)
-        if head == "not":
-            return not self.holds(rest[0], state, bound)
-        if head == "imply":
-            return not self.holds(rest[0], state, bound) or self.holds(rest[1], state, bound)
-        if head in ("exists", "forall"):
-            every = all if head == "forall" else any
-            return every(self.holds(rest[1], state, {**bound, **more}) for more in self.bindings(typed(rest[0])))
-        if head == "=":
-            return bound.get(rest[0], rest[0]) == bound.get(rest[1], rest[1])
-        atom = ground(formula, bound)
-        return atom in (state if head in self.fluent else self.static)
-
-    def is_closed_off(self, formula, bound, wanted=True):
-        """Whether a sure literal of the formula is static, or an equality, and false at the start."""
-        head, *rest = formula
-        if head == "and":
-            return wanted and any(self.is_closed_off(part, bound) for part in rest)
-        if head == "forall":
-            return wanted and any(self.is_closed_off(rest[1], {**bound, **more}) for more in self.bindings(typed(rest[0])))
-        if head == "not":
-            return wanted and self.is_closed_off(rest[0], bound, False)
-        if head in ("or", "imply", "exists") or head in self.fluent:
-            return False
-        return self.holds(formula, self.initial, bound) != wanted
-
-    def instances(self):
-        """The instances that have a cost and that the start does not close off, in order: each an action with its objects."""
-        for action in self.actions:
-            for bound in self.bindings(action["parameters"]):
-                if self.increase(action, bound) is not None and not self.is_closed_off(action["precondition"], bound):
-                    yield action, bound
-
-    def sure(self, formula, bound, wanted=True):
-        """The literals of fluent atoms that the formula says outright: each an atom, and whether it is true."""
-        head, *rest = formula
-        if head == "and" and wanted:
-            return {it for part in rest for it in self.sure(part, bound)}
-        if head == "forall" and wanted:
-            return {it for more in self.bindings(typed(rest[0])) for it in self.sure(rest[1], {**bound, **more})}
-        if head == "not" and wanted:
-            return self.sure(rest[0], bound, False) if rest[0][0] not in ("and", "or", "not", "imply", "forall", "exists") else set()
-        return {(ground(formula, bound), wanted)} if head in self.fluent else set()
-
-    def counting(self, effect, bound):
-        """The changes that count: each an atom, whether it becomes true, and whether it is under no `when`."""
-        return [(atom, adds, condition == ["and"]) for atom, adds, condition, objects in self.changes(effect, bound)
-                if not self.is_closed_off(condition, objects)]
-
-    def changes(self, effect, bound):
-        """The changes of an effect: an atom, whether it becomes true, the condition and its variables' objects."""
-        head, *rest = effect
-        if head == "and":
-            for part in rest:
-                yield from self.changes(part, bound)
-        elif head == "forall":
-            for more in self.bindings(typed(rest[0])):
-                yield from self.changes(rest[1], {**bound, **more})
-        elif head == "when":
-            for atom, adds, _, _ in self.changes(rest[1], bound):
-                yield atom, adds, rest[0], bound
-        elif head == "not":
-            yield ground(rest[0], bound), False, ["and"], bound
-        elif head != "increase":
-            yield ground(effect, bound), True, ["and"], bound
-
-    def result(self, state, action, bound):
-        """The state behind an instance, and None where it is not applicable."""
-        if self.increase(action, bound) is None or not self.holds(action["precondition"], state, bound):
-            return None
-        made = [(atom, adds) for atom, adds, condition, objects in self.changes(action["effect"], bound)
-                if self.holds(condition, state, objects)]
-        deletes = {atom for atom, adds in made if not adds}
-        return (state - deletes) | {atom for atom, adds in made if adds}
-
-    def increase(self, action, bound):
-        """What an instance increases the total cost by, and None where that is a function whose value is not given."""
-        by = increase_of(action["effect"])
-        return self.values.get(ground(by, bound)) if isinstance(by, list) else int(by)
-
-    def cost(self, action, bound):
-        return self.increase(action, bound) if self.has_metric else 1
+    def worst(self, asked, changed):
+        worst = None
+        for row in self.agreeing(*asked):
+            before = self.rows[row]
+            for after in rows_after(row, *changed):
+                if after not in self.rows:
+                    return [math.inf] * len(before)
+                losses = map(int.__sub__, before, self.rows[after])
+                worst = list(losses if worst is None else map(max, worst, losses))
+        return worst
 
 
-def ground(atom, bound):
-    return tuple([atom[0]] + [bound.get(term, term) for term in atom[1:]])
+def rows_after(row, adds, deletes, others):
+    """The rows that may follow a row: each of the other changes may be made or not, unless the row contradicts its condition."""
+    after, free = row & ~deletes | adds, 0
+    for bit, is_added, wanted, unwanted in others:
+        if row & wanted == wanted and not row & unwanted and not adds & bit and is_added != bool(after & bit):
+            free |= bit
+    chosen = free
+    while chosen:
+        yield after ^ chosen
+        chosen = (chosen - 1) & free
+    yield after
 
 
-def changed_predicates(effect):
-    """The predicates that an effect adds or deletes."""
-    head, *rest = effect
-    if head in ("and", "not"):
-        return {p for part in rest for p in changed_predicates(part)}
-    if head in ("forall", "when"):
-        return changed_predicates(rest[1])
-    return set() if head == "increase" else {head}
+# ---- fairness
 
-
-def increase_of(effect):
-    """What an effect increases the total cost by: a number, or a function of some terms."""
-    parts = effect[1:] if effect[0] == "and" else [effect]
-    return next((part[2] for part in parts if part[0] == "increase"), "0")
-
-
-# ---- potential functions
-
-def worst(weight, atom, literals, changes):
-    """The most that is lost by an atom of this weight, over what it may be before and after."""
-    made = {(adds, outright) for it, adds, outright in changes if it == atom}
-    losses = []
+def ways_of(atom, literals, changes):
+    """The ways in which an instance may change an atom: what it is before, 0 or 1, less what it is after."""
+    made = {(it.adds, it.when is None) for it in changes if it.atom == atom}
+    found = set()
     for before in (0, 1):
         if (atom, before == 0) in literals:
             continue
@@ -238,29 +118,97 @@ def worst(weight, atom, literals, changes):
             afters = {0 if (False, True) in made else before}
             afters |= {1} if (True, False) in made else set()
             afters |= {0} if (False, False) in made and (False, True) not in made else set()
-        losses += [weight * (before - after) for after in afters]
-    return max(losses, default=0)
+        found |= {before - after for after in afters}
+    return found
 
 
-def look_whether_fair(task, constant, weights, instances, allowed, at_instance, at_goals):
-    """Refused by one of these numbers where an instance may lose more than is allowed of it, or a goal may keep more than 0."""
-    for action, bound in instances:
-        literals, changes = task.sure(action["precondition"], bound), task.counting(action["effect"], bound)
-        loss = sum(worst(weights.get(atom, 0), atom, literals, changes) for atom in {it for it, _, _ in changes})
-        if loss > allowed(action, bound):
-            raise Refused(at_instance, instance=[action["name"]] + [bound[name] for name, _ in action["parameters"]])
-    literals = task.sure(task.goal, {})
-    given = lambda atom, weight: 0 if (atom, False) in literals else weight if (atom, True) in literals else max(0, weight)
-    if constant + sum(given(atom, weight) for atom, weight in weights.items()) > 0:
-        raise Refused(at_goals)
+class Fairness:
+    """What the functions of a certificate may lose by an instance, and what they may keep at goals.
+
+    Atoms have numbers that are in the certificate, true at the start or changed by an instance that is kept: no other is ever true.
+    """
+
+    def __init__(self, said, numbered):
+        self.said, self.numbered = said, numbered
+        self.weights = {atom: weights for atom, weights in said.weights.items() if any(weights)}
+        self.is_all_shut_out = any(not table.rows for table in said.tables)
+
+    def losses(self, instance):
+        """What each function may lose at most by an instance that is not shut out."""
+        by_tables = (self.said.tables[at].losses(*seen) for at, seen in self.seen(instance).items())
+        return list(map(sum, zip(self.losses_by_atoms(instance), *by_tables)))
+
+    def is_shut_out(self, instance):
+        """Whether a table has no row that agrees with an instance, or it wants an atom without a number: never in versions 1 and 2."""
+        if self.said.version < 3:
+            return False
+        if self.is_all_shut_out or not instance.wanted <= self.numbered:
+            return True
+        wanted, unwanted = map(self.said.bits_of, (instance.wanted, instance.unwanted))
+        return not all(self.said.tables[at].has_agreeing(wanted.get(at, 0), unwanted.get(at, 0)) for at in {**wanted, **unwanted})
+
+    def seen(self, instance):
+        """What an instance asks and changes, in bits, in each scope in which it changes something."""
+        wanted, unwanted, adds, deletes = map(self.said.bits_of, (instance.wanted, instance.unwanted, instance.adds, instance.deletes))
+        others = self.other_changes(instance)
+        return {at: ((wanted.get(at, 0), unwanted.get(at, 0)), (adds.get(at, 0), deletes.get(at, 0), frozenset(others.get(at, ()))))
+                for at in {**adds, **deletes, **others}}
+
+    def other_changes(self, instance):
+        """Of each table the changes under a `when` in its scope: the bit, whether it is added, and the bits that the condition asks."""
+        found = {}
+        for change in instance.changes:
+            if change.when is not None:
+                wanted, unwanted = ({atom for atom, is_true in change.when if is_true == it} for it in (True, False))
+                if wanted <= self.numbered:
+                    asked = self.said.bits_of(wanted), self.said.bits_of(unwanted)
+                    for at, bit in self.said.places.get(change.atom, ()):
+                        found.setdefault(at, []).append((bit, change.adds, *(it.get(at, 0) for it in asked)))
+        return found
+
+    def losses_by_atoms(self, instance):
+        losses = [0] * len(self.said.constants)
+        for atom in self.weights.keys() & {it.atom for it in instance.changes}:
+            ways = ways_of(atom, instance.literals, instance.changes)
+            for at, weight in enumerate(self.weights[atom]):
+                losses[at] += max((weight * way for way in ways), default=0)
+        return losses
+
+    def kept_at_goals(self, literals):
+        """What each function may keep at goals at most, by the goal's sure literals; None where a table has no row for them."""
+        parts = [self.said.constants]
+        for atom, weights in self.weights.items():
+            if (atom, False) not in literals:
+                parts.append(weights if (atom, True) in literals else [max(0, weight) for weight in weights])
+        wanted, unwanted = (self.said.bits_of(atom for atom, is_true in literals if is_true == it) for it in (True, False))
+        for at, table in enumerate(self.said.tables):
+            rows = table.agreeing(wanted.get(at, 0), unwanted.get(at, 0))
+            if not rows:
+                return None
+            parts.append([max(weights) for weights in zip(*map(table.rows.get, rows))])
+        return list(map(sum, zip(*parts)))
 
 
-def value(constant, weights, state):
-    return max(0, constant + sum(weights.get(atom, 0) for atom in state))
+def look_whether_fair(said, goal, instances, fairness):
+    """Refused where an instance may lose more of a value than it costs, or any of the second one, or a goal may keep more than 0."""
+    unfair, dead = {}, len(said.constants) - 1
+    for instance in instances:
+        for at, loss in enumerate(() if fairness.is_shut_out(instance) else fairness.losses(instance)):
+            if loss > (0 if at == dead else instance.cost):
+                unfair.setdefault(at, instance)
+        if 0 in unfair:
+            break
+    kept = fairness.kept_at_goals(goal) or [0] * len(said.constants)
+    for at, at_goals in enumerate(kept):
+        if at in unfair:
+            raise Refused(56 if at == dead else 46, instance=unfair[at].words)
+        if at_goals > 0:
+            raise Refused(57 if at == dead else 47)
 
 
 # ---- reading a certificate
 
+@functools.lru_cache(1 << 16)
 def weight_of(word):
     """A constant or a weight."""
     if not re.fullmatch(r"0|-?[1-9][0-9]{0,9}", word) or abs(int(word)) > 2147483647:
@@ -268,6 +216,7 @@ def weight_of(word):
     return int(word)
 
 
+@functools.lru_cache(1 << 16)
 def number(word):
     if not re.fullmatch(r"0|[1-9][0-9]{0,18}", word) or int(word) >= 2 ** 60:
         raise ValueError
@@ -286,51 +235,138 @@ def lines_of(data):
 
 
 class Certificate:
-    """What a text says: its claim, None for `claim none`, two potential functions, the second of dead ends, and the states."""
+    """What a text says: its claim, None for `claim none`, its functions, tables and states.
+
+    The functions are its values and, last, that of dead ends: each has a constant, a weight of each atom and one of each row.
+    """
 
     def __init__(self):
         self.version = self.claim = None
-        self.constants, self.atoms = [0, 0], []
-        self.weights = {}, {}
+        self.constants, self.atoms, self.weights = [], [], {}
+        self.tables, self.rows, self.places = [], 0, {}
         self.states, self.listed = [], {}
 
-    def numbers(self, text):
-        """The constants, or the weights of an atom: of version 2 two of them, and of version 1 one, with 0 in the place of the other."""
-        words = text.split(" ")
-        if len(words) != self.version:
+    def read_constants(self, words):
+        least, most = CONSTANTS[self.version]
+        if not least <= len(words) <= most:
             raise ValueError
-        return [weight_of(word) for word in words] + [0] * (2 - self.version)
+        self.constants = self.padded(words)
 
-    def atom(self, task, count, text):
+    def read_weights(self, words):
+        weights = self.padded(words)
+        if len(weights) != len(self.constants):
+            raise ValueError
+        return weights
+
+    def padded(self, words):
+        """The numbers of these words; in version 1 there is one, and 0 takes the place of the other."""
+        if self.version == 1 and len(words) != 1:
+            raise ValueError
+        return [weight_of(word) for word in words] + [0] * (self.version == 1)
+
+    def read_atom(self, task, count, text):
         weights, name = re.fullmatch(rf"atom ([^(]*) \(({NAME}(?: {NAME})*)\)", text).groups()
-        weights, atom = self.numbers(weights), tuple(name.split(" "))
+        weights, atom = self.read_weights(weights.split(" ")), tuple(name.split(" "))
         if len(self.atoms) == MOST_ATOMS:
             raise Refused(55)
         if not task.is_fluent_atom(atom):
             raise Refused(43, count)
-        if atom in self.weights[0]:
+        if atom in self.weights:
             raise Refused(44, count)
-        for function, weight in zip(self.weights, weights):
-            function[atom] = weight
+        self.weights[atom] = weights
         self.atoms.append(atom)
 
-    def state(self, count, kind, words):
+    def read_atom_numbers(self, words):
+        """Numbers of atoms, which rise."""
         numbers = [number(word) for word in words]
-        cost, numbers = numbers[0], numbers[1:]
-        rest = None
-        if kind == "cut":
-            rest, numbers = numbers[0], numbers[1:]
-        if any(n >= len(self.atoms) for n in numbers) or any(a >= b for a, b in zip(numbers, numbers[1:])):
+        if any(it >= len(self.atoms) for it in numbers) or any(a >= b for a, b in zip(numbers, numbers[1:])):
             raise ValueError
+        return numbers
+
+    def read_table(self, words):
+        numbers = self.read_atom_numbers(words)
+        if not numbers:
+            raise ValueError
+        if len(self.tables) == MOST_TABLES:
+            raise Refused(55)
+        for at, it in enumerate(numbers):
+            self.places.setdefault(self.atoms[it], []).append((len(self.tables), 1 << at))
+        self.tables.append(Table(numbers))
+
+    def read_row(self, count, words):
+        table, width = self.tables[-1], len(self.constants)
+        weights = self.read_weights(words[:width])
+        bits = [table.bits[word] for word in words[width:]]
+        if any(a >= b for a, b in zip(bits, bits[1:])):
+            raise ValueError
+        if self.rows == MOST_ROWS:
+            raise Refused(55)
+        if sum(bits) in table.rows:
+            raise Refused(44, count)
+        table.add(bits, weights)
+        self.rows += 1
+
+    def read_state(self, count, kind, words):
+        cost, rest, words = number(words[0]), None, words[1:]
+        if kind == "cut":
+            rest, words = number(words[0]), words[1:]
+        numbers = self.read_atom_numbers(words)
         if len(self.states) == MOST_STATES:
             raise Refused(55)
-        state = frozenset(self.atoms[n] for n in numbers)
+        state = frozenset(self.atoms[it] for it in numbers)
         if state in self.listed:
             raise Refused(44, count)
         if kind == "cut" and self.claim is None:
             raise Refused(52, count)
         self.listed[state] = cost
         self.states.append((count, kind, cost, rest, state))
+
+    def bits_of(self, atoms):
+        """Of each table that has some of the atoms in its scope, their bits."""
+        found = {}
+        for atom in atoms:
+            for at, bit in self.places.get(atom, ()):
+                found[at] = found.get(at, 0) | bit
+        return found
+
+    def sums(self, state):
+        """What each function gives a state, and zeros where a table has no row for it."""
+        bits = self.bits_of(state)
+        rows = [table.rows.get(bits.get(at, 0)) for at, table in enumerate(self.tables)]
+        if None in rows:
+            return [0] * len(self.constants)
+        return list(map(sum, zip(self.constants, *(self.weights[atom] for atom in state if atom in self.weights), *rows)))
+
+    def value(self, state):
+        return max(0, *self.sums(state)[:-1])
+
+    def second_value(self, state):
+        return max(0, self.sums(state)[-1])
+
+
+def read_line(task, said, count, text):
+    """One line of a certificate, which is none of its end."""
+    kind, *words = text.split(" ")
+    if count == 1:
+        if kind != "pddl-cert" or len(words) != 1:
+            raise ValueError
+        said.version = number(words[0])
+        if said.version not in CONSTANTS:
+            raise Refused(41, 1)
+    elif count == 2:
+        said.claim = None if text == "claim none" else number(re.fullmatch("claim bound (.*)", text)[1])
+    elif count == 3 and kind == "constant":
+        said.read_constants(words)
+    elif count > 3 and kind == "atom" and not said.tables and not said.states:
+        said.read_atom(task, count, text)
+    elif count > 3 and kind == "table" and said.version == 3 and not said.states:
+        said.read_table(words)
+    elif count > 3 and kind == "row" and said.tables and not said.states:
+        said.read_row(count, words)
+    elif count > 3 and (kind in ("open", "cut") or kind == "dead" and said.version != 1):
+        said.read_state(count, kind, words)
+    else:
+        raise ValueError
 
 
 def read_certificate(task, data):
@@ -339,75 +375,72 @@ def read_certificate(task, data):
     for count, text, behind in lines_of(data):
         try:
             words = text.split(" ")
-            if count == 1:
-                if words[0] != "pddl-cert" or len(words) != 2:
-                    raise ValueError
-                said.version = number(words[1])
-                if said.version not in (1, 2):
-                    raise Refused(41, 1)
-            elif count == 2:
-                said.claim = None if text == "claim none" else number(re.fullmatch("claim bound (.*)", text)[1])
-            elif count == 3:
-                said.constants = said.numbers(re.fullmatch("constant (.*)", text)[1])
-            elif words[0] == "atom" and not said.states:
-                said.atom(task, count, text)
-            elif words[0] in ("open", "cut") or words[0] == "dead" and said.version == 2:
-                said.state(count, words[0], words[1:])
-            elif words[0] == "end" and len(words) == 2:
-                if number(words[1]) != len(said.states):
-                    raise ValueError
-                if behind:
-                    raise Refused(40, count + 1)
-                return said
-            else:
+            if count < 4 or words[0] != "end":
+                read_line(task, said, count, text)
+                continue
+            if len(words) != 2 or number(words[1]) != len(said.states):
                 raise ValueError
-        except (ValueError, TypeError, IndexError, AttributeError):
+        except (ValueError, TypeError, LookupError, AttributeError):
             raise Refused(40, count) from None
+        if behind:
+            raise Refused(40, count + 1)
+        return said
 
 
 # ---- checking
 
 def kept_instances(task, said, limit):
-    """The instances that are kept; Refused(55) where they, or the atoms that have numbers, are too many."""
+    """The instances that are kept and the atoms that have numbers; Refused(55) where either are too many."""
     instances = list(itertools.islice(task.instances(), limit + 1))
-    touched = set(said.atoms) | task.initial
-    for action, bound in instances:
-        touched |= {atom for atom, _, condition, objects in task.changes(action["effect"], bound)
-                    if not task.is_closed_off(condition, objects)}
-    if len(instances) > limit or len(touched) > MOST_ATOMS:
+    numbered = {*said.atoms, *task.initial, *(it.atom for instance in instances for it in instance.changes)}
+    if len(instances) > limit or len(numbered) > MOST_ATOMS:
         raise Refused(55)
-    return instances
+    return instances, numbered
+
+
+def by_wanted_atom(instances):
+    """The instances with their numbers, by an atom that each wants: that which the fewest want, and None for those that want none."""
+    counts, found = collections.Counter(atom for it in instances for atom in it.wanted), {}
+    for numbered in enumerate(instances):
+        found.setdefault(min(numbered[1].wanted, key=counts.get, default=None), []).append(numbered)
+    return found
 
 
 def look_at_open(task, said, instances, line, cost, state):
     """Refused(48), Refused(49) or Refused(50) where the line of an open state is wrong."""
     if task.holds(task.goal, state, {}) and (said.claim is None or cost < said.claim):
         raise Refused(48, line)
-    for action, bound in instances:
-        after = task.result(state, action, bound)
+    tried = [numbered for atom in (None, *state) for numbered in instances.get(atom, ())]
+    for _, instance in sorted(tried, key=operator.itemgetter(0)):
+        after = instance.after(state)
         if after is None:
             continue
         if after not in said.listed:
             raise Refused(49, line)
-        if said.listed[after] > cost + task.cost(action, bound):
+        if said.listed[after] > cost + instance.cost:
             raise Refused(50, line)
 
 
-def check(task, data, plan, limit):
-    said = read_certificate(task, data)
-    instances = kept_instances(task, said, limit)
-    look_whether_fair(task, said.constants[0], said.weights[0], instances, task.cost, 46, 47)
-    look_whether_fair(task, said.constants[1], said.weights[1], instances, lambda action, bound: 0, 56, 57)
-    if said.listed.get(task.initial) != 0:
-        raise Refused(45)
+def look_at_states(task, said, instances):
+    """Refused where the line of a state is wrong: the first such line."""
+    instances = by_wanted_atom(instances)
     for line, kind, cost, rest, state in said.states:
         if kind == "open":
             look_at_open(task, said, instances, line, cost, state)
         elif kind == "cut":
-            if rest > value(said.constants[0], said.weights[0], state) or cost + rest < said.claim:
+            if rest > said.value(state) or cost + rest < said.claim:
                 raise Refused(51, line)
-        elif value(said.constants[1], said.weights[1], state) < 1:
+        elif said.second_value(state) < 1:
             raise Refused(58, line)
+
+
+def check(task, data, plan, limit):
+    said = read_certificate(task, data)
+    instances, numbered = kept_instances(task, said, limit)
+    look_whether_fair(said, task.sure(task.goal, {}), instances, Fairness(said, numbered))
+    if said.listed.get(task.initial) != 0:
+        raise Refused(45)
+    look_at_states(task, said, instances)
     if plan is None:
         return "unsolvable" if said.claim is None else f"at least {said.claim}"
     cost = cost_of_plan(task, plan)
@@ -431,6 +464,14 @@ def cost_of_plan(task, plan):
     return cost if task.holds(task.goal, state, {}) else None
 
 
+def answer(task, data, plan=None, limit=1000000):
+    """What is printed of a certificate, and the status."""
+    try:
+        return check(task, data, plan, limit), 0
+    except Refused as refused:
+        return str(refused), 12
+
+
 def main():
     words = argparse.ArgumentParser()
     for file in ("domain", "problem", "cert"):
@@ -441,12 +482,9 @@ def main():
     text_of = lambda name: open(name, encoding="latin-1").read()
     task = Task(text_of(words.domain), text_of(words.problem))
     with open(words.cert, "rb") as file:
-        data = file.read()
-    try:
-        print(check(task, data, words.plan and text_of(words.plan), words.instances))
-    except Refused as refused:
-        print(refused)
-        sys.exit(12)
+        said, status = answer(task, file.read(), words.plan and text_of(words.plan), words.instances)
+    print(said)
+    sys.exit(status)
 
 
 if __name__ == "__main__":

@@ -1,20 +1,34 @@
 #!/usr/bin/env python3
 """Compares optplan's checker with examples/check_certificate.py, which shares no line with it, on the tasks of examples/.
 
-    compare_checkers.py [TASK..]
+    compare_checkers.py [TASK..] [--random M] [--tables N] [--seed S]
 
 For each task it has `optplan solve` write a certificate, and then changes it in one place at a time: each constant and each
 weight by one, up and down, and each of the first states to another kind of line. Both checkers are asked of each text, and what
 they answer is compared. It prints a line for each task, and each text on which they differ; it ends with status 1 where one does.
+
+With --random it does so with M random tasks as well (random_tasks.py). With --tables both are asked of N texts of version 3 of
+each task besides, as forge_certificates.py makes them at random; by itself it leaves version 3 out, which optplan refuses as
+yet. S is the seed of what is random, and 0 where it is not given.
 """
+import argparse
+import itertools
 import os
+import random
 import subprocess
 import sys
 import tempfile
 
+sys.dont_write_bytecode = True
 HERE = os.path.dirname(os.path.realpath(__file__))
+sys.path.insert(0, HERE)
+
+from check_certificate import answer  # noqa: E402
+from forge_certificates import random_texts  # noqa: E402
+from pddl_task import Task  # noqa: E402
+from random_tasks import random_task  # noqa: E402
+
 PROGRAM = os.environ.get("OPTPLAN", os.path.join(os.path.dirname(HERE), "optplan"))
-OTHER = os.path.join(HERE, "check_certificate.py")
 # How many states are listed by another kind of line.
 STATES = 8
 
@@ -25,10 +39,10 @@ def said(*words):
     return ran.stdout, ran.returncode
 
 
-def changed_words(words, version):
-    """The words of a line, each time with another number or another kind of line."""
-    if words[0] in ("constant", "atom"):
-        for at in range(1, 1 + version):
+def changed_words(words, width):
+    """The words of a line, each time with another number or another kind of line; so many numbers are weights."""
+    if words[0] in ("constant", "atom", "row"):
+        for at in range(1, 1 + width):
             for by in (-1, 1):
                 yield [*words[:at], str(int(words[at]) + by), *words[at + 1:]]
     elif words[0] in ("open", "cut", "dead"):
@@ -40,40 +54,64 @@ def changed(text):
     """The text, and those that differ from it in one place, each with a word on it."""
     yield "as it is written", text
     lines = text.split("\n")
-    version = int(lines[0].split(" ")[1])
+    width = len(lines[2].split(" ")) - 1
     first = next(at for at, line in enumerate(lines) if line.split(" ")[0] in ("open", "cut", "dead"))
     for at, line in enumerate(lines[:first + STATES]):
-        for words in changed_words(line.split(" "), version):
+        for words in changed_words(line.split(" "), width):
             yield f"line {at + 1}: {' '.join(words)}", "\n".join([*lines[:at], " ".join(words), *lines[at + 1:]])
 
 
-def compare(task):
-    """How many texts were compared, and how many were told apart."""
-    domain, problem = (f"{HERE}/{task}/{name}.pddl" for name in ("domain", "problem"))
-    count = differ = 0
-    with tempfile.TemporaryDirectory() as room:
-        cert = f"{room}/cert.txt"
-        said(PROGRAM, "solve", domain, problem, "--cert", cert)
-        with open(cert, encoding="ascii") as file:
-            written = file.read()
-        for what, text in changed(written):
-            with open(cert, "w", encoding="ascii") as file:
-                file.write(text)
-            ours, theirs = said(PROGRAM, "check", domain, problem, cert), said(OTHER, domain, problem, cert)
-            count += 1
-            if ours != theirs:
-                differ += 1
-                print(f"{task}, {what}: optplan says {ours}, and {os.path.basename(OTHER)} {theirs}")
-    return count, differ
+def text_of(name):
+    with open(name, encoding="latin-1") as file:
+        return file.read()
+
+
+def write(name, text):
+    with open(name, "w", encoding="ascii") as file:
+        file.write(text)
+
+
+def files_of(names, count, seed):
+    """The name, domain and problem of each of these tasks of examples/, all where none is named, and of so many random ones."""
+    for name in names or sorted(it for it in os.listdir(HERE) if os.path.isfile(f"{HERE}/{it}/domain.pddl")):
+        yield name, *(text_of(f"{HERE}/{name}/{it}.pddl") for it in ("domain", "problem"))
+    for at in range(seed, seed + count):
+        yield f"random {at}", *random_task(random.Random(at))
+
+
+def compare(name, texts, room, count, chance):
+    """How many certificates were compared, and how many were told apart; of version 3 so many."""
+    domain, problem, cert = (f"{room}/{it}" for it in ("domain.pddl", "problem.pddl", "cert.txt"))
+    for file, text in zip((domain, problem), texts):
+        write(file, text)
+    solved = said(PROGRAM, "solve", domain, problem, "--cert", cert)
+    if not os.path.isfile(cert):
+        print(f"{name}: optplan says {solved} and writes no certificate")
+        return 0, 1
+    task, written, asked, differ = Task(*texts), text_of(cert), 0, 0
+    certificates = itertools.chain(changed(written), random_texts(task, written.encode("ascii"), chance, count))
+    for asked, (what, text) in enumerate(certificates, 1):
+        write(cert, text)
+        theirs, status = answer(task, text.encode("ascii"))
+        ours, theirs = said(PROGRAM, "check", domain, problem, cert), (f"{theirs}\n", status)
+        if ours != theirs:
+            differ += 1
+            print(f"{name}, {what}: optplan says {ours}, and check_certificate.py {theirs}")
+    return asked, differ
 
 
 def main():
-    tasks = sys.argv[1:] or sorted(it for it in os.listdir(HERE) if os.path.isdir(f"{HERE}/{it}"))
+    words = argparse.ArgumentParser()
+    words.add_argument("tasks", nargs="*")
+    for name in ("--random", "--tables", "--seed"):
+        words.add_argument(name, type=int, default=0)
+    words = words.parse_args()
     bad = 0
-    for task in tasks:
-        count, differ = compare(task)
+    for name, *texts in files_of(words.tasks, words.random, words.seed):
+        with tempfile.TemporaryDirectory() as room:
+            count, differ = compare(name, texts, room, words.tables, random.Random(words.seed))
         bad += differ
-        print(f"{task}: {count} texts, {differ} differ", flush=True)
+        print(f"{name}: {count} texts, {differ} differ", flush=True)
     sys.exit(1 if bad else 0)
 
 

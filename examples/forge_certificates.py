@@ -1,0 +1,369 @@
+#!/usr/bin/env python3
+"""Makes certificates of version 3 from those of versions 1 and 2, and forges certificates, at random.
+
+    forge_certificates.py DOMAIN PROBLEM CERT FOLDER [--count N] [--seed S]
+
+From CERT, of any version, it writes N texts (100) into FOLDER, of which most are wrong in a place or two. `compare_checkers.py`
+asks two checkers of such texts.
+"""
+import argparse
+import os
+import random
+import sys
+
+sys.dont_write_bytecode = True
+sys.path.insert(0, os.path.dirname(os.path.realpath(__file__)))
+
+from check_certificate import Fairness, kept_instances, read_certificate, rows_after  # noqa: E402
+from pddl_task import Task  # noqa: E402
+
+# A table is left out where more rows are reached, and no instances are counted beyond the second number.
+MOST_ROWS, MOST_INSTANCES = 200, 1000000
+STATES = ("open", "cut", "dead")
+
+
+# ---- tables
+
+class Draft:
+    """A certificate without tables that is given some, and what is left of its instances' costs while they are divided."""
+
+    def __init__(self, task, data, chance):
+        self.task, self.said = task, read_certificate(task, data)
+        self.said.version = 3
+        self.list_atoms(chance.choice(("all", "those of the text", "few")))
+        self.instances, numbered = kept_instances(task, self.said, MOST_INSTANCES)
+        self.fairness = Fairness(self.said, numbered)
+        self.goal = task.sure(task.goal, {})
+        self.left = {}
+
+    def list_atoms(self, which):
+        """Lists all atoms that have numbers, or those that states have or that have weights, or leaves them as they are."""
+        weights = self.said.weights
+        if which == "all":
+            _, numbered = kept_instances(self.task, self.said, MOST_INSTANCES)
+            weights.update((atom, [0, 0]) for atom in sorted(numbered - weights.keys()))
+        elif which == "few":
+            kept = {atom for _, _, _, _, state in self.said.states for atom in state} | {atom for atom in weights if any(weights[atom])}
+            self.said.weights = {atom: weights[atom] for atom in weights if atom in kept}
+        self.said.atoms = list(self.said.weights)
+
+    def seen(self, at):
+        """What each instance asks and changes in the scope of a table, where it changes something."""
+        found = ((it, self.fairness.seen(it).get(at)) for it in self.instances)
+        return {instance: seen for instance, seen in found if seen is not None}
+
+    def add_table(self, scope):
+        """A table of the rows that are reached; none where they are too many."""
+        at = len(self.said.tables)
+        self.said.read_table([str(number) for number in scope])
+        table, seen = self.said.tables[at], self.seen(at)
+        rows = reached(self.said.bits_of(self.task.initial).get(at, 0), set(seen.values()))
+        if rows is None:
+            self.said.tables.pop()
+            for number in scope:
+                self.said.places[self.said.atoms[number]].pop()
+            return
+        for row in rows:
+            table.add([bit for bit in table.bits.values() if row & bit], [])
+        self.instances = [it for it in self.instances if not self.fairness.is_shut_out(it)]
+
+    def take(self, at):
+        """Weights of a table's rows by which it takes as much as it can of what is left: of each row what is still to pay by it."""
+        table, seen, costs = self.said.tables[at], self.seen(at), {}
+        for instance, it in seen.items():
+            costs[it] = min(self.left[instance], costs.get(it, self.left[instance]))
+        steps = {it: [(row, after) for row in table.agreeing(*it[0]) for after in rows_after(row, *it[1])] for it in costs}
+        found = to_pay(self.goal_rows(at), [(*step, costs[it]) for it in steps for step in steps[it]])
+        weights = {**dict.fromkeys(table.rows, max(found.values(), default=0) + 1), **found}
+        for instance, it in seen.items():
+            self.left[instance] -= max(weights[row] - weights[after] for row, after in steps[it])
+        return weights, found
+
+    def goal_rows(self, at):
+        asked = ({atom for atom, is_true in self.goal if is_true == it} for it in (True, False))
+        return self.said.tables[at].agreeing(*(self.said.bits_of(atoms).get(at, 0) for atoms in asked))
+
+    def value(self, order, has_potentials):
+        """A value: its constant, its weights of atoms, and of the rows of each table. The tables take from the costs in this order."""
+        constant, weights = self.said.constants[0] if has_potentials else 0, {}
+        for atom in self.said.atoms:
+            weights[atom] = self.said.weights[atom][0] if has_potentials else 0
+        for instance in self.instances:
+            self.left[instance] = max(0, instance.cost - (self.fairness.losses_by_atoms(instance)[0] if has_potentials else 0))
+        rows = {at: self.take(at)[0] for at in order}
+        return constant, weights, [rows[at] for at in range(len(self.said.tables))]
+
+    def dead_ends(self):
+        """The second value: its constant, and its weights of atoms and of rows, which are 1 where a row has no way to the goal."""
+        self.left = dict.fromkeys(self.instances, 0)
+        ways = [self.take(at)[1] for at in range(len(self.said.tables))]
+        rows = [{row: 0 if row in ways[at] else 1 for row in table.rows} for at, table in enumerate(self.said.tables)]
+        return self.said.constants[1], {atom: weights[1] for atom, weights in self.said.weights.items()}, rows
+
+    def text(self, functions):
+        """The text with these functions, without bounds in its cuts: a line is a list of words."""
+        column = lambda part, key: [str(function[part][key]) for function in functions]
+        claim = ["none"] if self.said.claim is None else ["bound", str(self.said.claim)]
+        lines = [["pddl-cert", "3"], ["claim", *claim], ["constant", *(str(function[0]) for function in functions)]]
+        lines += [["atom", *column(1, atom), f"({' '.join(atom)})"] for atom in self.said.atoms]
+        number_of = {atom: str(number) for number, atom in enumerate(self.said.atoms)}
+        for at, table in enumerate(self.said.tables):
+            lines.append(["table", *table.bits])
+            for row in table.rows:
+                weights = [str(function[2][at][row]) for function in functions]
+                lines.append(["row", *weights, *(word for word, bit in table.bits.items() if row & bit)])
+        for _, kind, cost, _, state in self.said.states:
+            numbers = sorted((number_of[atom] for atom in state), key=int)
+            lines.append([kind, str(cost), *(["0"] if kind == "cut" else []), *numbers])
+        return [*lines, ["end", str(len(self.said.states))]]
+
+
+def reached(start, seen):
+    """The rows that are reached from a row by what instances ask and change; None where they are too many."""
+    rows, known = [start], {start}
+    for row in rows:
+        for (wanted, unwanted), changed in seen:
+            if row & wanted == wanted and not row & unwanted:
+                for after in rows_after(row, *changed):
+                    if len(rows) > MOST_ROWS:
+                        return None
+                    if after not in known:
+                        known.add(after)
+                        rows.append(after)
+    return rows
+
+
+def to_pay(goals, steps):
+    """The cheapest cost from rows to one of these by steps (row, row after, cost), where there is a way."""
+    found, is_less = dict.fromkeys(goals, 0), True
+    while is_less:
+        is_less = False
+        for row, after, cost in steps:
+            if after in found and (row not in found or found[after] + cost < found[row]):
+                found[row], is_less = found[after] + cost, True
+    return found
+
+
+def random_scope(atoms, chance):
+    """Numbers of atoms: a few, or those that name one of one or two objects."""
+    names = sorted({name for atom in atoms for name in atom[1:]})
+    if not names or chance.random() < 0.4:
+        return sorted(chance.sample(range(len(atoms)), chance.randint(1, min(5, len(atoms)))))
+    names = set(chance.sample(names, min(len(names), chance.randint(1, 2))))
+    return [number for number, atom in enumerate(atoms) if names & set(atom[1:])]
+
+
+def with_tables(task, data, chance):
+    """A text of version 3 that claims what this one of version 1 or 2 does, with up to four tables and four values.
+
+    One value has the potentials of the text, and each cut's bound is the value of its state.
+    """
+    draft = Draft(task, data, chance)
+    for _ in range(chance.randint(0, 4) if draft.said.atoms else 0):
+        draft.add_table(random_scope(draft.said.atoms, chance))
+    order, functions = list(range(len(draft.said.tables))), []
+    for at in range(chance.randint(1, 4)):
+        chance.shuffle(order)
+        functions.append(draft.value(order, at == 0 or chance.random() < 0.5))
+    chance.shuffle(functions)
+    lines = draft.text([*functions, draft.dead_ends()])
+    said = read_certificate(task, joined(lines).encode("ascii"))
+    for count, kind, _, _, state in said.states:
+        if kind == "cut":
+            lines[count - 1][2] = str(said.value(state))
+    return joined(lines)
+
+
+def joined(lines):
+    return "".join(" ".join(words) + "\n" for words in lines)
+
+
+# ---- forging: each changes the lines, lists of words, and says what it did; IndexError where there is nothing to change
+
+def lines_of(lines, *kinds):
+    """Where the lines of these kinds are."""
+    return [at for at, words in enumerate(lines) if words[0] in kinds]
+
+
+def width(lines):
+    """How many weights a line has."""
+    return len(lines[2]) - 1
+
+
+def with_weights(lines, chance, *kinds):
+    return lines[chance.choice(lines_of(lines, *kinds))]
+
+
+def moved(word, chance):
+    return str(int(word) + chance.choice((-1, 1)))
+
+
+def weight_moved(lines, chance):
+    words, at = with_weights(lines, chance, "atom", "row"), chance.randint(1, width(lines))
+    words[at] = moved(words[at], chance)
+    return "a weight is one higher or lower"
+
+
+def constant_moved(lines, chance):
+    at = chance.randint(1, width(lines))
+    lines[2][at] = moved(lines[2][at], chance)
+    return "a constant is one higher or lower"
+
+
+def row_dropped(lines, chance):
+    del lines[chance.choice(lines_of(lines, "row"))]
+    return "a row is dropped"
+
+
+def row_added(lines, chance):
+    at = chance.choice(lines_of(lines, "table"))
+    inside = [word for word in lines[at][1:] if chance.random() < 0.5]
+    weights = with_weights(lines, chance, "row")[1:1 + width(lines)]
+    lines.insert(at + 1, ["row", *weights, *inside])
+    return "a row is added"
+
+
+def row_repeated(lines, chance):
+    at = chance.choice(lines_of(lines, "row"))
+    lines.insert(at + chance.randint(0, 2), list(lines[at]))
+    return "a row is repeated"
+
+
+def table_added(lines, chance):
+    at = chance.choice(lines_of(lines, "table", "row")[:1] or [lines_of(lines, *STATES, "end")[0]])
+    lines.insert(at, ["table", str(chance.randrange(len(lines_of(lines, "atom"))))])
+    return "a table without rows is added"
+
+
+def table_moved(lines, chance):
+    words = lines.pop(chance.choice(lines_of(lines, "table")))
+    lines.insert(chance.choice(lines_of(lines, "atom", "table", "row", *STATES)), words)
+    return "a table's line is moved"
+
+
+def scope_left(lines, chance):
+    words = lines[chance.choice(lines_of(lines, "row", "table"))]
+    if words[0] == "table" or chance.random() < 0.5:
+        words.pop(chance.randrange(1, len(words)))
+    else:
+        words.append(str(chance.randrange(len(lines_of(lines, "atom")))))
+    return f"a number of a {words[0]} is taken away or put in"
+
+
+def dead_weights_swapped(lines, chance):
+    first, second = (with_weights(lines, chance, "atom", "row") for _ in range(2))
+    last = width(lines)
+    first[last], second[last] = second[last], first[last]
+    return "the weights of dead ends are swapped in two lines"
+
+
+def dead_weights_cleared(lines, chance):
+    last = width(lines)
+    for at in lines_of(lines, "constant", "atom", "row"):
+        lines[at][last] = "0"
+    lines[chance.choice(lines_of(lines, "open", "dead"))][0] = "dead"
+    return "the weights of dead ends are 0"
+
+
+def values_swapped(lines, chance):
+    if width(lines) == 1:
+        raise IndexError
+    first, second = chance.sample(range(1, width(lines) + 1), 2)
+    kinds = chance.choice((["row"], ["atom"], ["atom", "row"], ["constant", "atom", "row"]))
+    for at in lines_of(lines, *kinds):
+        lines[at][first], lines[at][second] = lines[at][second], lines[at][first]
+    return f"two values are swapped in each {' and '.join(kinds)}"
+
+
+def state_changed(lines, chance):
+    words = lines[chance.choice(lines_of(lines, *STATES))]
+    numbers = words[3:] if words[0] == "cut" else words[2:]
+    kind = chance.choice(STATES)
+    words[:] = [kind, words[1], *(["1"] if kind == "cut" else []), *numbers]
+    return "a state's line is of another kind"
+
+
+def state_cost_moved(lines, chance):
+    words = lines[chance.choice(lines_of(lines, *STATES))]
+    at = 2 if words[0] == "cut" and chance.random() < 0.5 else 1
+    words[at] = moved(words[at], chance)
+    return "a cost or a bound of a state is one higher or lower"
+
+
+def state_dropped(lines, chance):
+    del lines[chance.choice(lines_of(lines, *STATES))]
+    lines[-1] = ["end", str(len(lines_of(lines, *STATES)))]
+    return "a state is dropped"
+
+
+def claim_changed(lines, chance):
+    if lines[1] == ["claim", "none"]:
+        lines[1] = ["claim", "bound", "1"]
+    else:
+        lines[1] = chance.choice((["claim", "none"], ["claim", "bound", moved(lines[1][-1], chance)]))
+    return "another claim"
+
+
+def line_moved(lines, chance):
+    words = lines.pop(chance.randrange(len(lines)))
+    if chance.random() < 0.7:
+        lines.insert(chance.randrange(len(lines) + 1), words)
+    return "a line is moved or dropped"
+
+
+def word_changed(lines, chance):
+    words = chance.choice(lines)
+    at = chance.randrange(len(words))
+    other = chance.choice(("", "-0", "01", "x", "2147483648", "1152921504606846976"))
+    words[at:at + 1] = chance.choice(([], [words[at]] * 2, [words[at], "0"], [other]))
+    return "a word is changed"
+
+
+# Those that stand here more than once are taken more often.
+CHANGES = (weight_moved, weight_moved, weight_moved, constant_moved, row_dropped, row_dropped, row_added, row_repeated, table_added,
+           table_moved, scope_left, dead_weights_swapped, dead_weights_cleared, values_swapped, state_changed, state_cost_moved,
+           state_dropped, claim_changed, line_moved, word_changed)
+
+
+def forged(text, chance):
+    """The text changed in one to three places, and what was done."""
+    lines, done, count = [line.split(" ") for line in text.split("\n")[:-1]], [], chance.choice((1, 1, 1, 2, 3))
+    while len(done) < count:
+        try:
+            done.append(chance.choice(CHANGES)(lines, chance))
+        except (IndexError, ValueError):
+            pass
+    return "; ".join(done), joined(lines)
+
+
+def random_texts(task, data, chance, count):
+    """As many texts as this, each with what it is: as they should be, and forged."""
+    version = int(data.split(b"\n")[0].split(b" ")[1])
+    for at in range(count):
+        if at % 10 == 0:
+            text = data.decode("ascii") if version == 3 else with_tables(task, data, chance)
+            yield "as it is made", text
+        else:
+            yield forged(text, chance)
+
+
+def main():
+    words = argparse.ArgumentParser()
+    for file in ("domain", "problem", "cert", "folder"):
+        words.add_argument(file)
+    words.add_argument("--count", type=int, default=100)
+    words.add_argument("--seed", type=int, default=0)
+    words = words.parse_args()
+    text_of = lambda name: open(name, encoding="latin-1").read()
+    with open(words.cert, "rb") as file:
+        data = file.read()
+    os.makedirs(words.folder, exist_ok=True)
+    task = Task(text_of(words.domain), text_of(words.problem))
+    for at, (what, text) in enumerate(random_texts(task, data, random.Random(words.seed), words.count)):
+        with open(f"{words.folder}/{at}.cert", "w", encoding="ascii") as file:
+            file.write(text)
+        print(f"{at}.cert: {what}")
+
+
+if __name__ == "__main__":
+    main()
