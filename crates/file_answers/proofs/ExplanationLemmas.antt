@@ -15,13 +15,12 @@ use Rattle.validator.specs.Verdict.{verdict_of}
 use Rattle.validator.specs.declared.verdict.Verdict.{Verdict}
 use Rattle.validator.specs.declared.verdict.Verdict.TheVariants.{NotApplicable}
 use Rattle.file_answers.specs.ExplanationLines.{Files, Named, IsLocated, IsSaidOf, IsStepLocated, IsSubjectLocated, SaySubject, SayVerdict, IsStepAt, file_in, files_of, named_of}
-use Rattle.file_answers.specs.Explanations.{IsFaultExplained, IsLocatedIf, IsOfFault, IsStepFound, IsStepOf, IsTaskExplained, IsTrueOf, IsVerdictExplained, IsVerdictSaid, files_in, in_texts, text_in}
-use Rattle.file_answers.specs.Files.{fault_at, reported_in}
+use Rattle.file_answers.specs.Explanations.{IsFaultExplained, IsLocatedIf, IsOfFault, IsStepFound, IsStepOf, IsTaskExplained, IsTrueOf, IsVerdictExplained, files_in, in_texts, text_in}
+use Rattle.file_answers.specs.Files.{reported_in}
 use Rattle.file_answers.specs.Inputs.{IsInputFault}
 use Rattle.file_answers.specs.declared.explanation.Explanation.{Explanation}
 use Rattle.file_answers.specs.declared.explanation.Location.{Location}
 use Rattle.file_answers.specs.declared.explanation.Subject.{Subject}
-use Rattle.file_answers.specs.declared.explanation.Subject.TheVariants.{Fault, Plan, Task}
 use Rattle.file_answers.specs.declared.files.FileFault.{FileFault}
 use Rattle.file_answers.specs.declared.files.FileFault.TheVariants as refused
 use Rattle.model.specs.Task as model
@@ -133,7 +132,7 @@ found_at text step parts cut (Some span) is = (parts, cut, is)
 
 pub step_found : (text : List ℕ) (verdict : Verdict) (step : ℕ) (found : Option Span) → verdict ≡ NotApplicable step → IsStepOf text (verdict_of verdict)
     → ((parts : List Part) (steps : List Step) → AreParts text parts → AreSteps (placed_from 0 parts) steps → 1 ≤ step → step ≤ length steps
-        → IsSomeAnd found (λ span. IsStepPlace (placed_from 0 parts) step (span_of span)))
+    → IsSomeAnd found (λ span. IsStepPlace (placed_from 0 parts) step (span_of span)))
     → IsStepFound text (verdict_of verdict) found
 step_found text verdict step found is within placed =
     let here : IsStepOf text (runs.not_applicable step) = subst (λ (v : Verdict). IsStepOf text (verdict_of v)) is within in

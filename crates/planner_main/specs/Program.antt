@@ -112,15 +112,15 @@ IsCheckOn contents domain problem cert plan most found =
     × OnInputs contents domain problem plan (λ d p l. IsCheckedIn (contents cert) d p l most (task_of c.task) c.answer)
 
 -- the files of these names with their texts: a domain, a problem, and a plan, if one is named
-abbrev pub files_named : (domain problem : List ℕ) → (plan : Option (List ℕ)) → (d p : List ℕ) → (l : Option (List ℕ)) → Files
-files_named domain problem plan d p l =
+abbrev pub named_inputs : (domain problem : List ℕ) → (plan : Option (List ℕ)) → (d p : List ℕ) → (l : Option (List ℕ)) → Files
+named_inputs domain problem plan d p l =
     record { domain = record { name = domain; text = d }; problem = record { name = problem; text = p }; plan = named_as plan l }
 
 -- or what is explained of two texts, and of the plan of a third, if one is named: it is true, and its lines and its location say it.
 abbrev pub IsExplanationOn : (List ℕ → Option (List ℕ)) → (domain problem : List ℕ) → (plan : Option (List ℕ)) → (most : ℕ) → Report → Type 0
 IsExplanationOn contents domain problem plan most found =
     (e : Explanation) × (found ≡ report.Explain e)
-    × OnInputs contents domain problem plan (λ d p l. IsTrueOf d p l most e.subject × IsSaidOf (files_named domain problem plan d p l) e)
+    × OnInputs contents domain problem plan (λ d p l. IsTrueOf d p l most e.subject × IsSaidOf (named_inputs domain problem plan d p l) e)
 
 -- what is found out is what is asked for, and true
 abbrev pub IsReportOn : (List ℕ → Option (List ℕ)) → Wanted → Report → Type 0

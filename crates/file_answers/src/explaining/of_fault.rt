@@ -1,7 +1,6 @@
 //! What is said of a file that is refused.
-ghost use Rattle.std.specs.Prelude.{◌≡◌, IfOk};
+ghost use Rattle.std.specs.Prelude.{IfOk};
 ghost use Rattle.file_answers.specs.Explanations.{IsFaultExplained, IsOfFault};
-ghost use Rattle.file_answers.specs.declared.explanation.Subject.TheVariants.{Fault};
 
 use crate::explanation::{Explanation, Location, Subject};
 use crate::files::FileFault;
