@@ -10,9 +10,9 @@ use Rattle.model.specs.Task.{Task}
 use Rattle.model.specs.Claims.{Claim}
 use Rattle.table_functions.specs.TableFunctions.{Table}
 use Rattle.certificate_definitions.specs.Certificates.{Version, Certificate}
-use Rattle.certificate_definitions.specs.CertificateText.{TableLine, TextLine, tabled, row, atom, claims, constant, last, listed, version, whole_line}
-use Rattle.certificate_definitions.specs.CertificateNames.{certificate_text, constants_of, named, table_lines}
-use Rattle.certificate.specs.Gathering.{IsPassedOn, atom_line, atoms_weighed, row_line, scope_line, state_line, table_text}
+use Rattle.certificate_definitions.specs.CertificateText.{TableLine, tabled, row, atom, claims, constant, last, listed, version, whole_line}
+use Rattle.certificate_definitions.specs.CertificateNames.{certificate_text, constants_of, table_lines}
+use Rattle.certificate.specs.Gathering.{IsPassedOn, atom_line, atoms_weighed, scope_line, state_line, table_text}
 use Rattle.certificate.proofs.GatheringLemmas.{passed_nothing, passed_held, passed_then, passed_partly, passed_beginning, passed_all}
 
 -- ---- the parts

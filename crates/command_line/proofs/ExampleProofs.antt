@@ -21,6 +21,7 @@ are_read = record {
   to_check = (refl, refl);
   a_task_to_explain = (refl, refl);
   a_plan_to_explain = (refl, refl);
+  an_explanation_in_json = (refl, refl);
   no_word = refl;
   help = refl;
   version = refl;

@@ -48,7 +48,7 @@ check = subcommand (codes "check")
 
 abbrev pub explain : Shape
 explain = subcommand (codes "explain")
-    (file (codes "DOMAIN") ∷ file (codes "PROBLEM") ∷ optional_file (codes "PLAN") ∷ limit (codes "instances") ∷ [])
+    (file (codes "DOMAIN") ∷ file (codes "PROBLEM") ∷ optional_file (codes "PLAN") ∷ limit (codes "instances") ∷ json ∷ [])
 
 -- the program: one of the four commands must be there, and it is reported how the program is used where no word is
 abbrev pub optplan : App

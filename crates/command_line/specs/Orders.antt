@@ -25,10 +25,11 @@ pub record AskedOfCheck : Type 0 where
   pub plan : Option Text
   pub json : Bool
 
--- what `explain` is asked for: how many instances are allowed, and the file that the plan is read from, if any
+-- what `explain` is asked for: how many instances are allowed, the file that the plan is read from, if any, and whether the explanation is reported as JSON
 pub record AskedOfExplain : Type 0 where
   pub instances : ℕ
   pub plan : Option Text
+  pub json : Bool
 
 -- what is asked for, by the names of the files that are read
 pub data Wanted : Type 0 where
@@ -89,7 +90,7 @@ explain_in rows = do
   domain ← first_of (codes "DOMAIN") rows
   problem ← first_of (codes "PROBLEM") rows
   instances ← limit_in (codes "instances") rows
-  Some (to_explain domain problem (record { instances = instances; plan = first_of (codes "PLAN") rows }))
+  Some (to_explain domain problem (record { instances = instances; plan = first_of (codes "PLAN") rows; json = is_given (codes "json") rows }))
 
 -- what a command with these values asks for
 abbrev pub wanted_in : Text × List Row → Option Wanted

@@ -24,8 +24,8 @@ wanted_of (Solve domain problem plan cert states instances json) =
 wanted_of (Validate domain problem plan json) = to_validate domain.now problem.now plan.now json
 wanted_of (Check domain problem cert plan instances json) =
     to_check domain.now problem.now cert.now (record { instances = instances.number; plan = text_in plan; json = json })
-wanted_of (Explain domain problem plan instances) =
-    to_explain domain.now problem.now (record { instances = instances.number; plan = text_in plan })
+wanted_of (Explain domain problem plan instances json) =
+    to_explain domain.now problem.now (record { instances = instances.number; plan = text_in plan; json = json })
 
 -- the fault is one of the words, and not running out of memory
 abbrev pub IsOfWords : WordsFault → Type 0

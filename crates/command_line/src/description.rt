@@ -18,7 +18,7 @@ const USAGE: &str =
     "optplan solve DOMAIN PROBLEM [--plan FILE] [--cert FILE] [--states N] [--instances N] [--json]
        optplan validate DOMAIN PROBLEM PLAN [--json]
        optplan check DOMAIN PROBLEM CERT [--plan FILE] [--instances N] [--json]
-       optplan explain DOMAIN PROBLEM [PLAN] [--instances N]";
+       optplan explain DOMAIN PROBLEM [PLAN] [--instances N] [--json]";
 
 const PROGRAM_HELP: &str = "N is a number from 1 to 16777216; the default is 1000000.
 
@@ -167,6 +167,7 @@ fn add_explain<'a>(alloc: Global, commands: &mut Vec<Command<'a>>) -> Result<(),
             "The plan file; without it the task is summarized"
         ),
         limit(alloc, "instances", INSTANCES_HELP),
+        json(alloc),
     ]?;
     let about = "Explain what is wrong with a task or a plan, or summarize a task";
     add_command(alloc, commands, "explain", about, EXPLAIN_HELP, arguments)

@@ -47,7 +47,7 @@ pub enum Order<'a> {
         /// Whether the answer is reported as JSON.
         json: bool,
     },
-    /// What is wrong with two files or with the plan of a third, reported for people; without a plan, what the task holds.
+    /// What is wrong with two files or with the plan of a third; without a plan, what the task holds.
     Explain {
         /// The name of the domain file.
         domain: &'a str,
@@ -57,5 +57,7 @@ pub enum Order<'a> {
         plan: Option<&'a str>,
         /// How many instances may be kept.
         instances: MaxCount,
+        /// Whether the explanation is reported as JSON.
+        json: bool,
     },
 }

@@ -21,7 +21,7 @@ use std::alloc::{AllocError, Global};
 /// optplan solve DOMAIN PROBLEM [--plan FILE] [--cert FILE] [--states N] [--instances N] [--json]
 /// optplan validate DOMAIN PROBLEM PLAN [--json]
 /// optplan check DOMAIN PROBLEM CERT [--plan FILE] [--instances N] [--json]
-/// optplan explain DOMAIN PROBLEM [PLAN] [--instances N]
+/// optplan explain DOMAIN PROBLEM [PLAN] [--instances N] [--json]
 /// ```
 ///
 /// Options are in any order, each at most once, before, between and after the files, as `--states 5` or `--states=5`. What
@@ -136,6 +136,7 @@ fn explain_in<'a>(matches: &ArgMatches<'a>) -> Option<Order<'a>>
         problem,
         plan: value_of(matches, "PLAN"),
         instances,
+        json: is_given(matches, "json"),
     })
 }
 

@@ -6,10 +6,10 @@ ghost use Rattle.explained_faults.specs.Explained.{BeginsWith, heading};
 
 use crate::explanation::{FaultExplanation, FileRefusal, reported_bytes};
 use crate::help::{CostFault, Counts, FileOffset, Help, Limit, Named, Types};
-use crate::hints::{Hint, is_comment_elsewhere};
+use crate::hints::is_comment_elsewhere;
 use crate::near::{Others, is_near};
 use crate::shown::{Chain, FilePlace, Name, NameList, add_words};
-use crate::wrong::Nesting;
+use crate::wrong::{Nesting, WrongPlace};
 use faults::{Code, NoMemory};
 use source_text::{LineColumn, NamedTexts, marked};
 use std::alloc::{AllocError, Global};
@@ -36,12 +36,8 @@ impl FaultExplanation<'_> {
         let marks = marked(alloc, texts.text(self.fault.file), self.fault.span)?;
         let mut sentence = String::new(alloc);
         self.add_sentence(alloc, texts, &mut sentence)?;
-        let word = reported_bytes(texts, self.fault);
-        if !self.asks_for_another(word) {
-            add_hint(self.hint, &mut sentence)?;
-        }
-        if self.is_rewritable(word) {
-            sentence.push_str(" `tools/ipc-files` can rewrite this.")?;
+        for aside in self.asides(texts) {
+            add_aside(aside, &mut sentence)?;
         }
         out.push_str(marks.as_str())?;
         out.push_str(sentence.as_str())?;
@@ -49,6 +45,69 @@ impl FaultExplanation<'_> {
         let wrong = self.wrong_lines(alloc, texts)?;
         out.push_str(wrong.as_str())?;
         Ok(out)
+    }
+
+    /// What is said beside the sentence, a text each, without LF: of the mistake that the fault comes of, of what rewrites the
+    /// file, and of the place where the text goes wrong before the fault.
+    ///
+    /// # Errors
+    /// Memory was refused.
+    pub fn hints(&self, alloc: Global, texts: &NamedTexts<'_>) -> Result<Vec<String>, NoMemory> {
+        let mut hints = Vec::new(alloc);
+        for aside in self.asides(texts) {
+            if let Some(text) = aside {
+                hints.push(String::from_str(alloc, text)?)?;
+            }
+        }
+        if let Some(wrong) = self.wrong {
+            hints.push(self.wrong_hint(alloc, texts, wrong)?)?;
+        }
+        Ok(hints)
+    }
+
+    /// The sentences that come after the one of the fault, if there are any.
+    fn asides(&self, texts: &NamedTexts<'_>) -> [Option<&'static str>; 2] {
+        let word = reported_bytes(texts, self.fault);
+        let mistake = match self.hint {
+            Some(hint) if !self.asks_for_another(word) => Some(hint.text()),
+            _ => None,
+        };
+        let rewriter = if self.is_rewritable(word) {
+            Some("`tools/ipc-files` can rewrite this.")
+        } else {
+            None
+        };
+        [mistake, rewriter]
+    }
+
+    /// The place where the text goes wrong, with its sentence.
+    fn wrong_hint(
+        &self,
+        alloc: Global,
+        texts: &NamedTexts<'_>,
+        wrong: WrongPlace,
+    ) -> Result<String, NoMemory> {
+        let file = self.fault.file;
+        let offset = wrong.shown.start;
+        let place = FilePlace::of(texts, FileOffset { file, offset });
+        let mut hint = format!(in alloc; "{place}: ")?;
+        self.add_wrong(texts, wrong, &mut hint)?;
+        Ok(hint)
+    }
+
+    /// Adds the sentence of where the text goes wrong.
+    fn add_wrong(
+        &self,
+        texts: &NamedTexts<'_>,
+        wrong: WrongPlace,
+        out: &mut String,
+    ) -> Result<(), AllocError> {
+        let shown = FileRefusal {
+            file: self.fault.file,
+            code: wrong.refusal.code,
+            span: wrong.shown,
+        };
+        add_nesting(texts, shown, wrong.nesting, out)
     }
 
     /// The lines of where the text goes wrong before the fault, if it does: its place, its line with a mark, and a sentence.
@@ -62,12 +121,8 @@ impl FaultExplanation<'_> {
         let mut out = format!(in alloc; "{place}: the text goes wrong here\n")?;
         let marks = marked(alloc, texts.text(file), wrong.shown)?;
         out.push_str(marks.as_str())?;
-        let shown = FileRefusal {
-            file,
-            code: wrong.refusal.code,
-            span: wrong.shown,
-        };
-        add_nesting(texts, shown, wrong.nesting, &mut out)?;
+        self.add_wrong(texts, wrong, &mut out)?;
+        out.push_str("\n")?;
         Ok(out)
     }
 
@@ -146,10 +201,10 @@ fn heading(alloc: Global, name: &str, place: LineColumn, code: Code) -> Result<S
     format!(in alloc; "{name}:{line}:{column}: fault {number} {code} (columns count bytes)\n")
 }
 
-/// Adds what is said of a mistake that is often made.
-fn add_hint(hint: Option<Hint>, out: &mut String) -> Result<(), AllocError> {
-    match hint {
-        Some(hint) => write!(out, " {}", hint.text()),
+/// Adds a sentence, if it is one, after those that are there.
+fn add_aside(aside: Option<&str>, out: &mut String) -> Result<(), AllocError> {
+    match aside {
+        Some(text) => write!(out, " {text}"),
         None => Ok(()),
     }
 }
@@ -168,7 +223,7 @@ fn add_nesting(
             let list = FilePlace::of(texts, FileOffset { file, offset });
             write!(
                 out,
-                "{name} begins inside the list that opens at {list}. Is a `)` missing before it?\n"
+                "{name} begins inside the list that opens at {list}. Is a `)` missing before it?"
             )
         }
         Nesting::After(offset, close) => {
@@ -177,17 +232,17 @@ fn add_nesting(
             let end = FilePlace::of(texts, FileOffset { file, offset });
             write!(
                 out,
-                "the list that opens at {list} ends before {name}. Is the `)` at {end} one too many?\n"
+                "the list that opens at {list} ends before {name}. Is the `)` at {end} one too many?"
             )
         }
         Nesting::Closes(offset) => {
             let list = FilePlace::of(texts, FileOffset { file, offset });
             write!(
                 out,
-                "something is missing in the list that opens at {list} and ends here. Is this `)` one too many?\n"
+                "something is missing in the list that opens at {list} and ends here. Is this `)` one too many?"
             )
         }
-        Nesting::Elsewhere => write!(out, "{name} {}.\n", after_word(shown.code)),
+        Nesting::Elsewhere => write!(out, "{name} {}.", after_word(shown.code)),
     }
 }
 

@@ -1,89 +1,201 @@
--- What is found out of files is what is explained of them.
-use Rattle.std.proofs.Common.{◌≡◌, ℕ, List, Option, Some, None, IfSome, sym, subst}
-use Rattle.std.specs.Prelude.{Result, Ok, Err, IfOk}
-use Rattle.faults.specs.declared.refused.NoMemory.{NoMemory}
-use Rattle.file_answers.specs.Files.{reported_in}
-use Rattle.file_answers.specs.Inputs.{IsInputFault}
-use Rattle.file_answers.specs.declared.files.FileFault.{FileFault}
-use Rattle.file_answers.specs.declared.files.FileFault.TheVariants as refused
-use Rattle.file_answers.specs.declared.explanation.Explanation.{Explanation}
-use Rattle.file_answers.specs.declared.explanation.Subject.{Subject}
-use Rattle.file_answers.specs.declared.explanation.Subject.TheVariants.{Fault, Plan, Task}
-use Rattle.file_answers.specs.Explanations.{IsTrueOf, IsHeaded, IsHeadedIn, IsHeading, IsOfFault, IsOfVerdict, IsOfGrounded, headed_as, headed_in}
+-- What is found out of files is what is explained of them, and the lines say it.
+use Rattle.std.proofs.Common.{◌≡◌, ℕ, ◌<◌, ◌≤◌, ◌-◌, List, [], ◌∷◌, length, map, Option, Some, None, IfSome, refl, ap, sym, ◌∙◌, subst, arith}
+use Rattle.std.proofs.lemmas.Option.{slice_get_within}
+use Rattle.std.specs.Prelude.{Result, Ok, Err, IfOk, IsSomeAnd}
+use Rattle.std.specs.Option.{option_map}
 use Rattle.std.specs.String.{string_bytes}
 use Rattle.faults.specs.declared.code.Code.{Code}
+use Rattle.faults.specs.declared.refused.NoMemory.{NoMemory}
 use Rattle.faults.specs.declared.refused.Span.{Span}
+use Rattle.source_text.specs.declared.texts.File.{File}
+use Rattle.source_text.specs.declared.texts.File.TheVariants as kind
 use Rattle.source_text.specs.declared.texts.NamedText.{NamedText}
 use Rattle.source_text.specs.declared.texts.NamedTexts.{NamedTexts}
-use Rattle.source_text.specs.declared.texts.File.TheVariants as kind
+use Rattle.validator.specs.Verdict.{verdict_of}
+use Rattle.validator.specs.declared.verdict.Verdict.{Verdict}
+use Rattle.validator.specs.declared.verdict.Verdict.TheVariants.{NotApplicable}
+use Rattle.file_answers.specs.ExplanationLines.{Files, Named, IsLocated, IsSaidOf, IsStepLocated, IsSubjectLocated, SaySubject, SayVerdict, IsStepAt, file_in, files_of, named_of}
+use Rattle.file_answers.specs.Explanations.{IsFaultExplained, IsLocatedIf, IsOfFault, IsStepFound, IsStepOf, IsTaskExplained, IsTrueOf, IsVerdictExplained, IsVerdictSaid, files_in, in_texts, text_in}
+use Rattle.file_answers.specs.Files.{fault_at, reported_in}
+use Rattle.file_answers.specs.Inputs.{IsInputFault}
+use Rattle.file_answers.specs.declared.explanation.Explanation.{Explanation}
+use Rattle.file_answers.specs.declared.explanation.Location.{Location}
+use Rattle.file_answers.specs.declared.explanation.Subject.{Subject}
+use Rattle.file_answers.specs.declared.explanation.Subject.TheVariants.{Fault, Plan, Task}
+use Rattle.file_answers.specs.declared.files.FileFault.{FileFault}
+use Rattle.file_answers.specs.declared.files.FileFault.TheVariants as refused
 use Rattle.model.specs.Task as model
+use Rattle.model.specs.Meaning.{system_of}
+use Rattle.model.specs.Runs as runs
+use Rattle.model.specs.Runs.{IsVerdict}
 use Rattle.model.specs.Files.{IsTaskOf}
-use Rattle.model.specs.PlanText.{IsPlanText}
+use Rattle.model.specs.PlanText.{AllMean, AreSteps, IsPlanText, Step, placed_from}
+use Rattle.model.specs.Words.{AreParts, Part}
+use Rattle.explained_plans.specs.StepPlaces.{IsStepPlace, span_of}
 
-module _ (domain problem : List ℕ) (most : ℕ) where
-  fault_explained : (plan : Option (List ℕ)) (fault : FileFault) (subject : Subject) → IfSome (reported_in fault) (IsInputFault domain problem plan)
-      → IsOfFault fault subject → IsTrueOf domain problem plan most subject
-  fault_explained plan (refused.At file code span) subject reported is = subst (IsTrueOf domain problem plan most) (sym is) reported
-  fault_explained plan refused.NoMemory subject reported is = absurd is
+-- the files are among these texts
+abbrev pub AreAmong : Files → NamedTexts → Type 0
+AreAmong files texts = (file : File) → IfSome (file_in files file) (λ named. named ≡ in_texts texts file)
 
-  -- a fault
-  pub refused_explained : (plan : Option (List ℕ)) (fault : FileFault) (r : Result Explanation NoMemory) → IfSome (reported_in fault) (IsInputFault domain problem plan)
-      → IfOk r (λ e. IsOfFault fault e.subject) → IfOk r (λ e. IsTrueOf domain problem plan most e.subject)
-  refused_explained plan fault (Ok e) reported is = fault_explained plan fault e.subject reported is
-  refused_explained plan fault (Err failed) reported is = tt
+-- ---- a fault
 
-  module _ (task : model.Task) (is_task : IsTaskOf domain problem task) where
-    verdict_explained : (text : List ℕ) (steps : List model.Instance) → IsPlanText task text steps → (subject : Subject)
-        → IsOfVerdict task steps subject → IsTrueOf domain problem (Some text) most subject
-    verdict_explained text steps is_plan (Fault file code span) is = absurd is
-    verdict_explained text steps is_plan (Plan verdict) is =
-        record { task = task; steps = steps; are_read = record { is_task = is_task; is_plan = is_plan }; is_true = is }
-    verdict_explained text steps is_plan (Task grounded) is = absurd is
+module _ (texts : NamedTexts) (files : Files) (among : AreAmong files texts) where
+  module _ (file : File) (code : Code) (span : Span) (e : Explanation) (is : IsFaultExplained texts file code span e) where
+    located : (named : Option Named) → IfSome named (λ named. named ≡ in_texts texts file) → IfSome named (λ named. IsSomeAnd e.location (IsLocated named span))
+    located None same = tt
+    located (Some named) same = subst (λ (named : Named). IsSomeAnd e.location (IsLocated named span)) (sym same) is.located
 
-    -- the verdict on a plan
-    pub steps_explained : (text : List ℕ) (steps : List model.Instance) → IsPlanText task text steps → (r : Result Explanation NoMemory)
-        → IfOk r (λ e. IsOfVerdict task steps e.subject) → IfOk r (λ e. IsTrueOf domain problem (Some text) most e.subject)
-    steps_explained text steps is_plan (Ok e) is = verdict_explained text steps is_plan e.subject is
-    steps_explained text steps is_plan (Err failed) is = tt
+    fault_said : IsSaidOf files e
+    fault_said = record {
+      located = subst (λ (s : Subject). IsSubjectLocated files s e.location) (sym is.subject) (located (file_in files file) (among file));
+      lines = subst (λ (s : Subject). SaySubject s e.location (map string_bytes e.notes.items) (string_bytes e.text)) (sym is.subject) is.says;
+    }
 
-    grounded_explained : (subject : Subject) → IsOfGrounded task most subject → IsTrueOf domain problem None most subject
-    grounded_explained (Fault file code span) is = absurd is
-    grounded_explained (Plan verdict) is = absurd is
-    grounded_explained (Task grounded) is = (task, is_task, is)
+  of_fault_said : (fault : FileFault) (e : Explanation) → IsOfFault texts fault e → IsSaidOf files e
+  of_fault_said (refused.At file code span) e is = fault_said file code span e is
+  of_fault_said refused.NoMemory e is = absurd is
 
-    -- a task, where no plan is given
+  pub refused_said : (fault : FileFault) (r : Result Explanation NoMemory) → IfOk r (IsOfFault texts fault) → IfOk r (IsSaidOf files)
+  refused_said fault (Ok e) is = of_fault_said fault e is
+  refused_said fault (Err failed) is = tt
+
+module _ (domain problem : List ℕ) (plan : Option (List ℕ)) (most : ℕ) (texts : NamedTexts) where
+  fault_true : (fault : FileFault) (e : Explanation) → IfSome (reported_in fault) (IsInputFault domain problem plan)
+      → IsOfFault texts fault e → IsTrueOf domain problem plan most e.subject
+  fault_true (refused.At file code span) e reported is = subst (IsTrueOf domain problem plan most) (sym is.subject) reported
+  fault_true refused.NoMemory e reported is = absurd is
+
+  pub refused_explained : (fault : FileFault) (r : Result Explanation NoMemory) → IfSome (reported_in fault) (IsInputFault domain problem plan)
+      → IfOk r (IsOfFault texts fault) → IfOk r (λ e. IsTrueOf domain problem plan most e.subject)
+  refused_explained fault (Ok e) reported is = fault_true fault e reported is
+  refused_explained fault (Err failed) reported is = tt
+
+-- each text is among them
+pub all_among : (texts : NamedTexts) → AreAmong (files_in texts) texts
+all_among texts kind.Domain = refl
+all_among texts kind.Problem = refl
+all_among texts kind.Plan = refl
+
+-- the files that are given are among the texts that are made of them
+module _ (texts : NamedTexts) (domain problem : NamedText) (same_domain : texts.domain ≡ domain) (same_problem : texts.problem ≡ problem) where
+  plan_among : (plan : Option NamedText) → IfSome plan (λ named. texts.plan ≡ named)
+      → IfSome (option_map named_of plan) (λ named. named ≡ in_texts texts kind.Plan)
+  plan_among None same = tt
+  plan_among (Some plan) same = sym (ap named_of same)
+
+  pub given_among : (plan : Option NamedText) → IfSome plan (λ named. texts.plan ≡ named) → AreAmong (files_of domain problem plan) texts
+  given_among plan same kind.Domain = sym (ap named_of same_domain)
+  given_among plan same kind.Problem = sym (ap named_of same_problem)
+  given_among plan same kind.Plan = plan_among plan same
+
+  -- with a plan they are these texts
+  pub files_given : (plan : Option NamedText) (named : NamedText) → plan ≡ Some named → IfSome plan (λ named. texts.plan ≡ named)
+      → files_in texts ≡ files_of domain problem plan
+  files_given plan named is same =
+      let same_plan : texts.plan ≡ named = subst (λ (plan : Option NamedText). IfSome plan (λ named. texts.plan ≡ named)) is same in
+      ap (λ (d : NamedText). files_of d texts.problem (Some texts.plan)) same_domain
+      ∙ (ap (λ (p : NamedText). files_of domain p (Some texts.plan)) same_problem
+      ∙ (ap (λ (n : NamedText). files_of domain problem (Some n)) same_plan
+      ∙ ap (λ (l : Option NamedText). files_of domain problem l) (sym is)))
+
+  -- and the plan's text is among them
+  pub plan_given : (plan : Option NamedText) (named : NamedText) → plan ≡ Some named → IfSome plan (λ named. texts.plan ≡ named)
+      → Some texts.plan.text.now ≡ text_in plan
+  plan_given plan named is same =
+      let same_plan : texts.plan ≡ named = subst (λ (plan : Option NamedText). IfSome plan (λ named. texts.plan ≡ named)) is same in
+      ap (λ (n : NamedText). Some n.text.now) same_plan ∙ sym (ap text_in is)
+
+-- ---- the verdict on a plan
+
+-- the steps of a text are as many as the instances that they name
+all_mean_length : (task : model.Task) (steps : List Step) (plan : List model.Instance) → AllMean task steps plan → length steps ≡ length plan
+all_mean_length task [] [] mean = refl
+all_mean_length task [] (i ∷ plan) mean = absurd mean
+all_mean_length task (step ∷ steps) [] mean = absurd mean
+all_mean_length task (step ∷ steps) (i ∷ plan) mean = let rest = all_mean_length task steps plan mean.1 in cc
+
+-- a step that is not applicable is one of the text's
+pub step_of_text : (task : model.Task) (text : List ℕ) (plan : List model.Instance) (verdict : runs.Verdict) → IsPlanText task text plan
+    → IsVerdict (system_of task) plan verdict → IsStepOf text verdict
+step_of_text task text plan (runs.valid cost) is_plan is = tt
+step_of_text task text plan (runs.not_applicable n) (steps, has, mean) is =
+    let many : length steps ≡ length plan = all_mean_length task steps plan mean in
+    let within : n - 1 < length plan = slice_get_within plan (n - 1) is.next is.found_there in
+    let from_one : 1 ≤ n = is.counted_from_one in
+    (steps, has, from_one, omega arith)
+step_of_text task text plan runs.goal_missed is_plan is = tt
+
+-- what is found of it is its span
+found_at : (text : List ℕ) (step : ℕ) (parts : List Part) → AreParts text parts → (found : Option Span)
+    → IsSomeAnd found (λ span. IsStepPlace (placed_from 0 parts) step (span_of span)) → IsSomeAnd found (IsStepAt text step)
+found_at text step parts cut None is = absurd is
+found_at text step parts cut (Some span) is = (parts, cut, is)
+
+pub step_found : (text : List ℕ) (verdict : Verdict) (step : ℕ) (found : Option Span) → verdict ≡ NotApplicable step → IsStepOf text (verdict_of verdict)
+    → ((parts : List Part) (steps : List Step) → AreParts text parts → AreSteps (placed_from 0 parts) steps → 1 ≤ step → step ≤ length steps
+        → IsSomeAnd found (λ span. IsStepPlace (placed_from 0 parts) step (span_of span)))
+    → IsStepFound text (verdict_of verdict) found
+step_found text verdict step found is within placed =
+    let here : IsStepOf text (runs.not_applicable step) = subst (λ (v : Verdict). IsStepOf text (verdict_of v)) is within in
+    subst (λ (v : Verdict). IsStepFound text (verdict_of v) found) (sym is)
+    (found_at text step here.1.parts here.1.cut found (placed here.1.parts here.0 here.1.cut here.1.steps_of_parts here.2 here.3))
+
+-- and the location is that span's
+pub step_located : (file : Named) (verdict : runs.Verdict) (found : Option Span) (at : Option Location) → IsStepFound file.text verdict found
+    → IsLocatedIf file found at → IsStepLocated file verdict at
+step_located file (runs.valid cost) found at is located = tt
+step_located file (runs.not_applicable step) None at is located = absurd is
+step_located file (runs.not_applicable step) (Some span) at is located = (span, is, located)
+step_located file runs.goal_missed found at is located = tt
+
+module _ (task : model.Task) (steps : List model.Instance) where
+  verdict_said : (texts : NamedTexts) (e : Explanation) → IsVerdictExplained task steps (named_of texts.plan) e → IsSaidOf (files_in texts) e
+  verdict_said texts e (verdict, is_true, is) = record {
+    located = subst (λ (s : Subject). IsSubjectLocated (files_in texts) s e.location) (sym is.subject)
+        (subst (λ (v : runs.Verdict). IsStepLocated (named_of texts.plan) v e.location) (sym is.same) is.located);
+    lines = subst (λ (s : Subject). SaySubject s e.location (map string_bytes e.notes.items) (string_bytes e.text)) (sym is.subject)
+        (subst (λ (v : runs.Verdict). SayVerdict e.location v (string_bytes e.text)) (sym is.same) is.says);
+  }
+
+  pub steps_said : (texts : NamedTexts) (r : Result Explanation NoMemory) → IfOk r (IsVerdictExplained task steps (named_of texts.plan))
+      → IfOk r (IsSaidOf (files_in texts))
+  steps_said texts (Ok e) is = verdict_said texts e is
+  steps_said texts (Err failed) is = tt
+
+  module _ (domain problem : List ℕ) (is_task : IsTaskOf domain problem task) (most : ℕ) (text : List ℕ) (is_plan : IsPlanText task text steps) where
+    verdict_true : (file : Named) (e : Explanation) → IsVerdictExplained task steps file e → IsTrueOf domain problem (Some text) most e.subject
+    verdict_true file e (verdict, is_true, is) = subst (IsTrueOf domain problem (Some text) most) (sym is.subject)
+        (record {
+          task = task;
+          steps = steps;
+          are_read = record { is_task = is_task; is_plan = is_plan };
+          is_true = subst (IsVerdict (system_of task) steps) (sym is.same) is_true;
+        })
+
+    pub steps_explained : (file : Named) (r : Result Explanation NoMemory) → IfOk r (IsVerdictExplained task steps file)
+        → IfOk r (λ e. IsTrueOf domain problem (Some text) most e.subject)
+    steps_explained file (Ok e) is = verdict_true file e is
+    steps_explained file (Err failed) is = tt
+
+-- ---- a task
+
+module _ (task : model.Task) (most : ℕ) where
+  summary_said : (files : Files) (e : Explanation) → IsTaskExplained task most e → IsSaidOf files e
+  summary_said files e is = record {
+    located = subst (λ (s : Subject). IsSubjectLocated files s e.location) (sym is.subject) tt;
+    lines = subst (λ (s : Subject). SaySubject s e.location (map string_bytes e.notes.items) (string_bytes e.text)) (sym is.subject) is.says;
+  }
+
+  pub task_said : (files : Files) (r : Result Explanation NoMemory) → IfOk r (IsTaskExplained task most) → IfOk r (IsSaidOf files)
+  task_said files (Ok e) is = summary_said files e is
+  task_said files (Err failed) is = tt
+
+  module _ (domain problem : List ℕ) (is_task : IsTaskOf domain problem task) where
+    summary_true : (e : Explanation) → IsTaskExplained task most e → IsTrueOf domain problem None most e.subject
+    summary_true e is = subst (IsTrueOf domain problem None most) (sym is.subject) (task, is_task, is.is_held)
+
+    -- where no plan is given
     pub task_explained : (plan : Option (List ℕ)) → plan ≡ None → (r : Result Explanation NoMemory)
-        → IfOk r (λ e. IsOfGrounded task most e.subject) → IfOk r (λ e. IsTrueOf domain problem plan most e.subject)
-    task_explained plan none (Ok e) is = subst (λ (plan : Option (List ℕ)). IsTrueOf domain problem plan most e.subject) (sym none) (grounded_explained e.subject is)
+        → IfOk r (IsTaskExplained task most) → IfOk r (λ e. IsTrueOf domain problem plan most e.subject)
+    task_explained plan none (Ok e) is = subst (λ (plan : Option (List ℕ)). IsTrueOf domain problem plan most e.subject) (sym none) (summary_true e is)
     task_explained plan none (Err failed) is = tt
-
--- The heading of a fault of these texts is that of the files that are given.
-module _ (texts : NamedTexts) (domain problem : NamedText) (plan : Option NamedText)
-    (same_domain : texts.domain ≡ domain) (same_problem : texts.problem ≡ problem) (same_plan : IfSome plan (λ named. texts.plan ≡ named)) where
-  plan_headed : (code : Code) (span : Span) (lines : List ℕ) (handed : Option NamedText) → IfSome handed (λ named. texts.plan ≡ named)
-      → IsHeading texts.plan code span lines → IfSome handed (λ named. IsHeading named code span lines)
-  plan_headed code span lines None same is = tt
-  plan_headed code span lines (Some named) same is = subst (λ (named : NamedText). IsHeading named code span lines) same is
-
-  lines_headed : (lines : List ℕ) (subject : Subject) → headed_in texts lines subject → headed_as domain problem plan lines subject
-  lines_headed lines (Fault kind.Domain code span) is = subst (λ (named : NamedText). IsHeading named code span lines) same_domain is
-  lines_headed lines (Fault kind.Problem code span) is = subst (λ (named : NamedText). IsHeading named code span lines) same_problem is
-  lines_headed lines (Fault kind.Plan code span) is = plan_headed code span lines plan same_plan is
-  lines_headed lines (Plan verdict) is = tt
-  lines_headed lines (Task grounded) is = tt
-
-  pub files_headed : (r : Result Explanation NoMemory) → IfOk r (IsHeadedIn texts) → IfOk r (IsHeaded domain problem plan)
-  files_headed (Ok e) is = lines_headed (string_bytes e.text) e.subject is
-  files_headed (Err failed) is = tt
-
--- Of a task there is no fault.
-no_heading : (domain problem : NamedText) (plan : Option NamedText) (task : model.Task) (most : ℕ) (lines : List ℕ) (subject : Subject)
-    → IsOfGrounded task most subject → headed_as domain problem plan lines subject
-no_heading domain problem plan task most lines (Fault file code span) is = absurd is
-no_heading domain problem plan task most lines (Plan verdict) is = absurd is
-no_heading domain problem plan task most lines (Task grounded) is = tt
-
-pub task_headed : (domain problem : NamedText) (plan : Option NamedText) (task : model.Task) (most : ℕ) (r : Result Explanation NoMemory)
-    → IfOk r (λ e. IsOfGrounded task most e.subject) → IfOk r (IsHeaded domain problem plan)
-task_headed domain problem plan task most (Ok e) is = no_heading domain problem plan task most (string_bytes e.text) e.subject is
-task_headed domain problem plan task most (Err failed) is = tt

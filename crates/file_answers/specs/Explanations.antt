@@ -1,32 +1,36 @@
 -- What an explanation of some files is about.
-use Rattle.std.specs.Prelude.{◌≡◌, ℕ, List, [], length, Option, None, Some, IfSome}
+use Rattle.std.specs.Prelude.{◌≡◌, ℕ, ◌≤◌, List, [], ◌++◌, length, map, Option, None, Some, IfSome, IsSomeAnd}
 use Rattle.std.specs.Option.{option_map}
-use Rattle.validator.specs.Verdict.{verdict_of}
 use Rattle.std.specs.String.{string_bytes}
 use Rattle.faults.specs.declared.code.Code.{Code}
 use Rattle.faults.specs.declared.refused.Span.{Span}
-use Rattle.source_text.specs.Places.{IsPlace}
-use Rattle.source_text.specs.declared.place.LineColumn.{LineColumn}
+use Rattle.source_text.specs.Files.{name_in}
+use Rattle.source_text.specs.Files.{text_in as bytes_in}
+use Rattle.source_text.specs.declared.texts.File.{File}
 use Rattle.source_text.specs.declared.texts.NamedText.{NamedText}
 use Rattle.source_text.specs.declared.texts.NamedTexts.{NamedTexts}
-use Rattle.source_text.specs.declared.texts.File.{File}
-use Rattle.source_text.specs.declared.texts.File.TheVariants.{Domain, Problem, Plan as PlanFile}
-use Rattle.source_text.specs.Files.{name_in}
-use Rattle.source_text.specs.Files.{text_in as text_of}
 use Rattle.explained_faults.specs.Explained.{BeginsWith, heading}
-use Rattle.file_answers.specs.declared.explanation.Explanation.{Explanation}
+use Rattle.explained_plans.specs.Said.{IsSummaryOf, summary_text}
+use Rattle.explained_plans.specs.declared.summary.Summary.{Summary}
 use Rattle.grounding_kept.specs.Numbering.{limit_of}
+use Rattle.validator.specs.Verdict.{verdict_of}
+use Rattle.validator.specs.declared.verdict.Verdict.{Verdict}
+use Rattle.file_answers.specs.ExplanationLines.{Files, Named, IsLocated, IsStepAt, IsStepLocated, SayVerdict, files_of, grounded_line, on_lines, place_in}
 use Rattle.file_answers.specs.Files.{fault_at}
 use Rattle.file_answers.specs.Inputs.{IsInputFault}
-use Rattle.file_answers.specs.declared.files.FileFault.{FileFault}
-use Rattle.file_answers.specs.declared.files.FileFault.TheVariants as refused
-use Rattle.file_answers.specs.declared.explanation.Subject.{Subject}
-use Rattle.file_answers.specs.declared.explanation.Subject.TheVariants.{Fault, Plan, Task}
+use Rattle.file_answers.specs.declared.explanation.Explanation.{Explanation}
 use Rattle.file_answers.specs.declared.explanation.Grounded.{Grounded}
 use Rattle.file_answers.specs.declared.explanation.Grounded.TheVariants.{Within, Beyond}
+use Rattle.file_answers.specs.declared.explanation.Location.{Location}
+use Rattle.file_answers.specs.declared.explanation.Subject.{Subject}
+use Rattle.file_answers.specs.declared.explanation.Subject.TheVariants.{Fault, Plan, Task}
+use Rattle.file_answers.specs.declared.files.FileFault.{FileFault}
+use Rattle.file_answers.specs.declared.files.FileFault.TheVariants as refused
 use Rattle.model.specs.Task as model
 use Rattle.model.specs.Meaning.{system_of}
+use Rattle.model.specs.Runs as runs
 use Rattle.model.specs.Runs.{IsVerdict}
+use Rattle.model.specs.PlanText.{HasSteps, Step}
 use Rattle.model.specs.Files.{IsTaskOf, IsVerdictOf}
 use Rattle.model.specs.Limits.{max_numbered_atoms}
 use Rattle.model.specs.StaticallyFalse.{kept_instances}
@@ -45,62 +49,74 @@ IsGrounded task most (Within instances atoms) =
     × (exceeded_limit most max_numbered_atoms task [] ≡ None)
 IsGrounded task most (Beyond limit) = exceeded_limit most max_numbered_atoms task [] ≡ Some (limit_of limit)
 
+-- the task holds this, and grounding makes this of it
+abbrev pub IsHeld : model.Task → (most : ℕ) → Summary → Grounded → Type 0
+IsHeld task most holds grounded = IsSummaryOf task holds × IsGrounded task most grounded
+
 -- What is explained is true of the texts of a domain and a problem, and of a plan, where one is given: the first fault; or
--- else the verdict on the plan; or else, with no plan, what grounding makes of the task.
+-- else the verdict on the plan; or else, with no plan, what the task holds and grounding makes of it.
 abbrev pub IsTrueOf : (domain problem : List ℕ) → (plan : Option (List ℕ)) → (most : ℕ) → Subject → Type 0
 IsTrueOf domain problem plan most (Fault file code span) = IsInputFault domain problem plan (fault_at file code span)
 IsTrueOf domain problem (Some plan) most (Plan verdict) = IsVerdictOf domain problem plan (verdict_of verdict)
 IsTrueOf domain problem None most (Plan verdict) = ⊥
-IsTrueOf domain problem (Some plan) most (Task grounded) = ⊥
-IsTrueOf domain problem None most (Task grounded) = (task : model.Task) × IsTaskOf domain problem task × IsGrounded task most grounded
-
--- the file of this kind with its text, where it is given
-abbrev pub named_in : (domain problem : NamedText) → (plan : Option NamedText) → File → Option NamedText
-named_in domain problem plan Domain = Some domain
-named_in domain problem plan Problem = Some problem
-named_in domain problem plan PlanFile = plan
-
--- the lines begin with that of this fault: its file, the line and the column of the first byte of its span, its number and name
-abbrev pub IsHeading : NamedText → Code → Span → (lines : List ℕ) → Type 0
-IsHeading named code span lines =
-    (place : LineColumn) × IsPlace named.text.now span.start place × BeginsWith lines (heading named.name.now place code)
-
--- of a fault the first line has its place
-abbrev pub headed_as : (domain problem : NamedText) → (plan : Option NamedText) → (lines : List ℕ) → Subject → Type 0
-headed_as domain problem plan lines (Fault file code span) =
-    IfSome (named_in domain problem plan file) (λ named. IsHeading named code span lines)
-headed_as domain problem plan lines (Plan verdict) = Unit {0}
-headed_as domain problem plan lines (Task grounded) = Unit {0}
-
-abbrev pub IsHeaded : (domain problem : NamedText) → (plan : Option NamedText) → Explanation → Type 0
-IsHeaded domain problem plan e = headed_as domain problem plan (string_bytes e.text) e.subject
+IsTrueOf domain problem (Some plan) most (Task holds grounded) = ⊥
+IsTrueOf domain problem None most (Task holds grounded) = (task : model.Task) × IsTaskOf domain problem task × IsHeld task most holds grounded
 
 -- ---- on the way
 
--- the same of texts that are together
-abbrev pub headed_in : NamedTexts → (lines : List ℕ) → Subject → Type 0
-headed_in texts lines (Fault file code span) =
-    (place : LineColumn) × IsPlace (text_of texts file) span.start place
-    × BeginsWith lines (heading (name_in texts file) place code)
-headed_in texts lines (Plan verdict) = Unit {0}
-headed_in texts lines (Task grounded) = Unit {0}
+-- a file of these texts
+abbrev pub in_texts : NamedTexts → File → Named
+in_texts texts file = record { name = name_in texts file; text = bytes_in texts file }
 
-abbrev pub IsHeadedIn : NamedTexts → Explanation → Type 0
-IsHeadedIn texts e = headed_in texts (string_bytes e.text) e.subject
+-- these texts, each the text of a file that is given
+abbrev pub files_in : NamedTexts → Files
+files_in texts = files_of texts.domain texts.problem (Some texts.plan)
 
--- the fault is what is explained; running out of memory is not
-abbrev pub IsOfFault : FileFault → Subject → Type 0
-IsOfFault (refused.At file code span) subject = subject ≡ Fault file code span
-IsOfFault refused.NoMemory subject = ⊥
+-- the fault is what is explained, at its place
+pub record IsFaultExplained (texts : NamedTexts) (file : File) (code : Code) (span : Span) (e : Explanation) : Type 0 where
+  pub subject : e.subject ≡ Fault file code span
+  pub located : IsSomeAnd e.location (IsLocated (in_texts texts file) span)
+  pub says : IfSome e.location (λ at. BeginsWith (string_bytes e.text) (heading (string_bytes at.file) (place_in at) code))
 
--- the verdict on these steps of the task is
-abbrev pub IsOfVerdict : model.Task → List model.Instance → Subject → Type 0
-IsOfVerdict task steps (Fault file code span) = ⊥
-IsOfVerdict task steps (Plan verdict) = IsVerdict (system_of task) steps (verdict_of verdict)
-IsOfVerdict task steps (Task grounded) = ⊥
+-- running out of memory is not
+abbrev pub IsOfFault : NamedTexts → FileFault → Explanation → Type 0
+IsOfFault texts (refused.At file code span) e = IsFaultExplained texts file code span e
+IsOfFault texts refused.NoMemory e = ⊥
 
--- what grounding makes of the task is
-abbrev pub IsOfGrounded : model.Task → (most : ℕ) → Subject → Type 0
-IsOfGrounded task most (Fault file code span) = ⊥
-IsOfGrounded task most (Plan verdict) = ⊥
-IsOfGrounded task most (Task grounded) = IsGrounded task most grounded
+-- the verdict is what is explained, with the place of the step that is not applicable
+pub record IsVerdictSaid (file : Named) (verdict : runs.Verdict) (e : Explanation) : Type 0 where
+  pub code : Verdict
+  pub subject : e.subject ≡ Plan code
+  pub same : verdict_of code ≡ verdict
+  pub located : IsStepLocated file verdict e.location
+  pub says : SayVerdict e.location verdict (string_bytes e.text)
+
+-- so is the verdict on these steps of the task
+abbrev pub IsVerdictExplained : model.Task → List model.Instance → (file : Named) → Explanation → Type 0
+IsVerdictExplained task steps file e =
+    (verdict : runs.Verdict) × IsVerdict (system_of task) steps verdict × IsVerdictSaid file verdict e
+
+-- a step that is not applicable is one of the text's
+abbrev pub IsStepOf : (text : List ℕ) → runs.Verdict → Type 0
+IsStepOf text (runs.valid cost) = Unit {0}
+IsStepOf text (runs.not_applicable step) = (steps : List Step) × HasSteps text steps × (1 ≤ step) × (step ≤ length steps)
+IsStepOf text runs.goal_missed = Unit {0}
+
+-- its span is found
+abbrev pub IsStepFound : (text : List ℕ) → runs.Verdict → Option Span → Type 0
+IsStepFound text (runs.valid cost) found = Unit {0}
+IsStepFound text (runs.not_applicable step) found = IsSomeAnd found (IsStepAt text step)
+IsStepFound text runs.goal_missed found = Unit {0}
+
+-- the location is that of a span, if there is one
+abbrev pub IsLocatedIf : Named → Option Span → Option Location → Type 0
+IsLocatedIf file None at = Unit {0}
+IsLocatedIf file (Some span) at = IsSomeAnd at (IsLocated file span)
+
+-- what the task holds and grounding makes of it is what is explained
+pub record IsTaskExplained (task : model.Task) (most : ℕ) (e : Explanation) : Type 0 where
+  pub holds : Summary
+  pub grounded : Grounded
+  pub subject : e.subject ≡ Task holds grounded
+  pub is_held : IsHeld task most holds grounded
+  pub says : string_bytes e.text ≡ summary_text holds ++ (grounded_line grounded ++ on_lines (map string_bytes e.notes.items))

@@ -1,4 +1,5 @@
 pub mod Checked
+pub mod ExplanationLines
 pub mod Explanations
 pub mod Files
 pub mod Inputs

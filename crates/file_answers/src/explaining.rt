@@ -1,6 +1,7 @@
 //! From the bytes of files to their explanation.
 ghost use Rattle.std.specs.Prelude.{◌≡◌, IfOk, IfSome};
-ghost use Rattle.file_answers.specs.Explanations.{IsHeaded, IsTrueOf, text_in};
+ghost use Rattle.file_answers.specs.ExplanationLines.{IsSaidOf, files_of};
+ghost use Rattle.file_answers.specs.Explanations.{IsTrueOf, text_in};
 
 mod of_fault;
 mod of_plan;
@@ -39,8 +40,8 @@ pub fn explain_files(
     max_instances: u32,
 ) -> Result<Explanation, NoMemory>
     ensures subject { IfOk result (λ e. IsTrueOf domain.entry.text.now problem.entry.text.now (text_in plan.entry) max_instances e.subject) }
-    // Of a fault the first line has the place of its first byte.
-    ensures headed { IfOk result (IsHeaded domain.entry problem.entry plan.entry) }
+    // The lines say it, and the place of a fault or of a step is where it is.
+    ensures said { IfOk result (IsSaidOf (files_of domain.entry problem.entry plan.entry)) }
 {
     let texts = texts_of(domain, problem, plan);
     let task = match task_of_files(alloc, domain.text, problem.text) {
@@ -48,7 +49,7 @@ pub fn explain_files(
         Err(fault) => return explain_refused(alloc, &texts, fault),
     };
     match plan {
-        Some(plan) => explain_plan_file(alloc, &task, &texts, plan),
+        Some(_) => explain_plan_file(alloc, &task, &texts),
         None => explain_task(alloc, &task, max_instances),
     }
 }

@@ -28,11 +28,11 @@ pub wanted_of_check : (order : Order) (domain problem cert : Bor (List ℕ)) (pl
 wanted_of_check order domain problem cert plan instances json number is same =
     ap (λ (n : ℕ). to_check domain.now problem.now cert.now (asked_of_check plan json n)) same ∙ sym (ap wanted_of is)
 
-abbrev asked_of_explain : (plan : Option (Bor (List ℕ))) (instances : ℕ) → AskedOfExplain
-asked_of_explain plan instances = record { instances = instances; plan = text_in plan }
+abbrev asked_of_explain : (plan : Option (Bor (List ℕ))) (json : Bool) (instances : ℕ) → AskedOfExplain
+asked_of_explain plan json instances = record { instances = instances; plan = text_in plan; json = json }
 
-pub wanted_of_explain : (order : Order) (domain problem : Bor (List ℕ)) (plan : Option (Bor (List ℕ))) (instances : MaxCount) (number : ℕ)
-    → order ≡ Explain domain problem plan instances → number ≡ instances.number
-    → to_explain domain.now problem.now (record { instances = number; plan = text_in plan }) ≡ wanted_of order
-wanted_of_explain order domain problem plan instances number is same =
-    ap (λ (n : ℕ). to_explain domain.now problem.now (asked_of_explain plan n)) same ∙ sym (ap wanted_of is)
+pub wanted_of_explain : (order : Order) (domain problem : Bor (List ℕ)) (plan : Option (Bor (List ℕ))) (instances : MaxCount) (json : Bool) (number : ℕ)
+    → order ≡ Explain domain problem plan instances json → number ≡ instances.number
+    → to_explain domain.now problem.now (record { instances = number; plan = text_in plan; json = json }) ≡ wanted_of order
+wanted_of_explain order domain problem plan instances json number is same =
+    ap (λ (n : ℕ). to_explain domain.now problem.now (asked_of_explain plan json n)) same ∙ sym (ap wanted_of is)

@@ -94,8 +94,8 @@ checked_status (Err refusal) = refl
 explanation_status : (subject : Subject) → IsOfReport (explanation.status_of subject)
 explanation_status (subject.Fault file code span) = inr refl
 explanation_status (subject.Plan v) = inl (verdict_status (verdict_of v))
-explanation_status (subject.Task (grounded.Within instances atoms)) = inl refl
-explanation_status (subject.Task (grounded.Beyond limit)) = inl refl
+explanation_status (subject.Task holds (grounded.Within instances atoms)) = inl refl
+explanation_status (subject.Task holds (grounded.Beyond limit)) = inl refl
 
 report_status : (r : Report) → IsOfReport (status_of r)
 report_status (report.Solve solved) = inl (answer_status solved.answer)

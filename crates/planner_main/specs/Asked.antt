@@ -17,7 +17,7 @@ abbrev pub outputs_of : Wanted → Outputs
 outputs_of (to_validate domain problem plan json) = record { json = json; cert = None; plan = None }
 outputs_of (to_solve domain problem asked) = record { json = asked.json; cert = asked.cert; plan = asked.plan }
 outputs_of (to_check domain problem cert asked) = record { json = asked.json; cert = None; plan = None }
-outputs_of (to_explain domain problem asked) = record { json = false; cert = None; plan = None }
+outputs_of (to_explain domain problem asked) = record { json = asked.json; cert = None; plan = None }
 
 -- what the code has
 abbrev pub is_json : Format → Bool

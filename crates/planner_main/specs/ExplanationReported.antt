@@ -16,4 +16,4 @@ status_of_task (Beyond limit) = 11
 abbrev pub status_of : Subject → ℕ
 status_of (Fault file code span) = 20
 status_of (Plan verdict) = verdicts.status_of (verdict_of verdict)
-status_of (Task grounded) = status_of_task grounded
+status_of (Task holds grounded) = status_of_task grounded

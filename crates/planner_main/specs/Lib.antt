@@ -5,6 +5,7 @@ pub mod JsonExamples
 pub mod Objects
 pub mod VerdictReported
 pub mod ExplanationReported
+pub mod ExplanationObjects
 pub mod AnswerReported
 pub mod CheckReported
 pub mod Failures

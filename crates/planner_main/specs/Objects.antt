@@ -18,14 +18,14 @@ use Rattle.model.specs.Runs.{Verdict, valid, not_applicable, goal_missed}
 use Rattle.model.specs.Task.{Task, Instance}
 use Rattle.model.specs.PlanWriting.{step_text}
 
-abbrev member : List ℕ → Value → Member
+abbrev pub member : List ℕ → Value → Member
 member key value = record { key = key; value = value }
 
 -- the command that an answer is of, and its result
-abbrev command : List ℕ → Member
+abbrev pub command : List ℕ → Member
 command name = member (codes "command") (text name)
 
-abbrev result : List ℕ → Member
+abbrev pub result : List ℕ → Member
 result name = member (codes "result") (text name)
 
 abbrev pub of_verdict : Verdict → List Member
@@ -72,10 +72,6 @@ of_checked (Err (refusal.Plain code)) = of_refused code
 of_checked (Err refusal.NoMemory) = []
 of_checked (Err refusal.Device) = []
 of_checked (Err refusal.Failed) = []
-
--- an explanation, whose lines are one text
-abbrev pub of_explanation : (lines : List ℕ) → List Member
-of_explanation lines = command (codes "explain") ∷ member (codes "text") (text lines) ∷ []
 
 -- the line of an object
 abbrev pub line_of_members : List Member → List ℕ

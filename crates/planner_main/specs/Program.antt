@@ -26,6 +26,7 @@ use Rattle.planner_main.specs.CheckReported.{IsReportedRefusal}
 use Rattle.planner_main.specs.Asked.{outputs_of}
 use Rattle.file_answers.specs.declared.explanation.Explanation.{Explanation}
 use Rattle.file_answers.specs.Explanations.{IsTrueOf}
+use Rattle.file_answers.specs.ExplanationLines.{Files, IsSaidOf, named_as}
 use Rattle.devices.specs.Texts.{AreKept, IsText}
 use Rattle.devices.specs.Written.{NamedText, AreWritten, AreWrittenPartly}
 use Rattle.planner_main.specs.Solution.{WritesReport}
@@ -110,10 +111,16 @@ IsCheckOn contents domain problem cert plan most found =
     (c : Checked) × (found ≡ report.Check c)
     × OnInputs contents domain problem plan (λ d p l. IsCheckedIn (contents cert) d p l most (task_of c.task) c.answer)
 
--- or what is explained of two texts, and of the plan of a third, if one is named.
+-- the files of these names with their texts: a domain, a problem, and a plan, if one is named
+abbrev pub files_named : (domain problem : List ℕ) → (plan : Option (List ℕ)) → (d p : List ℕ) → (l : Option (List ℕ)) → Files
+files_named domain problem plan d p l =
+    record { domain = record { name = domain; text = d }; problem = record { name = problem; text = p }; plan = named_as plan l }
+
+-- or what is explained of two texts, and of the plan of a third, if one is named: it is true, and its lines and its location say it.
 abbrev pub IsExplanationOn : (List ℕ → Option (List ℕ)) → (domain problem : List ℕ) → (plan : Option (List ℕ)) → (most : ℕ) → Report → Type 0
 IsExplanationOn contents domain problem plan most found =
-    (e : Explanation) × (found ≡ report.Explain e) × OnInputs contents domain problem plan (λ d p l. IsTrueOf d p l most e.subject)
+    (e : Explanation) × (found ≡ report.Explain e)
+    × OnInputs contents domain problem plan (λ d p l. IsTrueOf d p l most e.subject × IsSaidOf (files_named domain problem plan d p l) e)
 
 -- what is found out is what is asked for, and true
 abbrev pub IsReportOn : (List ℕ → Option (List ℕ)) → Wanted → Report → Type 0

@@ -4,7 +4,8 @@ use Rattle.std.specs.String.{string_bytes}
 use Rattle.planner_main.specs.JsonText.{Member}
 use Rattle.task.specs.Task.{task_of}
 use Rattle.validator.specs.Verdict.{verdict_of}
-use Rattle.planner_main.specs.Objects.{line_of_members, of_answer, of_checked, of_explanation, of_verdict}
+use Rattle.planner_main.specs.Objects.{line_of_members, of_answer, of_checked, of_verdict}
+use Rattle.planner_main.specs.ExplanationObjects.{of_explanation}
 use Rattle.planner_main.specs.AnswerReported as answers
 use Rattle.planner_main.specs.VerdictReported as verdicts
 use Rattle.planner_main.specs.CheckReported as checks
@@ -18,7 +19,7 @@ abbrev pub of_report : Report → List Member
 of_report (report.Solve solved) = of_answer (task_of solved.task) solved.answer
 of_report (report.Validate verdict) = of_verdict (verdict_of verdict)
 of_report (report.Check checked) = of_checked checked.answer
-of_report (report.Explain e) = of_explanation (string_bytes e.text)
+of_report (report.Explain e) = of_explanation e
 
 -- what is reported can be reported: a refusal is one that is reported
 abbrev pub IsReported : Report → Type 0

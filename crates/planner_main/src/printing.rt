@@ -1,6 +1,7 @@
 //! What is found out is reported as: the text of a plan, a line or an object of JSON, with the status beside it.
 mod answer;
 mod check;
+mod explanations;
 mod members;
 mod objects;
 mod reports;

@@ -184,6 +184,7 @@ fn report_of<F: Files>(alloc: Global, order: Order<'_>, files: &mut F) -> Result
             problem,
             plan,
             instances,
+            ..
         } => report_of_explain(alloc, domain, problem, plan, instances.number(), files),
     }
 }

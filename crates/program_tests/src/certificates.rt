@@ -122,9 +122,12 @@ fn line(alloc: Global, line: &Line) -> Result<StateLine, AllocError> {
 
 /// The certificate of these parts that lists the state so many times, and `None` where they exceed its limits.
 fn cert(alloc: Global, row: &Row, times: usize) -> Result<Option<Cert>, NoMemory> {
+    let mut values = Vec::new(alloc);
+    values.push(potential(alloc, &row.2)?)?;
     let bounds = Bounds {
-        values: potential(alloc, &row.2)?,
+        values,
         dead_ends: potential(alloc, &row.3)?,
+        tables: Vec::new(alloc),
     };
     let header = Header {
         version: row.0,
@@ -139,10 +142,18 @@ fn cert(alloc: Global, row: &Row, times: usize) -> Result<Option<Cert>, NoMemory
     Cert::new(alloc, header, &lines)
 }
 
-/// Whether the certificate has these weights.
+/// Whether the potential function has this constant and these weights.
+fn is_potential(potential: &Potential, weights: &Weights) -> bool {
+    (potential.constant, potential.weights.as_slice()) == *weights
+}
+
+/// Whether the certificate has one value, with these weights.
 fn weighs(cert: &Cert, row: &Row) -> bool {
-    (cert.constant(), cert.weights()) == row.2
-        && (cert.dead_end_constant(), cert.dead_end_weights()) == row.3
+    let bounds = cert.bounds();
+    match bounds.values.as_slice() {
+        [only] => is_potential(only, &row.2) && is_potential(&bounds.dead_ends, &row.3),
+        _ => false,
+    }
 }
 
 /// Whether the certificate lists the state of this line, and no other.

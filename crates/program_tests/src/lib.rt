@@ -29,4 +29,6 @@ mod reported;
 #[cfg(test)]
 mod reports;
 #[cfg(test)]
+mod tables;
+#[cfg(test)]
 mod writing;

@@ -40,10 +40,12 @@ fn cert(alloc: Global, count: u32) -> Result<Option<Cert>, NoMemory> {
     for predicate in 0..ATOMS {
         atoms.insert(atom(predicate as usize, &[]))?;
     }
-    let values = Potential {
+    let value = Potential {
         constant: 0,
         weights: vec![in alloc; 0; ATOMS as usize]?,
     };
+    let mut values = Vec::new(alloc);
+    values.push(value)?;
     let dead_ends = Potential {
         constant: 1,
         weights: vec![in alloc; -1; ATOMS as usize]?,
@@ -52,7 +54,11 @@ fn cert(alloc: Global, count: u32) -> Result<Option<Cert>, NoMemory> {
         version: Version::Two,
         claim: Claim::Bound(0),
         atoms,
-        bounds: Bounds { values, dead_ends },
+        bounds: Bounds {
+            values,
+            dead_ends,
+            tables: Vec::new(alloc),
+        },
     };
     Cert::new(alloc, header, &lines)
 }

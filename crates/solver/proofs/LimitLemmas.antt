@@ -46,7 +46,7 @@ module _ (task : Task) (least most : ℕ) (p q : PotentialFunction) (states : Li
   same_limit : search.IsAtLimit (ground_system task atoms) (value p) (is_dead_by q) most least states nodes
   same_limit = subst (λ (l : List Atom). search.IsAtLimit (ground_system task l) (value p) (is_dead_by q) most least states nodes) numbered limit
 
-  value_found : (k : ℕ) (s : List Bool) → slice_get states k ≡ Some s → value_of here (state_of_bits task atoms s) ≡ value p s
+  value_found : (k : ℕ) (s : List Bool) → slice_get states k ≡ Some s → value_of task here (state_of_bits task atoms s) ≡ value p s
   value_found = same_value task (bound least) most p q states nodes same_limit.found
 
   -- a cut is that of a state that waits, with its value
@@ -65,7 +65,7 @@ module _ (task : Task) (least most : ℕ) (p q : PotentialFunction) (states : Li
         subst (λ (l : Line State). IsReachableAt (system_of task) l.state l.cost) (sym from) (reached_at task s n.cost (same_limit.found.reachable k s n at_s at_n));
     cuts_by_value = λ line rest is_cut.
         let (k, s, n, at_s, at_n, from, waits, same) = cut_found line rest is_cut in
-        sym same ∙ sym (value_found k s at_s) ∙ ap (λ (l : Line State). value_of here l.state) (sym from);
+        sym same ∙ sym (value_found k s at_s) ∙ ap (λ (l : Line State). value_of task here l.state) (sym from);
     at_most_each_cut = λ line rest is_cut.
         let (k, s, n, at_s, at_n, from, waits, same) = cut_found line rest is_cut in
         let cost_same : line.cost ≡ n.cost = ap (λ (l : Line State). l.cost) from in

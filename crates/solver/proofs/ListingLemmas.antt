@@ -28,6 +28,8 @@ use Rattle.model.specs.Fluents.{is_fluent, static_atoms}
 use Rattle.model.specs.NumberedAtoms.{occurs_in, are_distinct, numbered_atoms}
 use Rattle.model.specs.Grounding.{chosen, state_of_bits, ground_system, NamesKept}
 use Rattle.certificate_definitions.specs.Certificates.{two, Certificate, StateLine, is_number, is_claim, is_weight, is_mark, is_state_line, are_potentials, keeps_limits, rise, state_of_line, lines_of, value_of, is_dead_end_of}
+use Rattle.std.proofs.lemmas.List.Elements.{All-cons, All-nil}
+use Rattle.table_functions.specs.TableFunctions.{Row, Table}
 use Rattle.potential_functions.specs.PotentialFunctions.{PotentialFunction, value, is_dead_by, AreInRange}
 use Rattle.potential_functions.specs.Fair.{AreFair, AreDeadFair}
 use Rattle.model.proofs.ListLemmas.{map-Contains}
@@ -191,24 +193,24 @@ module _ (task : Task) (claim : Claim) (most : ℕ) (p q : PotentialFunction) (s
         length-reachable task atoms bits (reached.0, reached.1)
 
     -- the certificate gives a listed state the value by which it was found
-    pub same_value : (k : ℕ) (bits : List Bool) → slice_get states k ≡ Some bits → value_of made (state_of_bits task atoms bits) ≡ value p bits
+    pub same_value : (k : ℕ) (bits : List Bool) → slice_get states k ≡ Some bits → value_of task made (state_of_bits task atoms bits) ≡ value p bits
     same_value k bits at = value-packed task p bits (found_width k bits at)
 
     -- and reports it a dead end where it was found so
-    same_dead : (k : ℕ) (bits : List Bool) → slice_get states k ≡ Some bits → is_dead_end_of made (state_of_bits task atoms bits) ≡ is_dead_by q bits
+    same_dead : (k : ℕ) (bits : List Bool) → slice_get states k ≡ Some bits → is_dead_end_of task made (state_of_bits task atoms bits) ≡ is_dead_by q bits
     same_dead k bits at = ap (nat_le 1) (value-packed task q bits (found_width k bits at))
 
     same_listing : (line : Line (List Bool)) → Contains lines line
-        → (value p line.state ≤ value_of made (state_of_bits task atoms line.state)) × (is_dead_by q line.state ≡ true → is_dead_end_of made (state_of_bits task atoms line.state) ≡ true)
+        → (value p line.state ≤ value_of task made (state_of_bits task atoms line.state)) × (is_dead_by q line.state ≡ true → is_dead_end_of task made (state_of_bits task atoms line.state) ≡ true)
     same_listing line among =
         let (k, s, n, there, here, is) = found_line (value p) (is_dead_by q) states nodes line among in
         let at : slice_get states k ≡ Some line.state = there ∙ ap (λ (l : Line (List Bool)). Some l.state) (sym is) in
         (omega (arith, same_value k line.state at), λ reported. same_dead k line.state at ∙ reported)
 
-    reported_dead : (line : Line State) → Contains (lines_of task made) line → is_dead_end_of made line.state ≡ true → line.mark ≡ dead
+    reported_dead : (line : Line State) → Contains (lines_of task made) line → is_dead_end_of task made line.state ≡ true → line.mark ≡ dead
     reported_dead line among reported =
         let (k, s, n, there, here, is) = line_found line among in
-        let dead_found : is_dead_by q s ≡ true = sym (same_dead k s there) ∙ ap (λ (l : Line State). is_dead_end_of made l.state) (sym is) ∙ reported in
+        let dead_found : is_dead_by q s ≡ true = sym (same_dead k s there) ∙ ap (λ (l : Line State). is_dead_end_of task made l.state) (sym is) ∙ reported in
         ap (λ (l : Line State). l.mark) is ∙ dead_of_reported (value p) (is_dead_by q) s n (found.expanded_alive k s n there here) dead_found
 
     pub shown_by : is_task task ≡ true → length p.weights ≡ length atoms → length q.weights ≡ length atoms → AreFair task atoms p → AreDeadFair task atoms q → keeps_limits made ≡ true
@@ -216,10 +218,15 @@ module _ (task : Task) (claim : Claim) (most : ℕ) (p q : PotentialFunction) (s
     shown_by well many dead_many fair dead_fair kept = record {
       claims = refl;
       closed = record {
-        one_weight_an_atom = many;
+        as_many_values = refl;
+        one_weight_an_atom = All-cons (λ (h : PotentialFunction). length h.weights ≡ length atoms) p [] many (All-nil (λ (h : PotentialFunction). length h.weights ≡ length atoms));
         one_dead_end_weight_an_atom = dead_many;
-        potentials_are_fair = subst (λ (l : List Atom). AreFair task l p) (sym (numbered_again task)) fair;
-        dead_ends_are_fair = subst (λ (l : List Atom). AreDeadFair task l q) (sym (numbered_again task)) dead_fair;
+        tables_are_over_atoms = refl;
+        are_fair = record {
+          values = subst (λ (l : List Atom). AreFair task l p) (sym (numbered_again task)) fair;
+          dead_ends = subst (λ (l : List Atom). AreDeadFair task l q) (sym (numbered_again task)) dead_fair;
+        };
+        rows_are_distinct = All-nil (λ (t : Table). AllPairs (λ (r s : Row). r.atoms ≢ s.atoms) t.rows);
         atoms_are_fluent = λ k d below.
             let a = get_or atoms k d in
             let there = occurs_in-got atoms k a (slice_get-get_or atoms k d below) in
@@ -227,11 +234,11 @@ module _ (task : Task) (claim : Claim) (most : ℕ) (p q : PotentialFunction) (s
         atoms_are_distinct = pairs_apart atoms (numbered-distinct task []);
         states_are_distinct = subst (AllPairs (λ (k l : Line State). k.state ≢ l.state)) (sym listing)
             (states_apart (map view lines) (subst (λ (ss : List State). AreDistinct ss) (sym (listed_states states nodes found.one_for_each)) (distinct_states task states found_width found.distinct)));
-        listing_is_closed = subst (IsClosed (system_of task) (value_of made) (is_dead_end_of made) claim) (sym listing)
+        listing_is_closed = subst (IsClosed (system_of task) (value_of task made) (is_dead_end_of task made) claim) (sym listing)
             (closed_forth (ground_system task atoms) (system_of task) (state_of_bits task atoms) (NamesKept task) (ground_task_is_bisimilar task [] none_more)
-            (λ bits. value_of made (state_of_bits task atoms bits)) (value_of made) (λ s. omega arith)
-            (λ bits. is_dead_end_of made (state_of_bits task atoms bits)) (is_dead_end_of made) (λ s reported. reported) claim lines
-            (closed_higher (ground_system task atoms) (value p) (λ bits. value_of made (state_of_bits task atoms bits)) (is_dead_by q) (λ bits. is_dead_end_of made (state_of_bits task atoms bits)) claim lines
+            (λ bits. value_of task made (state_of_bits task atoms bits)) (value_of task made) (λ s. omega arith)
+            (λ bits. is_dead_end_of task made (state_of_bits task atoms bits)) (is_dead_end_of task made) (λ s reported. reported) claim lines
+            (closed_higher (ground_system task atoms) (value p) (λ bits. value_of task made (state_of_bits task atoms bits)) (is_dead_by q) (λ bits. is_dead_end_of task made (state_of_bits task atoms bits)) claim lines
             same_listing found.closed));
       };
       within_limit = omega (arith, length-made found.one_for_each);
@@ -247,7 +254,7 @@ module _ (task : Task) (claim : Claim) (most : ℕ) (p q : PotentialFunction) (s
         let marked : search.mark_of (value p) (is_dead_by q) s n ≡ opened = ap (λ (l : Line State). l.mark) (sym is) ∙ is_open in
         let cheap = within k s n there here (expanded_of_open (value p) (is_dead_by q) s n marked) in
         let same = same_value k s there in
-        let value_same : value_of made line.state ≡ value_of made (state_of_bits task atoms s) = ap (λ (l : Line State). value_of made l.state) is in
+        let value_same : value_of task made line.state ≡ value_of task made (state_of_bits task atoms s) = ap (λ (l : Line State). value_of task made l.state) is in
         let cost_same : line.cost ≡ n.cost = ap (λ (l : Line State). l.cost) is in
         omega (arith, cheap, same, value_same, cost_same)
 
@@ -257,16 +264,14 @@ module _ (task : Task) (claim : Claim) (most : ℕ) (p q : PotentialFunction) (s
 
       pub keeps : is_claim claim ≡ true → length p.weights ≡ length atoms → length q.weights ≡ length atoms → most ≤ 16777216 → keeps_limits made ≡ true
       keeps small width dead_width few =
-          and_from (is_claim claim && nat_le (length atoms) 1048576 && nat_le (length made.lines) 16777216 && list_all (is_state_line two (length atoms)) made.lines && are_potentials is_weight (length atoms) p)
-          (are_potentials is_weight (length atoms) q)
-          (and_from (is_claim claim && nat_le (length atoms) 1048576 && nat_le (length made.lines) 16777216 && list_all (is_state_line two (length atoms)) made.lines) (are_potentials is_weight (length atoms) p)
-          (and_from (is_claim claim && nat_le (length atoms) 1048576 && nat_le (length made.lines) 16777216) (list_all (is_state_line two (length atoms)) made.lines)
-          (and_from (is_claim claim && nat_le (length atoms) 1048576) (nat_le (length made.lines) 16777216)
+          let counted = and_from (is_claim claim && nat_le (length atoms) 1048576) (nat_le (length made.lines) 16777216)
           (and_from (is_claim claim) (nat_le (length atoms) 1048576) small (le-leb (length atoms) 1048576 few_atoms))
-          (le-leb (length made.lines) 16777216 (omega (arith, length-made found.one_for_each, found.within_limit, few))))
-          (all_pass states nodes found_width small_value (λ k node at. omega (arith, found.cheap k node at, found.within_limit, few))))
-          (potentials-pass p (length atoms) range width))
-          (potentials-pass q (length atoms) dead_range dead_width)
+          (le-leb (length made.lines) 16777216 (omega (arith, length-made found.one_for_each, found.within_limit, few))) in
+          let listed = and_from (is_claim claim && nat_le (length atoms) 1048576 && nat_le (length made.lines) 16777216) (list_all (is_state_line two (length atoms)) made.lines) counted
+          (all_pass states nodes found_width small_value (λ k node at. omega (arith, found.cheap k node at, found.within_limit, few))) in
+          let value_passes = potentials-pass p (length atoms) range width in
+          let dead_ends_pass = potentials-pass q (length atoms) dead_range dead_width in
+          λ i. (((((listed i && true) && (value_passes i && true)) && dead_ends_pass i) && true) && true) && true
         where
           small_mark : (expanded is_dead : Bool) (rest : ℕ) → rest ≤ most_value → is_mark two (if expanded then opened else (if is_dead then dead else cut rest)) ≡ true
           small_mark true is_dead rest most = refl

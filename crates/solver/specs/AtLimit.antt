@@ -17,7 +17,7 @@ IsCutOf task certificate line rest = Contains (lines_of task certificate) line �
 pub record IsAtLimit (task : Task) (least max_states : ℕ) (certificate : Certificate) : Type 0 where
   pub full : length certificate.lines ≡ max_states
   pub reached : (line : Line State) → Contains (lines_of task certificate) line → IsReachableAt (system_of task) line.state line.cost
-  pub cuts_by_value : (line : Line State) (rest : ℕ) → IsCutOf task certificate line rest → rest ≡ value_of certificate line.state
+  pub cuts_by_value : (line : Line State) (rest : ℕ) → IsCutOf task certificate line rest → rest ≡ value_of task certificate line.state
   pub at_most_each_cut : (line : Line State) (rest : ℕ) → IsCutOf task certificate line rest → least ≤ line.cost + rest
   pub of_some_cut : (line : Line State) × (rest : ℕ) × IsCutOf task certificate line rest × (line.cost + rest ≡ least)
   pub open_within : AreOpenWithin task least certificate

@@ -5,7 +5,7 @@ use Rattle.model.specs.Meaning.{cost_of}
 use Rattle.potential_functions.specs.PotentialFunctions.{PotentialFunction}
 use Rattle.potential_functions.specs.Fair.{nothing}
 use Rattle.potential_functions.specs.Settled.{initial_value, IsSettledAt}
-use Rattle.certificate_definitions.specs.Certificates.{Certificate}
+use Rattle.certificate_definitions.specs.Certificates.{Certificate, potentials_of}
 
 -- Of those near them that are fair at this allowance none gives the initial state a greater value, or they give it at least 8.
 abbrev pub AreSettledOrHighAt : (Instance → ℕ) → Task → List Atom → PotentialFunction → Type 0
@@ -20,5 +20,5 @@ AreDeadSettledOrHigh = AreSettledOrHighAt nothing
 
 -- those of the certificate
 pub record HasSettledOrHigh (task : Task) (certificate : Certificate) : Type 0 where
-  pub potentials : AreSettledOrHigh task certificate.atoms certificate.potentials
+  pub potentials : AreSettledOrHigh task certificate.atoms (potentials_of certificate)
   pub dead_ends : AreDeadSettledOrHigh task certificate.atoms certificate.dead_ends

@@ -1,5 +1,5 @@
 -- What the certificate of a search's found states is made of.
-use Rattle.std.specs.Prelude.{◌≡◌, ℕ, ◌+◌, ◌≤◌, Bool, IsTrue, List, [], length, map, Contains}
+use Rattle.std.specs.Prelude.{◌≡◌, ℕ, ◌+◌, ◌≤◌, Bool, IsTrue, List, [], ◌∷◌, length, map, Contains}
 use Rattle.std.specs.List.{filter, range_with_len}
 use Rattle.packed_state.specs.Sets.{has}
 use Rattle.search.specs.declared.nodes.Node.{Node}
@@ -31,8 +31,9 @@ found_certificate claim atoms p dead_ends states nodes = record {
   version = two;
   claim = claim;
   atoms = atoms;
-  potentials = p;
+  values = p ∷ [];
   dead_ends = dead_ends;
+  tables = [];
   lines = map state_line (search.lines_of (value p) (is_dead_by dead_ends) states nodes);
 }
 
@@ -46,9 +47,9 @@ pub record IsShownBy (task : Task) (claim : Claim) (max_states : ℕ) (certifica
   pub atoms : certificate.atoms ≡ numbered_atoms task []
   pub within_limits : IsTrue (keeps_limits certificate)
   pub version : certificate.version ≡ two
-  pub dead_ends_are_reported : (line : Line State) → Contains (lines_of task certificate) line → IsTrue (is_dead_end_of certificate line.state) → line.mark ≡ dead
+  pub dead_ends_are_reported : (line : Line State) → Contains (lines_of task certificate) line → IsTrue (is_dead_end_of task certificate line.state) → line.mark ≡ dead
 
 -- each open state of the certificate costs, with its value, at most this
 abbrev pub AreOpenWithin : Task → ℕ → Certificate → Type 0
 AreOpenWithin task most certificate =
-    (line : Line State) → Contains (lines_of task certificate) line → line.mark ≡ opened → line.cost + value_of certificate line.state ≤ most
+    (line : Line State) → Contains (lines_of task certificate) line → line.mark ≡ opened → line.cost + value_of task certificate line.state ≤ most

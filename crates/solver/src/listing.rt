@@ -53,13 +53,16 @@ pub(crate) fn cert_of<E: Estimate + Written, D: DeadEnd + Written>(
     requires found { AreFound (ground_system (task_in ground.now) (atoms_in ground.now)) (value (E.written estimate.now)) (is_dead_by (D.written dead_ends.now)) (claim_of claim) MAX_STATE_LINES (pooled_states found.store) found.nodes.items }
     ensures { IfOk result (λ cert. certificate_of cert ≡ found_certificate (claim_of claim) (atoms_in ground.now) (E.written estimate.now) (D.written dead_ends.now) (pooled_states found.store) found.nodes.items) }
 {
+    let mut values = Vec::new(alloc);
+    values.push(estimate.potential(alloc)?)?;
     let header = Header {
         version: Version::Two,
         claim,
         atoms: copied(alloc, ground.atoms().as_slice())?,
         bounds: Bounds {
-            values: estimate.potential(alloc)?,
+            values,
             dead_ends: dead_ends.potential(alloc)?,
+            tables: Vec::new(alloc),
         },
     };
     let marks = marks(alloc, estimate, &found)?;

@@ -3,12 +3,14 @@ use Rattle.std.proofs.Common.{◌≡◌, ◌∙◌, ℕ, zero, suc, ◌+◌, ◌
 use Rattle.std.specs.Prelude.{IsTrue, All, MatchBool, ◌==◌, ◌≢◌, cond, is_some}
 use Rattle.std.specs.List.{list_all, find, Any}
 use Rattle.std.specs.Cmp.Lexicographic.{pointwise}
+use Rattle.std.proofs.lemmas.List.Elements.{All-append, All-cons, All-nil}
 use Rattle.table_functions.specs.TableFunctions.{Row, Table, is_among, row_of}
 use Rattle.table_functions.proofs.Lists.{same-numbers}
 use Rattle.table_rows.specs.Rows.{are_rising, atoms_at}
 use Rattle.table_rows.specs.Tables.{IsInserted}
 use Rattle.table_rows.specs.Adding.{IsNew, IsRepeated, IsAdded}
-use Rattle.table_rows.specs.declared.by_atoms.Added.TheVariants.{New, Repeated}
+use Rattle.table_rows.specs.declared.by_atoms.Added.{Added}
+use Rattle.table_rows.specs.declared.by_atoms.Added.TheVariants.{New, OutsideScope, Repeated}
 use Rattle.table_rows.proofs.RowLemmas.{same-themselves}
 use Rattle.table_rows.proofs.PlacesLemmas.{picked}
 
@@ -48,3 +50,17 @@ added old new atoms weights bits is_new rising atoms_rise of_scope set inserted 
         → MatchBool is_new (IsNew old new (record { atoms = atoms; weights = weights })) (IsRepeated old new (record { atoms = atoms; weights = weights }))
     both true (none, put) = record { of_scope = of_scope; differs = all-differ atoms old.rows none; put = put }
     both false (some, kept) = record { of_scope = of_scope; same = one-same atoms old.rows some; kept = kept }
+
+-- ---- after a row was to be added
+
+pub same-scope : (old new : Table) (row : Row) (a : Added) → IsAdded old new row a → new.scope ≡ old.scope
+same-scope old new row New it = ap (λ (t : Table). t.scope) it.put
+same-scope old new row OutsideScope it = ap (λ (t : Table). t.scope) it.kept
+same-scope old new row Repeated it = ap (λ (t : Table). t.scope) it.kept
+
+-- what holds of the rows before and of that row holds of all
+pub still-all : (P : Row → Type 0) (old new : Table) (row : Row) (a : Added) → IsAdded old new row a → All P old.rows → P row → All P new.rows
+still-all P old new row New it all here =
+    subst (All P) (sym (ap (λ (t : Table). t.rows) it.put)) (All-append P old.rows (row ∷ []) all (All-cons P row [] here (All-nil P)))
+still-all P old new row OutsideScope it all here = subst (All P) (sym (ap (λ (t : Table). t.rows) it.kept)) all
+still-all P old new row Repeated it all here = subst (All P) (sym (ap (λ (t : Table). t.rows) it.kept)) all

@@ -31,10 +31,10 @@ greatest-more functions k h bits old new this at before here is =
     is ∙ (λ i. max (before i) (here i)) ∙ sym (ap (λ l. greatest_value l bits) (take-at functions k h at) ∙ greatest-push (take k functions) h bits)
 
 -- the value of a state that has all its rows
-pub value-is : (h : TableFunction) (bits : List Bool) (by_atoms by_tables sum : ℤ) → has_rows h.tables bits ≡ true → by_atoms ≡ score h.potentials bits → by_tables ≡ sum_over h.tables (λ t. given_by h.place (row_in bits t)) → sum ≡ (by_atoms +ℤ by_tables)
-    → or_zero sum ≡ value h bits
-value-is h bits by_atoms by_tables sum rows atoms tables is =
-    ap or_zero (is ∙ (λ i. atoms i +ℤ tables i)) ∙ sym (ap (λ b. or_zero (if b then total h bits else pos 0)) rows)
+pub value-is : (h : TableFunction) (bits : List Bool) (result : ℕ) (sum by_atoms by_tables : ℤ) → result ≡ or_zero sum → has_rows h.tables bits ≡ true → by_atoms ≡ score h.potentials bits
+    → by_tables ≡ sum_over h.tables (λ t. given_by h.place (row_in bits t)) → sum ≡ (by_atoms +ℤ by_tables) → result ≡ value h bits
+value-is h bits result sum by_atoms by_tables told rows atoms tables is =
+    told ∙ ap or_zero (is ∙ (λ i. atoms i +ℤ tables i)) ∙ sym (ap (λ b. or_zero (if b then total h bits else pos 0)) rows)
 
 -- a score is small
 pub score-small : (p : Potentials) (bits : List Bool) → length bits < 2 ^ 24 → (neg_ℤ (pos 36028797018963968) ≤ℤ score (potentials_of p) bits) × (score (potentials_of p) bits ≤ℤ pos 36028797018963968)
@@ -43,10 +43,6 @@ score-small p bits few =
     let low = range.0 in
     let high = range.1 in
     (omega (arith, ints), omega (arith, ints))
-
--- dead where it is at least 1
-pub dead-is : (h : TableFunction) (bits : List Bool) (sum : ℤ) (answer : Bool) → or_zero sum ≡ value h bits → answer ≡ nat_lt 0 (or_zero sum) → answer ≡ is_dead_by h bits
-dead-is h bits sum answer is told = told ∙ ap (nat_lt 0) is
 
 pub none-dead : (h : TableFunction) (bits : List Bool) → has_rows h.tables bits ≡ false → false ≡ is_dead_by h bits
 none-dead h bits none = sym (ap (λ b. nat_le 1 (or_zero (if b then total h bits else pos 0))) none)

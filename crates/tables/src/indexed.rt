@@ -26,7 +26,8 @@ pub struct IndexedTable<'a> {
 
 impl<'a> IndexedTable<'a> {
     ghost use Rattle.tables.specs.Candidates.{candidates_of, AreCandidates};
-    ghost use Rattle.tables.specs.Losses.{indexed_of};
+    ghost use Rattle.table_rows.specs.Tables.{weight_count_of};
+    ghost use Rattle.tables.specs.Losses.{indexed_of, indexed_count_of};
     ghost use Rattle.tables.specs.Placed as by_places;
     ghost use Rattle.tables.specs.Placed.{placed_of};
 
@@ -36,7 +37,8 @@ impl<'a> IndexedTable<'a> {
     /// Where memory is refused.
     pub fn new(alloc: Global, table: &'a Table) -> Result<IndexedTable<'a>, NoMemory>
         requires { All (λ (r : Row). All IsInRange r.weights) (table_of table.now).rows }
-        ensures { IfOk result (λ t. indexed_of t ≡ table_of table.now) }
+        ensures table { IfOk result (λ t. indexed_of t ≡ table_of table.now) }
+        ensures count { IfOk result (λ t. indexed_count_of t ≡ weight_count_of table.now) }
     {
         let index = index_of(alloc, table)?;
         Ok(IndexedTable { table, index })

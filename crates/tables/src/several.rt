@@ -63,7 +63,7 @@ impl<'a> TableFunctions<'a> {
         tables: IndexedTables<'a>,
     ) -> TableFunctions<'a>
         requires { FitTogether values.items dead_ends tables }
-        ensures { several_of result ≡ record { values = map potentials_of values.items; dead_ends = potentials_of dead_ends; tables = tables_of tables } }
+        ensures { several_of result ≡ record { values = map potentials_of values.items; dead_ends = potentials_of dead_ends; tables = tables_of tables.entry } }
     {
         TableFunctions {
             values,

@@ -12,6 +12,7 @@ use faults::NoMemory;
 use grounding::{CountingChange, NumberedLiteral};
 use packed_state::Packed;
 use std::alloc::Global;
+use table_rows::Table;
 
 /// Tables whose rows have as many weights, and for each atom those that have it in their scope.
 #[derive(Drop)]
@@ -31,7 +32,10 @@ impl<'a> IndexedTables<'a> {
     ghost use Rattle.grounding.specs.Views.{numbered_of};
     ghost use Rattle.model.specs.NumberedLiterals as numbered;
     ghost use Rattle.packed_state.specs.Packed.{bits_of};
+    ghost use Rattle.potential_functions.specs.PotentialFunctions.{IsInRange};
     ghost use Rattle.table_functions.specs.TableFunctions.{Row, Table, sum_over};
+    ghost use Rattle.table_rows.specs.declared.table.Table as in_memory;
+    ghost use Rattle.table_rows.specs.Tables.{table_of, weight_count_of};
     ghost use Rattle.table_functions.specs.FairTables as model;
     ghost use Rattle.tables.specs.AllTables.{tables_of, count_of};
     ghost use Rattle.tables.specs.ByAtom.{AreMarked, IsLossByAll};
@@ -50,7 +54,7 @@ impl<'a> IndexedTables<'a> {
         requires few { length tables.items < 2 ^ 24 }
         requires counts { All (λ (t : declared.IndexedTable). indexed_count_of t ≡ count) tables.items }
         requires scopes { IsTrue (are_over width (map indexed_of tables.items)) }
-        ensures tables { IfOk result (λ all. tables_of all ≡ map indexed_of tables.items) }
+        ensures tables { IfOk result (λ all. tables_of all ≡ map indexed_of tables.entry.items) }
         ensures count { IfOk result (λ all. count_of all ≡ count) }
     {
         let by_atom = by_atom(alloc, width, &tables)?;
@@ -59,6 +63,30 @@ impl<'a> IndexedTables<'a> {
             count,
             by_atom,
         })
+    }
+
+    /// An index of each of these tables over so many atoms, whose rows have so many weights, from -2147483647 to 2147483647.
+    ///
+    /// # Errors
+    /// Where memory is refused.
+    pub fn index(
+        alloc: Global,
+        width: u32,
+        count: u32,
+        tables: &'a [Table],
+    ) -> Result<IndexedTables<'a>, NoMemory>
+        requires few { length tables.now < 2 ^ 24 }
+        requires counts { All (λ (t : in_memory.Table). weight_count_of t ≡ count) tables.now }
+        requires range { All (λ (t : in_memory.Table). All (λ (r : Row). All IsInRange r.weights) (table_of t).rows) tables.now }
+        requires scopes { IsTrue (are_over width (map table_of tables.now)) }
+        ensures tables { IfOk result (λ all. tables_of all ≡ map table_of tables.now) }
+        ensures count { IfOk result (λ all. count_of all ≡ count) }
+    {
+        let mut indexed = Vec::new(alloc);
+        for table in tables {
+            indexed.push(IndexedTable::new(alloc, table)?)?;
+        }
+        IndexedTables::new(alloc, width, count, indexed)
     }
 
     /// The tables.

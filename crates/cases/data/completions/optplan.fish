@@ -21,5 +21,6 @@ complete -c optplan -n '__fish_seen_subcommand_from check' -x -l instances -d 'K
 complete -c optplan -n '__fish_seen_subcommand_from check' -l json -d 'Print the answer as a line of JSON'
 
 complete -c optplan -n '__fish_seen_subcommand_from explain' -x -l instances -d 'Keep at most this many action instances'
+complete -c optplan -n '__fish_seen_subcommand_from explain' -l json -d 'Print the answer as a line of JSON'
 
 complete -c optplan -n '__fish_seen_subcommand_from help' -f -a 'solve validate check explain'

@@ -1,9 +1,9 @@
 //! What is said of a file that is refused.
 ghost use Rattle.std.specs.Prelude.{◌≡◌, IfOk};
-ghost use Rattle.file_answers.specs.Explanations.{IsHeadedIn, IsOfFault};
+ghost use Rattle.file_answers.specs.Explanations.{IsFaultExplained, IsOfFault};
 ghost use Rattle.file_answers.specs.declared.explanation.Subject.TheVariants.{Fault};
 
-use crate::explanation::{Explanation, Subject};
+use crate::explanation::{Explanation, Location, Subject};
 use crate::files::FileFault;
 use explained_faults::{FileRefusal, explain_fault};
 use faults::{Code, NoMemory, Span};
@@ -16,8 +16,7 @@ pub(super) fn explain_refused(
     texts: &NamedTexts<'_>,
     fault: FileFault,
 ) -> Result<Explanation, NoMemory>
-    ensures fault { IfOk result (λ e. IsOfFault fault e.subject) }
-    ensures headed { IfOk result (IsHeadedIn texts.now) }
+    ensures { IfOk result (IsOfFault texts.now fault) }
 {
     match fault {
         FileFault::At { file, code, span } => explain_at(alloc, texts, file, code, span),
@@ -33,12 +32,18 @@ fn explain_at(
     code: Code,
     span: Span,
 ) -> Result<Explanation, NoMemory>
-    ensures fault { IfOk result (λ e. e.subject ≡ Fault file code span) }
-    ensures headed { IfOk result (IsHeadedIn texts.now) }
+    ensures { IfOk result (IsFaultExplained texts.now file code span) }
 {
     let fault = FileRefusal { file, code, span };
     let explained = explain_fault(alloc, texts, fault)?;
     let text = explained.text(alloc, texts)?;
-    let subject = Subject::Fault { file, code, span };
-    Ok(Explanation { subject, text })
+    let hints = explained.hints(alloc, texts)?;
+    let location = Location::new(alloc, texts.name(file), explained.place, span)?;
+    Ok(Explanation {
+        subject: Subject::Fault { file, code, span },
+        text,
+        location: Some(location),
+        hints,
+        notes: Vec::new(alloc),
+    })
 }

@@ -1,38 +1,40 @@
 //! What is said of a plan file.
-ghost use Rattle.std.specs.Prelude.{◌≡◌, ℕ, IfOk, IsTrue, List, Some};
+ghost use Rattle.std.specs.Prelude.{◌≡◌, ◌++◌, ℕ, IfOk, IfSome, IsTrue, List, Some};
 ghost use Rattle.std.specs.List.{list_all};
+ghost use Rattle.std.specs.String.{string_bytes};
 ghost use Rattle.task.specs.Task.{task_of};
 ghost use Rattle.formulas.specs.State.{plan_of};
 ghost use Rattle.validator.specs.Verdict.{verdict_of};
 ghost use Rattle.explained_plans.specs.Explanations as plans;
-ghost use Rattle.file_answers.specs.Explanations.{IsHeadedIn, IsTrueOf, IsOfVerdict};
+ghost use Rattle.file_answers.specs.ExplanationLines.{IsSaidOf, SayVerdict, named_of, place_text};
+ghost use Rattle.file_answers.specs.Explanations.{IsLocatedIf, IsStepFound, IsStepOf, IsTrueOf, IsVerdictExplained, IsVerdictSaid, files_in};
 ghost use Rattle.model.specs.Files.{IsTaskOf};
-ghost use Rattle.model.specs.Meaning.{is_instance, system_of};
+ghost use Rattle.model.specs.Meaning.{is_instance};
+ghost use Rattle.model.specs.PlanText.{IsPlanText};
 
 use crate::explaining::of_fault::explain_refused;
-use crate::explanation::{Explanation, Subject};
+use crate::explanation::{Explanation, Location, Subject};
 use crate::files::plan_of_file;
 use explained_plans::{PlanExplanation, explain_plan, report_details, report_verdict, step_place};
-use faults::NoMemory;
+use faults::{NoMemory, Span};
 use formulas::Plan;
 use source_text::{NamedText, NamedTexts, marked, place_of};
-use std::alloc::Global;
+use std::alloc::{AllocError, Global};
 use task::Task;
 use validator::Verdict;
 
-/// What is said of the plan of this file for the task of these texts.
+/// What is said of the plan of these texts for the task of the others.
 pub(super) fn explain_plan_file(
     alloc: Global,
     task: &Task,
     texts: &NamedTexts<'_>,
-    file: NamedText<'_>,
 ) -> Result<Explanation, NoMemory>
-    ensures headed { IfOk result (IsHeadedIn texts.now) }
     ensures subject { (domain problem : List ℕ) (most : ℕ) → IsTaskOf domain problem (task_of task.now)
-        → IfOk result (λ e. IsTrueOf domain problem (Some file.entry.text.now) most e.subject) }
+        → IfOk result (λ e. IsTrueOf domain problem (Some texts.now.plan.text.now) most e.subject) }
+    ensures said { IfOk result (IsSaidOf (files_in texts.now)) }
 {
-    match plan_of_file(alloc, task, file.text) {
-        Ok(plan) => explain_steps(alloc, task, file, &plan),
+    match plan_of_file(alloc, task, texts.plan.text) {
+        Ok(plan) => explain_steps(alloc, task, texts.plan, &plan),
         Err(fault) => explain_refused(alloc, texts, fault),
     }
 }
@@ -44,14 +46,37 @@ fn explain_steps(
     file: NamedText<'_>,
     plan: &Plan,
 ) -> Result<Explanation, NoMemory>
-    requires { IsTrue (list_all (is_instance (task_of task.now)) (plan_of plan.now)) }
-    ensures { IfOk result (λ e. IsOfVerdict (task_of task.now) (plan_of plan.now) e.subject) }
+    requires instances { IsTrue (list_all (is_instance (task_of task.now)) (plan_of plan.now)) }
+    requires text { IsPlanText (task_of task.now) file.text.now (plan_of plan.now) }
+    ensures { IfOk result (IsVerdictExplained (task_of task.now) (plan_of plan.now) (named_of file.entry)) }
 {
     let explained = explain_plan(alloc, task, plan)?;
-    let verdict = verdict_in(&explained);
-    let text = text_of(alloc, task, file, plan, &explained)?;
-    let subject = Subject::Plan(verdict);
-    Ok(Explanation { subject, text })
+    explain_verdict(alloc, task, file, plan, &explained)
+}
+
+/// What is said of the verdict that is explained.
+fn explain_verdict(
+    alloc: Global,
+    task: &Task,
+    file: NamedText<'_>,
+    plan: &Plan,
+    explained: &PlanExplanation<'_>,
+) -> Result<Explanation, NoMemory>
+    requires { IsStepOf file.text.now (plans.verdict_of explained.now) }
+    ensures { IfOk result (IsVerdictSaid (named_of file.entry) (plans.verdict_of explained.now)) }
+{
+    let verdict = verdict_in(explained);
+    let failed = failed_step(file.text, verdict);
+    let location = location_of(alloc, file, failed)?;
+    let marks = marks_of(alloc, file.text, failed)?;
+    let text = text_of(alloc, task, plan, explained, &location, marks.as_str())?;
+    Ok(Explanation {
+        subject: Subject::Plan(verdict),
+        text,
+        location,
+        hints: Vec::new(alloc),
+        notes: Vec::new(alloc),
+    })
 }
 
 /// The verdict that is explained.
@@ -65,56 +90,98 @@ fn verdict_in(explained: &PlanExplanation<'_>) -> Verdict
     }
 }
 
+/// Where the step that is not applicable is in the text, if there is one.
+fn failed_step(text: &[u8], verdict: Verdict) -> Option<Span>
+    requires { IsStepOf text.now (verdict_of verdict) }
+    ensures { IsStepFound text.now (verdict_of verdict) result }
+{
+    match verdict {
+        Verdict::NotApplicable { step } => step_place(text, step),
+        Verdict::Valid { .. } | Verdict::GoalMissed => None,
+    }
+}
+
+/// The location of the step at this span.
+fn location_of(
+    alloc: Global,
+    file: NamedText<'_>,
+    failed: Option<Span>,
+) -> Result<Option<Location>, NoMemory>
+    ensures { IfOk result (IsLocatedIf (named_of file.entry) failed) }
+{
+    match failed {
+        Some(span) => {
+            let place = place_of(file.text, span.start);
+            Ok(Some(Location::new(alloc, file.name, place, span)?))
+        }
+        None => Ok(None),
+    }
+}
+
+/// The line that the step at this span begins in, with the step marked.
+fn marks_of(alloc: Global, text: &[u8], failed: Option<Span>) -> Result<String, NoMemory> {
+    match failed {
+        Some(span) => marked(alloc, text, span),
+        None => Ok(String::new(alloc)),
+    }
+}
+
 /// The lines that say it. A step that is not applicable is reported with its place in the file, and with its line and a mark.
 fn text_of(
     alloc: Global,
     task: &Task,
-    file: NamedText<'_>,
     plan: &Plan,
     explained: &PlanExplanation<'_>,
-) -> Result<String, NoMemory> {
+    location: &Option<Location>,
+    marks: &str,
+) -> Result<String, NoMemory>
+    ensures { IfOk result (λ text. SayVerdict location.now (plans.verdict_of explained.now) (string_bytes text)) }
+{
     let verdict = report_verdict(alloc, task, plan, explained)?;
     let details = report_details(alloc, task, plan, explained)?;
-    let mut text = String::new(alloc);
     match explained {
-        PlanExplanation::Solves { .. } => {
-            text.push_str(details.as_str())?;
-            text.push_str(verdict.as_str())?;
+        PlanExplanation::Solves { .. } => joined(details, verdict.as_str()),
+        PlanExplanation::NotApplicable { .. } => {
+            let after = joined(String::from_str(alloc, marks)?, details.as_str())?;
+            step_text(alloc, location, verdict.as_str(), after.as_str())
         }
-        PlanExplanation::NotApplicable { step, .. } => {
-            add_place(file, *step, &mut text)?;
-            text.push_str(verdict.as_str())?;
-            add_marked(alloc, file, *step, &mut text)?;
-            text.push_str(details.as_str())?;
-        }
-        PlanExplanation::GoalMissed { .. } => {
-            text.push_str(verdict.as_str())?;
-            text.push_str(details.as_str())?;
-        }
+        PlanExplanation::GoalMissed { .. } => joined(verdict, details.as_str()),
     }
+}
+
+/// One text and then another.
+fn joined(first: String, second: &str) -> Result<String, NoMemory>
+    ensures { IfOk result (λ text. string_bytes text ≡ string_bytes first ++ second.now) }
+{
+    let mut text = first;
+    text.push_str(second)?;
     Ok(text)
 }
 
-/// Adds the file, the line and the column of the step of this number, as `plan:7:1: `.
-fn add_place(file: NamedText<'_>, step: usize, text: &mut String) -> Result<(), NoMemory> {
-    if let Some(span) = step_place(file.text, step) {
-        let place = place_of(file.text, span.start);
-        let (line, column) = (place.line, place.column);
-        write!(text, "{}:{line}:{column}: ", file.name)?;
-    }
-    Ok(())
+/// The line of a step that is not applicable, with its place before it, and the lines after it.
+fn step_text(
+    alloc: Global,
+    location: &Option<Location>,
+    line: &str,
+    after: &str,
+) -> Result<String, NoMemory>
+    ensures { IfOk result (λ text. IfSome location.now (λ at. string_bytes text ≡ place_text at ++ (line.now ++ after.now))) }
+{
+    let mut text = place_text(alloc, location)?;
+    text.push_str(line)?;
+    text.push_str(after)?;
+    Ok(text)
 }
 
-/// Adds the line that the step of this number begins in, with the step marked.
-fn add_marked(
-    alloc: Global,
-    file: NamedText<'_>,
-    step: usize,
-    text: &mut String,
-) -> Result<(), NoMemory> {
-    if let Some(span) = step_place(file.text, step) {
-        let marks = marked(alloc, file.text, span)?;
-        text.push_str(marks.as_str())?;
+/// The file, the line and the column, as `plan:7:1: `.
+fn place_text(alloc: Global, location: &Option<Location>) -> Result<String, AllocError>
+    ensures { IfOk result (λ text. IfSome location.now (λ at. string_bytes text ≡ place_text at)) }
+{
+    match location {
+        Some(at) => {
+            let (file, line, column) = (at.file.as_str(), at.line, at.column);
+            format!(in alloc; "{file}:{line}:{column}: ")
+        }
+        None => Ok(String::new(alloc)),
     }
-    Ok(())
 }

@@ -1,7 +1,10 @@
 //! What is said of a task that no plan is given for.
-ghost use Rattle.std.specs.Prelude.{IfOk};
+ghost use Rattle.std.specs.Prelude.{◌≡◌, ◌++◌, IfOk, map};
+ghost use Rattle.std.specs.String.{string_bytes};
 ghost use Rattle.task.specs.Task.{task_of};
-ghost use Rattle.file_answers.specs.Explanations.{IsGrounded, IsOfGrounded};
+ghost use Rattle.explained_plans.specs.Said.{summary_text};
+ghost use Rattle.file_answers.specs.ExplanationLines.{grounded_line, on_lines};
+ghost use Rattle.file_answers.specs.Explanations.{IsGrounded, IsTaskExplained};
 
 use crate::explanation::{Explanation, Grounded, Subject};
 use explained_plans::Summary;
@@ -24,29 +27,53 @@ pub(super) fn explain_task(
     task: &Task,
     max_instances: u32,
 ) -> Result<Explanation, NoMemory>
-    ensures { IfOk result (λ e. IsOfGrounded (task_of task.now) max_instances e.subject) }
+    ensures { IfOk result (IsTaskExplained (task_of task.now) max_instances) }
 {
-    let grounding = ground(alloc, task, max_instances)?;
-    let text = text_of(alloc, task, &grounding)?;
-    let subject = Subject::Task(grounding.grounded);
-    Ok(Explanation { subject, text })
+    let holds = Summary::of(task);
+    let Grounding { grounded, notes } = ground(alloc, task, max_instances)?;
+    let notes = with_task_notes(alloc, task, notes)?;
+    let text = text_of(alloc, holds, grounded, &notes)?;
+    Ok(Explanation {
+        subject: Subject::Task { holds, grounded },
+        text,
+        location: None,
+        hints: Vec::new(alloc),
+        notes,
+    })
+}
+
+/// The notes, and behind them what the files show to be wrong.
+fn with_task_notes(
+    alloc: Global,
+    task: &Task,
+    notes: Vec<String>,
+) -> Result<Vec<String>, NoMemory> {
+    let mut lines = notes;
+    TaskNotes::of(alloc, task)?.add_lines(alloc, task, &mut lines)?;
+    Ok(lines)
 }
 
 /// The lines that say it.
-fn text_of(alloc: Global, task: &Task, grounding: &Grounding) -> Result<String, NoMemory> {
-    let mut text = Summary::of(task).text(alloc)?;
-    let line = grounded_line(alloc, grounding.grounded)?;
+fn text_of(
+    alloc: Global,
+    holds: Summary,
+    grounded: Grounded,
+    notes: &[String],
+) -> Result<String, NoMemory>
+    ensures { IfOk result (λ text. string_bytes text ≡ summary_text holds ++ (grounded_line grounded ++ on_lines (map string_bytes notes.now))) }
+{
+    let mut text = holds.text(alloc)?;
+    let line = grounded_line(alloc, grounded)?;
     text.push_str(line.as_str())?;
-    add_lines(&grounding.notes, &mut text)?;
-    let mut notes = Vec::new(alloc);
-    TaskNotes::of(alloc, task)?.add_lines(alloc, task, &mut notes)?;
-    add_lines(&notes, &mut text)?;
+    add_lines(notes, &mut text)?;
     Ok(text)
 }
 
 /// Adds the lines, each with LF.
-fn add_lines(lines: &[String], text: &mut String) -> Result<(), NoMemory> {
-    for line in lines {
+fn add_lines(lines: &[String], text: &mut String) -> Result<(), NoMemory>
+    ensures { IfOk result (λ _. string_bytes text.new ≡ string_bytes text.old ++ on_lines (map string_bytes lines.now)) }
+{
+    'lines: for line in lines {
         text.push_str(line.as_str())?;
         text.push_str("\n")?;
     }
@@ -82,7 +109,9 @@ fn notes_of(alloc: Global, numbering: &Numbering<'_>, most: u32) -> Result<Vec<S
 }
 
 /// The line of what grounding makes of a task.
-fn grounded_line(alloc: Global, grounded: Grounded) -> Result<String, AllocError> {
+fn grounded_line(alloc: Global, grounded: Grounded) -> Result<String, AllocError>
+    ensures { IfOk result (λ line. string_bytes line ≡ grounded_line grounded) }
+{
     match grounded {
         Grounded::Within { instances, atoms } => {
             format!(in alloc; "instances kept {instances}, atoms numbered {atoms}\n")

@@ -6,7 +6,7 @@ ghost use Rattle.formulas.specs.State.{plan_of};
 ghost use Rattle.task.specs.Task.{task_of};
 ghost use Rattle.validator.specs.Verdict.{verdict_of};
 ghost use Rattle.planner_main.specs.CheckReported.{IsReportedRefusal};
-ghost use Rattle.planner_main.specs.Objects.{of_accepted, of_answer, of_checked, of_exceeded, of_explanation, of_plan, of_refused, of_verdict};
+ghost use Rattle.planner_main.specs.Objects.{of_accepted, of_answer, of_checked, of_exceeded, of_plan, of_refused, of_verdict};
 ghost use Rattle.model.specs.PlanWriting.{has_names, step_text};
 
 use crate::printing::members::{Member, object_text};
@@ -164,17 +164,6 @@ fn refused_object(alloc: Global, code: RefusalCode) -> Result<String, AllocError
         Member::text("command", "check"),
         Member::text("name", code.name()),
         Member::text("result", "not accepted"),
-    ];
-    object_text(alloc, &members)
-}
-
-/// The object of an explanation of these lines.
-pub(crate) fn explanation_object(alloc: Global, lines: &str) -> Result<String, AllocError>
-    ensures { IfOk result (λ text. string_bytes text ≡ object_text (of_explanation lines.now)) }
-{
-    let members = [
-        Member::text("command", "explain"),
-        Member::text("text", lines),
     ];
     object_text(alloc, &members)
 }

@@ -9,7 +9,8 @@ ghost use Rattle.planner_main.specs.Reported.{IsReported, of_report, text_of};
 
 use crate::printing::answer::answer_text;
 use crate::printing::check::checked_line;
-use crate::printing::objects::{answer_object, checked_object, explanation_object, verdict_object};
+use crate::printing::explanations::explanation_object;
+use crate::printing::objects::{answer_object, checked_object, verdict_object};
 use crate::printing::verdict::verdict_line;
 use faults::NoMemory;
 use file_answers::{Checked, Explanation, Solved};
@@ -51,7 +52,9 @@ pub(crate) enum Format {
 /// | it does not | `{"command":"validate","result":"not applicable","step":1}`, or `"goal missed"` and no step |
 /// | the certificate is accepted | `{"command":"check","cost":6,"result":"optimal"}`, or `"at least"`, or `"unsolvable"` and no cost |
 /// | it is refused | `{"code":50,"command":"check","name":"SuccessorDearer","result":"not accepted"}` |
-/// | files are explained | `{"command":"explain","text":".."}`, with the lines as one string |
+/// | `explain`: a fault | `{"code":17,"column":58,"command":"explain","file":"domain.pddl","hints":[],"length":9,"line":15,"name":"UnknownName","result":"fault","text":".."}` |
+/// | `explain`: a verdict | `{"command":"explain","cost":6,"result":"valid","text":".."}`, or `"goal missed"` and no cost, or `"not applicable"` with its `step` and where this is, as of a fault |
+/// | `explain`: a task | `{"actions":1,"atoms":2,"command":"explain","functions":0,"instances":1,"notes":[],"objects":0,"predicates":2,"result":"task","text":"..","types":1}`, or `"unknown"` with the `reason` `"instances"` or `"atoms"` in place of both |
 pub fn json_line(alloc: Global, report: &Report) -> Result<String, NoMemory>
     requires { IsReported report.now }
     ensures { IfOk result (λ line. string_bytes line ≡ object_text (of_report report.now)) }
@@ -60,7 +63,7 @@ pub fn json_line(alloc: Global, report: &Report) -> Result<String, NoMemory>
         Report::Solve(solved) => answer_object(alloc, &solved.task, &solved.answer),
         Report::Validate(verdict) => verdict_object(alloc, *verdict),
         Report::Check(checked) => checked_object(alloc, &checked.answer),
-        Report::Explain(explanation) => explanation_object(alloc, explanation.text.as_str()),
+        Report::Explain(explanation) => explanation_object(alloc, explanation),
     };
     Ok(text?)
 }

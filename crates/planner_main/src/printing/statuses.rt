@@ -69,13 +69,21 @@ fn verdict_status(verdict: Verdict) -> u8
     }
 }
 
+fn task_status(grounded: Grounded) -> u8
+    ensures { result ≡ explanations.status_of_task grounded }
+{
+    match grounded {
+        Grounded::Within { .. } => YES,
+        Grounded::Beyond(_) => UNKNOWN,
+    }
+}
+
 fn explanation_status(subject: Subject) -> u8
     ensures { result ≡ explanations.status_of subject }
 {
     match subject {
         Subject::Fault { .. } => REFUSED,
         Subject::Plan(verdict) => verdict_status(verdict),
-        Subject::Task(Grounded::Within { .. }) => YES,
-        Subject::Task(Grounded::Beyond(_)) => UNKNOWN,
+        Subject::Task { grounded, .. } => task_status(grounded),
     }
 }

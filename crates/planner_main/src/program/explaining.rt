@@ -3,7 +3,9 @@ ghost use Rattle.std.specs.Prelude.{◌≡◌, ℕ, IfErr, IfOk, IsTrue, List, N
 ghost use Rattle.planner_main.specs.Program.{CountsFailure, IsExplanationOn, IsOneOf, IsUnread, fault_in, if_named};
 ghost use Rattle.file_answers.specs.Files.{text_in};
 ghost use Rattle.devices.specs.Texts.{AreKept, items_in};
+ghost use Rattle.file_answers.specs.ExplanationLines.{named_as, named_of};
 ghost use Rattle.file_answers.specs.Explanations as explanations;
+ghost use Rattle.std.specs.Option.{option_map};
 
 use crate::failures::Failure;
 use crate::printing::Report;
@@ -46,7 +48,8 @@ pub(super) fn report_of_explain<F: Files>(
 
 /// The text of a plan with the name of its file, if there is one.
 fn named<'a>(name: Option<&'a str>, text: &'a Option<Vec<u8>>) -> Option<NamedText<'a>>
-    ensures { explanations.text_in result ≡ items_in text.now }
+    ensures text { explanations.text_in result ≡ items_in text.now }
+    ensures named { option_map named_of result ≡ named_as (text_in name.entry) (items_in text.now) }
 {
     match text {
         Some(text) => {

@@ -31,8 +31,8 @@ pub(super) fn outputs_of(order: Order<'_>) -> Outputs<'_>
             let format = format_of(json);
             Outputs { format, cert, plan }
         }
-        Order::Validate { json, .. } | Order::Check { json, .. } => only_reported(format_of(json)),
-        Order::Explain { .. } => only_reported(Format::Text),
+        Order::Validate { json, .. } | Order::Check { json, .. } | Order::Explain { json, .. } =>
+            only_reported(format_of(json)),
     }
 }
 

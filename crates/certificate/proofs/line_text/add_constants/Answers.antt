@@ -1,6 +1,6 @@
 use Rattle.std.proofs.Common.{rules, arith, ◌≡◌, ◌<◌, ◌≤◌, [], ◌∙◌, ◌++◌, ap, get_or, length, map, sym, take, to_z, of_z}
 use Rattle.std.specs.Int.{w64}
-use Rattle.std.specs.Prelude.{ℤ, pos}
+use Rattle.std.specs.Prelude.{ℤ}
 use Rattle.std.proofs.lemmas.Int.{to_z-of_z}
 use Rattle.potential_functions.specs.PotentialFunctions.{PotentialFunction}
 use Rattle.certificate_definitions.specs.CertificateNames.{weights_in}

@@ -1,34 +1,46 @@
-use Rattle.std.proofs.Common.{sym, ap, subst}
+use Rattle.std.proofs.Common.{Option, ℕ, List, ap, subst}
 use Rattle.std.specs.Prelude.{IfOk}
 use Rattle.task.specs.Task.{task_of}
 use Rattle.file_answers.specs.Files.{reported_in}
 use Rattle.file_answers.proofs.FilesRead.{task_input}
+use Rattle.file_answers.specs.ExplanationLines.{Files, IsSaidOf, files_of}
 use Rattle.file_answers.specs.Explanations.{IsTrueOf, text_in}
-use Rattle.file_answers.proofs.ExplanationLemmas.{files_headed, refused_explained, task_explained, task_headed}
+use Rattle.file_answers.proofs.ExplanationLemmas.{files_given, given_among, plan_given, refused_explained, refused_said, task_explained, task_said}
 use Rattle.file_answers.proofs.explaining.explain_files.Goals as goal
 
 pub returns-in-Err-clause-subject : goal.returns-in-Err-clause-subject
 returns-in-Err-clause-subject c =
     let domain = c.args.domain.text.now in
     let problem = c.args.problem.text.now in
-    refused_explained domain problem c.args.max_instances (text_in c.args.plan) c.in-Err.fault c.explain_refused.result
-    (task_input domain problem (text_in c.args.plan) (reported_in c.in-Err.fault) c.in-Err.ensures.refused) c.explain_refused.ensures.fault
+    refused_explained domain problem (text_in c.args.plan) c.args.max_instances c.texts_of-texts.result c.in-Err.fault c.explain_refused.result
+    (task_input domain problem (text_in c.args.plan) (reported_in c.in-Err.fault) c.in-Err.ensures.refused) c.explain_refused.ensures
+
+pub returns-in-Err-clause-said : goal.returns-in-Err-clause-said
+returns-in-Err-clause-said c =
+    let texts = c.texts_of-texts in
+    refused_said texts.result (files_of c.args.domain c.args.problem c.args.plan)
+    (given_among texts.result c.args.domain c.args.problem texts.ensures.domain texts.ensures.problem c.args.plan texts.ensures.plan)
+    c.in-Err.fault c.explain_refused.result c.explain_refused.ensures
 
 pub returns-in-Some-clause-subject : goal.returns-in-Some-clause-subject
 returns-in-Some-clause-subject c =
-    subst (λ plan. IfOk c.explain_plan_file.result (λ e. IsTrueOf c.args.domain.text.now c.args.problem.text.now plan c.args.max_instances e.subject)) (sym (ap text_in c.in-Some.is))
+    let texts = c.texts_of-texts in
+    subst (λ (plan : Option (List ℕ)). IfOk c.explain_plan_file.result (λ e. IsTrueOf c.args.domain.text.now c.args.problem.text.now plan c.args.max_instances e.subject))
+    (plan_given texts.result c.args.domain c.args.problem texts.ensures.domain texts.ensures.problem c.args.plan _ c.in-Some.is texts.ensures.plan)
     (c.explain_plan_file.ensures.subject c.args.domain.text.now c.args.problem.text.now c.args.max_instances c.in-Ok.ensures.task)
+
+pub returns-in-Some-clause-said : goal.returns-in-Some-clause-said
+returns-in-Some-clause-said c =
+    let texts = c.texts_of-texts in
+    subst (λ (files : Files). IfOk c.explain_plan_file.result (IsSaidOf files))
+    (files_given texts.result c.args.domain c.args.problem texts.ensures.domain texts.ensures.problem c.args.plan _ c.in-Some.is texts.ensures.plan)
+    c.explain_plan_file.ensures.said
 
 pub returns-clause-subject : goal.returns-clause-subject
 returns-clause-subject c =
-    task_explained c.args.domain.text.now c.args.problem.text.now c.args.max_instances (task_of c.in-Ok.task) c.in-Ok.ensures.task (text_in c.args.plan) (ap text_in c.in-None.is)
+    task_explained (task_of c.in-Ok.task) c.args.max_instances c.args.domain.text.now c.args.problem.text.now c.in-Ok.ensures.task (text_in c.args.plan) (ap text_in c.in-None.is)
     c.explain_task.result c.explain_task.ensures
 
-pub returns-in-Some-clause-headed : goal.returns-in-Some-clause-headed
-returns-in-Some-clause-headed c =
-    let texts = c.texts_of-texts in
-    files_headed texts.result c.args.domain c.args.problem c.args.plan texts.ensures.domain texts.ensures.problem texts.ensures.plan c.explain_plan_file.result c.explain_plan_file.ensures.headed
-
-pub returns-clause-headed : goal.returns-clause-headed
-returns-clause-headed c =
-    task_headed c.args.domain c.args.problem c.args.plan (task_of c.in-Ok.task) c.args.max_instances c.explain_task.result c.explain_task.ensures
+pub returns-clause-said : goal.returns-clause-said
+returns-clause-said c =
+    task_said (task_of c.in-Ok.task) c.args.max_instances (files_of c.args.domain c.args.problem c.args.plan) c.explain_task.result c.explain_task.ensures

@@ -1,4 +1,4 @@
-use Rattle.std.proofs.Common.{◌≡◌, ◌∙◌, ℕ, Bool, List, [], length, sym, ap, subst, map, arith}
+use Rattle.std.proofs.Common.{◌≡◌, ◌∙◌, ℕ, Bool, List, [], ◌∷◌, ◌++◌, length, sym, ap, subst, map, arith}
 use Rattle.std.specs.Prelude.{All}
 use Rattle.task.specs.TaskParts.{atom_of}
 use Rattle.packed_state.specs.PooledView.{pooled_states}
@@ -7,7 +7,8 @@ use Rattle.search.specs.Estimates.{value_by}
 use Rattle.certificate_reader.specs.Lines.{claim_of}
 use Rattle.certificate_reader.specs.declared.line.Version.TheVariants.{Two}
 use Rattle.certificate.specs.ListedSets.{lines_with}
-use Rattle.certificate.specs.CertificateParts.{certificate_with}
+use Rattle.certificate.specs.CertificateParts.{certificate_with, potential_of}
+use Rattle.table_rows.specs.Tables.{table_of}
 use Rattle.certificate_definitions.specs.Certificates.{two}
 use Rattle.potential_functions.specs.PotentialFunctions.{value, is_dead_by}
 use Rattle.grounding.specs.Ground.{task_in, atoms_in}
@@ -35,7 +36,7 @@ marks-requires-clause-width g c =
     (found_widths (task_in known) (claim_of c.args.claim) 16777216 p q states c.args.found.nodes.items (atoms_in known) c.requires.atoms c.requires.found)
 
 -- the certificate of the parts is that of what was found
-made : (g : Over) (c : In_ok-marks g) → certificate_with (record { version = Two; claim = c.args.claim; atoms = c.in_ok-copied.field-0; bounds = record { values = c.in_ok-potential.field-0; dead_ends = c.in_ok-potential-2.field-0 } })
+made : (g : Over) (c : In_ok-marks g) → certificate_with (record { version = Two; claim = c.args.claim; atoms = c.in_ok-copied.field-0; bounds = record { values = c.push.new.self; dead_ends = c.in_ok-potential-2.field-0; tables = c.new.result } })
     (record { marks = c.in_ok-marks.marks; sets = c.args.found.store })
     ≡ found_certificate (claim_of c.args.claim) (atoms_in c.args.ground.now) (g.E.Written.written c.args.estimate.now) (g.D.Written.written c.args.dead_ends.now) (pooled_states c.args.found.store) c.args.found.nodes.items
 made g c =
@@ -47,7 +48,8 @@ made g c =
     let marks = c.in_ok-marks.ensures (is_dead_by q) c.requires.found.marked
     ∙ ap (λ (v : List Bool → ℕ). map mark_of_line (search.lines_of v (is_dead_by q) states nodes)) (value_by-value (g.E.Estimate.score_of c.args.estimate.now) p c.requires.estimate.score) in
     let lines = ap (λ ms. lines_with ms states) marks ∙ lines_of_marks (value p) (is_dead_by q) states nodes in
-    λ i. record { version = two; claim = claim_of c.args.claim; atoms = (c.in_ok-copied.ensures ∙ atoms) i; potentials = c.in_ok-potential.ensures i; dead_ends = c.in_ok-potential-2.ensures i; lines = lines i }
+    let values = ap (map potential_of) (c.in_ok-push.ensures.items ∙ ap (λ before. before ++ c.in_ok-potential.field-0 ∷ []) c.new-values.ensures.items) ∙ ap (λ p. p ∷ []) c.in_ok-potential.ensures in
+    λ i. record { version = two; claim = claim_of c.args.claim; atoms = (c.in_ok-copied.ensures ∙ atoms) i; values = values i; tables = map table_of (c.new.ensures.items i); dead_ends = c.in_ok-potential-2.ensures i; lines = lines i }
 
 pub from_parts-requires-clause-limits : goal.from_parts-requires-clause-limits
 from_parts-requires-clause-limits g c =

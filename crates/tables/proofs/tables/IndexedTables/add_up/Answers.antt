@@ -13,8 +13,8 @@ use Rattle.tables.proofs.tables.IndexedTables.add_up.Goals as goal
 
 read : (c : After-index-tables-place) → slice_get c.args.self.now.tables.items c.loop-place.place ≡ Some c.index-tables-place.result
 read c =
-    subst (λ items. slice_get items c.loop-place.place ≡ Some c.index-tables-place.result) c.tables.ensures
-    (slice_get-get_or c.tables.result.now c.loop-place.place c.index-tables-place.result c.loop-place-test.true ∙ ap (λ t. Some t) (sym c.index-tables-place.is))
+    subst (λ items. slice_get items c.loop-place.place ≡ Some c.index-tables-place.result) c.tables-tables.ensures
+    (slice_get-get_or c.tables-tables.result.now c.loop-place.place c.index-tables-place.result c.loop-place-test.true ∙ ap (λ t. Some t) (sym c.index-tables-place.is))
 
 pub loop-place-init : goal.loop-place-init
 loop-place-init c = record {
@@ -69,13 +69,13 @@ loop-place-preserved c =
 pub returns-clause-has : goal.returns-clause-has
 returns-clause-has c =
     let tables = tables_of c.args.self.now in
-    let all : length tables ≤ c.loop-place.place = omega (arith, c.loop-place-test.false, ap length c.tables.ensures, length-map c.args.self.now.tables.items indexed_of) in
+    let all : length tables ≤ c.loop-place.place = omega (arith, c.loop-place-test.false, ap length c.tables-tables.ensures, length-map c.args.self.now.tables.items indexed_of) in
     sym (subst (λ l. has_rows l (bits_of c.args.state.now) ≡ true) (take_all c.loop-place.place tables all) c.loop-place.invariant.rows)
 
 pub returns-clause-totals : goal.returns-clause-totals
 returns-clause-totals c = λ is.
     let tables = tables_of c.args.self.now in
-    let all : length tables ≤ c.loop-place.place = omega (arith, c.loop-place-test.false, ap length c.tables.ensures, length-map c.args.self.now.tables.items indexed_of) in
+    let all : length tables ≤ c.loop-place.place = omega (arith, c.loop-place-test.false, ap length c.tables-tables.ensures, length-map c.args.self.now.tables.items indexed_of) in
     subst (λ l. AreTotals (bits_of c.args.state.now) l (count_of c.args.self.now) c.loop-place.room.totals.items) (take_all c.loop-place.place tables all) c.loop-place.invariant.totals
 
 pub returns-clause-room : goal.returns-clause-room
