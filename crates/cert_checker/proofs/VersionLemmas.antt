@@ -1,7 +1,7 @@
 -- What the definitions say of a certificate of a version that is checked: it has one potential function, one for dead ends, and
 -- no tables.
 use Rattle.std.proofs.Common.{◌≡◌, ℕ, ◌+◌, ◌<◌, true, List, [], ◌∷◌, length, refl, sym, subst, arith, Bool, ℤ}
-use Rattle.std.specs.Prelude.{IsTrue, All, AllPairs, Contains, ◌≢◌, ◌&&◌, ◌==◌, nat_le}
+use Rattle.std.specs.Prelude.{IsTrue, All, AllPairs, ◌≢◌, ◌&&◌, ◌==◌, nat_le}
 use Rattle.std.specs.List.{list_all}
 use Rattle.std.proofs.lemmas.Bool.{and_parts, eqb-true, false≢true, leb-true}
 use Rattle.std.proofs.lemmas.List.Elements.{All-cons, All-contains}
