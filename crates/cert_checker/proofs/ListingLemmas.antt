@@ -127,28 +127,28 @@ module _ {R : Type 0} (remaining : R → Option (List ℕ)) (task : Task) (first
             let given = reported.given c.constants (subst (λ lines. Contains lines (constant c.constants)) are (constant_occurs c)) in
             let atoms_are : atoms_given lines ≡ c.atoms = ap atoms_given (sym are) ∙ atoms_of_text c in
             record {
-          text = text_of lines;
-          consumed = over.consumed;
-          at_end = over.at_end;
-          is_text = record {
-            said = c;
-            text = record { within = keeps; lines = ap text_of (sym are) };
-            version = sym version_is;
-            claim = sym (reported.one_claim c.claim (subst (λ lines. Contains lines (claims c.claim)) are (claim_occurs c)));
-            atoms = subst (λ (said : List WeightedAtom). AllName task (map (λ a. a.atom) said) atoms) (ap atoms_given (sym are) ∙ atoms_of_text c) reported.named;
-            values = given.values ∙ (λ i. values_given (version_is i) c.constants (atoms_are i));
-            dead_ends = given.dead_ends ∙ (λ i. dead_ends_given (version_is i) c.constants (atoms_are i));
-            tables = sym (tables_of_text c) ∙ ap tables_given are ∙ sym reported.tables;
-            lines = sym (states_are ∙ ap states_given (sym are) ∙ states_of_text c);
-          };
-          lines = lines;
-          text_is = refl;
-          right = reported.right;
-          checked = subst (λ v. IsTrue (is_checked v)) (sym version_is) (checked_there task c.version (claims c.claim ∷ constant c.constants ∷ body_of c) (subst (AreRight task) (sym are) reported.right));
-          fluent = reported.fluent;
-          distinct = reported.distinct;
-          allowed = λ is_none. subst (All (λ (l : StateLine). ¬ IsCut l.mark)) (sym states_are) (have.allowed is_none);
-        }
+              text = text_of lines;
+              consumed = over.consumed;
+              at_end = over.at_end;
+              is_text = record {
+                said = c;
+                text = record { within = keeps; lines = ap text_of (sym are) };
+                version = sym version_is;
+                claim = sym (reported.one_claim c.claim (subst (λ lines. Contains lines (claims c.claim)) are (claim_occurs c)));
+                atoms = subst (λ (said : List WeightedAtom). AllName task (map (λ a. a.atom) said) atoms) (ap atoms_given (sym are) ∙ atoms_of_text c) reported.named;
+                values = given.values ∙ (λ i. values_given (version_is i) c.constants (atoms_are i));
+                dead_ends = given.dead_ends ∙ (λ i. dead_ends_given (version_is i) c.constants (atoms_are i));
+                tables = sym (tables_of_text c) ∙ ap tables_given are ∙ sym reported.tables;
+                lines = sym (states_are ∙ ap states_given (sym are) ∙ states_of_text c);
+              };
+              lines = lines;
+              text_is = refl;
+              right = reported.right;
+              checked = subst (λ v. IsTrue (is_checked v)) (sym version_is) (checked_there task c.version (claims c.claim ∷ constant c.constants ∷ body_of c) (subst (AreRight task) (sym are) reported.right));
+              fluent = reported.fluent;
+              distinct = reported.distinct;
+              allowed = λ is_none. subst (All (λ (l : StateLine). ¬ IsCut l.mark)) (sym states_are) (have.allowed is_none);
+            }
 
     -- what comes after a line that was taken
     module _ (before : List TextLine) (line : TextLine) (at : IsAt remaining first now (before ++ line ∷ [])) (reported : HasTaken task (before ++ line ∷ []) header)
