@@ -17,7 +17,7 @@ use Rattle.model.specs.Runs.{System, cost_of_all, Solves, CostsAtLeast, IsOptima
 use Rattle.model.specs.Meaning.{State}
 use Rattle.model.specs.Claims.{Line}
 use Rattle.certificate_definitions.specs.Certificates.{Certificate, is_dead_end_weight, lines_of, IsClosedFor}
-use Rattle.certificate_definitions.specs.CertificateRefusals.{Reason, limit, unfair, dead_unfair, IsPlanWithin, IsWrong, IsWrongLine}
+use Rattle.certificate_definitions.specs.CertificateRefusals.{Reason, limit, unfair, dead_unfair, IsPlanWithin, IsWrong, IsWrongAt}
 use Rattle.model.proofs.ListLemmas.{Contains-place}
 use Rattle.cert_checker.proofs.LimitsLemmas.{AreLimits, limits_of}
 use Rattle.cert_checker.proofs.VersionLemmas.{one_weight_each, weights_of_each}
@@ -57,7 +57,7 @@ closed_for task c most right = record {
         right.lines at.0 line (slice_get_within (lines_of task c) at.0 line at.1) at.1
 
 -- nothing is wrong with a line of a closed certificate, and what else is wrong is a limit of its ground task
-no_line : (task : Task) (c : Certificate) → IsClosedFor task c → (line : ℕ) (o : Option Reason) → MatchOption o ⊥ (λ reason. IsWrongLine task c reason line) → ⊥
+no_line : (task : Task) (c : Certificate) → IsClosedFor task c → (line : ℕ) (o : Option Reason) → MatchOption o ⊥ (λ reason. IsWrongAt task c reason line) → ⊥
 no_line task c closed line (Some reason) wrong = right_line task c closed reason line wrong
 no_line task c closed line None wrong = wrong
 

@@ -14,7 +14,7 @@ use Rattle.model.specs.Claims.{none, Allows, opened, cut, Line, IsListedWithin}
 use Rattle.model.specs.Fluents.{is_fluent}
 use Rattle.certificate_definitions.specs.Certificates.{Certificate, potentials_of, lines_of, AreFairFor, IsClosedFor}
 use Rattle.certificate_definitions.specs.CertificateChecking.{is_checked}
-use Rattle.certificate_definitions.specs.CertificateRefusals.{Reason, not_fluent, repeated, no_initial, unfair, unfair_goal, goal_open, successor_missing, successor_dearer, cut_weak, cut_not_allowed, plan_invalid, plan_dearer, limit, dead_unfair, dead_unfair_goal, not_dead, IsUnfairIn, IsUnfairAtGoalsIn, IsDeadUnfairIn, IsDeadUnfairAtGoalsIn, IsWrongLine, IsWrong, IsFirst, stage_of, rank_of, state_line}
+use Rattle.certificate_definitions.specs.CertificateRefusals.{Reason, not_fluent, repeated, no_initial, unfair, unfair_goal, goal_open, successor_missing, successor_dearer, cut_weak, cut_not_allowed, plan_invalid, plan_dearer, limit, dead_unfair, dead_unfair_goal, not_dead, IsUnfairIn, IsUnfairAtGoalsIn, IsDeadUnfairIn, IsDeadUnfairAtGoalsIn, IsWrongAt, IsWrong, IsFirst, stage_of, rank_of, state_line}
 use Rattle.potential_functions.specs.Fair.{AreFair}
 use Rattle.potentials.specs.Fairness.{AreInstancesFair, AreInstancesDeadFair}
 use Rattle.cert_checker.specs.FluentAtoms.{AreFluent}
@@ -119,7 +119,7 @@ module _ (task : Task) (c : Certificate) where
 
   -- nothing is wrong with the lines of the first states
   states_right : (count line : ℕ) (r : Reason) → AtomsAreRight task c (length c.atoms) → StatesAreRight task c count
-      → ((k : ℕ) → line ≡ state_line c k → k < length (lines_of task c) → k < count) → stage_of r ≡ 0 → IsWrongLine task c r line → ⊥
+      → ((k : ℕ) → line ≡ state_line c k → k < length (lines_of task c) → k < count) → stage_of r ≡ 0 → IsWrongAt task c r line → ⊥
   states_right count line not_fluent atoms right reach stage (a, (place, reported, at), wrong) =
       let fluent = atoms.fluent place a (slice_get_within c.atoms place a at) at in
       absurd (cc)
@@ -165,7 +165,7 @@ module _ (task : Task) (c : Certificate) where
   -- ---- after reading
 
   read_right : (plan : Option (List Instance)) (most : ℕ) (r : Reason) (l : ℕ) → AtomsAreRight task c (length c.atoms) → StatesAreRight task c (length (lines_of task c)) → stage_of r ≡ 0
-      → IsWrongLine task c r l ⊎ IsWrong task c plan most r → ⊥
+      → IsWrongAt task c r l ⊎ IsWrong task c plan most r → ⊥
   read_right plan most r l atoms states stage (inl wrong) = states_right (length (lines_of task c)) l r atoms states (λ j reported within. within) stage wrong
   read_right plan most r l atoms states stage (inr wrong) = of_line plan most r stage wrong
 
@@ -174,7 +174,7 @@ module _ (task : Task) (c : Certificate) where
   first_limit plan most atoms states r l (inr (same, inl before)) wrong = omega arith
   first_limit plan most atoms states r l (inr (same, inr (there, rank))) wrong = omega arith
 
-  in_limit : (plan : Option (List Instance)) (most : ℕ) (r : Reason) (l : ℕ) → exceeded_limit most max_numbered_atoms task c.atoms ≡ None → stage_of r ≡ 1 → IsWrongLine task c r l ⊎ IsWrong task c plan most r → ⊥
+  in_limit : (plan : Option (List Instance)) (most : ℕ) (r : Reason) (l : ℕ) → exceeded_limit most max_numbered_atoms task c.atoms ≡ None → stage_of r ≡ 1 → IsWrongAt task c r l ⊎ IsWrong task c plan most r → ⊥
   in_limit plan most limit l within stage (inl wrong) = wrong
   in_limit plan most limit l within stage (inr wrong) = none_reported (exceeded_limit most max_numbered_atoms task c.atoms) within wrong
   in_limit plan most not_fluent l within stage wrong = absurd (omega arith)
@@ -194,7 +194,7 @@ module _ (task : Task) (c : Certificate) where
   in_limit plan most not_dead l within stage wrong = absurd (omega arith)
 
   before_fair : (plan : Option (List Instance)) (most : ℕ) (r : Reason) (l : ℕ) → AtomsAreRight task c (length c.atoms) → StatesAreRight task c (length (lines_of task c)) → exceeded_limit most max_numbered_atoms task c.atoms ≡ None
-      → stage_of r < 2 → IsWrongLine task c r l ⊎ IsWrong task c plan most r → ⊥
+      → stage_of r < 2 → IsWrongAt task c r l ⊎ IsWrong task c plan most r → ⊥
   before_fair plan most r l atoms states within stage wrong =
       elim (cases_eq (stage_of r) 0) [
         | inl reading ↦ read_right plan most r l atoms states reading wrong
@@ -202,7 +202,7 @@ module _ (task : Task) (c : Certificate) where
       ]
 
   -- nothing is wrong of what is asked of the values so far
-  in_fair : (plan : Option (List Instance)) (most : ℕ) (r : Reason) (l : ℕ) → AreFairUpTo task c (rank_of r + 1) → stage_of r ≡ 2 → IsWrongLine task c r l ⊎ IsWrong task c plan most r → ⊥
+  in_fair : (plan : Option (List Instance)) (most : ℕ) (r : Reason) (l : ℕ) → AreFairUpTo task c (rank_of r + 1) → stage_of r ≡ 2 → IsWrongAt task c r l ⊎ IsWrong task c plan most r → ⊥
   in_fair plan most unfair l fair stage (inl wrong) = wrong
   in_fair plan most unfair l fair stage (inr (i, wrong)) = fair.instances (omega arith) i wrong
   in_fair plan most unfair_goal l fair stage (inl wrong) = wrong
@@ -233,7 +233,7 @@ module _ (task : Task) (c : Certificate) where
       in_fair plan most r l (fair_so_far task c (rank_of reason) (rank_of r + 1) fair (omega (arith, rank))) (same ∙ stage) wrong
 
   before_initial : (plan : Option (List Instance)) (most : ℕ) (r : Reason) (l : ℕ) → AtomsAreRight task c (length c.atoms) → StatesAreRight task c (length (lines_of task c)) → exceeded_limit most max_numbered_atoms task c.atoms ≡ None
-      → AreFairFor task c → stage_of r < 3 → IsWrongLine task c r l ⊎ IsWrong task c plan most r → ⊥
+      → AreFairFor task c → stage_of r < 3 → IsWrongAt task c r l ⊎ IsWrong task c plan most r → ⊥
   before_initial plan most r l atoms states within fair stage wrong =
       elim (cases_eq (stage_of r) 2) [
         | inl unfair_reported ↦ in_fair plan most r l (fair_wholly task c (rank_of r + 1) fair) unfair_reported wrong
@@ -246,7 +246,7 @@ module _ (task : Task) (c : Certificate) where
   first_initial plan most atoms states within fair r l (inr (same, inl before)) wrong = omega arith
   first_initial plan most atoms states within fair r l (inr (same, inr (there, rank))) wrong = omega arith
 
-  in_initial : (plan : Option (List Instance)) (most : ℕ) (r : Reason) (l : ℕ) → IsListedWithin (lines_of task c) (initial_state task) 0 → stage_of r ≡ 3 → IsWrongLine task c r l ⊎ IsWrong task c plan most r → ⊥
+  in_initial : (plan : Option (List Instance)) (most : ℕ) (r : Reason) (l : ℕ) → IsListedWithin (lines_of task c) (initial_state task) 0 → stage_of r ≡ 3 → IsWrongAt task c r l ⊎ IsWrong task c plan most r → ⊥
   in_initial plan most no_initial l listed stage (inl wrong) = wrong
   in_initial plan most no_initial l listed stage (inr wrong) = wrong listed
   in_initial plan most not_fluent l listed stage wrong = absurd (omega arith)
@@ -265,7 +265,7 @@ module _ (task : Task) (c : Certificate) where
   in_initial plan most plan_invalid l listed stage wrong = absurd (omega arith)
   in_initial plan most plan_dearer l listed stage wrong = absurd (omega arith)
 
-  before_lines : (plan : Option (List Instance)) (most place : ℕ) (r : Reason) (l : ℕ) → IsRightUpTo task c most place → stage_of r < 4 → IsWrongLine task c r l ⊎ IsWrong task c plan most r → ⊥
+  before_lines : (plan : Option (List Instance)) (most place : ℕ) (r : Reason) (l : ℕ) → IsRightUpTo task c most place → stage_of r < 4 → IsWrongAt task c r l ⊎ IsWrong task c plan most r → ⊥
   before_lines plan most place r l right stage wrong =
       elim (cases_eq (stage_of r) 3) [
         | inl initial ↦ in_initial plan most r l right.initial initial wrong
@@ -275,7 +275,7 @@ module _ (task : Task) (c : Certificate) where
   -- ---- the state lines
 
   line_right : (r : Reason) (line place : ℕ) → line < state_line c place → ((k : ℕ) (l : Line State) → k < place → slice_get (lines_of task c) k ≡ Some l → IsLineClosed task c l) → stage_of r ≡ 4
-      → IsWrongLine task c r line → ⊥
+      → IsWrongAt task c r line → ⊥
   line_right goal_open line place lt right stage (l, (k, reported, at), is_open, goal, denied) = denied (((right k l (omega arith) at).is_open is_open).goal_allowed goal)
   line_right successor_missing line place lt right stage (l, i, next, ((k, reported, at), is_open, leads), missing) =
       let listed = ((right k l (omega arith) at).is_open is_open).successors_listed i next leads in
@@ -318,16 +318,16 @@ module _ (task : Task) (c : Certificate) where
   of_state_line plan most plan_dearer stage wrong = absurd (omega arith)
 
   pub first_in_line : (plan : Option (List Instance)) (most place : ℕ) (reason : Reason) → IsRightUpTo task c most place → stage_of reason ≡ 4
-      → ((r : Reason) → stage_of r ≡ 4 → rank_of r < rank_of reason → IsWrongLine task c r (state_line c place) → ⊥) → IsFirst task c plan most reason (state_line c place)
+      → ((r : Reason) → stage_of r ≡ 4 → rank_of r < rank_of reason → IsWrongAt task c r (state_line c place) → ⊥) → IsFirst task c plan most reason (state_line c place)
   first_in_line plan most place reason right stage here r l (inl before) wrong = before_lines plan most place r l right (omega arith) wrong
   first_in_line plan most place reason right stage here r l (inr (same, inl before)) (inl wrong) = line_right r l place before right.lines (same ∙ stage) wrong
   first_in_line plan most place reason right stage here r l (inr (same, inl before)) (inr wrong) = of_state_line plan most r (same ∙ stage) wrong
-  first_in_line plan most place reason right stage here r l (inr (same, inr (there, rank))) (inl wrong) = here r (same ∙ stage) rank (subst (IsWrongLine task c r) there wrong)
+  first_in_line plan most place reason right stage here r l (inr (same, inr (there, rank))) (inl wrong) = here r (same ∙ stage) rank (subst (IsWrongAt task c r) there wrong)
   first_in_line plan most place reason right stage here r l (inr (same, inr (there, rank))) (inr wrong) = of_state_line plan most r (same ∙ stage) wrong
 
   -- of an open state whose goal is as it is to be
   pub open_here : (place : ℕ) (l : Line State) → slice_get (lines_of task c) place ≡ Some l → l.mark ≡ opened → (IsTrue ((system_of task).meets_goal l.state) → Allows c.claim l.cost)
-      → (r : Reason) → stage_of r ≡ 4 → rank_of r < 1 → IsWrongLine task c r (state_line c place) → ⊥
+      → (r : Reason) → stage_of r ≡ 4 → rank_of r < 1 → IsWrongAt task c r (state_line c place) → ⊥
   open_here place l here is_open allowed goal_open stage rank (other, (k, reported, at), is_opened, goal, denied) =
       let there : k ≡ place = omega arith in
       let same = the_line place k other l there at here in
@@ -358,7 +358,7 @@ module _ (task : Task) (c : Certificate) where
 
   -- ---- the plan
 
-  before_plan : (plan : Option (List Instance)) (most : ℕ) (r : Reason) (l : ℕ) → IsClosedFor task c → exceeded_limit most max_numbered_atoms task c.atoms ≡ None → stage_of r < 5 → IsWrongLine task c r l ⊎ IsWrong task c plan most r → ⊥
+  before_plan : (plan : Option (List Instance)) (most : ℕ) (r : Reason) (l : ℕ) → IsClosedFor task c → exceeded_limit most max_numbered_atoms task c.atoms ≡ None → stage_of r < 5 → IsWrongAt task c r l ⊎ IsWrong task c plan most r → ⊥
   before_plan plan most r l closed within stage (inl wrong) = right_line task c closed r l wrong
   before_plan plan most limit l closed within stage (inr wrong) = none_reported (exceeded_limit most max_numbered_atoms task c.atoms) within wrong
   before_plan plan most no_initial l closed within stage (inr wrong) = wrong closed.listing_is_closed.initial_listed
@@ -387,7 +387,7 @@ module _ (task : Task) (c : Certificate) where
   first_dearer p most closed within solves r l (inr (same, inl before)) wrong = omega arith
   first_dearer p most closed within solves r l (inr (same, inr (there, rank))) wrong = solving r same rank wrong
     where
-      solving : (r : Reason) → stage_of r ≡ 5 → rank_of r < 1 → IsWrongLine task c r l ⊎ IsWrong task c (Some p) most r → ⊥
+      solving : (r : Reason) → stage_of r ≡ 5 → rank_of r < 1 → IsWrongAt task c r l ⊎ IsWrong task c (Some p) most r → ⊥
       solving plan_invalid stage rank (inl wrong) = wrong
       solving plan_invalid stage rank (inr wrong) = wrong solves
       solving plan_dearer stage rank wrong = omega arith
