@@ -16,6 +16,8 @@ pub mod RefusalsLemmas
 pub mod WeightsLemmas
 pub mod AnswerLemmas
 pub mod OrderLemmas
+pub mod TablesLemmas
+pub mod ReportedLemmas
 pub mod FirstLemmas
 pub mod StaysLemmas
 pub mod GroundSuccessors

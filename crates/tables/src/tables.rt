@@ -33,7 +33,8 @@ impl<'a> IndexedTables<'a> {
     ghost use Rattle.model.specs.NumberedLiterals as numbered;
     ghost use Rattle.packed_state.specs.Packed.{bits_of};
     ghost use Rattle.potential_functions.specs.PotentialFunctions.{IsInRange};
-    ghost use Rattle.table_functions.specs.TableFunctions.{Row, Table, sum_over};
+    ghost use Rattle.table_functions.specs.TableFunctions as functions;
+    ghost use Rattle.table_functions.specs.TableFunctions.{Row, sum_over};
     ghost use Rattle.table_rows.specs.declared.table.Table as in_memory;
     ghost use Rattle.table_rows.specs.Tables.{table_of, weight_count_of};
     ghost use Rattle.table_functions.specs.FairTables as model;
@@ -136,7 +137,7 @@ impl<'a> IndexedTables<'a> {
     ) -> Result<bool, NoMemory>
         requires there { table < length (tables_of self.now) }
         requires named { AreMarked self.now.by_atom (length (tables_of self.now)) (map (λ (l : numbered.NumberedLiteral). l.atom) (map numbered_of literals.now)) (bits_of named.now) }
-        ensures { (t : Table) → slice_get (tables_of self.now) table ≡ Some t
+        ensures { (t : functions.Table) → slice_get (tables_of self.now) table ≡ Some t
             → IfOk result (λ some. some ≡ list_any (λ (r : Row). model.agrees (map numbered_of literals.now) t.scope r.atoms) t.rows) }
     {
         if !named.has(table as u32) {
@@ -184,7 +185,7 @@ impl<'a> IndexedTables<'a> {
         requires there { table < length (tables_of self.now) }
         requires place { place < count_of self.now }
         requires named { AreMarked self.now.by_atom (length (tables_of self.now)) (map (λ (c : numbered.NumberedChange). c.atom) (map counting_of changes.now)) (bits_of named.now) }
-        ensures { (t : Table) → slice_get (tables_of self.now) table ≡ Some t
+        ensures { (t : functions.Table) → slice_get (tables_of self.now) table ≡ Some t
             → IfOk result (IsLossByTable place (map numbered_of literals.now) (map conditional_of changes.now) t) }
     {
         if !named.has(table as u32) {
