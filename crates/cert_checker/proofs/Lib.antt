@@ -23,4 +23,6 @@ pub mod StaysLemmas
 pub mod GroundSuccessors
 pub mod PackedLinesLemmas
 pub mod PackedListingLemmas
+pub mod ValuesLemmas
+pub mod MadeLemmas
 pub mod AcceptLemmas

@@ -2,7 +2,7 @@
 use Rattle.std.proofs.Common.{◌≡◌, ◌∙◌, ℕ, ◌+◌, ◌<◌, true, false, true≢false, List, [], ◌∷◌, length, map, refl, sym, arith, Bool, ℤ}
 use Rattle.std.specs.Prelude.{IsTrue, All, AllPairs, Contains, ◌≢◌, ◌&&◌, ◌==◌, nat_le}
 use Rattle.std.specs.List.{list_all}
-use Rattle.std.proofs.lemmas.Bool.{and_parts, eqb-true, leb-true}
+use Rattle.std.proofs.lemmas.Bool.{and_parts, eqb-true, false≢true, leb-true}
 use Rattle.std.proofs.lemmas.List.Elements.{All-cons, All-contains}
 use Rattle.model.specs.Task.{Task, Instance}
 use Rattle.model.specs.Meaning.{State, cost_of}
@@ -19,6 +19,17 @@ use Rattle.certificate_definitions.specs.Certificates.{Version, one, two, three,
 use Rattle.certificate_definitions.specs.CertificateRefusals.{MayLose, IsUnfairIn, IsUnfairAtGoalsIn, IsDeadUnfairIn, IsDeadUnfairAtGoalsIn}
 use Rattle.cert_checker.specs.CertChecker.{IsFirstToLoseAt, IsFirstToLoseIn, IsFirstDeadToLoseIn}
 use Rattle.cert_checker.proofs.LimitsLemmas.{limits_of}
+
+-- what is so of version 3 is so of a version with tables, and the other way round
+pub of_three : (P : Version → Type 0) (v : Version) → has_tables v ≡ true → P three → P v
+of_three P one has p = absurd (false≢true has)
+of_three P two has p = absurd (false≢true has)
+of_three P three has p = p
+
+pub to_three : (P : Version → Type 0) (v : Version) → has_tables v ≡ true → P v → P three
+to_three P one has p = absurd (false≢true has)
+to_three P two has p = absurd (false≢true has)
+to_three P three has p = p
 
 module _ (task : Task) (c : Certificate) where
   -- ---- what is said of states
