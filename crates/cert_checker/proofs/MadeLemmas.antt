@@ -1,5 +1,5 @@
 -- What a certificate's values and tables in memory are made of.
-use Rattle.std.proofs.Common.{◌≡◌, ◌∙◌, ℕ, zero, suc, ◌+◌, ◌≤◌, ◌<◌, true, ◌&&◌, List, [], ◌∷◌, length, map, get_or, refl, sym, ap, subst, arith, ℤ}
+use Rattle.std.proofs.Common.{◌≡◌, ◌∙◌, ℕ, zero, suc, ◌+◌, ◌≤◌, ◌<◌, true, ◌&&◌, List, [], ◌∷◌, ◌++◌, length, map, get_or, refl, sym, ap, subst, arith, ℤ}
 use Rattle.std.specs.Prelude.{All, IsTrue, ◌==◌, nat_le}
 use Rattle.std.specs.List.{list_all}
 use Rattle.std.proofs.lemmas.Bool.{and_parts}
@@ -7,7 +7,10 @@ use Rattle.std.proofs.lemmas.List.Elements.{All-cons}
 use Rattle.certificate.specs.declared.header.Potential.{Potential}
 use Rattle.certificate.specs.CertificateParts.{potential_of}
 use Rattle.certificate_definitions.specs.Certificates.{Version, are_potentials, are_tables, are_weights, has_tables, is_row, is_table, is_weight, rise}
-use Rattle.potential_functions.specs.PotentialFunctions.{AreInRange, IsInRange}
+use Rattle.potential_functions.specs.PotentialFunctions.{PotentialFunction, AreInRange, IsInRange}
+use Rattle.potentials.specs.declared.potentials.Potentials.{Potentials}
+use Rattle.potentials.specs.Potentials.{potentials_of}
+use Rattle.cert_checker.specs.Weights.{AreWidened, HasItsWeights}
 use Rattle.table_functions.specs.TableFunctions.{Row, is_among}
 use Rattle.table_functions.specs.TableFunctions as functions
 use Rattle.table_rows.specs.declared.table.Table.{Table}
@@ -50,3 +53,19 @@ tables_in_range v atom_count weight_count (t ∷ tables) are =
     let rows = (and_parts (rise atom_count 0 table.scope && nat_le 1 (length table.scope)) (list_all (is_row atom_count weight_count table.scope) table.rows) within).1 in
     All-cons (λ (t : Table). All (λ (r : Row). All IsInRange r.weights) (table_of t).rows) t tables (rows_in_range atom_count weight_count table.scope table.rows rows)
     (tables_in_range v atom_count weight_count tables more)
+
+-- ---- one value after another
+
+pub widened_more : (said : List PotentialFunction) (width : ℕ) (made : List PotentialFunction) (s p : PotentialFunction) → AreWidened said width made → HasItsWeights s width p
+    → AreWidened (said ++ s ∷ []) width (made ++ p ∷ [])
+widened_more [] width [] s p have has = (has, tt)
+widened_more (q ∷ said) width (r ∷ made) s p (first, have) has = (first, widened_more said width made s p have has)
+widened_more [] width (r ∷ made) s p have has = absurd have
+widened_more (q ∷ said) width [] s p have has = absurd have
+
+-- each has a weight for each number below the width
+pub each_as_wide : (said : List PotentialFunction) (width : ℕ) (made : List Potentials) → AreWidened said width (map potentials_of made) → All (λ (p : Potentials). length (potentials_of p).weights ≡ width) made
+each_as_wide said width [] have = λ k d below. absurd (omega arith)
+each_as_wide (q ∷ said) width (p ∷ made) (has, have) =
+    All-cons (λ (p : Potentials). length (potentials_of p).weights ≡ width) p made has.as_many (each_as_wide said width made have)
+each_as_wide [] width (p ∷ made) have = absurd have

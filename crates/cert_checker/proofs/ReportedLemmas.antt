@@ -21,7 +21,7 @@ use Rattle.cert_checker.specs.CertChecker.{IsFirstDeadToLoseIn, IsFirstToLoseByT
 use Rattle.cert_checker.specs.Weights.{HaveTheirWeights}
 use Rattle.cert_checker.proofs.VersionLemmas.{of_three, to_three}
 use Rattle.cert_checker.proofs.OrderLemmas.{AreFairUpTo, dead_instances_asked, instances_asked, values_asked}
-use Rattle.cert_checker.proofs.TablesLemmas.{AreEachOneOver, AreOneOver, all_alike, as_many_widened, dead_ends_alike, fair_alike, functions_alike, first_alike, goals_alike, instances_alike, one_at, turned, turned_each}
+use Rattle.cert_checker.proofs.TablesLemmas.{AreEachOneOver, AreOneOver, all_alike, dead_ends_alike, fair_alike, functions_alike, first_alike, goals_alike, instances_alike, one_at, turned, turned_each}
 
 length_over : (tables : List Table) (place : ℕ) (values : List PotentialFunction) → length (over_tables tables place values) ≡ length values
 length_over tables place [] = refl
@@ -78,7 +78,7 @@ module _ (task : Task) (c : Certificate) (with_tables : has_tables c.version ≡
     within : place < length c.values
     within =
         let below = slice_get_within (functions_of made) place function named in
-        omega (arith, below, length_over made.tables 0 made.values, as_many_widened c.values width made.values have.values)
+        omega (arith, below, length_over made.tables 0 made.values, have.as_many)
 
     pub earlier_asked : AreFairUpTo task c place 0
     earlier_asked unfair k stage (inl before) (i, wrong) =

@@ -13,7 +13,7 @@ use Rattle.potential_functions.specs.Fair.{touches, worst, loses, loses_at_most,
 use Rattle.potential_functions.proofs.Sums.{sum-alike}
 use Rattle.table_functions.specs.TableFunctions.{Table, TableFunction, SeveralValues, over_tables, functions_of, dead_ends_of, greatest_value, given_by, has_rows, row_in, score_by_tables, sum_over, value}
 use Rattle.table_functions.specs.FairTables.{ConditionalChange, changes_in, conditional_of_instance, all_give, all_lose, is_asked, is_closed, is_shut_out, table_gives, table_loses, AreFairAt, IsFair, IsFairAt, IsFairAtGoals, IsFirstUnfairAt}
-use Rattle.cert_checker.specs.Weights.{AreWidened, HaveTheirWeights}
+use Rattle.cert_checker.specs.Weights.{AreWidened, HasItsWeights, HaveTheirWeights}
 use Rattle.cert_checker.proofs.WeightsLemmas.{AreAlike, alike}
 
 -- they have the same weights, over these tables, of whose rows the weights at one place count
@@ -157,14 +157,36 @@ as_many_widened (p ∷ said) width (q ∷ made) (has, have) = ap suc (as_many_wi
 as_many_widened [] width (q ∷ made) have = absurd have
 as_many_widened (p ∷ said) width [] have = absurd have
 
+-- one by one or at each place
+pub widened_from : (said : List PotentialFunction) (width : ℕ) (made : List PotentialFunction) → length made ≡ length said
+    → ((place : ℕ) (p q : PotentialFunction) → slice_get said place ≡ Some p → slice_get made place ≡ Some q → HasItsWeights p width q) → AreWidened said width made
+widened_from [] width [] long each = tt
+widened_from (p ∷ said) width (q ∷ made) long each = (each 0 p q refl refl, widened_from said width made (omega arith) (λ place r s at_r at_s. each (suc place) r s at_r at_s))
+widened_from [] width (q ∷ made) long each = absurd (omega arith)
+widened_from (p ∷ said) width [] long each = absurd (omega arith)
+
+pub widened_at : (said : List PotentialFunction) (width : ℕ) (made : List PotentialFunction) → AreWidened said width made → (place : ℕ) (p q : PotentialFunction) → slice_get said place ≡ Some p → slice_get made place ≡ Some q
+    → HasItsWeights p width q
+widened_at [] width [] have place p q at_p at_q = absurd (cc)
+widened_at (r ∷ said) width (s ∷ made) (has, have) zero p q at_p at_q =
+    let first : r ≡ p = cc in
+    let second : s ≡ q = cc in
+    subst (λ u. HasItsWeights p width u) second (subst (λ u. HasItsWeights u width s) first has)
+widened_at (r ∷ said) width (s ∷ made) (has, have) (suc place) p q at_p at_q = widened_at said width made have place p q at_p at_q
+widened_at [] width (s ∷ made) have place p q at_p at_q = absurd have
+widened_at (r ∷ said) width [] have place p q at_p at_q = absurd have
+
 module _ (said : SeveralValues) (width : ℕ) (made : SeveralValues) (have : HaveTheirWeights said width made) where
+  pub are_widened : AreWidened said.values width made.values
+  are_widened = widened_from said.values width made.values have.as_many have.values
+
   pub functions_alike : AreEachOneOver said.tables (functions_of made) (functions_of said)
-  functions_alike = widened_over said.tables made.tables width 0 said.values made.values have.tables have.values
+  functions_alike = widened_over said.tables made.tables width 0 said.values made.values have.tables are_widened
 
   pub dead_ends_alike : AreOneOver said.tables (dead_ends_of made) (dead_ends_of said)
   dead_ends_alike = record {
     potentials = alike said.dead_ends width made.dead_ends have.dead_ends;
     over = have.tables;
     also_over = refl;
-    place = as_many_widened said.values width made.values have.values;
+    place = have.as_many;
   }

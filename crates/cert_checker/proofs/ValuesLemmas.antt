@@ -19,7 +19,7 @@ use Rattle.cert_checker.specs.PackedLines.{IsPackedListing}
 use Rattle.cert_checker.specs.Weights.{AreWidened, HasItsWeights, HaveTheirWeights}
 use Rattle.cert_checker.proofs.LimitsLemmas.{limits_of}
 use Rattle.cert_checker.proofs.PackedListingLemmas.{packs, value_there}
-use Rattle.cert_checker.proofs.TablesLemmas.{dead_ends_alike, functions_alike, greatest_alike, value_alike}
+use Rattle.cert_checker.proofs.TablesLemmas.{are_widened, dead_ends_alike, functions_alike, greatest_alike, value_alike}
 use Rattle.cert_checker.proofs.VersionLemmas.{dead_end_as, no_tables, of_three, one_for_each, one_value, value_as}
 
 -- ---- without tables
@@ -58,7 +58,7 @@ module _ (task : Task) (atoms : List Atom) (c : Certificate) (store : PooledStor
   by_potentials : has_tables c.version ≡ false → greatest_value (functions_of made) bits ≡ value_of task c state
   by_potentials without =
       let one = one_value c.version (length c.values) without (limits_of c keeps).value_count in
-      let (p, has, is) = greatest_alone c.values (length atoms) made.values (record { constant = pos 0; weights = [] }) have.values one in
+      let (p, has, is) = greatest_alone c.values (length atoms) made.values (record { constant = pos 0; weights = [] }) (are_widened (several_of c) (length atoms) made have) one in
       ap (λ those. greatest_value (over_tables those 0 made.values) bits) (no_tables_made without)
       ∙ is bits
       ∙ value_there task atoms c store listed (potentials_of c) p bits has (one_for_each c keeps).0 long

@@ -1,5 +1,5 @@
 -- A certificate's values, for a ground task in which more atoms than the certificate's have numbers.
-use Rattle.std.specs.Prelude.{◌≡◌, ℕ, ◌+◌, All, List, [], ◌∷◌, length}
+use Rattle.std.specs.Prelude.{◌≡◌, ℕ, ◌+◌, All, List, [], ◌∷◌, Some, length, slice_get}
 use Rattle.certificate.specs.declared.cert.Cert.{Cert}
 use Rattle.certificate.specs.Certificate.{certificate_of, tables_in}
 use Rattle.potential_functions.specs.PotentialFunctions.{PotentialFunction, weight}
@@ -19,9 +19,10 @@ AreWidened [] width [] = Unit {0}
 AreWidened (said ∷ more) width (p ∷ others) = HasItsWeights said width p × AreWidened more width others
 AreWidened _ width _ = ⊥
 
--- and of that of dead ends, over the same tables
+-- So it is of each value and of that of dead ends, over the same tables.
 pub record HaveTheirWeights (said : SeveralValues) (width : ℕ) (s : SeveralValues) : Type 0 where
-  pub values : AreWidened said.values width s.values
+  pub as_many : length s.values ≡ length said.values
+  pub values : (place : ℕ) (p q : PotentialFunction) → slice_get said.values place ≡ Some p → slice_get s.values place ≡ Some q → HasItsWeights p width q
   pub dead_ends : HasItsWeights said.dead_ends width s.dead_ends
   pub tables : s.tables ≡ said.tables
 

@@ -5,7 +5,7 @@ ghost use Rattle.potentials.specs.Potentials.{potentials_of};
 ghost use Rattle.potentials.specs.declared.potentials.Potentials as in_memory;
 ghost use Rattle.certificate.specs.Certificate.{certificate_of};
 ghost use Rattle.certificate.specs.CertificateParts.{potential_of};
-ghost use Rattle.certificate.specs.declared.header.Potential as said;
+ghost use Rattle.certificate.specs.declared.header.Potential as header;
 ghost use Rattle.certificate_definitions.specs.Certificates as certificates;
 ghost use Rattle.certificate_definitions.specs.Certificates.{has_tables, AreFairFor};
 ghost use Rattle.potential_functions.specs.PotentialFunctions.{PotentialFunction, AreInRange};
@@ -133,7 +133,7 @@ fn over_tables<'a>(
     requires as_many { length values.items ≡ length (certificate_of cert.now).values }
     requires values { All (λ (p : in_memory.Potentials). length (potentials_of p).weights ≡ length (atoms_in grounded.now)) values.items }
     requires dead_ends { length (potentials_of dead_ends).weights ≡ length (atoms_in grounded.now) }
-    ensures { IfOk result (λ f. several_of f ≡ record { values = map potentials_of values.entry.items; dead_ends = potentials_of dead_ends; tables = (certificate_of cert.now).tables }) }
+    ensures { IfOk result (λ f. several_of f ≡ record { values = map potentials_of values.items; dead_ends = potentials_of dead_ends; tables = (certificate_of cert.now).tables }) }
 {
     let count = values.len() as u32 + 1;
     let tables = IndexedTables::index(alloc, grounded.width(), count, &cert.bounds().tables)?;
@@ -146,8 +146,8 @@ fn all_at_width(
     said: &[Potential],
     width: u32,
 ) -> Result<Vec<Potentials>, NoMemory>
-    requires range { All (λ (p : said.Potential). AreInRange (potential_of p)) said.now }
-    requires enough { All (λ (p : said.Potential). length (potential_of p).weights ≤ width) said.now }
+    requires range { All (λ (p : header.Potential). AreInRange (potential_of p)) said.now }
+    requires enough { All (λ (p : header.Potential). length (potential_of p).weights ≤ width) said.now }
     ensures { IfOk result (λ made. AreWidened (map potential_of said.now) width (map potentials_of made.items)) }
 {
     let mut made = Vec::new(alloc);
