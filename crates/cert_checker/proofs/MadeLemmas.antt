@@ -2,19 +2,19 @@
 use Rattle.std.proofs.Common.{◌≡◌, ◌∙◌, ℕ, zero, suc, ◌+◌, ◌≤◌, ◌<◌, true, ◌&&◌, List, [], ◌∷◌, ◌++◌, length, map, get_or, refl, sym, ap, subst, arith, ℤ}
 use Rattle.std.specs.Prelude.{All, IsTrue, ◌==◌, nat_le}
 use Rattle.std.specs.List.{list_all}
-use Rattle.std.proofs.lemmas.Bool.{and_parts}
+use Rattle.std.proofs.lemmas.Bool.{and_parts, eqb-true, leb-true}
 use Rattle.std.proofs.lemmas.List.Elements.{All-cons}
 use Rattle.certificate.specs.declared.header.Potential.{Potential}
 use Rattle.certificate.specs.CertificateParts.{potential_of}
-use Rattle.certificate_definitions.specs.Certificates.{Version, are_potentials, are_tables, are_weights, has_tables, is_row, is_table, is_weight, rise}
+use Rattle.certificate_definitions.specs.Certificates.{Version, one, two, three, is_value_count, are_potentials, are_tables, are_weights, has_tables, is_row, is_table, is_weight, rise}
 use Rattle.potential_functions.specs.PotentialFunctions.{PotentialFunction, AreInRange, IsInRange}
 use Rattle.potentials.specs.declared.potentials.Potentials.{Potentials}
 use Rattle.potentials.specs.Potentials.{potentials_of}
-use Rattle.cert_checker.specs.Weights.{AreWidened, HasItsWeights}
-use Rattle.table_functions.specs.TableFunctions.{Row, is_among}
-use Rattle.table_functions.specs.TableFunctions as functions
+use Rattle.cert_checker.specs.Weights.{AreWidened, HasItsWeights, HaveTheirWeights}
+use Rattle.cert_checker.proofs.TablesLemmas.{as_many_widened, widened_at}
+use Rattle.table_functions.specs.TableFunctions.{Row, SeveralValues, is_among}
 use Rattle.table_rows.specs.declared.table.Table.{Table}
-use Rattle.table_rows.specs.Tables.{table_of}
+use Rattle.table_rows.specs.Tables.{table_of, weight_count_of}
 use Rattle.cert_checker.proofs.VersionLemmas.{one_weight_each}
 use Rattle.cert_checker.proofs.WeightsLemmas.{said_in_range, weights_in_range}
 
@@ -69,3 +69,28 @@ each_as_wide said width [] have = λ k d below. absurd (omega arith)
 each_as_wide (q ∷ said) width (p ∷ made) (has, have) =
     All-cons (λ (p : Potentials). length (potentials_of p).weights ≡ width) p made has.as_many (each_as_wide said width made have)
 each_as_wide [] width (p ∷ made) have = absurd have
+
+-- where there is no table, none has other weights
+pub none_counted : (count : ℕ) (tables : List Table) → map table_of tables ≡ [] → All (λ (t : Table). weight_count_of t ≡ count) tables
+none_counted count [] none = λ k d below. absurd (omega arith)
+none_counted count (t ∷ tables) none = absurd (cc)
+
+-- ---- several values
+
+pub few_values : (v : Version) (count : ℕ) → is_value_count v count ≡ true → count ≤ 32
+few_values one count is = let same = eqb-true count 1 is in omega (arith, same)
+few_values two count is = let same = eqb-true count 1 is in omega (arith, same)
+few_values three count is = leb-true count 32 (and_parts (nat_le 1 count) (nat_le count 32) is).1
+
+pub one_widened : (values : List PotentialFunction) (width : ℕ) (p d : PotentialFunction) → length values ≡ 1 → HasItsWeights (get_or values 0 d) width p → AreWidened values width (p ∷ [])
+one_widened (q ∷ []) width p d one has = (has, tt)
+one_widened [] width p d one has = absurd (omega arith)
+one_widened (q ∷ r ∷ values) width p d one has = absurd (omega arith)
+
+pub have_weights : (said made : SeveralValues) (width : ℕ) → AreWidened said.values width made.values → HasItsWeights said.dead_ends width made.dead_ends → made.tables ≡ said.tables → HaveTheirWeights said width made
+have_weights said made width widened dead_ends tables = record {
+  as_many = as_many_widened said.values width made.values widened;
+  values = widened_at said.values width made.values widened;
+  dead_ends = dead_ends;
+  tables = tables;
+}
