@@ -83,9 +83,9 @@ few_values two count is = let same = eqb-true count 1 is in omega (arith, same)
 few_values three count is = leb-true count 32 (and_parts (nat_le 1 count) (nat_le count 32) is).1
 
 pub one_widened : (values : List PotentialFunction) (width : ℕ) (p d : PotentialFunction) → length values ≡ 1 → HasItsWeights (get_or values 0 d) width p → AreWidened values width (p ∷ [])
-one_widened (q ∷ []) width p d one has = (has, tt)
-one_widened [] width p d one has = absurd (omega arith)
-one_widened (q ∷ r ∷ values) width p d one has = absurd (omega arith)
+one_widened (q ∷ []) width p d single has = (has, tt)
+one_widened [] width p d single has = absurd (omega arith)
+one_widened (q ∷ r ∷ values) width p d single has = absurd (omega arith)
 
 pub have_weights : (said made : SeveralValues) (width : ℕ) → AreWidened said.values width made.values → HasItsWeights said.dead_ends width made.dead_ends → made.tables ≡ said.tables → HaveTheirWeights said width made
 have_weights said made width widened dead_ends tables = record {
