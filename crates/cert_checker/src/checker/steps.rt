@@ -129,7 +129,14 @@ fn check_lines(alloc: Global, listing: &PackedListing) -> Result<(), Refusal>
     let mut numbers = Vec::new(alloc);
     let mut room = listing.room(alloc)?;
     for place in 0..listing.cert.marks().len() {
-        check_line(listing, place, &mut state, &mut next, &mut numbers, &mut room)?;
+        check_line(
+            listing,
+            place,
+            &mut state,
+            &mut next,
+            &mut numbers,
+            &mut room,
+        )?;
     }
     Ok(())
 }

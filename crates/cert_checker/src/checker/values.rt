@@ -141,11 +141,7 @@ fn over_tables<'a>(
 }
 
 /// Each of these potentials, with the weight 0 for each further number below the width.
-fn all_at_width(
-    alloc: Global,
-    said: &[Potential],
-    width: u32,
-) -> Result<Vec<Potentials>, NoMemory>
+fn all_at_width(alloc: Global, said: &[Potential], width: u32) -> Result<Vec<Potentials>, NoMemory>
     requires range { All (λ (p : header.Potential). AreInRange (potential_of p)) said.now }
     requires enough { All (λ (p : header.Potential). length (potential_of p).weights ≤ width) said.now }
     ensures { IfOk result (λ made. AreWidened (map potential_of said.now) width (map potentials_of made.items)) }

@@ -53,8 +53,7 @@ returns-in-Instance-clause-first c =
 
 pub returns-in-Goals-clause-wrong : goal.returns-in-Goals-clause-wrong
 returns-in-Goals-clause-wrong c =
-    λ plan most.
-    (
+    λ plan most. (
       c.in-Goals.place,
       unfair_at_goals_by_tables (task_in c.args.grounded.now) (certificate_of c.args.cert.now) c.requires.version (several_of c.args.functions.now) (length (atoms_in c.args.grounded.now)) c.requires.weights
           c.in-Goals.place (reports (goal.at.returns-in-Goals-clause-wrong c).In_ok-fairness (reported.Goals c.in-Goals.place) c.in-Goals.is),

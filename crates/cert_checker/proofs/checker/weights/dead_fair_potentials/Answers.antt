@@ -95,8 +95,7 @@ returns-in-Goal-clause-wrong c =
     let task = task_in c.args.grounded.now in
     let atoms = atoms_in c.args.grounded.now in
     let cert = certificate_of c.args.cert.now in
-    let p = potentials_of c.in_ok-potentials.potentials in
-    (
+    let p = potentials_of c.in_ok-potentials.potentials in (
       length cert.values,
       (
         refl,
