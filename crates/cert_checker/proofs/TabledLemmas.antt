@@ -1,8 +1,8 @@
 -- What lines of tables give.
-use Rattle.std.proofs.Common.{◌≡◌, ◌∙◌, ℕ, ◌+◌, ◌-◌, ◌<◌, ◌≤◌, true, false, true≢false, List, [], ◌∷◌, ◌++◌, map, length, Some, refl, sym, ap, subst, append_assoc, append-nil, arith}
+use Rattle.std.proofs.Common.{◌≡◌, ◌∙◌, ℕ, ◌+◌, ◌<◌, true, false, true≢false, List, [], ◌∷◌, ◌++◌, map, length, Some, refl, sym, ap, subst, append_assoc, append-nil, arith}
 use Rattle.std.specs.Prelude.{◌&&◌, ◌==◌, nat_le, nat_lt, ℤ, Bool, IsTrue, Contains}
 use Rattle.std.specs.List.{flat_map, list_all, range_with_len}
-use Rattle.std.proofs.lemmas.Bool.{and_parts, eqb-true, leb-true, ltb-true}
+use Rattle.std.proofs.lemmas.Bool.{and_parts, eqb-true, ltb-true}
 use Rattle.std.proofs.lemmas.List.{length-map, map-append}
 use Rattle.std.proofs.lemmas.List.Elements.{All-contains, All-nil, filter_map-append}
 use Rattle.std.proofs.lemmas.List.FromFn.{length-range_with_len}
@@ -14,7 +14,7 @@ use Rattle.table_functions.specs.TableFunctions.{Row, is_among}
 use Rattle.table_rows.specs.Tables.{table_of, weight_count_of}
 use Rattle.table_rows.specs.declared.by_atoms.Added.TheVariants.{New}
 use Rattle.table_rows.specs.declared.table.Table.{Table}
-use Rattle.certificate_definitions.specs.Certificates.{Version, one, two, three, are_weights, has_tables, is_weight, rise, rows_of}
+use Rattle.certificate_definitions.specs.Certificates.{are_weights, has_tables, is_weight, rise, rows_of}
 use Rattle.certificate_definitions.specs.CertificateText.{TableLine, scope, row, Format, TextLine, version, claims, constant, atom, tabled, listed, last, Beginning, BeginCertificate, format_in, head_lines, is_line, is_table_line, is_weight_count, most_atoms, most_rows, most_tables, row_count, scope_count}
 use Rattle.certificate_definitions.specs.CertificateNames.{table_lines, value_count}
 use Rattle.certificate_definitions.specs.CertificateMachine.{Body, CertificatePlace, at_version, at_claim, at_constant, in_body, ended, atom_follows, atom_more, next_place, row_follows, row_more, scope_more}
@@ -27,11 +27,11 @@ use Rattle.certificate.specs.CertificateParts.{potential_of}
 use Rattle.cert_checker.specs.declared.refusal.Refusal.{Refusal}
 use Rattle.cert_checker.specs.declared.refusal.Refusal.TheVariants as refusal
 use Rattle.cert_checker.specs.declared.refusal.RefusalCode.TheVariants.{CertForm, Repeated}
-use Rattle.cert_checker.specs.Given.{Heading, HaveGiven, table_in, tables_given, value_given}
+use Rattle.cert_checker.specs.Given.{Heading, HaveGiven, atoms_given, table_in, tables_given, value_given}
 use Rattle.cert_checker.specs.Tabled.{AreWeighed, HaveWeights, IsAddedToLast, IsFitHead, IsRowRefused, with_scope, with_tables}
 use Rattle.cert_checker.specs.Taking.{HasTaken, IsWrongNow, heading_of}
 use Rattle.cert_checker.proofs.GivenLemmas.{placed, reported_tables}
-use Rattle.cert_checker.proofs.LimitsLemmas.{rows_are, scopes_are}
+use Rattle.cert_checker.proofs.LimitsLemmas.{few_constants, one_constant_more, rows_are, scopes_are}
 use Rattle.cert_checker.proofs.TableLinesLemmas.{one_end, rising_few, rising_from, rows_of_one}
 
 -- ---- where a line of a table is
@@ -86,11 +86,6 @@ follows_tables before t begun = let at = placed before (tabled t) begun in by_pl
     by_place (in_body b) body next leads = of_body b body t next leads
     by_place ended are next leads = never next leads
 
-is_three : (v : Version) → has_tables v ≡ true → v ≡ three
-is_three one has = absurd (true≢false (sym has))
-is_three two has = absurd (true≢false (sym has))
-is_three three has = refl
-
 -- ---- one line more
 
 module _ (task : Task) (before : List TextLine) (heading : Heading) (reported : HaveGiven task before heading) where
@@ -104,33 +99,22 @@ module _ (task : Task) (before : List TextLine) (heading : Heading) (reported : 
     lines_of_tables : opening.tables ≡ flat_map table_lines heading.bounds.tables
     lines_of_tables = sym (tables_of_body opening.atoms opening.tables opening.states) ∙ sym (ap tables_given at.lines_are) ∙ sym reported.tables
 
-    version_is : heading.version ≡ three
-    version_is =
-        let there : Contains before (version opening.version) = subst (λ lines. Contains lines (version opening.version)) (sym at.lines_are)
-        (Contains-here (version opening.version) (claims opening.claim ∷ constant opening.constants ∷ further)) in
-        reported.one_version opening.version there ∙ is_three opening.version (and_parts (has_tables opening.version) (is_table_line (format_in opening) t) at.line_is).0
-
-    constants_are : (2 ≤ length opening.constants) × (length opening.constants ≤ 33)
-    constants_are =
-        let n = length opening.constants in
-        let version_three = is_three opening.version (and_parts (has_tables opening.version) (is_table_line (format_in opening) t) at.line_is).0 in
-        let count_is = (and_parts (is_weight_count opening.version n) (list_all is_weight opening.constants) at.keeps.constants_are).0 in
-        let (some, few) = and_parts (nat_le 2 n) (nat_le n 33) (subst (λ v. is_weight_count v n ≡ true) version_three count_is) in
-        (leb-true 2 n some, leb-true n 33 few)
+    count_is : is_weight_count opening.version (length opening.constants) ≡ true
+    count_is = (and_parts (is_weight_count opening.version (length opening.constants)) (list_all is_weight opening.constants) at.keeps.constants_are).0
 
     -- there is a constant for each value and one for dead ends
     as_many_values : length heading.bounds.values + 1 ≡ length opening.constants
     as_many_values =
+        let v = opening.version in
         let k = opening.constants in
+        let version_is = reported.one_version v (subst (λ lines. Contains lines (version v)) (sym at.lines_are) (Contains-here (version v) (claims opening.claim ∷ constant k ∷ further))) in
         let there : Contains before (constant k) = subst (λ lines. Contains lines (constant k)) (sym at.lines_are)
-        (Contains-there (version opening.version) (claims opening.claim ∷ constant k ∷ further) (constant k)
+        (Contains-there (version v) (claims opening.claim ∷ constant k ∷ further) (constant k)
         (Contains-there (claims opening.claim) (constant k ∷ further) (constant k) (Contains-here (constant k) further))) in
-        let given = reported.given k there in
-        let places = range_with_len 0 (value_count heading.version (length k)) in
-        let many : length heading.bounds.values ≡ value_count heading.version (length k) =
-        ap length given.values ∙ length-map places _ ∙ length-range_with_len 0 (value_count heading.version (length k)) in
-        let less : length heading.bounds.values ≡ length k - 1 = many ∙ ap (λ v. value_count v (length k)) version_is in
-        omega (arith, less, constants_are.0)
+        let count = value_count heading.version (length k) in
+        let many : length heading.bounds.values ≡ count = ap length (reported.given k there).values ∙ length-map (range_with_len 0 count) (value_given k (atoms_given before)) ∙ length-range_with_len 0 count in
+        ap (λ n. n + 1) (many ∙ ap (λ v. value_count v (length k)) version_is)
+        ∙ one_constant_more v (length k) (and_parts (has_tables v) (is_table_line (format_in opening) t) at.line_is).0 count_is
 
   -- ---- a scope
 
@@ -253,7 +237,7 @@ module _ (task : Task) (before : List TextLine) (header : Header) (reported : Ha
       record {
         rising = rising_from n 0 s rises;
         few = omega (arith, rising_few n 0 s rises (omega arith), at.keeps.few_atoms);
-        few_values = omega (arith, as_many_values task before (heading_of header) reported (scope s) at, (constants_are task before (heading_of header) reported (scope s) at).1, values_length);
+        few_values = omega (arith, as_many_values task before (heading_of header) reported (scope s) at, few_constants at.beginning.version (length at.beginning.constants) (count_is task before (heading_of header) reported (scope s) at), values_length);
       }
   fit_head (tabled (row r)) weighed begun =
       let at = follows_tables before (row r) begun in

@@ -15,8 +15,7 @@ use Rattle.cert_checker.specs.Reading.{IsLineRefusal, IsListedSoFar, IsRead}
 use Rattle.cert_checker.proofs.ReadingLemmas.{fault_reported, one_read, wrong_counts, wrong_reported}
 use Rattle.cert_checker.proofs.ListingLemmas.{as_many_listed, few_begun, fewer_left, fit_next, read_whole, so_far_next}
 use Rattle.certificate.specs.CertificateParts.{certificate_with}
-use Rattle.cert_checker.proofs.GivenLemmas.{checked_has_no_tables}
-use Rattle.cert_checker.proofs.LimitsLemmas.{limits_kept_without_tables}
+use Rattle.cert_checker.proofs.LimitsLemmas.{limits_kept}
 use Rattle.cert_checker.proofs.cert_reader.read_cert.Goals as goal
 
 pub overflow_cast-len : goal.overflow_cast-len
@@ -99,7 +98,7 @@ from_parts-requires-clause-limits g c =
     let certificate = certificate_with c.in_ok-header.header states in
     let read = read_whole g.R.Source.remaining (task_of c.args.task.now) c.args.reader.now c.states.reader c.in_ok-header.header
     (pooled_width states.sets) (map listed_of states.marks.items) (pooled_states states.sets) (rw c.in_default.is at c.states.invariant.so_far) in
-    limits_kept_without_tables (task_of c.args.task.now) read.text certificate read.is_text (checked_has_no_tables certificate.version read.checked)
+    limits_kept (task_of c.args.task.now) read.text certificate read.is_text read.tables
 
 pub from_parts-requires-clause-marked : goal.from_parts-requires-clause-marked
 from_parts-requires-clause-marked g c =
