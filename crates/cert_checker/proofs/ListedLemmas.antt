@@ -1,5 +1,5 @@
 -- States that are taken, and states that came before.
-use Rattle.std.proofs.Common.{◌≡◌, ℕ, Bool, true, false, List, [], ◌∷◌, ◌++◌, map, Some, refl, sym, ap, ◌∙◌, subst}
+use Rattle.std.proofs.Common.{◌≡◌, ℕ, Bool, true, List, [], ◌∷◌, ◌++◌, map, Some, refl, sym, ap, ◌∙◌, subst}
 use Rattle.std.specs.Prelude.{◌&&◌, All, Contains, OnOk, Result, Ok, Err}
 use Rattle.std.specs.List.{list_all}
 use Rattle.std.proofs.lemmas.List.{map-append}

@@ -1,7 +1,6 @@
 -- Tables in memory that lines give, and lines of tables.
 use Rattle.std.proofs.Common.{◌≡◌, ◌∙◌, ℕ, zero, suc, ◌+◌, ◌<◌, ◌≤◌, true, List, [], ◌∷◌, ◌++◌, map, length, length-append, get_or, refl, sym, ap, arith}
-use Rattle.std.specs.Prelude.{◌&&◌, IfOk, IsTrue, Result, Ok, Err, nat_lt, slice_set}
-use Rattle.std.specs.List.{flat_map}
+use Rattle.std.specs.Prelude.{IfOk, IsTrue, Result, Ok, Err, nat_lt, slice_set}
 use Rattle.std.proofs.lemmas.Bool.{and_from, lt-ltb}
 use Rattle.std.proofs.lemmas.List.{map-append}
 use Rattle.std.proofs.lemmas.List.Elements.{All-set}

@@ -1,6 +1,6 @@
 -- What lines of tables give.
 use Rattle.std.proofs.Common.{◌≡◌, ◌∙◌, ℕ, ◌+◌, ◌<◌, true, false, true≢false, List, [], ◌∷◌, ◌++◌, map, length, Some, refl, sym, ap, subst, append_assoc, append-nil, arith}
-use Rattle.std.specs.Prelude.{◌&&◌, ◌==◌, nat_le, nat_lt, ℤ, Bool, IsTrue, Contains}
+use Rattle.std.specs.Prelude.{◌&&◌, ◌==◌, nat_le, nat_lt, Bool, Contains}
 use Rattle.std.specs.List.{flat_map, list_all, range_with_len}
 use Rattle.std.proofs.lemmas.Bool.{and_parts, eqb-true, ltb-true}
 use Rattle.std.proofs.lemmas.List.{length-map, map-append}
@@ -14,14 +14,13 @@ use Rattle.table_functions.specs.TableFunctions.{Row, is_among}
 use Rattle.table_rows.specs.Tables.{table_of, weight_count_of}
 use Rattle.table_rows.specs.declared.by_atoms.Added.TheVariants.{New}
 use Rattle.table_rows.specs.declared.table.Table.{Table}
-use Rattle.certificate_definitions.specs.Certificates.{are_weights, has_tables, is_weight, rise, rows_of}
-use Rattle.certificate_definitions.specs.CertificateText.{TableLine, scope, row, Format, TextLine, version, claims, constant, atom, tabled, listed, last, Beginning, BeginCertificate, format_in, head_lines, is_line, is_table_line, is_weight_count, most_atoms, most_rows, most_tables, row_count, scope_count}
+use Rattle.certificate_definitions.specs.Certificates.{are_weights, has_tables, is_weight, rise}
+use Rattle.certificate_definitions.specs.CertificateText.{TableLine, scope, row, TextLine, version, claims, constant, atom, tabled, listed, last, Beginning, BeginCertificate, format_in, head_lines, is_line, is_table_line, is_weight_count, most_atoms, most_rows, most_tables, row_count, scope_count}
 use Rattle.certificate_definitions.specs.CertificateNames.{table_lines, value_count}
 use Rattle.certificate_definitions.specs.CertificateMachine.{Body, CertificatePlace, at_version, at_claim, at_constant, in_body, ended, atom_follows, atom_more, next_place, row_follows, row_more, scope_more}
-use Rattle.certificate_definitions.specs.CertificateChecking.{EndInTable, HasRow, IsWrongAfter, is_of_scope, not_of_scope, repeated_row, not_fluent, repeated_atom, repeated_state, cut_not_allowed}
+use Rattle.certificate_definitions.specs.CertificateChecking.{EndInTable, IsWrongAfter, is_of_scope, not_of_scope, repeated_row, not_fluent, repeated_atom, repeated_state, cut_not_allowed}
 use Rattle.certificate_definitions.proofs.Beginnings.{body_lines, tables_of_body}
 use Rattle.certificate_definitions.proofs.Machine.{ComesBefore, IsBody, Keeps, body_of, never, no_states, no_tables, only_where}
-use Rattle.certificate.specs.declared.header.Bounds.{Bounds}
 use Rattle.certificate.specs.declared.header.Header.{Header}
 use Rattle.certificate.specs.CertificateParts.{potential_of}
 use Rattle.cert_checker.specs.declared.refusal.Refusal.{Refusal}

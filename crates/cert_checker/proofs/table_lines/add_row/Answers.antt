@@ -1,4 +1,4 @@
-use Rattle.std.proofs.Common.{◌≡◌, ◌-◌, length, suc, arith}
+use Rattle.std.proofs.Common.{◌-◌, arith}
 use Rattle.cert_checker.proofs.TableLinesLemmas.{if_added, still_weighed}
 use Rattle.cert_checker.proofs.table_lines.add_row.Goals as goal
 
