@@ -134,31 +134,31 @@ module _ {R : Type 0} (remaining : R → Option (List ℕ)) (task : Task) (first
             let atoms_are : atoms_given lines ≡ c.atoms = ap atoms_given (sym are) ∙ atoms_of_text c in
             let tables = header.bounds.tables.items in
             let is_text : IsTextOf task (text_of lines) certificate = record {
-          said = c;
-          text = record { within = keeps; lines = ap text_of (sym are) };
-          version = sym version_is;
-          claim = sym (reported.one_claim c.claim (subst (λ lines. Contains lines (claims c.claim)) are (claim_occurs c)));
-          atoms = subst (λ (said : List WeightedAtom). AllName task (map (λ a. a.atom) said) atoms) (ap atoms_given (sym are) ∙ atoms_of_text c) reported.named;
-          values = given.values ∙ (λ i. values_given (version_is i) c.constants (atoms_are i));
-          dead_ends = given.dead_ends ∙ (λ i. dead_ends_given (version_is i) c.constants (atoms_are i));
-          tables = sym (tables_of_text c) ∙ ap tables_given are ∙ sym reported.tables;
-          lines = sym (states_are ∙ ap states_given (sym are) ∙ states_of_text c);
-        } in
+              said = c;
+              text = record { within = keeps; lines = ap text_of (sym are) };
+              version = sym version_is;
+              claim = sym (reported.one_claim c.claim (subst (λ lines. Contains lines (claims c.claim)) are (claim_occurs c)));
+              atoms = subst (λ (said : List WeightedAtom). AllName task (map (λ a. a.atom) said) atoms) (ap atoms_given (sym are) ∙ atoms_of_text c) reported.named;
+              values = given.values ∙ (λ i. values_given (version_is i) c.constants (atoms_are i));
+              dead_ends = given.dead_ends ∙ (λ i. dead_ends_given (version_is i) c.constants (atoms_are i));
+              tables = sym (tables_of_text c) ∙ ap tables_given are ∙ sym reported.tables;
+              lines = sym (states_are ∙ ap states_given (sym are) ∙ states_of_text c);
+            } in
             record {
-          text = text_of lines;
-          consumed = over.consumed;
-          at_end = over.at_end;
-          is_text = is_text;
-          lines = lines;
-          text_is = refl;
-          right = reported.right;
-          fluent = reported.fluent;
-          distinct = reported.distinct;
-          tables = tables_in_limits task (text_of lines) certificate is_text
-              (All-map (λ (t : model.Table). All (λ (r : Row). list_all (is_among t.scope) r.atoms ≡ true) t.rows) table_of tables (λ k d below. rows-of-scope (get_or tables k d)));
-          rows_distinct = All-map (λ (t : model.Table). AllPairs (λ (q r : Row). q.atoms ≢ r.atoms) t.rows) table_of tables (λ k d below. rows-distinct (get_or tables k d));
-          allowed = λ is_none. subst (All (λ (l : StateLine). ¬ IsCut l.mark)) (sym states_are) (have.allowed is_none);
-        }
+              text = text_of lines;
+              consumed = over.consumed;
+              at_end = over.at_end;
+              is_text = is_text;
+              lines = lines;
+              text_is = refl;
+              right = reported.right;
+              fluent = reported.fluent;
+              distinct = reported.distinct;
+              tables = tables_in_limits task (text_of lines) certificate is_text
+                  (All-map (λ (t : model.Table). All (λ (r : Row). list_all (is_among t.scope) r.atoms ≡ true) t.rows) table_of tables (λ k d below. rows-of-scope (get_or tables k d)));
+              rows_distinct = All-map (λ (t : model.Table). AllPairs (λ (q r : Row). q.atoms ≢ r.atoms) t.rows) table_of tables (λ k d below. rows-distinct (get_or tables k d));
+              allowed = λ is_none. subst (All (λ (l : StateLine). ¬ IsCut l.mark)) (sym states_are) (have.allowed is_none);
+            }
 
     -- what comes after a line that was taken
     module _ (before : List TextLine) (line : TextLine) (at : IsAt remaining first now (before ++ line ∷ [])) (reported : HasTaken task (before ++ line ∷ []) header)

@@ -23,12 +23,7 @@ fn potential(alloc: Global, constant: i64, weights: [i64; 2]) -> Result<Potentia
 }
 
 /// Puts the row of these atoms and these weights after the others, if the table's rows have three.
-fn add(
-    alloc: Global,
-    table: &mut Table,
-    atoms: &[u32],
-    weights: [i64; 3],
-) -> Result<(), NoMemory>
+fn add(alloc: Global, table: &mut Table, atoms: &[u32], weights: [i64; 3]) -> Result<(), NoMemory>
     requires { IsTrue (are_rising atoms.now) }
 {
     if table.weight_count() == 3 && table.row_count() < 8 {
@@ -75,7 +70,8 @@ fn cert(alloc: Global, version: Version) -> Result<Option<Cert>, NoMemory> {
 }
 
 /// Its text.
-const TEXT: &[u8] = b"pddl-cert 3\nclaim bound 0\nconstant 1 2 0\natom 0 -1 0 (p)\natom 3 0 4 (q)\ntable 1\nrow 0 0 0\nrow -2 5 1 1\nopen 0 0\nend 1\n";
+const TEXT: &[u8] =
+    b"pddl-cert 3\nclaim bound 0\nconstant 1 2 0\natom 0 -1 0 (p)\natom 3 0 4 (q)\ntable 1\nrow 0 0 0\nrow -2 5 1 1\nopen 0 0\nend 1\n";
 
 #[test]
 fn a_certificate_with_tables_is_written(rt: HostRuntime) -> Result<(), Fail> {
