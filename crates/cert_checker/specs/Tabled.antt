@@ -9,7 +9,9 @@ use Rattle.table_rows.specs.declared.by_atoms.Added.{Added}
 use Rattle.table_rows.specs.declared.by_atoms.Added.TheVariants.{New, OutsideScope, Repeated}
 use Rattle.table_rows.specs.declared.table.Table.{Table}
 use Rattle.certificate_definitions.specs.CertificateText.{TextLine, version, claims, constant, atom, scope, row, tabled, listed, last}
+use Rattle.certificate.specs.declared.cert.Cert.{Cert}
 use Rattle.certificate.specs.declared.header.Bounds.{Bounds}
+use Rattle.certificate.specs.Certificate.{certificate_of, tables_in}
 use Rattle.cert_checker.specs.declared.refusal.Refusal.{Refusal}
 use Rattle.cert_checker.specs.declared.refusal.Refusal.TheVariants as refusal
 use Rattle.cert_checker.specs.declared.refusal.RefusalCode.TheVariants.{CertForm, Repeated as RepeatedRow}
@@ -21,6 +23,10 @@ HaveWeights count tables = All (λ (t : Table). weight_count_of t ≡ count) tab
 -- it has one for each value and, last, one for dead ends
 abbrev pub AreWeighed : Bounds → Type 0
 AreWeighed bounds = HaveWeights (length bounds.values.items + 1) bounds.tables.items
+
+-- so it is in the tables of this certificate, as they stand in memory
+abbrev pub AreWeighedIn : Cert → Type 0
+AreWeighedIn cert = HaveWeights (length (certificate_of cert).values + 1) (tables_in cert)
 
 -- ---- lines that fit
 

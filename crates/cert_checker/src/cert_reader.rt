@@ -3,6 +3,7 @@ ghost use Rattle.std.specs.Prelude.{IfErr, IfOk};
 ghost use Rattle.task.specs.Task.{task_of};
 ghost use Rattle.certificate_reader.specs.Reader.{source_of};
 ghost use Rattle.cert_checker.specs.Reading.{CountsRefusal, IsFresh, IsLineRefusal, IsRead};
+ghost use Rattle.cert_checker.specs.Tabled.{AreWeighedIn};
 ghost use Rattle.certificate.specs.Certificate.{certificate_of};
 
 use crate::header::read_header;
@@ -28,6 +29,7 @@ pub fn read_cert<R: Source>(
 ) -> Result<Cert, Refusal>
     requires fresh { IsFresh reader.old }
     ensures read { IfOk result (λ cert. IsRead R.remaining (task_of task.now) reader.old reader.new (certificate_of cert)) }
+    ensures weighed { IfOk result AreWeighedIn }
     ensures refused { IfErr result (IsLineRefusal R.remaining (task_of task.now) reader.old reader.new) }
     ensures failures { CountsRefusal (R.failures (source_of reader.old)) (R.failures (source_of reader.new)) result }
 {

@@ -201,6 +201,7 @@ pub(crate) fn read_header<R: Source>(
 ) -> Result<(Header, Option<CertLine>), Refusal>
     requires { IsFresh reader.old }
     ensures begun { IfOk result (λ read. IsBegun R.remaining (task_of task.now) reader.old reader.new read.0 read.1) }
+    ensures weighed { IfOk result (λ read. AreWeighed read.0.bounds) }
     ensures refused { IfErr result (IsLineRefusal R.remaining (task_of task.now) reader.old reader.new) }
     ensures failures { CountsRefusal (R.failures (source_of reader.old)) (R.failures (source_of reader.new)) result }
 {

@@ -85,6 +85,13 @@ returns-in-Some-2-clause-begun g c =
       subst (λ line. is_body line ≡ true) (sym back.1) back.2,
     )
 
+pub returns-in-Some-2-clause-weighed : goal.returns-in-Some-2-clause-weighed
+returns-in-Some-2-clause-weighed g c =
+    let so_far = c.lines.invariant in
+    let line = text_line_of c.in-Some.line in
+    let at = at_line g (goal.at.returns-in-Some-2-clause-weighed g c).In-Some in
+    c.in_ok-line-2.ensures.weighed so_far.lines (have_begun g.R.Source.remaining c.args.reader.now c.next_line.new.self (so_far.lines ++ line ∷ []) at) so_far.reported so_far.weighed
+
 pub lines-smaller : goal.lines-smaller
 lines-smaller g c =
     let so_far = c.lines.invariant in
