@@ -16,7 +16,7 @@ use Rattle.cert_checker.specs.Tabled.{HaveWeights}
 use Rattle.cert_checker.specs.Taking.{heading_of}
 use Rattle.cert_checker.specs.Reading.{IsLineRefusal, IsListedSoFar, IsRead}
 use Rattle.cert_checker.proofs.ReadingLemmas.{fault_reported, one_read, wrong_counts, wrong_reported}
-use Rattle.cert_checker.proofs.ListingLemmas.{as_many_listed, few_begun, fewer_left, fit_next, read_whole, so_far_next}
+use Rattle.cert_checker.proofs.ListingLemmas.{as_many_listed, few_begun, fewer_left, fit_next, none_listed, read_whole, so_far_next}
 use Rattle.certificate.specs.CertificateParts.{certificate_with}
 use Rattle.cert_checker.proofs.LimitsLemmas.{limits_kept}
 use Rattle.cert_checker.proofs.cert_reader.read_cert.Goals as goal
@@ -25,6 +25,17 @@ pub overflow_cast-len : goal.overflow_cast-len
 overflow_cast-len g c =
     let few = few_begun g.R.Source.remaining (task_of c.args.task.now) c.args.reader.now c.read_header.new.reader c.in_ok-header.header c.in_ok-header.next c.in_ok-header.ensures.begun in
     omega (arith, few, c.len.ensures.len, length-map c.in_ok-header.header.atoms.keys atom_of)
+
+pub states-init : goal.states-init
+states-init g c =
+    let states = c.in_ok-states.states in
+    record {
+      so_far = none_listed g.R.Source.remaining (task_of c.args.task.now) c.args.reader.now c.read_header.new.reader c.in_ok-header.header
+          (pooled_width states.sets) (map listed_of states.marks.items) (pooled_states states.sets)
+          (ap (map listed_of) c.in_ok-states.ensures.none.0) c.in_ok-states.ensures.none.1 c.in_ok-header.next c.in_ok-header.ensures.begun;
+      width = c.in_ok-states.ensures.width ∙ c.len.ensures.len;
+      failures = c.in_ok-header.ensures.failures;
+    }
 
 pub take_line-requires : goal.take_line-requires
 take_line-requires g c =
