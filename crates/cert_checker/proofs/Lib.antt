@@ -5,6 +5,8 @@ pub mod ListedLemmas
 pub mod PlacedLemmas
 pub mod AtomsLemmas
 pub mod HeaderLemmas
+pub mod TableLinesLemmas
+pub mod TabledLemmas
 pub mod ReadingLemmas
 pub mod ListingLemmas
 pub mod SplitLemmas

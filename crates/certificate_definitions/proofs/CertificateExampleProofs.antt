@@ -261,9 +261,11 @@ not_reported = (dead_line, (0, refl, refl), refl, reported_at_x (fair.potentials
 
 -- with a constant of 3, 1 is left at the goal
 dead_left : IsWrongAt token_task (token_reported two model.none (pos 3) (minus 1)) dead_unfair_goal 1
-dead_left =
-    (refl, subst (λ atoms. ¬ IsFairAtGoals token_task atoms (fair.potentials (pos 3) (minus 1 ∷ minus 1 ∷ []))) (sym token_atoms_are)
-    (λ fair. more_than_none (pos 1) refl fair.within))
+dead_left = (
+  refl,
+  subst (λ atoms. ¬ IsFairAtGoals token_task atoms (fair.potentials (pos 3) (minus 1 ∷ minus 1 ∷ []))) (sym token_atoms_are)
+      (λ fair. more_than_none (pos 1) refl fair.within),
+)
 
 -- where (y) weighs -2, the first step makes the sum fall by 1
 fore_loses : IsWrongAt token_task (token_reported two model.none (pos 2) (minus 2)) dead_unfair 1

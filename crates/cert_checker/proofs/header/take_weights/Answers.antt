@@ -1,4 +1,4 @@
-use Rattle.std.proofs.Common.{rules, ◌≡◌, ◌+◌, ◌<◌, ◌≤◌, suc, length, map, ◌++◌, ◌∷◌, [], refl, sym, ap, ◌∙◌, arith}
+use Rattle.std.proofs.Common.{rules, ◌≡◌, ◌+◌, ◌<◌, ◌≤◌, suc, length, map, ◌++◌, ◌∷◌, [], ap, ◌∙◌, arith}
 use Rattle.std.specs.Int.{w64}
 use Rattle.std.proofs.lemmas.Int.{to_z-of_z}
 use Rattle.std.proofs.lemmas.List.{length-map}
@@ -12,8 +12,15 @@ use Rattle.cert_checker.proofs.header.take_weights.Goals as goal
 pub push_weight-requires : goal.push_weight-requires
 push_weight-requires c =
     let before = c.args.bounds.now.values.items in
-    omega (arith, length-map c.loop-place.bounds.values.items potential_of, ap length c.loop-place.invariant.values,
-    length-pushed 0 c.loop-place.place c.args.weights.now (map potential_of before), length-map before potential_of, c.len-count.ensures, c.loop-place-test.true)
+    omega (
+      arith,
+      length-map c.loop-place.bounds.values.items potential_of,
+      ap length c.loop-place.invariant.values,
+      length-pushed 0 c.loop-place.place c.args.weights.now (map potential_of before),
+      length-map before potential_of,
+      c.len-count.ensures,
+      c.loop-place-test.true,
+    )
 
 pub loop-place-preserved : goal.loop-place-preserved
 loop-place-preserved c =
