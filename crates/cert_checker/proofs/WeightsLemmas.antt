@@ -1,12 +1,12 @@
 -- Potential functions that give each atom the same weight: they are fair alike, and where further atoms have the weight 0,
 -- a state has the same value.
 use Rattle.std.proofs.Common.{◌≡◌, ◌∙◌, ℕ, zero, suc, ◌+◌, ◌-◌, ◌<◌, ◌≤◌, Bool, true, false, ◌&&◌, List, [], ◌∷◌, ◌++◌, length, map, take, replicate, get_or, Some, refl, sym, ap, subst, arith, ℤ, pos, negsuc, ◌+ℤ◌, ◌≤ℤ◌}
-use Rattle.std.specs.Prelude.{All, IsTrue, if◌then◌else◌, nat_le, ◌==◌, slice_get}
+use Rattle.std.specs.Prelude.{All, IsTrue, if◌then◌else◌, ◌==◌, slice_get}
 use Rattle.std.specs.Int.{int_max}
 use Rattle.std.specs.List.{list_all}
 use Rattle.std.specs.FinSet.{contains}
 use Rattle.std.proofs.lemmas.Int.{ints}
-use Rattle.std.proofs.lemmas.Bool.{and_parts, eqb-true, leb-true, ltb-true}
+use Rattle.std.proofs.lemmas.Bool.{and_parts, leb-true, ltb-true}
 use Rattle.std.proofs.lemmas.List.{length-append, length-map, length-replicate, map-append, get_or_append_left, get_or_default, get_or_past, take_all}
 use Rattle.std.proofs.lemmas.Option.{same_Some}
 use Rattle.model.specs.Task.{Atom, Task, Instance}

@@ -9,7 +9,6 @@ use Rattle.cert_checker.specs.Reasons.{reason_of}
 use Rattle.model.specs.Task.{Task, Instance}
 use Rattle.model.specs.Runs.{cost_of_all, IsOptimal, CostsAtLeast, IsUnsolvable}
 use Rattle.model.specs.Meaning.{State, cost_of, system_of}
-use Rattle.model.specs.StaticallyFalse.{kept_instances}
 use Rattle.model.specs.NumberedAtoms.{numbered_atoms}
 use Rattle.model.specs.Instances.{successors_of}
 use Rattle.model.specs.Claims.{Claim, bound, none, opened, Line, IsListedWithin}

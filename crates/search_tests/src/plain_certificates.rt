@@ -180,8 +180,8 @@ fn is_found_by(
 ) -> Result<bool, NoMemory>
     requires { ground_in fair.now ≡ ground.now }
 {
-    let (constant, weights) = (cert.dead_end_constant(), cert.dead_end_weights());
-    let Some(potentials) = weighing(alloc, constant, weights)? else {
+    let said = &cert.bounds().dead_ends;
+    let Some(potentials) = weighing(alloc, said.constant, &said.weights)? else {
         return Ok(false);
     };
     if potentials.weights().len() != ground.width() as usize {
@@ -200,7 +200,10 @@ fn is_found_by_both(
     most: u32,
     cert: &Cert,
 ) -> Result<bool, NoMemory> {
-    let Some(potentials) = weighing(alloc, cert.constant(), cert.weights())? else {
+    let [value] = cert.bounds().values.as_slice() else {
+        return Ok(false);
+    };
+    let Some(potentials) = weighing(alloc, value.constant, &value.weights)? else {
         return Ok(false);
     };
     if potentials.weights().len() != ground.width() as usize {

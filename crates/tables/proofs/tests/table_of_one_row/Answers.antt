@@ -10,7 +10,7 @@ use Rattle.tables.proofs.tests.table_of_one_row.Goals as goal
 
 pub returns-clause-scope : goal.returns-clause-scope
 returns-clause-scope c =
-    same-scope (table_of c.in_ok-table.table) (table_of c.add.new.self) _ c.in_ok-add.field-0 c.in_ok-add.ensures.ok ∙ ap (λ (t : model.Table). t.scope) c.in_ok-table.ensures.table
+    same-scope (table_of c.in_ok-table.table) (table_of c.add.new.self) _ c.in_ok-add.field-0 c.in_ok-add.ensures.ok ∙ ap (λ (t : model.Table). t.scope) c.in_ok-table.ensures.table ∙ c.in_ok-vec.ensures.items
 
 pub returns-clause-range : goal.returns-clause-range
 returns-clause-range c =
