@@ -89,7 +89,7 @@ module _ {R : Type 0} (remaining : R → Option (List ℕ)) (task : Task) (first
       text = read.text;
       consumed = read.consumed;
       at_end = read.at_end;
-      accepted = record { certificate = c; is_text = read.is_text; checked = read.checked; closed = closed; within = plan_within task c.claim plan answer shown answers };
+      accepted = record { certificate = c; is_text = read.is_text; closed = closed; within = plan_within task c.claim plan answer shown answers };
       within = within;
       answers = answers;
     }

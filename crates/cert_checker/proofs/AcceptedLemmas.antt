@@ -1,5 +1,5 @@
 -- What is so of a text that is accepted: no line of it is at fault.
-use Rattle.std.proofs.Common.{◌≡◌, ◌≢◌, ℕ, suc, ◌+◌, ◌≤◌, ◌⊎◌, inl, inr, ⊎_elim, Bool, true, false, List, [], ◌∷◌, ◌++◌, codes, map, length, length-append, Option, Some, refl, sym, ap, ◌∙◌, subst, append_assoc, append-nil, arith}
+use Rattle.std.proofs.Common.{◌≡◌, ◌≢◌, ℕ, suc, ◌+◌, ◌≤◌, ◌⊎◌, inl, inr, ⊎_elim, Bool, true, List, [], ◌∷◌, ◌++◌, codes, map, length, length-append, Option, Some, refl, sym, ap, ◌∙◌, subst, append_assoc, append-nil, arith}
 use Rattle.std.specs.Prelude.{◌&&◌, ◌==◌, nat_le, nat_lt, IsTrue, AllPairs, Contains}
 use Rattle.std.specs.Fmt.{decimal}
 use Rattle.std.specs.List.{flat_map, list_all}
@@ -17,7 +17,7 @@ use Rattle.table_functions.specs.TableFunctions.{Row, Table, is_among}
 use Rattle.certificate_definitions.specs.Certificates.{Version, one, two, three, Certificate, IsClosedFor, StateLine, are_weights, has_tables, is_row, is_table, rise, state_of_line}
 use Rattle.certificate_definitions.specs.CertificateText.{NamedAtom, WeightedAtom, TableLine, scope, row, NamedCertificate, TextLine, version, claims, constant, atom, tabled, listed, last, AreWhole, BeginCertificate, HasLine, IsFaultAfter, IsOneTooMany, IsOtherVersion, other_version, malformed, too_long, trailing, cut_short, too_many, format_of, is_line, keeps_text_limits, line_text, longest_line, most_atoms, most_rows, most_states, most_tables, text_lines, text_of, version_number, whole_line}
 use Rattle.certificate_definitions.specs.CertificateNames.{AllName, IsTextOf, Names, table_lines}
-use Rattle.certificate_definitions.specs.CertificateChecking.{EndInTable, HasAtom, HasRow, IsAccepted, IsCut, IsLineFault, IsWrongAfter, IsWrongHere, is_checked, is_of_scope, not_checked, not_of_scope, repeated_row, not_fluent, repeated_atom, repeated_state, cut_not_allowed}
+use Rattle.certificate_definitions.specs.CertificateChecking.{EndInTable, HasAtom, HasRow, IsAccepted, IsCut, IsLineFault, IsWrongAfter, IsWrongHere, is_of_scope, not_of_scope, repeated_row, not_fluent, repeated_atom, repeated_state, cut_not_allowed}
 use Rattle.certificate_definitions.specs.CertificateMachine.{CertificatePlace, at_version, at_claim, at_constant, in_body, ended, atom_follows, atom_more, next_place, row_follows, row_more, scope_more, state_more}
 use Rattle.certificate_definitions.proofs.Beginnings.{body_lines}
 use Rattle.certificate_definitions.proofs.Machine.{end_of_whole, followed, never, only_where, place_of_beginning}
@@ -148,7 +148,7 @@ tables_of_rows : (rows : List Row) → tables_given (map (λ (r : Row). tabled (
 tables_of_rows [] = refl
 tables_of_rows (r ∷ rows) = ap (λ lines. row r ∷ lines) (tables_of_rows rows)
 
--- ---- one version and one claim
+-- ---- one claim
 
 -- a line of a text is one of the first three, or comes after them
 first_three : (said : NamedCertificate) (line : TextLine) → Contains (text_lines said) line
@@ -174,17 +174,8 @@ module _ (said : NamedCertificate) (line : TextLine) (no_atom : (a : WeightedAto
       (λ end. ⊎_elim (λ same. no_end (length said.lines) same) (λ nowhere. Contains-none line nowhere) (Contains-cases (last (length said.lines)) [] line end))
       (Contains-append_cases (body_lines said.atoms said.tables said.lines) (last (length said.lines) ∷ []) line there)
 
-version_same : (u v : Version) → version u ≡ version v → u ≡ v
-version_same u v same = cc same
-
 claim_same : (c d : Claim) → claims c ≡ claims d → c ≡ d
 claim_same c d same = cc same
-
-version_there : (said : NamedCertificate) (v : Version) → Contains (text_lines said) (version v) → said.version ≡ v
-version_there said v there =
-    ⊎_elim (λ first. ⊎_elim (version_same said.version v) (λ second. ⊎_elim (λ same. absurd (cc same)) (λ same. absurd (cc same)) second) first)
-    (λ later. absurd (not_after said (version v) (λ a same. absurd (cc same)) (λ t same. absurd (cc same)) (λ l same. absurd (cc same)) (λ n same. absurd (cc same)) later))
-    (first_three said (version v) there)
 
 claim_there : (said : NamedCertificate) (d : Claim) → Contains (text_lines said) (claims d) → said.claim ≡ d
 claim_there said d there =
@@ -197,15 +188,8 @@ claim_there said d there =
 abbrev line_at : Task → Certificate → StateLine → Line State
 line_at task c l = record { state = state_of_line task c l; cost = l.cost; mark = l.mark }
 
-module _ (task : Task) (c : Certificate) (closed : IsClosedFor task c) (checked : IsTrue (is_checked c.version)) (text : List ℕ) (is : IsTextOf task text c) where
+module _ (task : Task) (c : Certificate) (closed : IsClosedFor task c) (text : List ℕ) (is : IsTextOf task text c) where
   module _ (before after : List TextLine) where
-    occurs : (line : TextLine) → text_lines is.said ≡ before ++ line ∷ after → Contains (text_lines is.said) line
-    occurs line splits = subst (λ lines. Contains lines line) (sym splits) (Contains-append_right before (line ∷ after) line (Contains-here line after))
-
-    no_unchecked_version : (v : Version) → text_lines is.said ≡ before ++ version v ∷ after → is_checked v ≡ false → ⊥
-    no_unchecked_version v splits unchecked =
-        false≢true (sym unchecked ∙ ap is_checked (sym (version_there is.said v (occurs (version v) splits)) ∙ is.version) ∙ checked)
-
     atom_after : (a : WeightedAtom) → text_lines is.said ≡ before ++ atom a ∷ after → IsNamedAfter task (names_given before) a.atom c.atoms
     atom_after a splits =
         named_after task (names_given before) (names_given after) a.atom c.atoms
@@ -278,7 +262,6 @@ module _ (task : Task) (c : Certificate) (closed : IsClosedFor task c) (checked 
         subst (λ claim. Allows claim (l.cost + rest)) is_none allowed.1
 
     not_wrong : (line : TextLine) (number : ℕ) → text_lines is.said ≡ before ++ line ∷ after → IsWrongAfter task before line number → ⊥
-    not_wrong line number splits (not_checked v unchecked) = no_unchecked_version v splits unchecked
     not_wrong line number splits (not_of_scope r atoms rows ends other) = false≢true (sym other ∙ of_scope r atoms rows (table_after r atoms rows splits ends))
     not_wrong line number splits (repeated_row r atoms rows ends of_table twice) = no_row_twice r atoms rows (table_after r atoms rows splits ends) twice
     not_wrong line number splits (not_fluent a none_is) = none_is (is_fluent_atom a splits)
@@ -421,5 +404,5 @@ accepted_has_no_fault task text plan accepted number line fault =
         let joined : text_of fault.before ++ fault.bytes ≡ text_of (fault.before ++ wrong ∷ []) ++ more =
         ap (λ bytes. text_of fault.before ++ bytes) are ∙ sym (append_assoc (text_of fault.before) (whole_line wrong) more) ∙ ap (λ text. text ++ more) (sym (text_push fault.before wrong)) in
         let (rest, splits, _) = split_off said keeps (fault.before ++ wrong ∷ []) more begun (sym accepted.is_text.text.lines ∙ fault.splits ∙ joined) in
-        not_wrong task accepted.certificate accepted.closed accepted.checked text accepted.is_text fault.before rest wrong number
+        not_wrong task accepted.certificate accepted.closed text accepted.is_text fault.before rest wrong number
         (splits ∙ append_assoc fault.before (wrong ∷ []) rest) is_wrong

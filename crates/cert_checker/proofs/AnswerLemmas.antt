@@ -6,7 +6,7 @@ use Rattle.formulas.specs.State.{instance_of}
 use Rattle.cert_checker.specs.declared.refusal.Refusal.{Refusal}
 use Rattle.cert_checker.specs.declared.refusal.Refusal.TheVariants as refusal
 use Rattle.cert_checker.specs.Reasons.{reason_of}
-use Rattle.cert_checker.specs.CertChecker.{IsTrueRefusal, IsNoFault}
+use Rattle.cert_checker.specs.CertChecker.{IsTrueRefusal, IsNoFault, IsWrongSomewhere}
 use Rattle.cert_checker.specs.CheckedLines.{IsLineClosed, IsRightUpTo}
 use Rattle.validator.specs.declared.verdict.Verdict as code_verdict
 use Rattle.validator.specs.declared.verdict.Verdict.TheVariants as verdict
@@ -17,7 +17,7 @@ use Rattle.model.specs.Runs.{System, cost_of_all, Solves, CostsAtLeast, IsOptima
 use Rattle.model.specs.Meaning.{State}
 use Rattle.model.specs.Claims.{Line}
 use Rattle.certificate_definitions.specs.Certificates.{Certificate, is_dead_end_weight, lines_of, IsClosedFor}
-use Rattle.certificate_definitions.specs.CertificateRefusals.{Reason, limit, unfair, dead_unfair, IsPlanWithin, IsWrong, IsWrongLine}
+use Rattle.certificate_definitions.specs.CertificateRefusals.{Reason, not_fluent, repeated, no_initial, unfair, unfair_goal, goal_open, successor_missing, successor_dearer, cut_weak, cut_not_allowed, plan_invalid, plan_dearer, limit, dead_unfair, dead_unfair_goal, not_dead, IsPlanWithin, IsWrongAt}
 use Rattle.model.proofs.ListLemmas.{Contains-place}
 use Rattle.cert_checker.proofs.LimitsLemmas.{AreLimits, limits_of}
 use Rattle.cert_checker.proofs.VersionLemmas.{one_weight_each, weights_of_each}
@@ -57,27 +57,36 @@ closed_for task c most right = record {
         right.lines at.0 line (slice_get_within (lines_of task c) at.0 line at.1) at.1
 
 -- nothing is wrong with a line of a closed certificate, and what else is wrong is a limit of its ground task
-no_line : (task : Task) (c : Certificate) → IsClosedFor task c → (line : ℕ) (o : Option Reason) → MatchOption o ⊥ (λ reason. IsWrongLine task c reason line) → ⊥
+no_line : (task : Task) (c : Certificate) → IsClosedFor task c → (line : ℕ) (o : Option Reason) → MatchOption o ⊥ (λ reason. IsWrongAt task c reason line) → ⊥
 no_line task c closed line (Some reason) wrong = right_line task c closed reason line wrong
 no_line task c closed line None wrong = wrong
 
 only_limit : (task : Task) (c : Certificate) (plan : Option (List Instance)) (most : ℕ) → IsClosedFor task c → IsPlanWithin task c.claim plan → (o : Option Reason)
-    → MatchOption o ⊥ (λ reason. IsWrong task c plan most reason) → o ≡ Some limit
-only_limit task c plan most closed within (Some reason) wrong = ap Some (right task c closed plan most reason within wrong)
+    → MatchOption o ⊥ (λ reason. IsWrongSomewhere task c plan most reason) → o ≡ Some limit
+only_limit task c plan most closed within (Some unfair_goal) (place, wrong) = absurd (right_line task c closed unfair_goal place wrong)
+only_limit task c plan most closed within (Some dead_unfair_goal) (place, wrong) = absurd (right_line task c closed dead_unfair_goal place wrong)
+only_limit task c plan most closed within (Some not_fluent) wrong = ap Some (right task c closed plan most not_fluent within wrong)
+only_limit task c plan most closed within (Some repeated) wrong = ap Some (right task c closed plan most repeated within wrong)
+only_limit task c plan most closed within (Some no_initial) wrong = ap Some (right task c closed plan most no_initial within wrong)
+only_limit task c plan most closed within (Some unfair) wrong = ap Some (right task c closed plan most unfair within wrong)
+only_limit task c plan most closed within (Some goal_open) wrong = ap Some (right task c closed plan most goal_open within wrong)
+only_limit task c plan most closed within (Some successor_missing) wrong = ap Some (right task c closed plan most successor_missing within wrong)
+only_limit task c plan most closed within (Some successor_dearer) wrong = ap Some (right task c closed plan most successor_dearer within wrong)
+only_limit task c plan most closed within (Some cut_weak) wrong = ap Some (right task c closed plan most cut_weak within wrong)
+only_limit task c plan most closed within (Some cut_not_allowed) wrong = ap Some (right task c closed plan most cut_not_allowed within wrong)
+only_limit task c plan most closed within (Some plan_invalid) wrong = ap Some (right task c closed plan most plan_invalid within wrong)
+only_limit task c plan most closed within (Some plan_dearer) wrong = ap Some (right task c closed plan most plan_dearer within wrong)
+only_limit task c plan most closed within (Some limit) wrong = refl
+only_limit task c plan most closed within (Some dead_unfair) wrong = ap Some (right task c closed plan most dead_unfair within wrong)
+only_limit task c plan most closed within (Some not_dead) wrong = ap Some (right task c closed plan most not_dead within wrong)
 only_limit task c plan most closed within None wrong = absurd wrong
-
-not_limit : unfair ≡ limit → ⊥
-not_limit same = absurd (cc)
-
-dead_not_limit : dead_unfair ≡ limit → ⊥
-dead_not_limit same = absurd (cc)
 
 -- a true refusal of a closed certificate, with a plan that costs no more than is claimed, is of no fault of theirs
 pub no_fault : (task : Task) (c : Certificate) (plan : Option (List Instance)) (most : ℕ) → IsClosedFor task c → IsPlanWithin task c.claim plan → (e : Refusal) → IsTrueRefusal task c plan most e → IsNoFault e
 no_fault task c plan most closed within (refusal.Line code line) wrong = no_line task c closed line (reason_of code) wrong
 no_fault task c plan most closed within (refusal.Plain code) wrong = only_limit task c plan most closed within (reason_of code) wrong
-no_fault task c plan most closed within (refusal.Unfair i) wrong = absurd (not_limit (right task c closed plan most unfair within (instance_of i, wrong)))
-no_fault task c plan most closed within (refusal.DeadUnfair i) wrong = absurd (dead_not_limit (right task c closed plan most dead_unfair within (instance_of i, wrong)))
+no_fault task c plan most closed within (refusal.Unfair i) (place, wrong) = absurd (right_line task c closed unfair place (instance_of i, wrong))
+no_fault task c plan most closed within (refusal.DeadUnfair i) wrong = absurd (right_line task c closed dead_unfair (length c.values) (refl, instance_of i, wrong))
 no_fault task c plan most closed within refusal.NoMemory wrong = tt
 no_fault task c plan most closed within _ wrong = absurd wrong
 

@@ -1,7 +1,6 @@
 -- What one line more reports.
 use Rattle.std.proofs.Common.{◌≡◌, ◌≢◌, ℕ, zero, suc, ◌+◌, ◌⊎◌, inl, inr, ⊎_elim, Bool, true, false, List, [], ◌∷◌, ◌++◌, map, length, None, Some, refl, sym, ap, ◌∙◌, subst, append_assoc, append-nil, true≢false, arith}
-use Rattle.std.specs.Prelude.{IsTrue, ℤ, ◌&&◌, ◌==◌, nat_lt, Contains, pos}
-use Rattle.std.proofs.lemmas.Bool.{and_parts}
+use Rattle.std.specs.Prelude.{IsTrue, ℤ, ◌&&◌, Contains, pos}
 use Rattle.std.specs.List.{flat_map, range_with_len}
 use Rattle.std.proofs.lemmas.List.FromFn.{length-range_with_len}
 use Rattle.std.proofs.lemmas.List.{length-map, map-append}
@@ -13,14 +12,15 @@ use Rattle.model.specs.Task.{Atom, Task}
 use Rattle.model.specs.WellTyped.{is_atom}
 use Rattle.model.specs.Fluents.{is_fluent}
 use Rattle.model.specs.Claims.{Claim, bound, none}
-use Rattle.table_functions.specs.TableFunctions.{SeveralValues}
-use Rattle.certificate_definitions.specs.Certificates.{Version, one, two, three, has_tables}
-use Rattle.certificate_definitions.specs.CertificateText.{NamedAtom, WeightedAtom, TableLine, scope, row, Format, is_line, is_table_line, most_rows, most_tables, TextLine, version, claims, constant, atom, tabled, listed, last, BeginCertificate, AreWhole}
+use Rattle.table_functions.specs.TableFunctions.{SeveralValues, Table}
+use Rattle.certificate_definitions.specs.Certificates.{Version, one}
+use Rattle.certificate_definitions.specs.CertificateText.{NamedAtom, WeightedAtom, TableLine, TextLine, version, claims, constant, atom, tabled, listed, last, BeginCertificate, AreWhole}
 use Rattle.certificate_definitions.specs.CertificateNames.{AllName, Names, table_lines, value_count, weight_said}
-use Rattle.certificate_definitions.specs.CertificateMachine.{Body, row_follows, row_more, scope_more, CertificatePlace, at_version, at_claim, at_constant, in_body, ended, next_place, place_after}
-use Rattle.certificate_definitions.specs.CertificateChecking.{is_checked, AreRight, IsWrongAfter, not_checked, not_of_scope, repeated_row, not_fluent, repeated_atom, repeated_state, cut_not_allowed}
-use Rattle.certificate_definitions.proofs.Machine.{IsBody, only_where, ComesBefore, never, occurs, followed, place_of_beginning}
+use Rattle.certificate_definitions.specs.CertificateMachine.{Body, CertificatePlace, at_version, at_claim, at_constant, in_body, ended, next_place, place_after}
+use Rattle.certificate_definitions.specs.CertificateChecking.{AreRight, IsWrongAfter, not_of_scope, repeated_row, not_fluent, repeated_atom, repeated_state, cut_not_allowed}
+use Rattle.certificate_definitions.proofs.Machine.{IsBody, ComesBefore, never, occurs, followed, place_of_beginning}
 use Rattle.cert_checker.specs.Given.{Heading, HaveGiven, AreGiven, AreNotGiven, atom_in, table_in, state_in, atoms_given, tables_given, states_given, names_given, value_given, values_given, with_weight, with_weights_from, with_weights, begun_with}
+use Rattle.cert_checker.specs.Tabled.{with_tables}
 use Rattle.cert_checker.proofs.NamesLemmas.{one_named, same_names}
 
 -- ---- lists of lines
@@ -134,53 +134,6 @@ constant_first before a begun = let at = placed before (atom a) begun in by_plac
     by_place (in_body b) body next leads = constant_there b before body
     by_place ended are next leads = never next leads
 
--- where nothing is wrong there are no tables, since a version that has them is not checked
-pub no_tables_yet : (task : Task) (before : List TextLine) (t : TableLine) → AreRight task before → BeginCertificate (before ++ tabled t ∷ []) → ⊥
-no_tables_yet task before t right begun = let at = placed before (tabled t) begun in by_place at.place at.occurs at.next at.leads
-  where
-    of_line : (f : Format) (t : TableLine) → is_line f (tabled t) ≡ true → has_tables f.version ≡ true
-    of_line f t is = (and_parts (has_tables f.version) (is_table_line f t) is).0
-
-    has_them : (b : Body) (t : TableLine) (next : CertificatePlace) → next_place (in_body b) (tabled t) ≡ Some next → has_tables b.format.version ≡ true
-    has_them b (scope s) next leads =
-        let (holds, same) = only_where ((b.states == 0) && nat_lt b.tables most_tables && is_line b.format (tabled (scope s))) (in_body (scope_more b)) next leads in
-        of_line b.format (scope s) (and_parts ((b.states == 0) && nat_lt b.tables most_tables) (is_line b.format (tabled (scope s))) holds).1
-    has_them b (row r) next leads =
-        let (holds, same) = only_where (row_follows b && nat_lt b.rows most_rows && is_line b.format (tabled (row r))) (in_body (row_more b)) next leads in
-        of_line b.format (row r) (and_parts (row_follows b && nat_lt b.rows most_rows) (is_line b.format (tabled (row r))) holds).1
-
-    not_both : (v : Version) → has_tables v ≡ true → is_checked v ≡ false
-    not_both one has = absurd (true≢false (sym has))
-    not_both two has = absurd (true≢false (sym has))
-    not_both three has = refl
-
-    refused : (b : Body) → IsBody b before → has_tables b.format.version ≡ true → ⊥
-    refused b body has =
-        let g = body.beginning in
-        let version_is : g.version ≡ b.format.version = ap (λ (b : Body). b.format.version) body.body_is in
-        let rest = claims g.claim ∷ constant g.constants ∷ map (λ a. atom a) g.atoms ++ map (λ t. tabled t) g.tables ++ map (λ l. listed l) g.states in
-        right [] rest (version g.version) 41 body.lines_are (not_checked g.version (not_both g.version (subst (λ v. has_tables v ≡ true) (sym version_is) has)))
-
-    by_place : (place : CertificatePlace) → ComesBefore place before → (next : CertificatePlace) → next_place place (tabled t) ≡ Some next → ⊥
-    by_place at_version are next leads = never next leads
-    by_place (at_claim v) are next leads = never next leads
-    by_place (at_constant v) are next leads = never next leads
-    by_place (in_body b) body next leads = refused b body (has_them b t next leads)
-    by_place ended are next leads = never next leads
-
--- and a certificate in whose lines nothing is wrong is of a version that is checked
-pub checked_there : (task : Task) (v : Version) (rest : List TextLine) → AreRight task (version v ∷ rest) → IsTrue (is_checked v)
-checked_there task v rest right = by_test (is_checked v) refl
-  where
-    by_test : (b : Bool) → is_checked v ≡ b → b ≡ true
-    by_test true is = refl
-    by_test false is = absurd (right [] rest (version v) 41 refl (not_checked v is))
-
-pub checked_has_no_tables : (v : Version) → IsTrue (is_checked v) → has_tables v ≡ false
-checked_has_no_tables one checked = refl
-checked_has_no_tables two checked = refl
-checked_has_no_tables three checked = absurd (true≢false (sym checked))
-
 -- ---- one line more
 
 nothing_before : (front : List TextLine) (other : TextLine) (rest : List TextLine) → [] ≡ front ++ other ∷ rest → ⊥
@@ -207,7 +160,7 @@ right_more task before line right not_wrong front rest other number splits wrong
     ⊎_elim (λ (fronts, lines). not_wrong number (subst (λ front. IsWrongAfter task front line number) (sym fronts) (subst (λ line. IsWrongAfter task front line number) (sym lines) wrong)))
     (λ (more, is). right front more other number is wrong) (split_last before front rest line other splits)
 
--- a line that says of no atom, no table and no state is not wrong, where its version is checked
+-- a line that says of no atom, no table and no state is not wrong
 abbrev pub is_plain : TextLine → Bool
 is_plain (version v) = true
 is_plain (claims claim) = true
@@ -217,15 +170,13 @@ is_plain (tabled t) = false
 is_plain (listed l) = false
 is_plain (last count) = true
 
-plain_is_right : (task : Task) (before : List TextLine) (line : TextLine) (number : ℕ) → ((v : Version) → line ≡ version v → is_checked v ≡ true) → IsWrongAfter task before line number
-    → is_plain line ≡ true → ⊥
-plain_is_right task before line number checked (not_checked v unchecked) plain = absurd (true≢false (sym (checked v refl) ∙ unchecked))
-plain_is_right task before line number checked (not_of_scope r atoms rows here no_scope) plain = absurd (true≢false (sym plain))
-plain_is_right task before line number checked (repeated_row r atoms rows here of_scope there) plain = absurd (true≢false (sym plain))
-plain_is_right task before line number checked (not_fluent a none_is) plain = absurd (true≢false (sym plain))
-plain_is_right task before line number checked (repeated_atom a is there) plain = absurd (true≢false (sym plain))
-plain_is_right task before line number checked (repeated_state l there) plain = absurd (true≢false (sym plain))
-plain_is_right task before line number checked (cut_not_allowed l new cut there) plain = absurd (true≢false (sym plain))
+plain_is_right : (task : Task) (before : List TextLine) (line : TextLine) (number : ℕ) → IsWrongAfter task before line number → is_plain line ≡ true → ⊥
+plain_is_right task before line number (not_of_scope r atoms rows here no_scope) plain = absurd (true≢false (sym plain))
+plain_is_right task before line number (repeated_row r atoms rows here of_scope there) plain = absurd (true≢false (sym plain))
+plain_is_right task before line number (not_fluent a none_is) plain = absurd (true≢false (sym plain))
+plain_is_right task before line number (repeated_atom a is there) plain = absurd (true≢false (sym plain))
+plain_is_right task before line number (repeated_state l there) plain = absurd (true≢false (sym plain))
+plain_is_right task before line number (cut_not_allowed l new cut there) plain = absurd (true≢false (sym plain))
 
 named_push : (task : Task) (names : List NamedAtom) (atoms : List Atom) (name : NamedAtom) (a : Atom) → AllName task names atoms → Names task name a
     → AllName task (names ++ name ∷ []) (atoms ++ a ∷ [])
@@ -336,9 +287,9 @@ module _ (task : Task) (before : List TextLine) (heading : Heading) (reported : 
   among_more : (line other : TextLine) → (line ≡ other → ⊥) → Contains (before ++ line ∷ []) other → Contains before other
   among_more line other differs there = ⊎_elim (λ earlier. earlier) (λ same. absurd (differs same)) (Contains-push_cases before line other there)
 
-  pub reported_version : (v : Version) → is_checked v ≡ true → BeginCertificate (before ++ version v ∷ [])
+  pub reported_version : (v : Version) → BeginCertificate (before ++ version v ∷ [])
       → HaveGiven task (before ++ version v ∷ []) (record { version = v; claim = heading.claim; atoms = heading.atoms; bounds = heading.bounds })
-  reported_version v checked begun = record {
+  reported_version v begun = record {
     one_version = λ w there. ⊎_elim (λ earlier. absurd (nothing_first before v (version w) begun earlier)) (λ same. version_same w same) (Contains-push_cases before (version v) (version w) there);
     one_claim = λ d there. reported.one_claim d (among_more (version v) (claims d) (λ same. cc same) there);
     none_occurs = λ none_is. Contains-append_left before (version v ∷ []) (claims none) (reported.none_occurs none_is);
@@ -348,7 +299,7 @@ module _ (task : Task) (before : List TextLine) (heading : Heading) (reported : 
     named = named_still (version v) refl;
     fluent = reported.fluent;
     distinct = reported.distinct;
-    right = right_more task before (version v) reported.right (λ number wrong. plain_is_right task before (version v) number (λ w same. subst (λ u. is_checked u ≡ true) (version_same w same) checked) wrong refl);
+    right = right_more task before (version v) reported.right (λ number wrong. plain_is_right task before (version v) number wrong refl);
   }
     where
       version_same : (w : Version) → version v ≡ version w → v ≡ w
@@ -366,7 +317,7 @@ module _ (task : Task) (before : List TextLine) (heading : Heading) (reported : 
     named = named_still (claims c) refl;
     fluent = reported.fluent;
     distinct = reported.distinct;
-    right = right_more task before (claims c) reported.right (λ number wrong. plain_is_right task before (claims c) number (λ w same. absurd (cc same)) wrong refl);
+    right = right_more task before (claims c) reported.right (λ number wrong. plain_is_right task before (claims c) number wrong refl);
   }
     where
       claim_same : (d : Claim) → claims c ≡ claims d → c ≡ d
@@ -384,7 +335,7 @@ module _ (task : Task) (before : List TextLine) (heading : Heading) (reported : 
     named = named_still (constant k) refl;
     fluent = reported.fluent;
     distinct = reported.distinct;
-    right = right_more task before (constant k) reported.right (λ number wrong. plain_is_right task before (constant k) number (λ w same. absurd (cc same)) wrong refl);
+    right = right_more task before (constant k) reported.right (λ number wrong. plain_is_right task before (constant k) number wrong refl);
   }
     where
       constant_same : (d : List ℤ) → constant k ≡ constant d → k ≡ d
@@ -421,14 +372,31 @@ module _ (task : Task) (before : List TextLine) (heading : Heading) (reported : 
     right = right_more task before line reported.right is_right;
   }
 
+  -- a line of a table
+  pub reported_tables : (t : TableLine) (tables : List Table) → flat_map table_lines tables ≡ tables_given before ++ t ∷ [] → ((number : ℕ) → IsWrongAfter task before (tabled t) number → ⊥)
+      → HaveGiven task (before ++ tabled t ∷ []) (record { version = heading.version; claim = heading.claim; atoms = heading.atoms; bounds = with_tables heading.bounds tables })
+  reported_tables t tables are is_right = record {
+    one_version = λ v there. reported.one_version v (among_more (tabled t) (version v) (λ same. cc same) there);
+    one_claim = λ d there. reported.one_claim d (among_more (tabled t) (claims d) (λ same. cc same) there);
+    none_occurs = λ none_is. Contains-append_left before (tabled t ∷ []) (claims none) (reported.none_occurs none_is);
+    given = λ k there.
+        let given = given_still (tabled t) refl k (among_more (tabled t) (constant k) (λ same. cc same) there) in
+        record { values = given.values; dead_ends = given.dead_ends };
+    not_given = λ absent. let none_given = not_given_still (tabled t) absent in record { values = none_given.values; dead_ends = none_given.dead_ends };
+    tables = are ∙ sym (filter_map-append table_in before (tabled t ∷ []));
+    named = named_still (tabled t) refl;
+    fluent = reported.fluent;
+    distinct = reported.distinct;
+    right = right_more task before (tabled t) reported.right is_right;
+  }
+
   pub reported_last : (count : ℕ) → HaveGiven task (before ++ last count ∷ []) heading
   reported_last count =
       reported_else (last count) (λ v same. cc same) (λ d same. cc same) (λ k same. cc same) refl refl
-      (λ number wrong. plain_is_right task before (last count) number (λ w same. absurd (cc same)) wrong refl)
+      (λ number wrong. plain_is_right task before (last count) number wrong refl)
 
   module _ (said : WeightedAtom) (a : Atom) (names : Names task said.atom a) (typed : IsTrue (is_atom task a)) (changes : IsTrue (is_fluent task a.predicate)) where
     right_atom : (Contains heading.atoms a → ⊥) → (line : TextLine) (number : ℕ) → IsWrongAfter task before line number → line ≡ atom said → ⊥
-    right_atom new line number (not_checked v unchecked) same = absurd (cc same)
     right_atom new line number (not_of_scope r atoms rows here no_scope) same = absurd (cc same)
     right_atom new line number (repeated_row r atoms rows here of_scope there) same = absurd (cc same)
     right_atom new line number (not_fluent b none_is) same =

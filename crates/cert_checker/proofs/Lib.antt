@@ -5,6 +5,8 @@ pub mod ListedLemmas
 pub mod PlacedLemmas
 pub mod AtomsLemmas
 pub mod HeaderLemmas
+pub mod TableLinesLemmas
+pub mod TabledLemmas
 pub mod ReadingLemmas
 pub mod ListingLemmas
 pub mod SplitLemmas
@@ -16,9 +18,13 @@ pub mod RefusalsLemmas
 pub mod WeightsLemmas
 pub mod AnswerLemmas
 pub mod OrderLemmas
+pub mod TablesLemmas
+pub mod ReportedLemmas
 pub mod FirstLemmas
 pub mod StaysLemmas
 pub mod GroundSuccessors
 pub mod PackedLinesLemmas
 pub mod PackedListingLemmas
+pub mod ValuesLemmas
+pub mod MadeLemmas
 pub mod AcceptLemmas

@@ -1,16 +1,16 @@
 -- The certificate that a text says keeps the limits, has a weight for each atom, and is the only one.
-use Rattle.std.proofs.Common.{◌≡◌, ℕ, zero, suc, ◌+◌, ◌-◌, Bool, true, false, List, [], ◌∷◌, ◌++◌, map, length, length-append, refl, sym, ap, ◌∙◌, subst, arith}
+use Rattle.std.proofs.Common.{◌≡◌, ℕ, zero, suc, ◌+◌, ◌-◌, ◌≤◌, Bool, true, false, List, [], ◌∷◌, ◌++◌, map, length, length-append, refl, sym, ap, ◌∙◌, subst, arith}
 use Rattle.std.specs.Prelude.{◌&&◌, ◌==◌, ℤ, pos, IsTrue, All, nat_le}
 use Rattle.std.specs.List.{flat_map, list_all, range_with_len}
 use Rattle.std.proofs.lemmas.Bool.{and_parts, eq-eqb, eqb-true, false≢true, le-leb, leb-true}
-use Rattle.std.proofs.lemmas.List.{get_or_past, length-map}
+use Rattle.std.proofs.lemmas.List.{get_or_past, length-map, map-append}
 use Rattle.std.proofs.lemmas.List.Elements.{All-map}
 use Rattle.std.proofs.lemmas.List.Folds.{list_all-append, list_all-map}
 use Rattle.std.proofs.lemmas.List.FromFn.{length-range_with_len}
 use Rattle.model.specs.Task.{Atom, Task}
 use Rattle.potential_functions.specs.PotentialFunctions.{PotentialFunction}
-use Rattle.table_functions.specs.TableFunctions.{Row, Table}
-use Rattle.certificate_definitions.specs.Certificates.{Version, one, two, three, Certificate, StateLine, are_potentials, are_tables, are_weights, has_tables, is_claim, is_dead_end_weight, is_state_line, is_value_count, is_weight, keeps_limits, rows_of}
+use Rattle.table_functions.specs.TableFunctions.{Row, Table, is_among}
+use Rattle.certificate_definitions.specs.Certificates.{Version, one, two, three, Certificate, StateLine, are_potentials, are_tables, are_weights, has_tables, is_claim, is_dead_end_weight, is_row, is_state_line, is_value_count, is_weight, keeps_limits, rows_of}
 use Rattle.certificate_definitions.specs.CertificateText.{NamedAtom, WeightedAtom, TableLine, scope, row, NamedCertificate, Format, TextLine, atom, tabled, listed, last, begin_with_scope, format_of, is_line, is_table_line, is_weight_count, keeps_text_limits, line_text, longest_line, most_atoms, most_rows, most_states, most_tables, row_count, scope_count, text_lines}
 use Rattle.certificate_definitions.specs.CertificateNames.{AllName, IsTextOf, dead_ends_said, table_lines, value_count, value_said, values_said, weight_said}
 use Rattle.certificate_reader.specs.Words.{are_lower}
@@ -140,6 +140,17 @@ value_count_kept three count is =
     let below = leb-true count 33 few in
     λ i. le-leb 1 (count - 1) (omega (arith, above)) i && le-leb (count - 1) 32 (omega (arith, below)) i
 
+-- a version with tables has a constant for each value and one for dead ends
+pub one_constant_more : (v : Version) (count : ℕ) → has_tables v ≡ true → is_weight_count v count ≡ true → value_count v count + 1 ≡ count
+one_constant_more one count has is = absurd (false≢true has)
+one_constant_more two count has is = absurd (false≢true has)
+one_constant_more three count has is = let some = leb-true 2 count (and_parts (nat_le 2 count) (nat_le count 33) is).0 in omega (arith, some)
+
+pub few_constants : (v : Version) (count : ℕ) → is_weight_count v count ≡ true → count ≤ 33
+few_constants one count is = let same = eqb-true count 1 is in omega (arith, same)
+few_constants two count is = let same = eqb-true count 2 is in omega (arith, same)
+few_constants three count is = leb-true count 33 (and_parts (nat_le 2 count) (nat_le count 33) is).1
+
 always : {X : Type 0} (test : X → Bool) → ((x : X) → test x ≡ true) → (xs : List X) → list_all test xs ≡ true
 always test each [] = refl
 always test each (x ∷ xs) = λ i. each x i && always test each xs i
@@ -215,6 +226,35 @@ no_lines : (tables : List Table) → flat_map table_lines tables ≡ [] → tabl
 no_lines [] same = refl
 no_lines (t ∷ tables) same = absurd (cc same)
 
+-- rows whose lines keep the limits, and whose atoms are of this scope
+rows_kept : (f : Format) (atoms : List ℕ) (rows : List Row) → All (λ (r : Row). list_all (is_among atoms) r.atoms ≡ true) rows → list_all (is_line f) (map (λ t. tabled t) (map (λ r. row r) rows)) ≡ true
+    → list_all (is_row f.atoms f.weights atoms) rows ≡ true
+rows_kept f atoms [] among all = refl
+rows_kept f atoms (r ∷ rows) among all =
+    let (here, more) = and_parts (is_line f (tabled (row r))) (list_all (is_line f) (map (λ t. tabled t) (map (λ r. row r) rows))) all in
+    let (_, is) = and_parts (has_tables f.version) (is_table_line f (row r)) here in
+    let of_scope = among 0 r (omega arith) in
+    let rest = rows_kept f atoms rows (λ k d below. among (suc k) d (omega (arith, below))) more in
+    λ i. (is i && of_scope i) && rest i
+
+-- so are the rows of these tables, each of its scope
+abbrev pub AreOfScopes : List Table → Type 0
+AreOfScopes tables = All (λ (t : Table). All (λ (r : Row). list_all (is_among t.scope) r.atoms ≡ true) t.rows) tables
+
+tables_kept : (f : Format) (tables : List Table) → AreOfScopes tables → list_all (is_line f) (map (λ t. tabled t) (flat_map table_lines tables)) ≡ true → are_tables f.version f.atoms f.weights tables ≡ true
+tables_kept f [] among all = refl
+tables_kept f (t ∷ tables) among all =
+    let test : TextLine → Bool = is_line f in
+    let rows : List TextLine = map (λ t. tabled t) (map (λ r. row r) t.rows) in
+    let others : List TextLine = map (λ t. tabled t) (flat_map table_lines tables) in
+    let (here, following) = and_parts (test (tabled (scope t.scope))) (list_all test (map (λ t. tabled t) (map (λ r. row r) t.rows ++ flat_map table_lines tables))) all in
+    let split = ap (list_all test) (map-append (λ t. tabled t) (map (λ r. row r) t.rows) (flat_map table_lines tables)) ∙ list_all-append test rows others in
+    let (rows_are, more) = and_parts (list_all test rows) (list_all test others) (sym split ∙ following) in
+    let (has, scope_is) = and_parts (has_tables f.version) (is_table_line f (scope t.scope)) here in
+    let own = rows_kept f t.scope t.rows (among 0 t (omega arith)) rows_are in
+    let rest = tables_kept f tables (λ k d below. among (suc k) d (omega (arith, below))) more in
+    λ i. (has i && (scope_is i && own i)) && rest i
+
 -- ---- the certificate of a text
 
 as_many_names : (task : Task) (names : List NamedAtom) (atoms : List Atom) → AllName task names atoms → length names ≡ length atoms
@@ -247,13 +287,26 @@ module _ (task : Task) (text : List ℕ) (c : Certificate) (is : IsTextOf task t
       ∙ length-map is.said.atoms (λ (a : WeightedAtom). weight_said (value_count is.said.version (length is.said.constants)) a.weights) ∙ as_many_atoms
 
   -- in a version without tables neither the text nor the certificate has any
-  pub no_tables_said : has_tables c.version ≡ false → is.said.tables ≡ []
+  no_tables_said : has_tables c.version ≡ false → is.said.tables ≡ []
   no_tables_said none = no_lines_of_tables (format_of is.said) (ap has_tables is.version ∙ none) is.said.tables limits.tables
 
-  pub no_tables : has_tables c.version ≡ false → c.tables ≡ []
+  no_tables : has_tables c.version ≡ false → c.tables ≡ []
   no_tables none = no_lines c.tables (sym is.tables ∙ no_tables_said none)
 
-  -- the certificate keeps the limits, if each row is of its table's scope, which the text's own limits do not say
+  -- its tables keep the limits, if each row is of its table's scope, which the text's own limits do not say
+  pub tables_in_limits : AreOfScopes c.tables → IsTrue (are_tables c.version (length c.atoms) (length c.values + 1) c.tables)
+  tables_in_limits among = by_version (has_tables c.version) refl
+    where
+      by_version : (has : Bool) → has_tables c.version ≡ has → are_tables c.version (length c.atoms) (length c.values + 1) c.tables ≡ true
+      by_version false none = ap (are_tables c.version (length c.atoms) (length c.values + 1)) (no_tables none)
+      by_version true has =
+          let f = format_of is.said in
+          let many : length c.values + 1 ≡ length is.said.constants =
+          ap (λ n. n + 1) (ap length is.values ∙ values_length is.said limits) ∙ one_constant_more is.said.version (length is.said.constants) (ap has_tables is.version ∙ has) limits.constant_count in
+          (λ i. are_tables (sym is.version i) (sym as_many_atoms i) (many i) c.tables)
+          ∙ tables_kept f c.tables among (subst (λ lines. list_all (is_line f) (map (λ t. tabled t) lines) ≡ true) is.tables limits.tables)
+
+  -- and so does the whole certificate
   pub limits_kept : IsTrue (are_tables c.version (length c.atoms) (length c.values + 1) c.tables) → IsTrue (keeps_limits c)
   limits_kept tables_are =
       let claim = ap is_claim (sym is.claim) ∙ limits.claim in
@@ -265,11 +318,6 @@ module _ (task : Task) (text : List ℕ) (c : Certificate) (is : IsTextOf task t
       let few_tables = ap (λ n. nat_le n most_tables) (sym (scopes_are c.tables) ∙ ap scope_count (sym is.tables)) ∙ limits.few_tables in
       let few_rows = ap (λ n. nat_le n most_rows) (sym (rows_are c.tables) ∙ ap row_count (sym is.tables)) ∙ limits.few_rows in
       λ i. ((((((((claim i && few_atoms i) && few_states i) && states i) && as_many_values i) && values i) && dead_ends i) && tables_are i) && few_tables i) && few_rows i
-
-  -- which has nothing to say in a version without tables
-  pub limits_kept_without_tables : has_tables c.version ≡ false → IsTrue (keeps_limits c)
-  limits_kept_without_tables none =
-      limits_kept (ap (are_tables c.version (length c.atoms) (length c.values + 1)) (no_tables none))
 
 -- ---- one certificate for a text
 

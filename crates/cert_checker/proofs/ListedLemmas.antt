@@ -1,5 +1,5 @@
 -- States that are taken, and states that came before.
-use Rattle.std.proofs.Common.{◌≡◌, ℕ, Bool, true, false, List, [], ◌∷◌, ◌++◌, map, Some, refl, sym, ap, ◌∙◌, subst}
+use Rattle.std.proofs.Common.{◌≡◌, ℕ, Bool, true, List, [], ◌∷◌, ◌++◌, map, Some, refl, sym, ap, ◌∙◌, subst}
 use Rattle.std.specs.Prelude.{◌&&◌, All, Contains, OnOk, Result, Ok, Err}
 use Rattle.std.specs.List.{list_all}
 use Rattle.std.proofs.lemmas.List.{map-append}
@@ -12,7 +12,7 @@ use Rattle.certificate_definitions.specs.Certificates.{StateLine, rise}
 use Rattle.model.proofs.ListLemmas.{Contains-filter_map, filter_map-Contains, Contains-map, Contains-place, map-Contains}
 use Rattle.model.proofs.Tests.{passes_got}
 use Rattle.certificate_definitions.specs.CertificateText.{TextLine, version, claims, constant, atom, tabled, listed, last}
-use Rattle.certificate_definitions.specs.CertificateChecking.{IsCut, IsWrongAfter, ListsAtoms, not_checked, not_of_scope, repeated_row, not_fluent, repeated_atom, repeated_state, cut_not_allowed}
+use Rattle.certificate_definitions.specs.CertificateChecking.{IsCut, IsWrongAfter, ListsAtoms, not_of_scope, repeated_row, not_fluent, repeated_atom, repeated_state, cut_not_allowed}
 use Rattle.certificate.specs.ListedSets.{Marked, marked}
 use Rattle.cert_checker.specs.Given.{Heading, HaveGiven, state_in, states_given}
 use Rattle.cert_checker.specs.Listed.{HaveListed}
@@ -76,7 +76,6 @@ module _ (before : List TextLine) (claim : Claim) (width : ℕ) (marks : List Ma
     -- the line is not wrong where its set is new, and it is no cut that is not allowed
     right_state : (Contains sets (set_of width l.atoms) → ⊥) → ((claim ≡ none) × IsCut l.mark → ⊥) → (line : TextLine) (number : ℕ) → IsWrongAfter task before line number → line ≡ listed l → ⊥
     right_state new allowed line number (not_fluent b none_is) same = absurd (cc same)
-    right_state new allowed line number (not_checked v unchecked) same = absurd (cc same)
     right_state new allowed line number (not_of_scope r atoms rows here no_scope) same = absurd (cc same)
     right_state new allowed line number (repeated_row r atoms rows here of_scope there) same = absurd (cc same)
     right_state new allowed line number (repeated_atom b is there) same = absurd (cc same)

@@ -1,20 +1,25 @@
 -- The lines of a text, taken one after another, to its end.
-use Rattle.std.proofs.Common.{◌≡◌, ℕ, ◌+◌, ◌-◌, ◌<◌, ◌≤◌, Bool, true, false, List, [], ◌∷◌, ◌++◌, map, length, Option, None, Some, refl, sym, ap, ◌∙◌, subst, append-nil, length-append, arith}
-use Rattle.std.specs.Prelude.{Ok, All, Contains, IsTrue}
+use Rattle.std.proofs.Common.{◌≡◌, ℕ, ◌+◌, ◌-◌, ◌<◌, ◌≤◌, Bool, true, false, List, [], ◌∷◌, ◌++◌, map, length, get_or, Option, None, Some, refl, sym, ap, ◌∙◌, subst, append-nil, length-append, arith}
+use Rattle.std.specs.Prelude.{Ok, All, AllPairs, Contains, ◌≢◌}
 use Rattle.std.specs.List.{list_all}
 use Rattle.std.specs.Option.{option_map_or}
 use Rattle.std.proofs.lemmas.Bool.{and_parts}
 use Rattle.std.proofs.lemmas.List.{length-map}
+use Rattle.std.proofs.lemmas.List.Elements.{All-map}
 use Rattle.packed_state.specs.Sets.{set_of}
 use Rattle.task.specs.TaskParts.{atom_of}
 use Rattle.model.specs.Task.{Atom, Task}
 use Rattle.model.specs.Claims.{Claim}
+use Rattle.table_functions.specs.TableFunctions as model
+use Rattle.table_functions.specs.TableFunctions.{Row, is_among}
+use Rattle.table_rows.specs.Tables.{table_of}
+use Rattle.table_rows.proofs.TableLemmas.{rows-distinct, rows-of-scope}
 use Rattle.certificate_definitions.specs.Certificates.{Certificate, StateLine, rise}
-use Rattle.certificate_definitions.specs.CertificateChecking.{is_checked, AreRight, IsCut}
+use Rattle.certificate_definitions.specs.CertificateChecking.{IsCut}
 use Rattle.certificate_reader.specs.declared.line.CertLine.{CertLine}
 use Rattle.certificate_reader.specs.Lines.{claim_of, text_line_of, version_of}
 use Rattle.certificate_definitions.specs.CertificateText.{WeightedAtom, NamedCertificate, TextLine, AreWhole, BeginCertificate, atom, claims, constant, last, listed, tabled, most_atoms, text_lines, text_of, version}
-use Rattle.certificate_definitions.specs.CertificateNames.{AllName}
+use Rattle.certificate_definitions.specs.CertificateNames.{AllName, IsTextOf}
 use Rattle.certificate_reader.specs.declared.reader.CertReader.{CertReader}
 use Rattle.certificate_reader.specs.Reader.{IsAnswer, has_failed, lines_read}
 use Rattle.model.proofs.ListLemmas.{Contains-here, Contains-there}
@@ -27,7 +32,8 @@ use Rattle.certificate.specs.declared.header.Header.{Header}
 use Rattle.cert_checker.specs.Taking.{HasTaken}
 use Rattle.cert_checker.specs.Reading.{IsAt, IsBegun, IsListedSoFar, IsRead}
 use Rattle.certificate.proofs.SetsLemmas.{numbers_back}
-use Rattle.cert_checker.proofs.GivenLemmas.{begin_front, checked_there}
+use Rattle.cert_checker.proofs.GivenLemmas.{begin_front}
+use Rattle.cert_checker.proofs.LimitsLemmas.{tables_in_limits}
 use Rattle.cert_checker.proofs.PlacedLemmas.{atoms_of_text, body_follows, few_atoms_reported, fit_there, named_length, states_of_text, tables_of_text}
 use Rattle.cert_checker.proofs.ReadingLemmas.{at_last, at_next, few_read, have_begun}
 
@@ -126,27 +132,31 @@ module _ {R : Type 0} (remaining : R → Option (List ℕ)) (task : Task) (first
             let version_is = reported.one_version c.version (subst (λ lines. Contains lines (version c.version)) are (version_occurs c)) in
             let given = reported.given c.constants (subst (λ lines. Contains lines (constant c.constants)) are (constant_occurs c)) in
             let atoms_are : atoms_given lines ≡ c.atoms = ap atoms_given (sym are) ∙ atoms_of_text c in
+            let tables = header.bounds.tables.items in
+            let is_text : IsTextOf task (text_of lines) certificate = record {
+              said = c;
+              text = record { within = keeps; lines = ap text_of (sym are) };
+              version = sym version_is;
+              claim = sym (reported.one_claim c.claim (subst (λ lines. Contains lines (claims c.claim)) are (claim_occurs c)));
+              atoms = subst (λ (said : List WeightedAtom). AllName task (map (λ a. a.atom) said) atoms) (ap atoms_given (sym are) ∙ atoms_of_text c) reported.named;
+              values = given.values ∙ (λ i. values_given (version_is i) c.constants (atoms_are i));
+              dead_ends = given.dead_ends ∙ (λ i. dead_ends_given (version_is i) c.constants (atoms_are i));
+              tables = sym (tables_of_text c) ∙ ap tables_given are ∙ sym reported.tables;
+              lines = sym (states_are ∙ ap states_given (sym are) ∙ states_of_text c);
+            } in
             record {
               text = text_of lines;
               consumed = over.consumed;
               at_end = over.at_end;
-              is_text = record {
-                said = c;
-                text = record { within = keeps; lines = ap text_of (sym are) };
-                version = sym version_is;
-                claim = sym (reported.one_claim c.claim (subst (λ lines. Contains lines (claims c.claim)) are (claim_occurs c)));
-                atoms = subst (λ (said : List WeightedAtom). AllName task (map (λ a. a.atom) said) atoms) (ap atoms_given (sym are) ∙ atoms_of_text c) reported.named;
-                values = given.values ∙ (λ i. values_given (version_is i) c.constants (atoms_are i));
-                dead_ends = given.dead_ends ∙ (λ i. dead_ends_given (version_is i) c.constants (atoms_are i));
-                tables = sym (tables_of_text c) ∙ ap tables_given are ∙ sym reported.tables;
-                lines = sym (states_are ∙ ap states_given (sym are) ∙ states_of_text c);
-              };
+              is_text = is_text;
               lines = lines;
               text_is = refl;
               right = reported.right;
-              checked = subst (λ v. IsTrue (is_checked v)) (sym version_is) (checked_there task c.version (claims c.claim ∷ constant c.constants ∷ body_of c) (subst (AreRight task) (sym are) reported.right));
               fluent = reported.fluent;
               distinct = reported.distinct;
+              tables = tables_in_limits task (text_of lines) certificate is_text
+                  (All-map (λ (t : model.Table). All (λ (r : Row). list_all (is_among t.scope) r.atoms ≡ true) t.rows) table_of tables (λ k d below. rows-of-scope (get_or tables k d)));
+              rows_distinct = All-map (λ (t : model.Table). AllPairs (λ (q r : Row). q.atoms ≢ r.atoms) t.rows) table_of tables (λ k d below. rows-distinct (get_or tables k d));
               allowed = λ is_none. subst (All (λ (l : StateLine). ¬ IsCut l.mark)) (sym states_are) (have.allowed is_none);
             }
 

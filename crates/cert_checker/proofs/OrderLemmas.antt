@@ -13,13 +13,9 @@ use Rattle.model.specs.Grounding.{exceeded_limit}
 use Rattle.model.specs.Claims.{none, Allows, opened, cut, Line, IsListedWithin}
 use Rattle.model.specs.Fluents.{is_fluent}
 use Rattle.certificate_definitions.specs.Certificates.{Certificate, potentials_of, lines_of, AreFairFor, IsClosedFor}
-use Rattle.certificate_definitions.specs.CertificateChecking.{is_checked}
-use Rattle.certificate_definitions.specs.CertificateRefusals.{Reason, not_fluent, repeated, no_initial, unfair, unfair_goal, goal_open, successor_missing, successor_dearer, cut_weak, cut_not_allowed, plan_invalid, plan_dearer, limit, dead_unfair, dead_unfair_goal, not_dead, IsUnfairIn, IsUnfairAtGoalsIn, IsDeadUnfairIn, IsDeadUnfairAtGoalsIn, IsWrongLine, IsWrong, IsFirst, stage_of, rank_of, state_line}
-use Rattle.potential_functions.specs.Fair.{AreFair}
-use Rattle.potentials.specs.Fairness.{AreInstancesFair, AreInstancesDeadFair}
+use Rattle.certificate_definitions.specs.CertificateRefusals.{Reason, not_fluent, repeated, no_initial, unfair, unfair_goal, goal_open, successor_missing, successor_dearer, cut_weak, cut_not_allowed, plan_invalid, plan_dearer, limit, dead_unfair, dead_unfair_goal, not_dead, IsUnfairIn, IsUnfairAtGoalsIn, IsDeadUnfairIn, IsDeadUnfairAtGoalsIn, IsWrongAt, IsWrong, IsFirst, stage_of, rank_of, state_line}
 use Rattle.cert_checker.specs.FluentAtoms.{AreFluent}
 use Rattle.cert_checker.specs.CheckedLines.{CutsAreAllowed, IsLineClosed, IsRightUpTo}
-use Rattle.cert_checker.proofs.VersionLemmas.{goals_fair_in, none_dead_unfair_in, none_unfair_in}
 use Rattle.certificate_definitions.proofs.CertificateRefusalsLemmas.{apart, dead_goals_fair, goals_fair, none_dead_unfair, none_unfair, right_line}
 
 -- ---- what is known of a beginning of the certificate
@@ -48,62 +44,53 @@ states_right_all task c pairs allowed = record {
   allowed = allowed;
 }
 
--- of the first so many things that are asked of the values, and of dead ends, nothing is wrong
-pub record AreFairUpTo (task : Task) (c : Certificate) (count : ℕ) : Type 0 where
-  pub instances : 0 < count → (i : Instance) → IsUnfairIn c.version task c i → ⊥
-  pub goals : 1 < count → IsUnfairAtGoalsIn c.version task c → ⊥
-  pub dead_instances : 2 < count → (i : Instance) → IsDeadUnfairIn c.version task c i → ⊥
-  pub dead_goals : 3 < count → IsDeadUnfairAtGoalsIn c.version task c → ⊥
+-- Of what is asked of the values before this place, and of that at it before this rank, nothing is wrong; what reports dead ends
+-- comes behind them.
+abbrev pub AreFairUpTo : Task → Certificate → (place rank : ℕ) → Type 0
+AreFairUpTo task c place rank =
+    (r : Reason) (k : ℕ) → stage_of r ≡ 2 → (k < place) ⊎ ((k ≡ place) × (rank_of r < rank)) → IsWrongAt task c r k → ⊥
 
--- nothing is asked before the first; each that is asked of the values, and of dead ends, comes after those before it
-pub none_asked : (task : Task) (c : Certificate) → AreFairUpTo task c 0
-none_asked task c = record {
-  instances = λ below. absurd (omega arith);
-  goals = λ below. absurd (omega arith);
-  dead_instances = λ below. absurd (omega arith);
-  dead_goals = λ below. absurd (omega arith);
-}
+-- nothing is asked before the first
+pub none_asked : (task : Task) (c : Certificate) → AreFairUpTo task c 0 0
+none_asked task c r k stage (inl before) wrong = absurd (omega arith)
+none_asked task c r k stage (inr (there, before)) wrong = absurd (omega arith)
 
-module _ (task : Task) (c : Certificate) (checked : IsTrue (is_checked c.version)) where
-  pub instances_asked : AreInstancesFair task (numbered_atoms task c.atoms) (potentials_of c) → AreFairUpTo task c 1
-  instances_asked instances = record {
-    instances = λ below. none_unfair_in task c c.version checked instances;
-    goals = λ below. absurd (omega arith);
-    dead_instances = λ below. absurd (omega arith);
-    dead_goals = λ below. absurd (omega arith);
-  }
+-- none of the instances loses too much of a value before this place, or of that at it
+pub instances_asked : (task : Task) (c : Certificate) (place : ℕ) → AreFairUpTo task c place 0 → ((i : Instance) → IsUnfairIn c.version task c place i → ⊥) → AreFairUpTo task c place 1
+instances_asked task c place fair unlost r k stage (inl before) wrong = fair r k stage (inl before) wrong
+instances_asked task c place fair unlost unfair k stage (inr (there, first)) (i, wrong) = unlost i (subst (λ n. IsUnfairIn c.version task c n i) there wrong)
+instances_asked task c place fair unlost unfair_goal k stage (inr (there, first)) wrong = absurd (omega arith)
+instances_asked task c place fair unlost dead_unfair k stage (inr (there, first)) wrong = absurd (omega arith)
+instances_asked task c place fair unlost dead_unfair_goal k stage (inr (there, first)) wrong = absurd (omega arith)
+instances_asked task c place fair unlost _ k stage (inr (there, first)) wrong = absurd (omega arith)
 
-  pub values_asked : AreFair task (numbered_atoms task c.atoms) (potentials_of c) → AreFairUpTo task c 2
-  values_asked fair = record {
-    instances = λ below. none_unfair_in task c c.version checked fair.instances;
-    goals = λ below. goals_fair_in task c c.version checked fair.goals;
-    dead_instances = λ below. absurd (omega arith);
-    dead_goals = λ below. absurd (omega arith);
-  }
+-- nothing is wrong with any value
+pub values_asked : (task : Task) (c : Certificate) → ((k : ℕ) (i : Instance) → IsUnfairIn c.version task c k i → ⊥) → ((k : ℕ) → IsUnfairAtGoalsIn c.version task c k → ⊥)
+    → AreFairUpTo task c (length c.values) 2
+values_asked task c unlost goals unfair k stage before (i, wrong) = unlost k i wrong
+values_asked task c unlost goals unfair_goal k stage before wrong = goals k wrong
+values_asked task c unlost goals dead_unfair k stage (inl before) (there, i, wrong) = absurd (omega (arith, there))
+values_asked task c unlost goals dead_unfair k stage (inr (same, before)) wrong = absurd (omega arith)
+values_asked task c unlost goals dead_unfair_goal k stage (inl before) (there, wrong) = absurd (omega (arith, there))
+values_asked task c unlost goals dead_unfair_goal k stage (inr (same, before)) wrong = absurd (omega arith)
+values_asked task c unlost goals _ k stage before wrong = absurd (omega arith)
 
-  pub dead_instances_asked : AreFair task (numbered_atoms task c.atoms) (potentials_of c) → AreInstancesDeadFair task (numbered_atoms task c.atoms) c.dead_ends → AreFairUpTo task c 3
-  dead_instances_asked fair instances = record {
-    instances = λ below. none_unfair_in task c c.version checked fair.instances;
-    goals = λ below. goals_fair_in task c c.version checked fair.goals;
-    dead_instances = λ below. none_dead_unfair_in task c c.version checked instances;
-    dead_goals = λ below. absurd (omega arith);
-  }
+-- and none of the instances makes what reports dead ends fall
+pub dead_instances_asked : (task : Task) (c : Certificate) → AreFairUpTo task c (length c.values) 2 → ((i : Instance) → IsDeadUnfairIn c.version task c i → ⊥) → AreFairUpTo task c (length c.values) 3
+dead_instances_asked task c fair unlost r k stage (inl before) wrong = fair r k stage (inl before) wrong
+dead_instances_asked task c fair unlost unfair k stage (inr (there, first)) wrong = fair unfair k stage (inr (there, omega arith)) wrong
+dead_instances_asked task c fair unlost unfair_goal k stage (inr (there, first)) wrong = fair unfair_goal k stage (inr (there, omega arith)) wrong
+dead_instances_asked task c fair unlost dead_unfair k stage (inr (there, first)) (last, i, wrong) = unlost i wrong
+dead_instances_asked task c fair unlost dead_unfair_goal k stage (inr (there, first)) wrong = absurd (omega arith)
+dead_instances_asked task c fair unlost _ k stage (inr (there, first)) wrong = absurd (omega arith)
 
-fair_so_far : (task : Task) (c : Certificate) (most count : ℕ) → AreFairUpTo task c most → count ≤ most → AreFairUpTo task c count
-fair_so_far task c most count fair few = record {
-  instances = λ below. fair.instances (omega arith);
-  goals = λ below. fair.goals (omega arith);
-  dead_instances = λ below. fair.dead_instances (omega arith);
-  dead_goals = λ below. fair.dead_goals (omega arith);
-}
-
-fair_wholly : (task : Task) (c : Certificate) (count : ℕ) → AreFairFor task c → AreFairUpTo task c count
-fair_wholly task c count fair = record {
-  instances = λ below. none_unfair task c c.version fair;
-  goals = λ below. goals_fair task c c.version fair;
-  dead_instances = λ below. none_dead_unfair task c c.version fair;
-  dead_goals = λ below. dead_goals_fair task c c.version fair;
-}
+-- nothing is wrong with fair values
+fair_wholly : (task : Task) (c : Certificate) → AreFairFor task c → (r : Reason) (k : ℕ) → stage_of r ≡ 2 → IsWrongAt task c r k → ⊥
+fair_wholly task c fair unfair k stage (i, wrong) = none_unfair task c c.version fair k i wrong
+fair_wholly task c fair unfair_goal k stage wrong = goals_fair task c c.version fair k wrong
+fair_wholly task c fair dead_unfair k stage (there, i, wrong) = none_dead_unfair task c c.version fair i wrong
+fair_wholly task c fair dead_unfair_goal k stage (there, wrong) = dead_goals_fair task c c.version fair wrong
+fair_wholly task c fair _ k stage wrong = absurd (omega arith)
 
 none_reported : {X : Type 0} (o : Option X) → o ≡ None → IsSome o → ⊥
 none_reported None is reported = absurd (cc)
@@ -119,7 +106,7 @@ module _ (task : Task) (c : Certificate) where
 
   -- nothing is wrong with the lines of the first states
   states_right : (count line : ℕ) (r : Reason) → AtomsAreRight task c (length c.atoms) → StatesAreRight task c count
-      → ((k : ℕ) → line ≡ state_line c k → k < length (lines_of task c) → k < count) → stage_of r ≡ 0 → IsWrongLine task c r line → ⊥
+      → ((k : ℕ) → line ≡ state_line c k → k < length (lines_of task c) → k < count) → stage_of r ≡ 0 → IsWrongAt task c r line → ⊥
   states_right count line not_fluent atoms right reach stage (a, (place, reported, at), wrong) =
       let fluent = atoms.fluent place a (slice_get_within c.atoms place a at) at in
       absurd (cc)
@@ -137,10 +124,10 @@ module _ (task : Task) (c : Certificate) where
   states_right count line plan_invalid atoms right reach stage wrong = wrong
   states_right count line plan_dearer atoms right reach stage wrong = wrong
   states_right count line limit atoms right reach stage wrong = wrong
-  states_right count line unfair atoms right reach stage wrong = wrong
-  states_right count line unfair_goal atoms right reach stage wrong = wrong
-  states_right count line dead_unfair atoms right reach stage wrong = wrong
-  states_right count line dead_unfair_goal atoms right reach stage wrong = wrong
+  states_right count line unfair atoms right reach stage wrong = absurd (omega arith)
+  states_right count line unfair_goal atoms right reach stage wrong = absurd (omega arith)
+  states_right count line dead_unfair atoms right reach stage wrong = absurd (omega arith)
+  states_right count line dead_unfair_goal atoms right reach stage wrong = absurd (omega arith)
   states_right count line not_dead atoms right reach stage wrong = absurd (omega arith)
 
   -- what is looked for in reading is wrong with a line alone
@@ -156,16 +143,16 @@ module _ (task : Task) (c : Certificate) where
   of_line plan most plan_invalid stage wrong = absurd (omega arith)
   of_line plan most plan_dearer stage wrong = absurd (omega arith)
   of_line plan most limit stage wrong = absurd (omega arith)
-  of_line plan most unfair stage wrong = absurd (omega arith)
-  of_line plan most unfair_goal stage wrong = absurd (omega arith)
-  of_line plan most dead_unfair stage wrong = absurd (omega arith)
-  of_line plan most dead_unfair_goal stage wrong = absurd (omega arith)
+  of_line plan most unfair stage wrong = wrong
+  of_line plan most unfair_goal stage wrong = wrong
+  of_line plan most dead_unfair stage wrong = wrong
+  of_line plan most dead_unfair_goal stage wrong = wrong
   of_line plan most not_dead stage wrong = wrong
 
   -- ---- after reading
 
   read_right : (plan : Option (List Instance)) (most : ℕ) (r : Reason) (l : ℕ) → AtomsAreRight task c (length c.atoms) → StatesAreRight task c (length (lines_of task c)) → stage_of r ≡ 0
-      → IsWrongLine task c r l ⊎ IsWrong task c plan most r → ⊥
+      → IsWrongAt task c r l ⊎ IsWrong task c plan most r → ⊥
   read_right plan most r l atoms states stage (inl wrong) = states_right (length (lines_of task c)) l r atoms states (λ j reported within. within) stage wrong
   read_right plan most r l atoms states stage (inr wrong) = of_line plan most r stage wrong
 
@@ -174,7 +161,7 @@ module _ (task : Task) (c : Certificate) where
   first_limit plan most atoms states r l (inr (same, inl before)) wrong = omega arith
   first_limit plan most atoms states r l (inr (same, inr (there, rank))) wrong = omega arith
 
-  in_limit : (plan : Option (List Instance)) (most : ℕ) (r : Reason) (l : ℕ) → exceeded_limit most max_numbered_atoms task c.atoms ≡ None → stage_of r ≡ 1 → IsWrongLine task c r l ⊎ IsWrong task c plan most r → ⊥
+  in_limit : (plan : Option (List Instance)) (most : ℕ) (r : Reason) (l : ℕ) → exceeded_limit most max_numbered_atoms task c.atoms ≡ None → stage_of r ≡ 1 → IsWrongAt task c r l ⊎ IsWrong task c plan most r → ⊥
   in_limit plan most limit l within stage (inl wrong) = wrong
   in_limit plan most limit l within stage (inr wrong) = none_reported (exceeded_limit most max_numbered_atoms task c.atoms) within wrong
   in_limit plan most not_fluent l within stage wrong = absurd (omega arith)
@@ -194,49 +181,48 @@ module _ (task : Task) (c : Certificate) where
   in_limit plan most not_dead l within stage wrong = absurd (omega arith)
 
   before_fair : (plan : Option (List Instance)) (most : ℕ) (r : Reason) (l : ℕ) → AtomsAreRight task c (length c.atoms) → StatesAreRight task c (length (lines_of task c)) → exceeded_limit most max_numbered_atoms task c.atoms ≡ None
-      → stage_of r < 2 → IsWrongLine task c r l ⊎ IsWrong task c plan most r → ⊥
+      → stage_of r < 2 → IsWrongAt task c r l ⊎ IsWrong task c plan most r → ⊥
   before_fair plan most r l atoms states within stage wrong =
       elim (cases_eq (stage_of r) 0) [
         | inl reading ↦ read_right plan most r l atoms states reading wrong
         | inr later ↦ in_limit plan most r l within (omega arith) wrong
       ]
 
-  -- nothing is wrong of what is asked of the values so far
-  in_fair : (plan : Option (List Instance)) (most : ℕ) (r : Reason) (l : ℕ) → AreFairUpTo task c (rank_of r + 1) → stage_of r ≡ 2 → IsWrongLine task c r l ⊎ IsWrong task c plan most r → ⊥
-  in_fair plan most unfair l fair stage (inl wrong) = wrong
-  in_fair plan most unfair l fair stage (inr (i, wrong)) = fair.instances (omega arith) i wrong
-  in_fair plan most unfair_goal l fair stage (inl wrong) = wrong
-  in_fair plan most unfair_goal l fair stage (inr wrong) = fair.goals (omega arith) wrong
-  in_fair plan most dead_unfair l fair stage (inl wrong) = wrong
-  in_fair plan most dead_unfair l fair stage (inr (i, wrong)) = fair.dead_instances (omega arith) i wrong
-  in_fair plan most dead_unfair_goal l fair stage (inl wrong) = wrong
-  in_fair plan most dead_unfair_goal l fair stage (inr wrong) = fair.dead_goals (omega arith) wrong
-  in_fair plan most not_fluent l fair stage wrong = absurd (omega arith)
-  in_fair plan most repeated l fair stage wrong = absurd (omega arith)
-  in_fair plan most cut_not_allowed l fair stage wrong = absurd (omega arith)
-  in_fair plan most limit l fair stage wrong = absurd (omega arith)
-  in_fair plan most no_initial l fair stage wrong = absurd (omega arith)
-  in_fair plan most goal_open l fair stage wrong = absurd (omega arith)
-  in_fair plan most successor_missing l fair stage wrong = absurd (omega arith)
-  in_fair plan most successor_dearer l fair stage wrong = absurd (omega arith)
-  in_fair plan most cut_weak l fair stage wrong = absurd (omega arith)
-  in_fair plan most not_dead l fair stage wrong = absurd (omega arith)
-  in_fair plan most plan_invalid l fair stage wrong = absurd (omega arith)
-  in_fair plan most plan_dearer l fair stage wrong = absurd (omega arith)
+  -- what is asked of the values is wrong with one of them alone
+  of_value : (plan : Option (List Instance)) (most : ℕ) (r : Reason) → stage_of r ≡ 2 → IsWrong task c plan most r → ⊥
+  of_value plan most unfair stage wrong = wrong
+  of_value plan most unfair_goal stage wrong = wrong
+  of_value plan most dead_unfair stage wrong = wrong
+  of_value plan most dead_unfair_goal stage wrong = wrong
+  of_value plan most not_fluent stage wrong = wrong
+  of_value plan most repeated stage wrong = wrong
+  of_value plan most cut_not_allowed stage wrong = wrong
+  of_value plan most limit stage wrong = absurd (omega arith)
+  of_value plan most no_initial stage wrong = absurd (omega arith)
+  of_value plan most goal_open stage wrong = wrong
+  of_value plan most successor_missing stage wrong = wrong
+  of_value plan most successor_dearer stage wrong = wrong
+  of_value plan most cut_weak stage wrong = wrong
+  of_value plan most not_dead stage wrong = wrong
+  of_value plan most plan_invalid stage wrong = absurd (omega arith)
+  of_value plan most plan_dearer stage wrong = absurd (omega arith)
 
   -- what is asked of them is reported first where all that is asked before is so
-  pub first_asked : (reason : Reason) (plan : Option (List Instance)) (most : ℕ) → stage_of reason ≡ 2 → AtomsAreRight task c (length c.atoms) → StatesAreRight task c (length (lines_of task c))
-      → exceeded_limit most max_numbered_atoms task c.atoms ≡ None → AreFairUpTo task c (rank_of reason) → IsFirst task c plan most reason 0
-  first_asked reason plan most stage atoms states within fair r l (inl before) wrong = before_fair plan most r l atoms states within (omega (arith, before, stage)) wrong
-  first_asked reason plan most stage atoms states within fair r l (inr (same, inl before)) wrong = omega arith
-  first_asked reason plan most stage atoms states within fair r l (inr (same, inr (there, rank))) wrong =
-      in_fair plan most r l (fair_so_far task c (rank_of reason) (rank_of r + 1) fair (omega (arith, rank))) (same ∙ stage) wrong
+  pub first_asked : (reason : Reason) (place : ℕ) (plan : Option (List Instance)) (most : ℕ) → stage_of reason ≡ 2 → AtomsAreRight task c (length c.atoms) → StatesAreRight task c (length (lines_of task c))
+      → exceeded_limit most max_numbered_atoms task c.atoms ≡ None → AreFairUpTo task c place (rank_of reason) → IsFirst task c plan most reason place
+  first_asked reason place plan most stage atoms states within fair r l (inl before) wrong = before_fair plan most r l atoms states within (omega (arith, before, stage)) wrong
+  first_asked reason place plan most stage atoms states within fair r l (inr (same, before)) (inl wrong) = fair r l (same ∙ stage) before wrong
+  first_asked reason place plan most stage atoms states within fair r l (inr (same, before)) (inr wrong) = of_value plan most r (same ∙ stage) wrong
+
+  in_fair : (plan : Option (List Instance)) (most : ℕ) (r : Reason) (l : ℕ) → AreFairFor task c → stage_of r ≡ 2 → IsWrongAt task c r l ⊎ IsWrong task c plan most r → ⊥
+  in_fair plan most r l fair stage (inl wrong) = fair_wholly task c fair r l stage wrong
+  in_fair plan most r l fair stage (inr wrong) = of_value plan most r stage wrong
 
   before_initial : (plan : Option (List Instance)) (most : ℕ) (r : Reason) (l : ℕ) → AtomsAreRight task c (length c.atoms) → StatesAreRight task c (length (lines_of task c)) → exceeded_limit most max_numbered_atoms task c.atoms ≡ None
-      → AreFairFor task c → stage_of r < 3 → IsWrongLine task c r l ⊎ IsWrong task c plan most r → ⊥
+      → AreFairFor task c → stage_of r < 3 → IsWrongAt task c r l ⊎ IsWrong task c plan most r → ⊥
   before_initial plan most r l atoms states within fair stage wrong =
       elim (cases_eq (stage_of r) 2) [
-        | inl unfair_reported ↦ in_fair plan most r l (fair_wholly task c (rank_of r + 1) fair) unfair_reported wrong
+        | inl unfair_reported ↦ in_fair plan most r l fair unfair_reported wrong
         | inr earlier ↦ before_fair plan most r l atoms states within (omega arith) wrong
       ]
 
@@ -246,7 +232,7 @@ module _ (task : Task) (c : Certificate) where
   first_initial plan most atoms states within fair r l (inr (same, inl before)) wrong = omega arith
   first_initial plan most atoms states within fair r l (inr (same, inr (there, rank))) wrong = omega arith
 
-  in_initial : (plan : Option (List Instance)) (most : ℕ) (r : Reason) (l : ℕ) → IsListedWithin (lines_of task c) (initial_state task) 0 → stage_of r ≡ 3 → IsWrongLine task c r l ⊎ IsWrong task c plan most r → ⊥
+  in_initial : (plan : Option (List Instance)) (most : ℕ) (r : Reason) (l : ℕ) → IsListedWithin (lines_of task c) (initial_state task) 0 → stage_of r ≡ 3 → IsWrongAt task c r l ⊎ IsWrong task c plan most r → ⊥
   in_initial plan most no_initial l listed stage (inl wrong) = wrong
   in_initial plan most no_initial l listed stage (inr wrong) = wrong listed
   in_initial plan most not_fluent l listed stage wrong = absurd (omega arith)
@@ -265,7 +251,7 @@ module _ (task : Task) (c : Certificate) where
   in_initial plan most plan_invalid l listed stage wrong = absurd (omega arith)
   in_initial plan most plan_dearer l listed stage wrong = absurd (omega arith)
 
-  before_lines : (plan : Option (List Instance)) (most place : ℕ) (r : Reason) (l : ℕ) → IsRightUpTo task c most place → stage_of r < 4 → IsWrongLine task c r l ⊎ IsWrong task c plan most r → ⊥
+  before_lines : (plan : Option (List Instance)) (most place : ℕ) (r : Reason) (l : ℕ) → IsRightUpTo task c most place → stage_of r < 4 → IsWrongAt task c r l ⊎ IsWrong task c plan most r → ⊥
   before_lines plan most place r l right stage wrong =
       elim (cases_eq (stage_of r) 3) [
         | inl initial ↦ in_initial plan most r l right.initial initial wrong
@@ -275,7 +261,7 @@ module _ (task : Task) (c : Certificate) where
   -- ---- the state lines
 
   line_right : (r : Reason) (line place : ℕ) → line < state_line c place → ((k : ℕ) (l : Line State) → k < place → slice_get (lines_of task c) k ≡ Some l → IsLineClosed task c l) → stage_of r ≡ 4
-      → IsWrongLine task c r line → ⊥
+      → IsWrongAt task c r line → ⊥
   line_right goal_open line place lt right stage (l, (k, reported, at), is_open, goal, denied) = denied (((right k l (omega arith) at).is_open is_open).goal_allowed goal)
   line_right successor_missing line place lt right stage (l, i, next, ((k, reported, at), is_open, leads), missing) =
       let listed = ((right k l (omega arith) at).is_open is_open).successors_listed i next leads in
@@ -291,10 +277,10 @@ module _ (task : Task) (c : Certificate) where
   line_right cut_not_allowed line place lt right stage wrong = absurd (omega arith)
   line_right no_initial line place lt right stage wrong = wrong
   line_right limit line place lt right stage wrong = wrong
-  line_right unfair line place lt right stage wrong = wrong
-  line_right unfair_goal line place lt right stage wrong = wrong
-  line_right dead_unfair line place lt right stage wrong = wrong
-  line_right dead_unfair_goal line place lt right stage wrong = wrong
+  line_right unfair line place lt right stage wrong = absurd (omega arith)
+  line_right unfair_goal line place lt right stage wrong = absurd (omega arith)
+  line_right dead_unfair line place lt right stage wrong = absurd (omega arith)
+  line_right dead_unfair_goal line place lt right stage wrong = absurd (omega arith)
   line_right not_dead line place lt right stage (l, (k, reported, at), is_dead, alive) = false≢true (sym alive ∙ (right k l (omega arith) at).is_dead is_dead)
   line_right plan_invalid line place lt right stage wrong = wrong
   line_right plan_dearer line place lt right stage wrong = wrong
@@ -318,16 +304,16 @@ module _ (task : Task) (c : Certificate) where
   of_state_line plan most plan_dearer stage wrong = absurd (omega arith)
 
   pub first_in_line : (plan : Option (List Instance)) (most place : ℕ) (reason : Reason) → IsRightUpTo task c most place → stage_of reason ≡ 4
-      → ((r : Reason) → stage_of r ≡ 4 → rank_of r < rank_of reason → IsWrongLine task c r (state_line c place) → ⊥) → IsFirst task c plan most reason (state_line c place)
+      → ((r : Reason) → stage_of r ≡ 4 → rank_of r < rank_of reason → IsWrongAt task c r (state_line c place) → ⊥) → IsFirst task c plan most reason (state_line c place)
   first_in_line plan most place reason right stage here r l (inl before) wrong = before_lines plan most place r l right (omega arith) wrong
   first_in_line plan most place reason right stage here r l (inr (same, inl before)) (inl wrong) = line_right r l place before right.lines (same ∙ stage) wrong
   first_in_line plan most place reason right stage here r l (inr (same, inl before)) (inr wrong) = of_state_line plan most r (same ∙ stage) wrong
-  first_in_line plan most place reason right stage here r l (inr (same, inr (there, rank))) (inl wrong) = here r (same ∙ stage) rank (subst (IsWrongLine task c r) there wrong)
+  first_in_line plan most place reason right stage here r l (inr (same, inr (there, rank))) (inl wrong) = here r (same ∙ stage) rank (subst (IsWrongAt task c r) there wrong)
   first_in_line plan most place reason right stage here r l (inr (same, inr (there, rank))) (inr wrong) = of_state_line plan most r (same ∙ stage) wrong
 
   -- of an open state whose goal is as it is to be
   pub open_here : (place : ℕ) (l : Line State) → slice_get (lines_of task c) place ≡ Some l → l.mark ≡ opened → (IsTrue ((system_of task).meets_goal l.state) → Allows c.claim l.cost)
-      → (r : Reason) → stage_of r ≡ 4 → rank_of r < 1 → IsWrongLine task c r (state_line c place) → ⊥
+      → (r : Reason) → stage_of r ≡ 4 → rank_of r < 1 → IsWrongAt task c r (state_line c place) → ⊥
   open_here place l here is_open allowed goal_open stage rank (other, (k, reported, at), is_opened, goal, denied) =
       let there : k ≡ place = omega arith in
       let same = the_line place k other l there at here in
@@ -349,23 +335,23 @@ module _ (task : Task) (c : Certificate) where
   open_here place l here is_open allowed cut_not_allowed stage rank wrong = absurd (omega arith)
   open_here place l here is_open allowed no_initial stage rank wrong = wrong
   open_here place l here is_open allowed limit stage rank wrong = wrong
-  open_here place l here is_open allowed unfair stage rank wrong = wrong
-  open_here place l here is_open allowed unfair_goal stage rank wrong = wrong
-  open_here place l here is_open allowed dead_unfair stage rank wrong = wrong
-  open_here place l here is_open allowed dead_unfair_goal stage rank wrong = wrong
+  open_here place l here is_open allowed unfair stage rank wrong = absurd (omega arith)
+  open_here place l here is_open allowed unfair_goal stage rank wrong = absurd (omega arith)
+  open_here place l here is_open allowed dead_unfair stage rank wrong = absurd (omega arith)
+  open_here place l here is_open allowed dead_unfair_goal stage rank wrong = absurd (omega arith)
   open_here place l here is_open allowed plan_invalid stage rank wrong = wrong
   open_here place l here is_open allowed plan_dearer stage rank wrong = wrong
 
   -- ---- the plan
 
-  before_plan : (plan : Option (List Instance)) (most : ℕ) (r : Reason) (l : ℕ) → IsClosedFor task c → exceeded_limit most max_numbered_atoms task c.atoms ≡ None → stage_of r < 5 → IsWrongLine task c r l ⊎ IsWrong task c plan most r → ⊥
+  before_plan : (plan : Option (List Instance)) (most : ℕ) (r : Reason) (l : ℕ) → IsClosedFor task c → exceeded_limit most max_numbered_atoms task c.atoms ≡ None → stage_of r < 5 → IsWrongAt task c r l ⊎ IsWrong task c plan most r → ⊥
   before_plan plan most r l closed within stage (inl wrong) = right_line task c closed r l wrong
   before_plan plan most limit l closed within stage (inr wrong) = none_reported (exceeded_limit most max_numbered_atoms task c.atoms) within wrong
   before_plan plan most no_initial l closed within stage (inr wrong) = wrong closed.listing_is_closed.initial_listed
-  before_plan plan most unfair l closed within stage (inr (i, wrong)) = none_unfair task c c.version closed.are_fair i wrong
-  before_plan plan most unfair_goal l closed within stage (inr wrong) = goals_fair task c c.version closed.are_fair wrong
-  before_plan plan most dead_unfair l closed within stage (inr (i, wrong)) = none_dead_unfair task c c.version closed.are_fair i wrong
-  before_plan plan most dead_unfair_goal l closed within stage (inr wrong) = dead_goals_fair task c c.version closed.are_fair wrong
+  before_plan plan most unfair l closed within stage (inr wrong) = wrong
+  before_plan plan most unfair_goal l closed within stage (inr wrong) = wrong
+  before_plan plan most dead_unfair l closed within stage (inr wrong) = wrong
+  before_plan plan most dead_unfair_goal l closed within stage (inr wrong) = wrong
   before_plan plan most plan_invalid l closed within stage (inr wrong) = omega arith
   before_plan plan most plan_dearer l closed within stage (inr wrong) = omega arith
   before_plan plan most not_fluent l closed within stage (inr wrong) = wrong
@@ -387,7 +373,7 @@ module _ (task : Task) (c : Certificate) where
   first_dearer p most closed within solves r l (inr (same, inl before)) wrong = omega arith
   first_dearer p most closed within solves r l (inr (same, inr (there, rank))) wrong = solving r same rank wrong
     where
-      solving : (r : Reason) → stage_of r ≡ 5 → rank_of r < 1 → IsWrongLine task c r l ⊎ IsWrong task c (Some p) most r → ⊥
+      solving : (r : Reason) → stage_of r ≡ 5 → rank_of r < 1 → IsWrongAt task c r l ⊎ IsWrong task c (Some p) most r → ⊥
       solving plan_invalid stage rank (inl wrong) = wrong
       solving plan_invalid stage rank (inr wrong) = wrong solves
       solving plan_dearer stage rank wrong = omega arith

@@ -85,7 +85,7 @@ numbered_after task atoms c fluent is =
     let first = first_numbered task atoms c fluent is in omega (arith, ap length first.1, length-append c.atoms first.0)
 
 module _ (task : Task) (atoms : List Atom) (c : Certificate) (store : PooledStore) (listed : IsPackedListing task atoms c store) where
-  packs : PacksStates task atoms
+  pub packs : PacksStates task atoms
   packs = subst (PacksStates task) (sym listed.numbered) (packs_states task c.atoms (all_fluent task c.atoms listed.fluent))
 
   -- each set stands for the line's state

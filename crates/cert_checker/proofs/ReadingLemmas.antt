@@ -6,7 +6,7 @@ use Rattle.std.proofs.lemmas.Result.{err_from_is_err_and}
 use Rattle.std.specs.Io.KnownBytes.{Consumes}
 use Rattle.model.specs.Task.{Task}
 use Rattle.certificate_definitions.specs.CertificateText.{TextLine, BeginCertificate, IsFaultAfter, text_of, whole_line}
-use Rattle.certificate_definitions.specs.CertificateChecking.{AreRight, IsLineFault, IsWrongAfter, not_checked, not_of_scope, repeated_row, not_fluent, repeated_atom, repeated_state, cut_not_allowed}
+use Rattle.certificate_definitions.specs.CertificateChecking.{AreRight, IsLineFault, IsWrongAfter, not_of_scope, repeated_row, not_fluent, repeated_atom, repeated_state, cut_not_allowed}
 use Rattle.certificate_definitions.proofs.Machine.{begins, occurs}
 use Rattle.certificate_reader.specs.declared.reader.CertReader.{CertReader}
 use Rattle.certificate_reader.specs.declared.reader.CertFault.{CertFault}
@@ -124,7 +124,6 @@ module _ {R : Type 0} (remaining : R → Option (List ℕ)) (first : CertReader 
 -- ---- lines that are wrong
 
 no_truncated : (task : Task) (before : List TextLine) (line : TextLine) (number : ℕ) → IsWrongAfter task before line number → number ≡ 42 → ⊥
-no_truncated task before line number (not_checked v unchecked) same = absurd (omega (arith, same))
 no_truncated task before line number (not_of_scope r atoms rows here no_scope) same = absurd (omega (arith, same))
 no_truncated task before line number (repeated_row r atoms rows here of_scope there) same = absurd (omega (arith, same))
 no_truncated task before line number (not_fluent a none_is) same = absurd (omega (arith, same))

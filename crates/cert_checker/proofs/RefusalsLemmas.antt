@@ -19,7 +19,7 @@ use Rattle.model.specs.Meaning.{State, step, meets_goal, system_of}
 use Rattle.model.specs.Instances.{successors_of}
 use Rattle.model.specs.Claims.{Claim, Allows, opened, cut, dead, Line, IsListedWithin}
 use Rattle.certificate_definitions.specs.Certificates.{Certificate, is_dead_end_of, lines_of, value_of}
-use Rattle.certificate_definitions.specs.CertificateRefusals.{goal_open, successor_missing, successor_dearer, cut_weak, not_dead, IsWrongLine, IsListed, state_line}
+use Rattle.certificate_definitions.specs.CertificateRefusals.{goal_open, successor_missing, successor_dearer, cut_weak, not_dead, IsWrongAt, IsListed, state_line}
 use Rattle.model.proofs.ListLemmas.{Contains-place, Contains-map}
 use Rattle.model.proofs.InstancesLemmas.{successors-Contains}
 use Rattle.certificate_definitions.proofs.CertificateRefusalsLemmas.{apart}
@@ -27,7 +27,7 @@ use Rattle.certificate_definitions.proofs.CertificateRefusalsLemmas.{apart}
 -- ---- a refusal with its line
 
 pub reported : (task : Task) (c : Certificate) (r : Refusal) (code : RefusalCode) (line : ℕ) → r ≡ refusal.Line code line
-    → MatchOption (reason_of code) ⊥ (λ reason. IsWrongLine task c reason line) → IsTrueAnyway task c r
+    → MatchOption (reason_of code) ⊥ (λ reason. IsWrongAt task c reason line) → IsTrueAnyway task c r
 reported task c r code line is wrong = subst (IsTrueAnyway task c) (sym is) (λ plan most. wrong)
 
 -- ---- a line of the certificate, and its state
@@ -79,7 +79,7 @@ not_listed_at_none lines s t (Some cost) pairs listed is same within =
 -- ---- open states
 
 pub wrong_goal : (task : Task) (c : Certificate) (place : ℕ) (s : State) (cost : ℕ) → IsListedAs task c place s cost opened → IsTrue (meets_goal task s) → ¬ Allows c.claim cost
-    → IsWrongLine task c goal_open (state_line c place)
+    → IsWrongAt task c goal_open (state_line c place)
 wrong_goal task c place s cost there goal denied = (record { state = s; cost = cost; mark = opened }, (place, refl, there), refl, goal, denied)
 
 -- each successor that is gone through is one that an instance leads to
@@ -89,7 +89,7 @@ leads_there task s view xs k x lt at is =
     successors-Contains task s (view x).0 (view x).1 (subst (λ l. Contains {X = Instance × State} l (view x)) is (Contains-map view xs x (k, lt, sym at)))
 
 pub wrong_missing : (task : Task) (c : Certificate) (place : ℕ) (s : State) (cost : ℕ) (i : Instance) (next : State) → IsListedAs task c place s cost opened → step task s i ≡ Some next
-    → ¬ IsListed (lines_of task c) next → IsWrongLine task c successor_missing (state_line c place)
+    → ¬ IsListed (lines_of task c) next → IsWrongAt task c successor_missing (state_line c place)
 wrong_missing task c place s cost i next there leads missing =
     (record { state = s; cost = cost; mark = opened }, i, next, ((place, refl, there), refl, leads), missing)
 
@@ -102,7 +102,7 @@ not_within task c s listed most apart at dearer within = omega (arith, one_cost 
 
 pub wrong_dearer : (task : Task) (c : Certificate) (place : ℕ) (s : State) (cost : ℕ) (i : Instance) (next : State) (listed : ℕ) → AreApart task c
     → IsListedAs task c place s cost opened → step task s i ≡ Some next → IsListedAt (lines_of task c) next listed → cost + (system_of task).cost i < listed
-    → IsWrongLine task c successor_dearer (state_line c place)
+    → IsWrongAt task c successor_dearer (state_line c place)
 wrong_dearer task c place s cost i next listed apart there leads at dearer = (
   record { state = s; cost = cost; mark = opened },
   i,
@@ -115,12 +115,12 @@ wrong_dearer task c place s cost i next listed apart there leads at dearer = (
 -- ---- cuts
 
 pub wrong_cut : (task : Task) (c : Certificate) (place : ℕ) (s : State) (cost rest : ℕ) → IsListedAs task c place s cost (cut rest) → (value_of task c s < rest) ⊎ ¬ Allows c.claim (cost + rest)
-    → IsWrongLine task c cut_weak (state_line c place)
+    → IsWrongAt task c cut_weak (state_line c place)
 wrong_cut task c place s cost rest there wrong = (record { state = s; cost = cost; mark = cut rest }, rest, (place, refl, there), refl, wrong)
 
 -- ---- dead ends
 
-pub wrong_dead : (task : Task) (c : Certificate) (place : ℕ) (s : State) (cost : ℕ) → IsListedAs task c place s cost dead → is_dead_end_of task c s ≡ false → IsWrongLine task c not_dead (state_line c place)
+pub wrong_dead : (task : Task) (c : Certificate) (place : ℕ) (s : State) (cost : ℕ) → IsListedAs task c place s cost dead → is_dead_end_of task c s ≡ false → IsWrongAt task c not_dead (state_line c place)
 wrong_dead task c place s cost there alive = (record { state = s; cost = cost; mark = dead }, (place, refl, there), refl, alive)
 
 pub not_allowed : (claim whole : Claim) (cost : ℕ) (b : Bool) → claim ≡ whole → IsTrue b ↔ Allows claim cost → b ≡ false → ¬ Allows whole cost

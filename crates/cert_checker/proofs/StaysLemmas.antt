@@ -172,7 +172,7 @@ rise_within atom_count count least (n ∷ scope) few rises =
     let below = ltb-true n atom_count (and_parts (nat_le least n) (nat_lt n atom_count) here).1 in
     λ i. lt-ltb n count (omega (arith, below, few)) i && rise_within atom_count count (n + 1) scope few more i
 
-scopes_within : (v : Version) (atom_count weight_count count : ℕ) → atom_count ≤ count → (those : List Table) → IsTrue (are_tables v atom_count weight_count those) → IsTrue (are_over count those)
+pub scopes_within : (v : Version) (atom_count weight_count count : ℕ) → atom_count ≤ count → (those : List Table) → IsTrue (are_tables v atom_count weight_count those) → IsTrue (are_over count those)
 scopes_within v atom_count weight_count count few [] are = refl
 scopes_within v atom_count weight_count count few (t ∷ those) are =
     let (here, more) = and_parts (has_tables v && is_table atom_count weight_count t) (are_tables v atom_count weight_count those) are in

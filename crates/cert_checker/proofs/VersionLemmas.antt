@@ -1,7 +1,6 @@
--- What the definitions say of a certificate of a version that is checked: it has one potential function, one for dead ends, and
--- no tables.
-use Rattle.std.proofs.Common.{◌≡◌, ℕ, ◌+◌, ◌<◌, true, List, [], ◌∷◌, length, refl, sym, subst, arith, Bool, ℤ}
-use Rattle.std.specs.Prelude.{IsTrue, All, AllPairs, ◌≢◌, ◌&&◌, ◌==◌, nat_le}
+-- What the definitions say of a certificate of a version without tables: it has one potential function and one for dead ends.
+use Rattle.std.proofs.Common.{◌≡◌, ◌∙◌, ℕ, ◌+◌, ◌<◌, true, false, true≢false, List, [], ◌∷◌, length, map, refl, sym, arith, Bool, ℤ}
+use Rattle.std.specs.Prelude.{IsTrue, All, AllPairs, Contains, ◌≢◌, ◌&&◌, ◌==◌, nat_le}
 use Rattle.std.specs.List.{list_all}
 use Rattle.std.proofs.lemmas.Bool.{and_parts, eqb-true, false≢true, leb-true}
 use Rattle.std.proofs.lemmas.List.Elements.{All-cons, All-contains}
@@ -12,84 +11,96 @@ use Rattle.model.specs.NumberedAtoms.{numbered_atoms}
 use Rattle.potential_functions.specs.PotentialFunctions.{PotentialFunction, value_of_state, is_dead_state}
 use Rattle.potential_functions.specs.Fair.{nothing, IsFairAt, IsFairAtGoals}
 use Rattle.table_functions.specs.TableFunctions.{Row, Table}
+use Rattle.table_rows.specs.declared.table.Table as in_memory
+use Rattle.table_rows.specs.Tables.{table_of}
+use Rattle.table_rows.proofs.TableLemmas.{rows-distinct}
 use Rattle.potentials.specs.Fairness.{AreInstancesFair, AreInstancesFairAt, AreInstancesDeadFair}
 use Rattle.certificate_definitions.specs.Certificates.{Version, one, two, three, Certificate, potentials_of, are_potentials, are_tables, has_tables, is_dead_end_weight, is_table, is_value_count, is_weight, keeps_limits, value_in, is_dead_end_in, ArePotentialsFair, AreFairIn}
 use Rattle.certificate_definitions.specs.CertificateRefusals.{MayLose, IsUnfairIn, IsUnfairAtGoalsIn, IsDeadUnfairIn, IsDeadUnfairAtGoalsIn}
-use Rattle.certificate_definitions.specs.CertificateChecking.{is_checked}
 use Rattle.cert_checker.specs.CertChecker.{IsFirstToLoseAt, IsFirstToLoseIn, IsFirstDeadToLoseIn}
-use Rattle.cert_checker.specs.CheckedLines.{AreRowsDistinct}
 use Rattle.cert_checker.proofs.LimitsLemmas.{limits_of}
+
+-- what is so of version 3 is so of a version with tables, and the other way round
+pub of_three : (P : Version → Type 0) (v : Version) → has_tables v ≡ true → P three → P v
+of_three P one has p = absurd (false≢true has)
+of_three P two has p = absurd (false≢true has)
+of_three P three has p = p
+
+pub to_three : (P : Version → Type 0) (v : Version) → has_tables v ≡ true → P v → P three
+to_three P one has p = absurd (false≢true has)
+to_three P two has p = absurd (false≢true has)
+to_three P three has p = p
 
 module _ (task : Task) (c : Certificate) where
   -- ---- what is said of states
 
-  pub value_as : (v : Version) → IsTrue (is_checked v) → (s : State) → value_of_state c.atoms (potentials_of c) s ≡ value_in v task c s
-  value_as one checked s = refl
-  value_as two checked s = refl
-  value_as three checked s = absurd (false≢true checked)
+  pub value_as : (v : Version) → has_tables v ≡ false → (s : State) → value_of_state c.atoms (potentials_of c) s ≡ value_in v task c s
+  value_as one without s = refl
+  value_as two without s = refl
+  value_as three without s = absurd (true≢false without)
 
-  pub dead_end_as : (v : Version) → IsTrue (is_checked v) → (s : State) → is_dead_state c.atoms c.dead_ends s ≡ is_dead_end_in v task c s
-  dead_end_as one checked s = refl
-  dead_end_as two checked s = refl
-  dead_end_as three checked s = absurd (false≢true checked)
+  pub dead_end_as : (v : Version) → has_tables v ≡ false → (s : State) → is_dead_state c.atoms c.dead_ends s ≡ is_dead_end_in v task c s
+  dead_end_as one without s = refl
+  dead_end_as two without s = refl
+  dead_end_as three without s = absurd (true≢false without)
 
   -- ---- what is fair
 
-  pub fair_in : (v : Version) → IsTrue (is_checked v) → ArePotentialsFair task c → AreFairIn v task c
-  fair_in one checked fair = fair
-  fair_in two checked fair = fair
-  fair_in three checked fair = absurd (false≢true checked)
+  pub fair_in : (v : Version) → has_tables v ≡ false → ArePotentialsFair task c → AreFairIn v task c
+  fair_in one without fair = fair
+  fair_in two without fair = fair
+  fair_in three without fair = absurd (true≢false without)
 
   none_loses : (allowance : Instance → ℕ) (p : PotentialFunction) → AreInstancesFairAt allowance task (numbered_atoms task c.atoms) p → (i : Instance) → MayLose (allowance i) task c p i → ⊥
   none_loses allowance p fair i (kept, wrong) =
       wrong (All-contains (λ (i : Instance). IsFairAt (allowance i) task (numbered_atoms task c.atoms) p.weights i) (kept_instances task) i fair kept)
 
-  pub none_unfair_in : (v : Version) → IsTrue (is_checked v) → AreInstancesFair task (numbered_atoms task c.atoms) (potentials_of c) → (i : Instance) → IsUnfairIn v task c i → ⊥
-  none_unfair_in one checked fair i wrong = none_loses (cost_of task) (potentials_of c) fair i wrong
-  none_unfair_in two checked fair i wrong = none_loses (cost_of task) (potentials_of c) fair i wrong
-  none_unfair_in three checked fair i wrong = absurd (false≢true checked)
+  pub none_unfair_in : (v : Version) → has_tables v ≡ false → AreInstancesFair task (numbered_atoms task c.atoms) (potentials_of c) → (place : ℕ) (i : Instance) → IsUnfairIn v task c place i → ⊥
+  none_unfair_in one without fair place i (is, wrong) = none_loses (cost_of task) (potentials_of c) fair i wrong
+  none_unfair_in two without fair place i (is, wrong) = none_loses (cost_of task) (potentials_of c) fair i wrong
+  none_unfair_in three without fair place i wrong = absurd (true≢false without)
 
-  pub goals_fair_in : (v : Version) → IsTrue (is_checked v) → IsFairAtGoals task (numbered_atoms task c.atoms) (potentials_of c) → IsUnfairAtGoalsIn v task c → ⊥
-  goals_fair_in one checked fair wrong = wrong fair
-  goals_fair_in two checked fair wrong = wrong fair
-  goals_fair_in three checked fair wrong = absurd (false≢true checked)
+  pub goals_fair_in : (v : Version) → has_tables v ≡ false → IsFairAtGoals task (numbered_atoms task c.atoms) (potentials_of c) → (place : ℕ) → IsUnfairAtGoalsIn v task c place → ⊥
+  goals_fair_in one without fair place (is, wrong) = wrong fair
+  goals_fair_in two without fair place (is, wrong) = wrong fair
+  goals_fair_in three without fair place wrong = absurd (true≢false without)
 
-  pub none_dead_unfair_in : (v : Version) → IsTrue (is_checked v) → AreInstancesDeadFair task (numbered_atoms task c.atoms) c.dead_ends → (i : Instance) → IsDeadUnfairIn v task c i → ⊥
-  none_dead_unfair_in one checked fair i wrong = none_loses nothing c.dead_ends fair i wrong
-  none_dead_unfair_in two checked fair i wrong = none_loses nothing c.dead_ends fair i wrong
-  none_dead_unfair_in three checked fair i wrong = absurd (false≢true checked)
+  pub none_dead_unfair_in : (v : Version) → has_tables v ≡ false → AreInstancesDeadFair task (numbered_atoms task c.atoms) c.dead_ends → (i : Instance) → IsDeadUnfairIn v task c i → ⊥
+  none_dead_unfair_in one without fair i wrong = none_loses nothing c.dead_ends fair i wrong
+  none_dead_unfair_in two without fair i wrong = none_loses nothing c.dead_ends fair i wrong
+  none_dead_unfair_in three without fair i wrong = absurd (true≢false without)
 
   -- ---- what is not
 
-  pub unfair_in : (v : Version) → IsTrue (is_checked v) → (i : Instance) → MayLose (cost_of task i) task c (potentials_of c) i → IsUnfairIn v task c i
-  unfair_in one checked i loses = loses
-  unfair_in two checked i loses = loses
-  unfair_in three checked i loses = absurd (false≢true checked)
+  pub unfair_in : (v : Version) → has_tables v ≡ false → (i : Instance) → MayLose (cost_of task i) task c (potentials_of c) i → IsUnfairIn v task c 0 i
+  unfair_in one without i loses = (refl, loses)
+  unfair_in two without i loses = (refl, loses)
+  unfair_in three without i loses = absurd (true≢false without)
 
-  pub unfair_at_goals_in : (v : Version) → IsTrue (is_checked v) → ¬ IsFairAtGoals task (numbered_atoms task c.atoms) (potentials_of c) → IsUnfairAtGoalsIn v task c
-  unfair_at_goals_in one checked unfair = unfair
-  unfair_at_goals_in two checked unfair = unfair
-  unfair_at_goals_in three checked unfair = absurd (false≢true checked)
+  pub unfair_at_goals_in : (v : Version) → has_tables v ≡ false → ¬ IsFairAtGoals task (numbered_atoms task c.atoms) (potentials_of c) → IsUnfairAtGoalsIn v task c 0
+  unfair_at_goals_in one without unfair = (refl, unfair)
+  unfair_at_goals_in two without unfair = (refl, unfair)
+  unfair_at_goals_in three without unfair = absurd (true≢false without)
 
-  pub dead_unfair_in : (v : Version) → IsTrue (is_checked v) → (i : Instance) → MayLose 0 task c c.dead_ends i → IsDeadUnfairIn v task c i
-  dead_unfair_in one checked i loses = loses
-  dead_unfair_in two checked i loses = loses
-  dead_unfair_in three checked i loses = absurd (false≢true checked)
+  pub dead_unfair_in : (v : Version) → has_tables v ≡ false → (i : Instance) → MayLose 0 task c c.dead_ends i → IsDeadUnfairIn v task c i
+  dead_unfair_in one without i loses = loses
+  dead_unfair_in two without i loses = loses
+  dead_unfair_in three without i loses = absurd (true≢false without)
 
-  pub dead_unfair_at_goals_in : (v : Version) → IsTrue (is_checked v) → ¬ IsFairAtGoals task (numbered_atoms task c.atoms) c.dead_ends → IsDeadUnfairAtGoalsIn v task c
-  dead_unfair_at_goals_in one checked unfair = unfair
-  dead_unfair_at_goals_in two checked unfair = unfair
-  dead_unfair_at_goals_in three checked unfair = absurd (false≢true checked)
+  pub dead_unfair_at_goals_in : (v : Version) → has_tables v ≡ false → ¬ IsFairAtGoals task (numbered_atoms task c.atoms) c.dead_ends → IsDeadUnfairAtGoalsIn v task c
+  dead_unfair_at_goals_in one without unfair = unfair
+  dead_unfair_at_goals_in two without unfair = unfair
+  dead_unfair_at_goals_in three without unfair = absurd (true≢false without)
 
-  pub first_to_lose_in : (v : Version) → IsTrue (is_checked v) → (i : Instance) → IsFirstToLoseAt (cost_of task) task c (potentials_of c) i → IsFirstToLoseIn v task c i
-  first_to_lose_in one checked i first = first
-  first_to_lose_in two checked i first = first
-  first_to_lose_in three checked i first = absurd (false≢true checked)
+  pub first_to_lose_in : (v : Version) → has_tables v ≡ false → (i : Instance) → IsFirstToLoseAt (cost_of task) task c (potentials_of c) i → IsFirstToLoseIn v task c 0 i
+  first_to_lose_in one without i first = first
+  first_to_lose_in two without i first = first
+  first_to_lose_in three without i first = absurd (true≢false without)
 
-  pub first_dead_to_lose_in : (v : Version) → IsTrue (is_checked v) → (i : Instance) → IsFirstToLoseAt nothing task c c.dead_ends i → IsFirstDeadToLoseIn v task c i
-  first_dead_to_lose_in one checked i first = first
-  first_dead_to_lose_in two checked i first = first
-  first_dead_to_lose_in three checked i first = absurd (false≢true checked)
+  pub first_dead_to_lose_in : (v : Version) → has_tables v ≡ false → (i : Instance) → IsFirstToLoseAt nothing task c c.dead_ends i → IsFirstDeadToLoseIn v task c i
+  first_dead_to_lose_in one without i first = first
+  first_dead_to_lose_in two without i first = first
+  first_dead_to_lose_in three without i first = absurd (true≢false without)
 
 -- ---- weights
 
@@ -122,19 +133,21 @@ one_for_each c keeps =
 
 -- ---- tables
 
-no_tables : (v : Version) (atom_count weight_count : ℕ) (tables : List Table) → IsTrue (is_checked v) → are_tables v atom_count weight_count tables ≡ true → tables ≡ []
-no_tables v atom_count weight_count [] checked are = refl
-no_tables v atom_count weight_count (t ∷ tables) checked are =
+-- a version without tables has none
+pub no_tables : (v : Version) (atom_count weight_count : ℕ) (tables : List Table) → has_tables v ≡ false → are_tables v atom_count weight_count tables ≡ true → tables ≡ []
+no_tables v atom_count weight_count [] without are = refl
+no_tables v atom_count weight_count (t ∷ tables) without are =
     let here = (and_parts (has_tables v && is_table atom_count weight_count t) (are_tables v atom_count weight_count tables) are).0 in
-    absurd (none v checked (and_parts (has_tables v) (is_table atom_count weight_count t) here).0)
-  where
-    none : (v : Version) → IsTrue (is_checked v) → has_tables v ≡ true → ⊥
-    none one checked has = false≢true has
-    none two checked has = false≢true has
-    none three checked has = false≢true checked
+    let has = (and_parts (has_tables v) (is_table atom_count weight_count t) here).0 in
+    absurd (true≢false (sym has ∙ without))
 
--- where there are no tables, none has a row twice
-pub rows_apart : (c : Certificate) → IsTrue (is_checked c.version) → keeps_limits c ≡ true → AreRowsDistinct c
-rows_apart c checked keeps =
-    subst (All (λ (t : Table). AllPairs (λ (q r : Row). q.atoms ≢ r.atoms) t.rows))
-    (sym (no_tables c.version (length c.atoms) (length c.values + 1) c.tables checked (limits_of c keeps).tables)) (λ place d below. absurd (omega arith))
+-- and one value
+pub one_value : (v : Version) (count : ℕ) → has_tables v ≡ false → is_value_count v count ≡ true → count ≡ 1
+one_value one count without is = eqb-true count 1 is
+one_value two count without is = eqb-true count 1 is
+one_value three count without is = absurd (true≢false without)
+
+-- no table in memory has a row twice
+pub rows_apart : (tables : List in_memory.Table) → All (λ (t : Table). AllPairs (λ (q r : Row). q.atoms ≢ r.atoms) t.rows) (map table_of tables)
+rows_apart [] = λ place d below. absurd (omega arith)
+rows_apart (t ∷ tables) = All-cons (λ (u : Table). AllPairs (λ (q r : Row). q.atoms ≢ r.atoms) u.rows) (table_of t) (map table_of tables) (rows-distinct t) (rows_apart tables)

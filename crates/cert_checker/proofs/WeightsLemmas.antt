@@ -175,13 +175,16 @@ weight_in_range [] n all = zero-range
 weight_in_range (w ∷ v) zero all = in_range w (and_parts (is_weight w) (list_all is_weight v) all).0
 weight_in_range (w ∷ v) (suc n) all = weight_in_range v n (and_parts (is_weight w) (list_all is_weight v) all).1
 
+pub weights_in_range : (v : List ℤ) → list_all is_weight v ≡ true → All IsInRange v
+weights_in_range v all = all_in_range v (λ n. weight_in_range v n all)
+
 -- those within the limits of a certificate's text are in range
 pub said_in_range : (count : ℕ) (said : PotentialFunction) → are_potentials is_weight count said ≡ true → AreInRange said
 said_in_range count said are =
     let (first, weights) = and_parts (is_weight said.constant && (length said.weights == count)) (list_all is_weight said.weights) are in
     record {
       constant = in_range said.constant (and_parts (is_weight said.constant) (length said.weights == count) first).0;
-      weights = all_in_range said.weights (λ n. weight_in_range said.weights n weights);
+      weights = weights_in_range said.weights weights;
     }
 
 -- and so they are with further weights

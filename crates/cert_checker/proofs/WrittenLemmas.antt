@@ -29,7 +29,7 @@ use Rattle.model.proofs.PlanWritingLemmas.{first_at}
 use Rattle.model.proofs.Tests.{passes_got}
 use Rattle.certificate_definitions.specs.CertificateText.{WeightedAtom, TableLine, row, Format, TextLine, atom, tabled, listed, last, after_blank, begin_with_scope, format_of, is_line, is_weight_count, keeps_text_limits, line_text, longest_line, most_atoms, most_rows, most_states, most_tables, text_lines, weights_text}
 use Rattle.certificate_definitions.specs.CertificateNames.{AllName, AreNumbersOf, IsNumberOf, IsTextOf, Names, are_atoms_of, certificate_text, constants_of, dead_ends_said, has_atom_names, named, named_atom, predicate_name, predicate_names, table_lines, value_count, value_said, values_said, weight_said, weighted_atoms, weights_in, weights_of_atom}
-use Rattle.certificate_definitions.specs.CertificateChecking.{IsAccepted, is_checked}
+use Rattle.certificate_definitions.specs.CertificateChecking.{IsAccepted}
 use Rattle.certificate_reader.proofs.LinesRead.{few_constants}
 use Rattle.certificate.proofs.NumbersLemmas.{potential_parts}
 use Rattle.cert_checker.proofs.LimitsLemmas.{AreLimits, limits_of, rows_are, said_kept, scopes_are}
@@ -456,11 +456,10 @@ pub closed_reads_back : (task : Task) (c : Certificate) → IsTrue (is_task task
 closed_reads_back task c well has_names keeps closed = written_reads_back task c well has_names (typed_atoms task c.atoms closed.atoms_are_fluent) keeps
 
 pub closed_is_accepted : (task : Task) (c : Certificate) (plan : Option (List Instance)) → IsTrue (is_task task) → IsTrue (has_atom_names task) → IsTrue (keeps_limits c)
-    → IsTrue (is_checked c.version) → IsClosedFor task c → IsPlanWithin task c.claim plan → IsAccepted task (certificate_text task c) plan
-closed_is_accepted task c plan well has_names keeps checked closed within = record {
+    → IsClosedFor task c → IsPlanWithin task c.claim plan → IsAccepted task (certificate_text task c) plan
+closed_is_accepted task c plan well has_names keeps closed within = record {
   certificate = c;
   is_text = closed_reads_back task c well has_names keeps closed;
-  checked = checked;
   closed = closed;
   within = within;
 }

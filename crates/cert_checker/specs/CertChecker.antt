@@ -1,5 +1,5 @@
 -- What the answers of the checker of certificates say.
-use Rattle.std.specs.Prelude.{◌≡◌, ℕ, ◌+◌, ◌<◌, List, [], ◌∷◌, Contains, slice_get, MatchOption, Option, None, Some, IsSome}
+use Rattle.std.specs.Prelude.{◌≡◌, ℕ, ◌+◌, ◌<◌, List, length, Contains, slice_get, MatchOption, Option, None, Some, IsSome}
 use Rattle.cert_checker.specs.declared.checker.Accepted.{Accepted}
 use Rattle.cert_checker.specs.declared.checker.Accepted.TheVariants.{Optimal, AtLeast, Unsolvable}
 use Rattle.cert_checker.specs.declared.refusal.Refusal.{Refusal}
@@ -17,7 +17,7 @@ use Rattle.potential_functions.specs.Fair.{nothing, IsFirstUnfairAt}
 use Rattle.table_functions.specs.TableFunctions.{TableFunction, functions_of, dead_ends_of}
 use Rattle.table_functions.specs.FairTables as tables
 use Rattle.certificate_definitions.specs.Certificates.{Version, one, two, three, Certificate, potentials_of, several_of, lines_of}
-use Rattle.certificate_definitions.specs.CertificateRefusals.{Reason, limit, unfair, dead_unfair, successor_missing, successor_dearer, IsFirst, IsListed, HasState, IsUnfairIn, IsDeadUnfairIn, IsWrong, IsWrongLine}
+use Rattle.certificate_definitions.specs.CertificateRefusals.{Reason, limit, unfair, unfair_goal, dead_unfair, dead_unfair_goal, successor_missing, successor_dearer, IsFirst, IsListed, HasState, IsUnfairIn, IsDeadUnfairIn, IsWrong, IsWrongAt}
 
 -- What an accepted certificate shows is true, of all lists of instances: the plan that was given is optimal at
 -- this cost; every list that solves costs at least this; no list solves.
@@ -37,42 +37,35 @@ Answers claim plan Unsolvable = (claim ≡ none) × (plan ≡ None)
 abbrev pub IsFirstToLoseAt : (allowance : Instance → ℕ) → Task → Certificate → PotentialFunction → Instance → Type 0
 IsFirstToLoseAt allowance task c p i = (number : ℕ) × (first : IsFirstUnfairAt allowance task (numbered_atoms task c.atoms) p number) × (first.instance ≡ i)
 
--- the same of one of these table functions, of which only an instance that is not shut out is asked
-abbrev pub IsFirstToLoseByTables : (allowance : Instance → ℕ) → Task → Certificate → List TableFunction → Instance → Type 0
-IsFirstToLoseByTables allowance task c functions i =
-    (h : TableFunction) × Contains functions h × (number : ℕ)
+-- the same of a table function, of which only an instance that is not shut out is asked
+abbrev pub IsFirstToLoseByTables : (allowance : Instance → ℕ) → Task → Certificate → TableFunction → Instance → Type 0
+IsFirstToLoseByTables allowance task c h i =
+    (number : ℕ)
     × (first : tables.IsFirstUnfairAt (tables.is_asked task (numbered_atoms task c.atoms) c.tables) allowance task (numbered_atoms task c.atoms) h number) × (first.instance ≡ i)
 
-abbrev pub IsFirstToLoseIn : Version → Task → Certificate → Instance → Type 0
-IsFirstToLoseIn one task c = IsFirstToLoseAt (cost_of task) task c (potentials_of c)
-IsFirstToLoseIn two task c = IsFirstToLoseAt (cost_of task) task c (potentials_of c)
-IsFirstToLoseIn three task c = IsFirstToLoseByTables (cost_of task) task c (functions_of (several_of c))
+-- of the value at this place, from 0
+abbrev pub IsFirstToLoseIn : Version → Task → Certificate → ℕ → Instance → Type 0
+IsFirstToLoseIn one task c place i = IsFirstToLoseAt (cost_of task) task c (potentials_of c) i
+IsFirstToLoseIn two task c place i = IsFirstToLoseAt (cost_of task) task c (potentials_of c) i
+IsFirstToLoseIn three task c place i = (h : TableFunction) × (slice_get (functions_of (several_of c)) place ≡ Some h) × IsFirstToLoseByTables (cost_of task) task c h i
 
 abbrev pub IsFirstDeadToLoseIn : Version → Task → Certificate → Instance → Type 0
 IsFirstDeadToLoseIn one task c = IsFirstToLoseAt nothing task c c.dead_ends
 IsFirstDeadToLoseIn two task c = IsFirstToLoseAt nothing task c c.dead_ends
-IsFirstDeadToLoseIn three task c = IsFirstToLoseByTables nothing task c (dead_ends_of (several_of c) ∷ [])
+IsFirstDeadToLoseIn three task c = IsFirstToLoseByTables nothing task c (dead_ends_of (several_of c))
 
--- it may lose more than it costs, and none before it may
-abbrev pub IsUnfair : Task → Certificate → Instance → Type 0
-IsUnfair task c = IsUnfairIn c.version task c
-
-abbrev pub IsFirstToLose : Task → Certificate → Instance → Type 0
-IsFirstToLose task c = IsFirstToLoseIn c.version task c
-
--- it may lose anything at all of what reports dead ends, and none before it may
-abbrev pub IsDeadUnfair : Task → Certificate → Instance → Type 0
-IsDeadUnfair task c = IsDeadUnfairIn c.version task c
-
-abbrev pub IsFirstDeadToLose : Task → Certificate → Instance → Type 0
-IsFirstDeadToLose task c = IsFirstDeadToLoseIn c.version task c
+-- What is reported without a line is wrong, with one of the values where it is of these.
+abbrev pub IsWrongSomewhere : Task → Certificate → Option (List Instance) → ℕ → Reason → Type 0
+IsWrongSomewhere task c plan most unfair_goal = (place : ℕ) × IsWrongAt task c unfair_goal place
+IsWrongSomewhere task c plan most dead_unfair_goal = (place : ℕ) × IsWrongAt task c dead_unfair_goal place
+IsWrongSomewhere task c plan most reason = IsWrong task c plan most reason
 
 -- The refusal is true of the certificate, the plan that was given, if one was, and the limit of kept instances.
 abbrev pub IsTrueRefusal : Task → Certificate → Option (List Instance) → ℕ → Refusal → Type 0
-IsTrueRefusal task c plan most (refusal.Line code line) = MatchOption (reason_of code) ⊥ (λ reason. IsWrongLine task c reason line)
-IsTrueRefusal task c plan most (refusal.Unfair i) = IsUnfair task c (instance_of i)
-IsTrueRefusal task c plan most (refusal.DeadUnfair i) = IsDeadUnfair task c (instance_of i)
-IsTrueRefusal task c plan most (refusal.Plain code) = MatchOption (reason_of code) ⊥ (λ reason. IsWrong task c plan most reason)
+IsTrueRefusal task c plan most (refusal.Line code line) = MatchOption (reason_of code) ⊥ (λ reason. IsWrongAt task c reason line)
+IsTrueRefusal task c plan most (refusal.Unfair i) = (place : ℕ) × IsUnfairIn c.version task c place (instance_of i)
+IsTrueRefusal task c plan most (refusal.DeadUnfair i) = IsDeadUnfairIn c.version task c (instance_of i)
+IsTrueRefusal task c plan most (refusal.Plain code) = MatchOption (reason_of code) ⊥ (λ reason. IsWrongSomewhere task c plan most reason)
 IsTrueRefusal task c plan most refusal.NoMemory = Unit {0}
 IsTrueRefusal task c plan most _ = ⊥
 
@@ -103,12 +96,18 @@ IsFirstSuccessor task c successor_dearer line =
     × ¬ IsListedWithin (lines_of task c) next (l.cost + (system_of task).cost i)
 IsFirstSuccessor task c _ line = Unit {0}
 
+-- What is reported without a line is the first that is wrong; of a value it is wrong at its place.
+abbrev pub IsFirstSomewhere : Task → Certificate → Option (List Instance) → ℕ → Reason → Type 0
+IsFirstSomewhere task c plan most unfair_goal = (place : ℕ) × IsWrongAt task c unfair_goal place × IsFirst task c plan most unfair_goal place
+IsFirstSomewhere task c plan most dead_unfair_goal = IsFirst task c plan most dead_unfair_goal (length c.values)
+IsFirstSomewhere task c plan most reason = IsFirst task c plan most reason 0
+
 -- Nothing that the checker looks for before is wrong, and of instances and of a line's successors none before.
 abbrev pub IsFirstRefusal : Task → Certificate → Option (List Instance) → ℕ → Refusal → Type 0
 IsFirstRefusal task c plan most (refusal.Line code line) =
     MatchOption (reason_of code) ⊥ (λ reason. IsFirst task c plan most reason line × IsFirstSuccessor task c reason line)
-IsFirstRefusal task c plan most (refusal.Unfair i) = IsFirst task c plan most unfair 0 × IsFirstToLose task c (instance_of i)
-IsFirstRefusal task c plan most (refusal.DeadUnfair i) = IsFirst task c plan most dead_unfair 0 × IsFirstDeadToLose task c (instance_of i)
-IsFirstRefusal task c plan most (refusal.Plain code) = MatchOption (reason_of code) ⊥ (λ reason. IsFirst task c plan most reason 0)
+IsFirstRefusal task c plan most (refusal.Unfair i) = (place : ℕ) × IsFirst task c plan most unfair place × IsFirstToLoseIn c.version task c place (instance_of i)
+IsFirstRefusal task c plan most (refusal.DeadUnfair i) = IsFirst task c plan most dead_unfair (length c.values) × IsFirstDeadToLoseIn c.version task c (instance_of i)
+IsFirstRefusal task c plan most (refusal.Plain code) = MatchOption (reason_of code) ⊥ (λ reason. IsFirstSomewhere task c plan most reason)
 IsFirstRefusal task c plan most refusal.NoMemory = Unit {0}
 IsFirstRefusal task c plan most _ = ⊥

@@ -8,6 +8,8 @@ use Rattle.cert_checker.specs.declared.checker.packed.PackedListing.{PackedListi
 use Rattle.model.specs.Task.{Atom, Task}
 use Rattle.model.specs.Meaning.{State}
 use Rattle.certificate_definitions.specs.Certificates.{Certificate}
+use Rattle.tables.specs.declared.rooms.Room.{Room}
+use Rattle.tables.specs.Several.{HasRoomFor}
 use Rattle.model.specs.Grounding.{state_of_bits}
 
 abbrev pub task_at : PackedListing → Task
@@ -26,3 +28,7 @@ IsPacked listing packed = length (bits_of packed) ≡ length (atoms_at listing)
 -- the state that it stands for
 abbrev pub state_at : PackedListing → Packed → State
 state_at listing packed = state_of_bits (task_at listing) (atoms_at listing) (bits_of packed)
+
+-- there is room to ask for the values of a state
+abbrev pub HasRoomIn : PackedListing → Room → Type 0
+HasRoomIn listing room = HasRoomFor listing.values room

@@ -1,17 +1,18 @@
 -- How far a text has been read, and what is reported for it.
-use Rattle.std.specs.Prelude.{◌≡◌, ◌≢◌, ◌&&◌, IsTrue, All, AllPairs, ℕ, Bool, true, false, List, [], ◌∷◌, ◌++◌, Option, Some, None, Result, Err}
+use Rattle.std.specs.Prelude.{◌≡◌, ◌≢◌, ◌&&◌, ◌+◌, IsTrue, All, AllPairs, ℕ, length, Bool, true, false, List, [], ◌∷◌, ◌++◌, Option, Some, None, Result, Err}
 use Rattle.std.specs.Io.KnownBytes.{Consumes, IsAtEnd}
 use Rattle.devices.specs.Devices.{one_more}
 use Rattle.model.specs.Task.{Atom, Task}
 use Rattle.model.specs.WellTyped.{is_atom}
 use Rattle.model.specs.Fluents.{is_fluent}
 use Rattle.model.specs.Claims.{none}
-use Rattle.certificate_definitions.specs.Certificates.{Certificate, StateLine}
+use Rattle.table_functions.specs.TableFunctions.{Row, Table}
+use Rattle.certificate_definitions.specs.Certificates.{Certificate, StateLine, are_tables}
 use Rattle.certificate_definitions.specs.CertificateNames.{IsTextOf}
 use Rattle.certificate_reader.specs.declared.line.CertLine.{CertLine}
 use Rattle.certificate_reader.specs.Lines.{claim_of, text_line_of}
 use Rattle.certificate_definitions.specs.CertificateText.{TextLine, AreWhole, text_of}
-use Rattle.certificate_definitions.specs.CertificateChecking.{is_checked, AreRight, IsCut, IsLineFault}
+use Rattle.certificate_definitions.specs.CertificateChecking.{AreRight, IsCut, IsLineFault}
 use Rattle.certificate_reader.specs.declared.reader.CertReader.{CertReader}
 use Rattle.certificate_reader.specs.Reader.{HasRead, has_failed, source_of, waits_in}
 use Rattle.certificate.specs.declared.header.Header.{Header}
@@ -90,7 +91,8 @@ pub record IsRead {R : Type 0} (remaining : R → Option (List ℕ)) (task : Tas
   pub lines : List TextLine
   pub text_is : text ≡ text_of lines
   pub right : AreRight task lines
-  pub checked : IsTrue (is_checked c.version)
   pub fluent : All (λ (a : Atom). IsTrue (is_atom task a && is_fluent task a.predicate)) c.atoms
   pub distinct : AllPairs (λ (a b : Atom). a ≢ b) c.atoms
+  pub tables : IsTrue (are_tables c.version (length c.atoms) (length c.values + 1) c.tables)
+  pub rows_distinct : All (λ (t : Table). AllPairs (λ (q r : Row). q.atoms ≢ r.atoms) t.rows) c.tables
   pub allowed : c.claim ≡ none → All (λ (l : StateLine). ¬ IsCut l.mark) c.lines

@@ -3,6 +3,7 @@ ghost use Rattle.std.specs.Prelude.{IfErr, IfOk};
 ghost use Rattle.task.specs.Task.{task_of};
 ghost use Rattle.certificate_reader.specs.Reader.{source_of};
 ghost use Rattle.cert_checker.specs.Reading.{CountsRefusal, IsFresh, IsLineRefusal, IsRead};
+ghost use Rattle.cert_checker.specs.Tabled.{AreWeighedIn};
 ghost use Rattle.certificate.specs.Certificate.{certificate_of};
 
 use crate::header::read_header;
@@ -16,8 +17,9 @@ use task::Task;
 /// Reads a certificate, and keeps of each line what it says of the task.
 ///
 /// # Errors
-/// The first line at fault: 40 to 42, and 55 without its line, by the rules of the text; 43 where its atom is none of the task's, or its
-/// predicate no action changes; 44 where its atom, or its state, was in a line before; 52 where it is a cut and it is
+/// The first line at fault: 40 to 42, and 55 without its line, by the rules of the text; 40 too where a row has an atom outside its
+/// table's scope; 43 where its atom is none of the task's, or its predicate no action changes; 44 where its atom, its state, or a
+/// row of its table, was in a line before; 52 where it is a cut and it is
 /// claimed that no plan solves the task. [`Refusal::Device`] where the device failed; [`Refusal::NoMemory`] where memory
 /// is refused.
 pub fn read_cert<R: Source>(
@@ -27,6 +29,7 @@ pub fn read_cert<R: Source>(
 ) -> Result<Cert, Refusal>
     requires fresh { IsFresh reader.old }
     ensures read { IfOk result (λ cert. IsRead R.remaining (task_of task.now) reader.old reader.new (certificate_of cert)) }
+    ensures weighed { IfOk result AreWeighedIn }
     ensures refused { IfErr result (IsLineRefusal R.remaining (task_of task.now) reader.old reader.new) }
     ensures failures { CountsRefusal (R.failures (source_of reader.old)) (R.failures (source_of reader.new)) result }
 {

@@ -6,7 +6,8 @@ ghost use Rattle.std.specs.Option.{ForSome, option_map};
 ghost use Rattle.task.specs.Task.{task_of};
 ghost use Rattle.formulas.specs.State.{plan_of};
 ghost use Rattle.model.specs.Meaning.{is_instance};
-ghost use Rattle.certificate_definitions.specs.CertificateChecking.{is_checked, IsAccepted};
+ghost use Rattle.certificate_definitions.specs.CertificateChecking.{IsAccepted};
+ghost use Rattle.cert_checker.specs.Weights.{AreCounted};
 ghost use Rattle.certificate_reader.specs.Reader.{source_of};
 ghost use Rattle.cert_checker.specs.Reading.{CountsRefusal, IsFresh};
 ghost use Rattle.certificate.specs.Certificate.{certificate_of};
@@ -21,6 +22,7 @@ ghost use Rattle.cert_checker.specs.Checking.{Accepts, Refuses};
 mod answer;
 mod packed;
 mod steps;
+mod values;
 mod weights;
 
 use crate::cert_reader::read_cert;
@@ -55,8 +57,8 @@ pub enum Accepted {
 /// # Errors
 /// The first that applies: the first line at fault, as [`read_cert`] reports it (40 to 44, 52 and 55); 55 where the task
 /// keeps more than `max_instances` instances once it is grounded, or would number more than 1,048,576 atoms; the first
-/// instance that may lose more than it costs (46), or 47 where more than 0 may be left at a goal; the first that may lose
-/// anything of what detects dead ends (56), or 57 where more than 0 of it may be left at a goal; 45 where the initial state is
+/// instance that may lose more of a value than it costs (46), or 47 where more than 0 may be left at a goal, one value after
+/// another; the first that may lose anything of what detects dead ends (56), or 57 where more than 0 of it may be left at a goal; 45 where the initial state is
 /// not listed at 0; what is wrong with the successors, the cost or the cut of a listed state, or with a dead end, line by
 /// line (48 to 51, 58); what is wrong with the plan (53, 54). [`Refusal::Device`] where the device failed; [`Refusal::NoMemory`] where
 /// memory is refused.
@@ -97,7 +99,7 @@ fn judge(
     max_instances: u32,
 ) -> Result<Accepted, Refusal>
     requires instances { ForSome plan (λ p. IsTrue (list_all (is_instance (task_of task.now)) (plan_of p.now))) }
-    requires checked { IsTrue (is_checked (certificate_of cert).version) }
+    requires counted { AreCounted cert }
     requires fluent { AreFluent (task_of task.now) (certificate_of cert).atoms }
     requires allowed { CutsAreAllowed (task_of task.now) (certificate_of cert) (length (lines_of (task_of task.now) (certificate_of cert))) }
     ensures shown { IfOk result (IsShown (task_of task.now) (option_map (λ p. plan_of p.now) plan.entry)) }

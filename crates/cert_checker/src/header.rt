@@ -5,11 +5,9 @@ ghost use Rattle.formulas.specs.FluentTable.{AreFluentsOf};
 ghost use Rattle.model.specs.Task as model;
 ghost use Rattle.certificate_reader.specs.Lines.{named_atom_of, text_line_of, version_of};
 ghost use Rattle.certificate_definitions.specs.CertificateNames.{value_count, weight_said};
-ghost use Rattle.certificate_definitions.specs.CertificateChecking.{is_checked};
 ghost use Rattle.certificate_definitions.specs.CertificateText.{TextLine, BeginCertificate, atom};
-ghost use Rattle.cert_checker.specs.declared.refusal.Refusal.TheVariants as refusal;
-ghost use Rattle.cert_checker.specs.declared.refusal.RefusalCode.TheVariants.{CertVersion};
 ghost use Rattle.cert_checker.specs.Given.{begun_with, push_at, with_weights};
+ghost use Rattle.cert_checker.specs.Tabled.{AreWeighed, IsFitHead};
 ghost use Rattle.cert_checker.specs.Taking.{HasTaken, IsTaken, IsWrongNow};
 ghost use Rattle.certificate_reader.specs.Reader.{source_of};
 ghost use Rattle.certificate.specs.CertificateParts.{bounds_of, potential_of};
@@ -17,6 +15,7 @@ ghost use Rattle.cert_checker.specs.Reading.{CountsRefusal, IsBegun, IsFresh, Is
 
 use crate::named_atoms::fluent_atom_named;
 use crate::refusal::{Refusal, RefusalCode};
+use crate::table_lines::{take_row, take_scope};
 use certificate::{Bounds, CertLine, CertReader, Claim, Header, NamedAtom, Potential, Version};
 use devices::Source;
 use faults::NoMemory;
@@ -27,7 +26,8 @@ use task::Task;
 
 /// What no lines have reported: version 1, a bound of 0, which is always true, and no values, until their lines come.
 fn nothing_reported(alloc: Global) -> Header
-    ensures { (task : model.Task) → HasTaken task [] result }
+    ensures taken { (task : model.Task) → HasTaken task [] result }
+    ensures weighed { AreWeighed result.bounds }
 {
     Header {
         version: Version::One,
@@ -119,17 +119,17 @@ fn take(
     line: CertLine,
     number: u64,
 ) -> Result<Option<CertLine>, Refusal>
-    requires { AreFluentsOf (task_of task.now) fluents.now }
+    requires fluents { AreFluentsOf (task_of task.now) fluents.now }
+    requires fit { IsFitHead header.old.bounds (text_line_of line) }
     ensures taken { IfOk result (λ back. (before : List TextLine) → BeginCertificate (before ++ text_line_of line ∷ [])
         → HasTaken (task_of task.now) before header.old → IsTaken (task_of task.now) before (text_line_of line) header.new back) }
     ensures wrong { IfErr result (λ refusal. (before : List TextLine) → BeginCertificate (before ++ text_line_of line ∷ []) → number ≡ length before + 1
         → HasTaken (task_of task.now) before header.old → IsWrongNow (task_of task.now) before (text_line_of line) refusal) }
+    ensures weighed { OnOk result ((before : List TextLine) → BeginCertificate (before ++ text_line_of line ∷ [])
+        → HasTaken (task_of task.now) before header.old → AreWeighed header.old.bounds → AreWeighed header.new.bounds) }
 {
     match line {
         CertLine::Head(version) => {
-            if !is_checked(version) {
-                return Err(not_checked(number));
-            }
             header.version = version;
             Ok(None)
         }
@@ -150,30 +150,15 @@ fn take(
             add_atom(header, task, fluents, &atom, &weights, number)?;
             Ok(None)
         }
-        // Only version 3 has tables, and its first line is refused.
-        CertLine::Table { .. } => Err(not_checked(number)),
-        CertLine::Row { .. } => Err(not_checked(number)),
+        CertLine::Table { scope } => {
+            take_scope(alloc, &mut header.bounds, scope)?;
+            Ok(None)
+        }
+        CertLine::Row { weights, atoms } => {
+            take_row(alloc, &mut header.bounds, &atoms, &weights, number)?;
+            Ok(None)
+        }
         CertLine::Listed(_) | CertLine::Last { .. } => Ok(Some(line)),
-    }
-}
-
-/// Whether certificates of this version are checked: that one of version 3 is closed is not tested yet.
-fn is_checked(version: Version) -> bool
-    ensures { result ≡ is_checked (version_of version) }
-{
-    match version {
-        Version::One | Version::Two => true,
-        Version::Three => false,
-    }
-}
-
-/// The refusal of a version that is not checked, at this line.
-fn not_checked(number: u64) -> Refusal
-    ensures { result ≡ refusal.Line CertVersion number }
-{
-    Refusal::Line {
-        code: RefusalCode::CertVersion,
-        line: number,
     }
 }
 
@@ -216,6 +201,7 @@ pub(crate) fn read_header<R: Source>(
 ) -> Result<(Header, Option<CertLine>), Refusal>
     requires { IsFresh reader.old }
     ensures begun { IfOk result (λ read. IsBegun R.remaining (task_of task.now) reader.old reader.new read.0 read.1) }
+    ensures weighed { IfOk result (λ read. AreWeighed read.0.bounds) }
     ensures refused { IfErr result (IsLineRefusal R.remaining (task_of task.now) reader.old reader.new) }
     ensures failures { CountsRefusal (R.failures (source_of reader.old)) (R.failures (source_of reader.new)) result }
 {

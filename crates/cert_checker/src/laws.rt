@@ -9,7 +9,7 @@ ghost use Rattle.certificate_definitions.specs.CertificateExamples.{AreJudged};
 ghost use Rattle.certificate_definitions.specs.Certificates.{Certificate, is_dead_end_of, lines_of, value_of, IsClosedFor, keeps_limits};
 ghost use Rattle.certificate_definitions.specs.CertificateRefusals.{IsPlanWithin};
 ghost use Rattle.certificate_definitions.specs.CertificateNames.{IsTextOf, are_atoms_of, certificate_text, has_atom_names};
-ghost use Rattle.certificate_definitions.specs.CertificateChecking.{is_checked, IsAccepted};
+ghost use Rattle.certificate_definitions.specs.CertificateChecking.{IsAccepted};
 ghost use Rattle.cert_checker.specs.OnListing.{StaysListed};
 
 /// What a certificate that is closed for a task claims is true of all lists of instances, whatever their length; the value
@@ -40,9 +40,8 @@ pub fn written_certificates_read_back()
         → IsTrue (keeps_limits c) → IsTextOf task (certificate_text task c) c }
 {}
 
-/// Where the certificate is closed for the task, and of a version that is checked, that text is accepted, with any plan that is
-/// within its claim.
+/// Where the certificate is closed for the task, that text is accepted, with any plan that is within its claim.
 pub fn closed_certificates_are_accepted()
     ensures { (task : Task) (c : Certificate) (plan : Option (List Instance)) → IsTrue (is_task task) → IsTrue (has_atom_names task)
-        → IsTrue (keeps_limits c) → IsTrue (is_checked c.version) → IsClosedFor task c → IsPlanWithin task c.claim plan → IsAccepted task (certificate_text task c) plan }
+        → IsTrue (keeps_limits c) → IsClosedFor task c → IsPlanWithin task c.claim plan → IsAccepted task (certificate_text task c) plan }
 {}

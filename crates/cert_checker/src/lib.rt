@@ -9,6 +9,7 @@ mod laws;
 mod listed_states;
 mod named_atoms;
 mod refusal;
+mod table_lines;
 
 pub use cert_reader::read_cert;
 pub use checker::{Accepted, check};

@@ -20,7 +20,7 @@ pub enum RefusalCode {
     Truncated = 42,
     /// An atom that is not well-typed, or whose predicate no action changes.
     NotFluent = 43,
-    /// An atom, or a state, that was in a line before.
+    /// An atom, a state, or a row of a table, that was in a line before.
     Repeated = 44,
     /// The initial state is not listed at cost 0.
     NoInitial = 45,

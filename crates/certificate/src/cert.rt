@@ -37,7 +37,7 @@ impl Cert {
     ghost use Rattle.certificate.specs.CertificateParts.{bounds_of, certificate_with_lines, listed_of, potential_of};
     ghost use Rattle.certificate.specs.ListedSets.{marked};
     ghost use Rattle.certificate.specs.Listing.{ListOnce};
-    ghost use Rattle.certificate.specs.Certificate.{certificate_of, store_in};
+    ghost use Rattle.certificate.specs.Certificate.{certificate_of, store_in, tables_in};
 
     /// The certificate that begins so and lists the states of these lines, in their order; `None` where it would exceed a limit
     /// of a certificate's text, or list a state twice, as none does that shows its claim.
@@ -64,6 +64,7 @@ impl Cert {
         requires marked { length states.marks.items ≡ length (pooled_states states.sets) }
         ensures certificate { certificate_of result ≡ certificate_with header states }
         ensures sets { store_in result ≡ states.sets }
+        ensures tables { tables_in result ≡ header.bounds.tables.items }
     {
         Cert { header, states }
     }
@@ -90,6 +91,7 @@ impl Cert {
         ensures values { All (λ (p : header.Potential). IsTrue (are_potentials is_weight (length (certificate_of self.now).atoms) (potential_of p))) result.now.values.items }
         ensures dead_ends { IsTrue (are_potentials is_weight (length (certificate_of self.now).atoms) (potential_of result.now.dead_ends)) }
         ensures tables { IsTrue (are_tables (certificate_of self.now).version (length (certificate_of self.now).atoms) (length result.now.values.items + 1) (certificate_of self.now).tables) }
+        ensures in_memory { result.now.tables.items ≡ tables_in self.now }
     {
         &self.header.bounds
     }
@@ -155,6 +157,7 @@ impl Cert {
         requires { length (certificate_of self).atoms ≤ width }
         ensures same { IfOk result (λ cert. certificate_of cert ≡ certificate_of self) }
         ensures width { IfOk result (λ cert. pooled_width (store_in cert) ≡ width) }
+        ensures tables { IfOk result (λ cert. tables_in cert ≡ tables_in self) }
     {
         if self.states.sets.width() == width {
             return Ok(self);

@@ -18,7 +18,7 @@ use Rattle.model.specs.Claims.{Claim, bound, Allows, opened, cut, dead, Line, Is
 use Rattle.model.specs.Claims as model
 use Rattle.model.specs.Fluents.{is_fluent}
 use Rattle.certificate_definitions.specs.Certificates.{two, StateLine, state_of_line, IsClosedFor}
-use Rattle.certificate_definitions.specs.CertificateRefusals.{IsWrong, IsWrongLine, unfair, unfair_goal, dead_unfair, dead_unfair_goal, not_dead}
+use Rattle.certificate_definitions.specs.CertificateRefusals.{IsWrong, IsWrongAt, unfair, unfair_goal, dead_unfair, dead_unfair_goal, not_dead}
 use Rattle.certificate_definitions.specs.CertificateExamples.{AreJudged, open_at, cut_at, linked, tied, claims, weighs, zeros, token_reported}
 use Rattle.table_functions.specs.TableFunctions.{Row, Table}
 use Rattle.potential_functions.specs.PotentialFunctions.{PotentialFunction, or_zero, value_of_state, is_dead_by, is_dead_state}
@@ -189,22 +189,25 @@ cut_closed = record {
 }
 
 -- worth two, it is lost by the instance, which costs one
-worth_two : IsWrong tie_task (weighs (bound 1) (pos 2) (negsuc 1) (cut_at 0 1 [] ∷ [])) None 1 unfair
+worth_two : IsWrongAt tie_task (weighs (bound 1) (pos 2) (negsuc 1) (cut_at 0 1 [] ∷ [])) unfair 0
 worth_two = (
   the_instance,
   (
-    subst (λ l. Contains l the_instance) (sym kept_are) (0, omega arith, refl),
-    subst (λ atoms. ¬ IsFairAt (cost_of tie_task the_instance) tie_task atoms (weights_of (negsuc 1)) the_instance) (sym atoms_are)
-        (is_unfair_at tie_task (tied ∷ []) (weights_of (negsuc 1)) the_instance 1 (pos 2) refl refl (λ h. absurd (omega (arith, ints)))),
+    refl,
+    (
+      subst (λ l. Contains l the_instance) (sym kept_are) (0, omega arith, refl),
+      subst (λ atoms. ¬ IsFairAt (cost_of tie_task the_instance) tie_task atoms (weights_of (negsuc 1)) the_instance) (sym atoms_are)
+          (is_unfair_at tie_task (tied ∷ []) (weights_of (negsuc 1)) the_instance 1 (pos 2) refl refl (λ h. absurd (omega (arith, ints)))),
+    ),
   ),
 )
 
 more_than_none : (z : ℤ) → z ≡ pos 1 → z ≤ℤ pos 0 → ⊥
 more_than_none z is h = absurd (omega (arith, ints))
 
-one_left : IsWrong tie_task (weighs (bound 1) (pos 2) (negsuc 0) (cut_at 0 1 [] ∷ [])) None 1 unfair_goal
+one_left : IsWrongAt tie_task (weighs (bound 1) (pos 2) (negsuc 0) (cut_at 0 1 [] ∷ [])) unfair_goal 0
 one_left =
-    subst (λ atoms. ¬ IsFairAtGoals tie_task atoms (potentials (pos 2) (negsuc 0))) (sym atoms_are) (λ fair. more_than_none (pos 1) refl fair.within)
+    (refl, subst (λ atoms. ¬ IsFairAtGoals tie_task atoms (potentials (pos 2) (negsuc 0))) (sym atoms_are) (λ fair. more_than_none (pos 1) refl fair.within))
 
 -- ---- a dead end
 
@@ -253,18 +256,21 @@ dead_closed claim = record {
 }
 
 -- with a constant of 1 it has the value 0
-not_reported : IsWrongLine token_task (token_reported two model.none (pos 1) (minus 1)) not_dead 6
+not_reported : IsWrongAt token_task (token_reported two model.none (pos 1) (minus 1)) not_dead 6
 not_reported = (dead_line, (0, refl, refl), refl, reported_at_x (fair.potentials (pos 1) (minus 1 ∷ minus 1 ∷ [])))
 
 -- with a constant of 3, 1 is left at the goal
-dead_left : IsWrong token_task (token_reported two model.none (pos 3) (minus 1)) None 1 dead_unfair_goal
-dead_left =
-    subst (λ atoms. ¬ IsFairAtGoals token_task atoms (fair.potentials (pos 3) (minus 1 ∷ minus 1 ∷ []))) (sym token_atoms_are)
-    (λ fair. more_than_none (pos 1) refl fair.within)
+dead_left : IsWrongAt token_task (token_reported two model.none (pos 3) (minus 1)) dead_unfair_goal 1
+dead_left = (
+  refl,
+  subst (λ atoms. ¬ IsFairAtGoals token_task atoms (fair.potentials (pos 3) (minus 1 ∷ minus 1 ∷ []))) (sym token_atoms_are)
+      (λ fair. more_than_none (pos 1) refl fair.within),
+)
 
 -- where (y) weighs -2, the first step makes the sum fall by 1
-fore_loses : IsWrong token_task (token_reported two model.none (pos 2) (minus 2)) None 1 dead_unfair
+fore_loses : IsWrongAt token_task (token_reported two model.none (pos 2) (minus 2)) dead_unfair 1
 fore_loses = (
+  refl,
   fore,
   (
     subst (λ l. Contains l fore) (sym kept) (0, omega arith, refl),

@@ -12,7 +12,7 @@ use Rattle.model.specs.NumberedAtoms.{numbered_atoms}
 use Rattle.model.specs.Claims.{Claim, bound, none, Allows, Line}
 use Rattle.model.specs.Fluents.{is_fluent}
 use Rattle.certificate_definitions.specs.Certificates.{Version, one, two, three, Certificate, potentials_of, several_of, lines_of, AreFairIn, IsClosedFor}
-use Rattle.certificate_definitions.specs.CertificateRefusals.{Reason, not_fluent, repeated, no_initial, unfair, unfair_goal, goal_open, successor_missing, successor_dearer, cut_weak, cut_not_allowed, plan_invalid, plan_dearer, limit, dead_unfair, dead_unfair_goal, not_dead, MayLose, MayLoseByTables, IsUnfairIn, IsUnfairAtGoalsIn, IsDeadUnfairIn, IsDeadUnfairAtGoalsIn, IsWrongLine, IsWrong, IsPlanWithin}
+use Rattle.certificate_definitions.specs.CertificateRefusals.{Reason, not_fluent, repeated, no_initial, unfair, unfair_goal, goal_open, successor_missing, successor_dearer, cut_weak, cut_not_allowed, plan_invalid, plan_dearer, limit, dead_unfair, dead_unfair_goal, not_dead, MayLose, MayLoseByTables, IsUnfairIn, IsUnfairAtGoalsIn, IsDeadUnfairIn, IsDeadUnfairAtGoalsIn, IsWrongAt, IsWrong, IsPlanWithin}
 use Rattle.potential_functions.specs.PotentialFunctions.{PotentialFunction}
 use Rattle.potential_functions.specs.Fair.{nothing, IsFairAt, AreFairAt}
 use Rattle.table_functions.specs.TableFunctions.{TableFunction, over_tables, functions_of, dead_ends_of}
@@ -39,17 +39,17 @@ module _ (task : Task) (c : Certificate) where
   none_loses allowance p fair i (kept, wrong) =
       wrong (All-contains (λ (i : Instance). IsFairAt (allowance i) task (numbered_atoms task c.atoms) p.weights i) (kept_instances task) i fair.instances kept)
 
-  none_loses_by_tables : (allowance : Instance → ℕ) (functions : List TableFunction)
-      → ((h : TableFunction) → Contains functions h → fair_tables.AreFairAt (is_asked task (numbered_atoms task c.atoms) c.tables) allowance task (numbered_atoms task c.atoms) h)
-      → (i : Instance) → MayLoseByTables (allowance i) task c functions i → ⊥
-  none_loses_by_tables allowance functions fair i (h, among, kept, asked, wrong) =
+  none_loses_by_tables : (allowance : Instance → ℕ) (h : TableFunction) → fair_tables.AreFairAt (is_asked task (numbered_atoms task c.atoms) c.tables) allowance task (numbered_atoms task c.atoms) h
+      → (i : Instance) → MayLoseByTables (allowance i) task c h i → ⊥
+  none_loses_by_tables allowance h fair i (kept, asked, wrong) =
       wrong (All-contains (λ (i : Instance). IsTrue (is_asked task (numbered_atoms task c.atoms) c.tables i) → fair_tables.IsFairAt (allowance i) task (numbered_atoms task c.atoms) h i)
-      (kept_instances task) i (fair h among).instances kept asked)
+      (kept_instances task) i fair.instances kept asked)
 
   -- each of several fair ones is fair over the certificate's tables
-  each_is_fair : fair_tables.AreFair task (numbered_atoms task c.atoms) (several_of c) → (h : TableFunction) → Contains (functions_of (several_of c)) h
+  each_is_fair : fair_tables.AreFair task (numbered_atoms task c.atoms) (several_of c) → (place : ℕ) (h : TableFunction) → slice_get (functions_of (several_of c)) place ≡ Some h
       → fair_tables.AreFairAt (is_asked task (numbered_atoms task c.atoms) c.tables) (cost_of task) task (numbered_atoms task c.atoms) h
-  each_is_fair fair h among =
+  each_is_fair fair place h at =
+      let among = Contains-got (functions_of (several_of c)) place h at in
       subst (λ tables. fair_tables.AreFairAt (is_asked task (numbered_atoms task c.atoms) tables) (cost_of task) task (numbered_atoms task c.atoms) h) (tables_are c.values 0 among)
       (All-contains (fair_tables.IsFair task (numbered_atoms task c.atoms)) (functions_of (several_of c)) h fair.values among)
     where
@@ -59,31 +59,25 @@ module _ (task : Task) (c : Certificate) where
           ⊎_elim (λ is. ap (λ (h : TableFunction). h.tables) (sym is)) (λ later. tables_are values (suc place) later)
           (Contains-cases (record { potentials = p; tables = c.tables; place = place }) (over_tables c.tables (suc place) values) h among)
 
-  dead_is_fair : fair_tables.AreFair task (numbered_atoms task c.atoms) (several_of c) → (h : TableFunction) → Contains (dead_ends_of (several_of c) ∷ []) h
-      → fair_tables.AreFairAt (is_asked task (numbered_atoms task c.atoms) c.tables) nothing task (numbered_atoms task c.atoms) h
-  dead_is_fair fair h among =
-      ⊎_elim (λ is. subst (fair_tables.AreFairAt (is_asked task (numbered_atoms task c.atoms) c.tables) nothing task (numbered_atoms task c.atoms)) is fair.dead_ends)
-      (λ none. absurd (Contains-none h none)) (Contains-cases (dead_ends_of (several_of c)) [] h among)
+  pub none_unfair : (v : Version) → AreFairIn v task c → (place : ℕ) (i : Instance) → IsUnfairIn v task c place i → ⊥
+  none_unfair one fair place i (is, wrong) = none_loses (cost_of task) (potentials_of c) fair.values i wrong
+  none_unfair two fair place i (is, wrong) = none_loses (cost_of task) (potentials_of c) fair.values i wrong
+  none_unfair three fair place i (h, at, wrong) = none_loses_by_tables (cost_of task) h (each_is_fair fair place h at) i wrong
 
-  pub none_unfair : (v : Version) → AreFairIn v task c → (i : Instance) → IsUnfairIn v task c i → ⊥
-  none_unfair one fair i wrong = none_loses (cost_of task) (potentials_of c) fair.values i wrong
-  none_unfair two fair i wrong = none_loses (cost_of task) (potentials_of c) fair.values i wrong
-  none_unfair three fair i wrong = none_loses_by_tables (cost_of task) (functions_of (several_of c)) (each_is_fair fair) i wrong
-
-  pub goals_fair : (v : Version) → AreFairIn v task c → IsUnfairAtGoalsIn v task c → ⊥
-  goals_fair one fair wrong = wrong fair.values.goals
-  goals_fair two fair wrong = wrong fair.values.goals
-  goals_fair three fair (h, among, wrong) = wrong (each_is_fair fair h among).goals
+  pub goals_fair : (v : Version) → AreFairIn v task c → (place : ℕ) → IsUnfairAtGoalsIn v task c place → ⊥
+  goals_fair one fair place (is, wrong) = wrong fair.values.goals
+  goals_fair two fair place (is, wrong) = wrong fair.values.goals
+  goals_fair three fair place (h, at, wrong) = wrong (each_is_fair fair place h at).goals
 
   pub none_dead_unfair : (v : Version) → AreFairIn v task c → (i : Instance) → IsDeadUnfairIn v task c i → ⊥
   none_dead_unfair one fair i wrong = none_loses nothing c.dead_ends fair.dead_ends i wrong
   none_dead_unfair two fair i wrong = none_loses nothing c.dead_ends fair.dead_ends i wrong
-  none_dead_unfair three fair i wrong = none_loses_by_tables nothing (dead_ends_of (several_of c) ∷ []) (dead_is_fair fair) i wrong
+  none_dead_unfair three fair i wrong = none_loses_by_tables nothing (dead_ends_of (several_of c)) fair.dead_ends i wrong
 
   pub dead_goals_fair : (v : Version) → AreFairIn v task c → IsDeadUnfairAtGoalsIn v task c → ⊥
   dead_goals_fair one fair wrong = wrong fair.dead_ends.goals
   dead_goals_fair two fair wrong = wrong fair.dead_ends.goals
-  dead_goals_fair three fair (h, among, wrong) = wrong (dead_is_fair fair h among).goals
+  dead_goals_fair three fair wrong = wrong fair.dead_ends.goals
 
 -- ---- a closed certificate's lines
 
@@ -91,7 +85,7 @@ module _ (task : Task) (c : Certificate) (closed : IsClosedFor task c) where
   abbrev listed : List (Line State)
   listed = lines_of task c
 
-  pub right_line : (reason : Reason) (line : ℕ) → IsWrongLine task c reason line → ⊥
+  pub right_line : (reason : Reason) (line : ℕ) → IsWrongAt task c reason line → ⊥
   right_line not_fluent line (a, (place, reported, at), wrong) =
       let right = closed.atoms_are_fluent place a (slice_get_within c.atoms place a at) in
       let here : IsTrue (is_atom task a && is_fluent task a.predicate) =
@@ -119,10 +113,10 @@ module _ (task : Task) (c : Certificate) (closed : IsClosedFor task c) where
   right_line not_dead line (l, (place, reported, at), is_dead, alive) =
       absurd (true≢false (sym (closed.listing_is_closed.dead_are_dead l (Contains-got listed place l at) is_dead) ∙ alive))
   right_line no_initial line wrong = wrong
-  right_line unfair line wrong = wrong
-  right_line unfair_goal line wrong = wrong
-  right_line dead_unfair line wrong = wrong
-  right_line dead_unfair_goal line wrong = wrong
+  right_line unfair place (i, wrong) = none_unfair task c c.version closed.are_fair place i wrong
+  right_line unfair_goal place wrong = goals_fair task c c.version closed.are_fair place wrong
+  right_line dead_unfair place (is, i, wrong) = none_dead_unfair task c c.version closed.are_fair i wrong
+  right_line dead_unfair_goal place (is, wrong) = dead_goals_fair task c c.version closed.are_fair wrong
   right_line plan_invalid line wrong = wrong
   right_line plan_dearer line wrong = wrong
   right_line limit line wrong = wrong
@@ -130,10 +124,10 @@ module _ (task : Task) (c : Certificate) (closed : IsClosedFor task c) where
   -- and nothing else is wrong but the count of instances
   pub right : (plan : Option (List Instance)) (most : ℕ) (reason : Reason) → IsPlanWithin task c.claim plan → IsWrong task c plan most reason → reason ≡ limit
   right plan most no_initial within wrong = absurd (wrong closed.listing_is_closed.initial_listed)
-  right plan most unfair within (i, wrong) = absurd (none_unfair task c c.version closed.are_fair i wrong)
-  right plan most unfair_goal within wrong = absurd (goals_fair task c c.version closed.are_fair wrong)
-  right plan most dead_unfair within (i, wrong) = absurd (none_dead_unfair task c c.version closed.are_fair i wrong)
-  right plan most dead_unfair_goal within wrong = absurd (dead_goals_fair task c c.version closed.are_fair wrong)
+  right plan most unfair within wrong = absurd wrong
+  right plan most unfair_goal within wrong = absurd wrong
+  right plan most dead_unfair within wrong = absurd wrong
+  right plan most dead_unfair_goal within wrong = absurd wrong
   right None most plan_invalid within wrong = absurd wrong
   right (Some p) most plan_invalid within wrong = absurd (wrong (plan_solves task c.claim p within))
   right None most plan_dearer within wrong = absurd wrong

@@ -2,9 +2,8 @@
 use Rattle.std.proofs.Common.{[], ◌∷◌, ◌++◌, refl, arith}
 use Rattle.std.specs.Prelude.{pos}
 use Rattle.potential_functions.specs.FairExamples.{minus}
-use Rattle.certificate_definitions.specs.Certificates.{three}
 use Rattle.certificate_definitions.specs.CertificateText.{scope, tabled}
-use Rattle.certificate_definitions.specs.CertificateChecking.{not_checked, not_of_scope, repeated_row}
+use Rattle.certificate_definitions.specs.CertificateChecking.{not_of_scope, repeated_row}
 use Rattle.certificate_definitions.specs.CertificateTextExamples.{AreTextsJudged, first_lines, zeros}
 
 pub texts_judged : AreTextsJudged
@@ -34,5 +33,4 @@ texts_judged = record {
   row_twice = repeated_row (record { atoms = 0 ∷ 1 ∷ []; weights = zeros }) (0 ∷ 1 ∷ [])
       (record { atoms = []; weights = zeros } ∷ record { atoms = 0 ∷ 1 ∷ []; weights = minus 2 ∷ pos 0 ∷ pos 1 ∷ [] } ∷ [])
       (first_lines, refl) refl (record { atoms = 0 ∷ 1 ∷ []; weights = minus 2 ∷ pos 0 ∷ pos 1 ∷ [] }, (1, omega arith, refl), refl);
-  version_3_is_not_checked = not_checked three refl;
 }

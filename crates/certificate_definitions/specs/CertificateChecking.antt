@@ -1,15 +1,15 @@
 -- What is wrong with the lines of a certificate's text for a task, and which text is accepted for it. The lines are looked
 -- at in order, and the first at fault is reported: by the text's own rules, or for what it says of the task.
-use Rattle.std.specs.Prelude.{◌≡◌, ℕ, ◌+◌, ◌⊎◌, Bool, true, false, IsTrue, List, [], ◌∷◌, ◌++◌, map, length, Contains, Option}
+use Rattle.std.specs.Prelude.{◌≡◌, ℕ, ◌+◌, ◌⊎◌, Bool, false, IsTrue, List, [], ◌∷◌, ◌++◌, map, length, Contains, Option}
 use Rattle.std.specs.List.{list_all}
 use Rattle.model.specs.Task.{Atom, Task, Instance}
 use Rattle.model.specs.WellTyped.{is_atom}
 use Rattle.model.specs.Fluents.{is_fluent}
 use Rattle.model.specs.Claims.{none, Mark, cut}
-use Rattle.certificate_definitions.specs.Certificates.{Version, one, two, three, Certificate, StateLine, IsClosedFor}
+use Rattle.certificate_definitions.specs.Certificates.{Certificate, StateLine, IsClosedFor}
 use Rattle.table_functions.specs.TableFunctions.{Row, is_among}
 use Rattle.certificate_definitions.specs.CertificateRefusals.{IsPlanWithin}
-use Rattle.certificate_definitions.specs.CertificateText.{NamedAtom, WeightedAtom, scope, row, TextLine, version, claims, atom, tabled, listed, whole_line, text_of, BeginCertificate, IsFaultAfter}
+use Rattle.certificate_definitions.specs.CertificateText.{NamedAtom, WeightedAtom, scope, row, TextLine, claims, atom, tabled, listed, whole_line, text_of, BeginCertificate, IsFaultAfter}
 use Rattle.certificate_definitions.specs.CertificateNames.{Names, IsTextOf}
 
 -- these are the names of a well-typed atom of a fluent predicate
@@ -27,12 +27,6 @@ ListsAtoms lines atoms = (l : StateLine) × Contains lines (listed l) × (l.atom
 abbrev pub IsCut : Mark → Type 0
 IsCut mark = (rest : ℕ) × (mark ≡ cut rest)
 
--- Which versions are checked: that a certificate of version 3 is closed is not tested yet.
-abbrev pub is_checked : Version → Bool
-is_checked one = true
-is_checked two = true
-is_checked three = false
-
 -- the last lines are those of a table of this scope, with these rows so far
 abbrev pub EndInTable : List TextLine → List ℕ → List Row → Type 0
 EndInTable lines atoms rows = (before : List TextLine) × (lines ≡ before ++ tabled (scope atoms) ∷ map (λ (r : Row). tabled (row r)) rows)
@@ -47,8 +41,6 @@ HasRow rows atoms = (r : Row) × Contains rows r × (r.atoms ≡ atoms)
 
 -- The line says what is wrong of the task, after these lines, and the number is reported.
 pub data IsWrongAfter (task : Task) (before : List TextLine) : TextLine → ℕ → Type 0 where
-  -- a version that is not checked
-  not_checked : (v : Version) → is_checked v ≡ false → IsWrongAfter task before (version v) 41
   -- a row with an atom that is not of its table's scope
   not_of_scope : (r : Row) (atoms : List ℕ) (rows : List Row) → EndInTable before atoms rows → is_of_scope atoms r.atoms ≡ false → IsWrongAfter task before (tabled (row r)) 40
   -- a row that its table has already
@@ -83,11 +75,10 @@ pub record IsLineFault (task : Task) (text : List ℕ) (number line : ℕ) : Typ
   pub line_is : line ≡ length before + 1
   pub at_fault : IsFaultAfter before bytes number ⊎ IsWrongHere task before bytes number
 
--- The text is that of a certificate that is closed for the task, of a version that is checked, and no plan is given, or one
--- that solves the task and costs no more than is claimed.
+-- The text is that of a certificate that is closed for the task, and no plan is given, or one that solves the task and costs no
+-- more than is claimed.
 pub record IsAccepted (task : Task) (text : List ℕ) (plan : Option (List Instance)) : Type 0 where
   pub certificate : Certificate
   pub is_text : IsTextOf task text certificate
-  pub checked : IsTrue (is_checked certificate.version)
   pub closed : IsClosedFor task certificate
   pub within : IsPlanWithin task certificate.claim plan

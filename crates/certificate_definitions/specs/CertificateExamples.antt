@@ -8,7 +8,7 @@ use Rattle.model.specs.Fluents.{is_fluent, static_atoms}
 use Rattle.potential_functions.specs.PotentialFunctions.{PotentialFunction}
 use Rattle.potential_functions.specs.FairExamples.{token_task, token_atoms, potentials, minus}
 use Rattle.certificate_definitions.specs.Certificates.{Version, one, two, StateLine, Certificate, keeps_limits, IsClosedFor}
-use Rattle.certificate_definitions.specs.CertificateRefusals.{IsWrongLine, IsWrong, not_fluent, repeated, no_initial, unfair, unfair_goal, dead_unfair, dead_unfair_goal, goal_open, successor_missing, cut_weak, cut_not_allowed, not_dead}
+use Rattle.certificate_definitions.specs.CertificateRefusals.{IsWrongAt, IsWrong, not_fluent, repeated, no_initial, unfair, unfair_goal, dead_unfair, dead_unfair_goal, goal_open, successor_missing, cut_weak, cut_not_allowed, not_dead}
 
 abbrev pub open_at : ℕ → List ℕ → StateLine
 open_at cost atoms = record { cost = cost; mark = opened; atoms = atoms }
@@ -69,26 +69,26 @@ pub record AreJudged : Type 0 where
   -- No plan costs less than 1: a cut line stands for all that follows it.
   pub closed : IsClosedFor tie_task (claims (bound 1) (tied ∷ []) start_open)
   -- That none costs less than 2 is too much, both of a cut and of an open line.
-  pub cut_claims_too_little : IsWrongLine tie_task (claims (bound 2) (tied ∷ []) start_open) cut_weak 6
-  pub open_goal : IsWrongLine tie_task (claims (bound 2) (tied ∷ []) (open_at 0 [] ∷ open_at 1 (0 ∷ []) ∷ [])) goal_open 6
+  pub cut_claims_too_little : IsWrongAt tie_task (claims (bound 2) (tied ∷ []) start_open) cut_weak 6
+  pub open_goal : IsWrongAt tie_task (claims (bound 2) (tied ∷ []) (open_at 0 [] ∷ open_at 1 (0 ∷ []) ∷ [])) goal_open 6
   -- A cut that reports a bound of its own is not believed, and none is allowed where no plan is claimed to be.
-  pub cut_by_its_bound : IsWrongLine tie_task (claims (bound 2) (tied ∷ []) (open_at 0 [] ∷ cut_at 1 1 (0 ∷ []) ∷ [])) cut_weak 6
-  pub cut_without_bound : IsWrongLine tie_task (claims none (tied ∷ []) start_open) cut_not_allowed 6
+  pub cut_by_its_bound : IsWrongAt tie_task (claims (bound 2) (tied ∷ []) (open_at 0 [] ∷ cut_at 1 1 (0 ∷ []) ∷ [])) cut_weak 6
+  pub cut_without_bound : IsWrongAt tie_task (claims none (tied ∷ []) start_open) cut_not_allowed 6
   -- An open line's successors are listed, and the initial state is at 0.
-  pub missing : IsWrongLine tie_task (claims (bound 1) (tied ∷ []) (open_at 0 [] ∷ [])) successor_missing 5
+  pub missing : IsWrongAt tie_task (claims (bound 1) (tied ∷ []) (open_at 0 [] ∷ [])) successor_missing 5
   pub dear_start : IsWrong tie_task (claims (bound 1) (tied ∷ []) (open_at 1 [] ∷ cut_at 1 0 (0 ∷ []) ∷ [])) None 1 no_initial
   -- A potential function says what is still to pay: where `tied` is worth the one instance, the initial state alone, cut,
   -- shows that no plan costs less than 1. It does not show that none costs less than 2, nor more than its value.
   pub cut_by_value : IsClosedFor tie_task (weighs (bound 1) (pos 1) (negsuc 0) (cut_at 0 1 [] ∷ []))
-  pub claims_above_value : IsWrongLine tie_task (weighs (bound 2) (pos 1) (negsuc 0) (cut_at 0 1 [] ∷ [])) cut_weak 5
-  pub cut_above_value : IsWrongLine tie_task (weighs (bound 1) (pos 1) (negsuc 0) (cut_at 0 2 [] ∷ [])) cut_weak 5
+  pub claims_above_value : IsWrongAt tie_task (weighs (bound 2) (pos 1) (negsuc 0) (cut_at 0 1 [] ∷ [])) cut_weak 5
+  pub cut_above_value : IsWrongAt tie_task (weighs (bound 1) (pos 1) (negsuc 0) (cut_at 0 2 [] ∷ [])) cut_weak 5
   -- Where it is worth 2, the instance loses more than it costs; and where the constant is 2, more than 0 is left at the goal.
-  pub worth_more : IsWrong tie_task (weighs (bound 1) (pos 2) (negsuc 1) (cut_at 0 1 [] ∷ [])) None 1 unfair
-  pub left_at_goal : IsWrong tie_task (weighs (bound 1) (pos 2) (negsuc 0) (cut_at 0 1 [] ∷ [])) None 1 unfair_goal
+  pub worth_more : IsWrongAt tie_task (weighs (bound 1) (pos 2) (negsuc 1) (cut_at 0 1 [] ∷ [])) unfair 0
+  pub left_at_goal : IsWrongAt tie_task (weighs (bound 1) (pos 2) (negsuc 0) (cut_at 0 1 [] ∷ [])) unfair_goal 0
   -- Atoms are fluent, and are once; numbers of atoms rise; there is a weight for each atom, within its limits.
-  pub static_atom : IsWrongLine tie_task (claims (bound 1) (linked ∷ tied ∷ []) start_open) not_fluent 4
-  pub atom_twice : IsWrongLine tie_task (claims (bound 1) (tied ∷ tied ∷ []) start_open) repeated 5
-  pub state_twice : IsWrongLine tie_task (claims (bound 1) (tied ∷ []) (open_at 0 [] ∷ cut_at 0 0 [] ∷ [])) repeated 6
+  pub static_atom : IsWrongAt tie_task (claims (bound 1) (linked ∷ tied ∷ []) start_open) not_fluent 4
+  pub atom_twice : IsWrongAt tie_task (claims (bound 1) (tied ∷ tied ∷ []) start_open) repeated 5
+  pub state_twice : IsWrongAt tie_task (claims (bound 1) (tied ∷ []) (open_at 0 [] ∷ cut_at 0 0 [] ∷ [])) repeated 6
   pub numbers_rise : keeps_limits (claims (bound 1) (tied ∷ []) (open_at 0 (0 ∷ 0 ∷ []) ∷ [])) ≡ false
   pub weights_are_limited : keeps_limits (weighs (bound 1) (pos 0) (pos 2147483648) []) ≡ false
   pub least_weight : keeps_limits (weighs (bound 1) (pos 2147483647) (negsuc 2147483646) []) ≡ true
@@ -98,9 +98,9 @@ pub record AreJudged : Type 0 where
   pub dead_within_bound : IsClosedFor token_task (token_reported two (bound 7) (pos 2) (minus 1))
   -- A dead end has a value of at least 1; more than 0 is never left at the goal; and no step makes the sum fall, though it
   -- costs 1.
-  pub not_reported_dead : IsWrongLine token_task (token_reported two none (pos 1) (minus 1)) not_dead 6
-  pub dead_left_at_goal : IsWrong token_task (token_reported two none (pos 3) (minus 1)) None 1 dead_unfair_goal
-  pub lost_by_fore : IsWrong token_task (token_reported two none (pos 2) (minus 2)) None 1 dead_unfair
+  pub not_reported_dead : IsWrongAt token_task (token_reported two none (pos 1) (minus 1)) not_dead 6
+  pub dead_left_at_goal : IsWrongAt token_task (token_reported two none (pos 3) (minus 1)) dead_unfair_goal 1
+  pub lost_by_fore : IsWrongAt token_task (token_reported two none (pos 2) (minus 2)) dead_unfair 1
   -- Version 1 has no line of a dead end, and no weights that report one.
   pub version_2_has_dead_ends : keeps_limits (token_reported two none (pos 2) (minus 1)) ≡ true
   pub version_1_has_none : keeps_limits (token_reported one none (pos 2) (minus 1)) ≡ false

@@ -68,30 +68,6 @@ IsRepeatedState task c line =
 abbrev pub LeadsFrom : Task → Certificate → ℕ → Line State → Instance → State → Type 0
 LeadsFrom task c line l i next = HasState task c line l × (l.mark ≡ opened) × (step task l.state i ≡ Some next)
 
--- What is wrong with a line of the certificate's text.
-abbrev pub IsWrongLine : Task → Certificate → Reason → ℕ → Type 0
--- its atom is not well-typed, or its predicate is static
-IsWrongLine task c not_fluent line = (a : Atom) × HasAtom c line a × ((is_atom task a && is_fluent task a.predicate) ≡ false)
--- its atom, or its state, is in a line before
-IsWrongLine task c repeated line = IsRepeatedAtom c line ⊎ IsRepeatedState task c line
--- its open state meets the goal, at a cost that the claim does not allow
-IsWrongLine task c goal_open line = (l : Line State) × HasState task c line l × (l.mark ≡ opened) × IsTrue (meets_goal task l.state) × ¬ Allows c.claim l.cost
--- an instance leads from its open state to one that is not listed
-IsWrongLine task c successor_missing line =
-    (l : Line State) × (i : Instance) × (next : State) × LeadsFrom task c line l i next × ¬ IsListed (lines_of task c) next
--- an instance leads from its open state to one that is listed, but not at so little as its cost and that of the instance
-IsWrongLine task c successor_dearer line =
-    (l : Line State) × (i : Instance) × (next : State) × LeadsFrom task c line l i next × IsListed (lines_of task c) next
-    × ¬ IsListedWithin (lines_of task c) next (l.cost + (system_of task).cost i)
--- its cut's bound is more than the state's value, or what it claims is less than what is claimed
-IsWrongLine task c cut_weak line =
-    (l : Line State) × (rest : ℕ) × HasState task c line l × (l.mark ≡ cut rest) × ((value_of task c l.state < rest) ⊎ ¬ Allows c.claim (l.cost + rest))
--- it is a cut, and it is claimed that no list solves
-IsWrongLine task c cut_not_allowed line = (l : Line State) × (rest : ℕ) × HasState task c line l × (l.mark ≡ cut rest) × (c.claim ≡ none)
--- it is listed as a dead end, and its value is not at least 1
-IsWrongLine task c not_dead line = (l : Line State) × HasState task c line l × (l.mark ≡ dead) × (is_dead_end_of task c l.state ≡ false)
-IsWrongLine task c _ line = ⊥
-
 -- ---- values that are not fair
 
 -- the kept instance may lose more of the potential function than it is allowed to, where the certificate's atoms have the first
@@ -99,37 +75,70 @@ IsWrongLine task c _ line = ⊥
 abbrev pub MayLose : (allowance : ℕ) → Task → Certificate → PotentialFunction → Instance → Type 0
 MayLose allowance task c p i = Contains (kept_instances task) i × ¬ IsFairAt allowance task (numbered_atoms task c.atoms) p.weights i
 
--- so of one of these table functions, where it is not shut out
-abbrev pub MayLoseByTables : (allowance : ℕ) → Task → Certificate → List TableFunction → Instance → Type 0
-MayLoseByTables allowance task c functions i =
-    (h : TableFunction) × Contains functions h × Contains (kept_instances task) i × IsTrue (is_asked task (numbered_atoms task c.atoms) c.tables i)
-    × ¬ fair_tables.IsFairAt allowance task (numbered_atoms task c.atoms) h i
+-- so of the table function, where it is not shut out
+abbrev pub MayLoseByTables : (allowance : ℕ) → Task → Certificate → TableFunction → Instance → Type 0
+MayLoseByTables allowance task c h i =
+    Contains (kept_instances task) i × IsTrue (is_asked task (numbered_atoms task c.atoms) c.tables i) × ¬ fair_tables.IsFairAt allowance task (numbered_atoms task c.atoms) h i
 
--- more than 0 of one of these may be left at a goal
-abbrev pub MayBeLeftByTables : Task → Certificate → List TableFunction → Type 0
-MayBeLeftByTables task c functions = (h : TableFunction) × Contains functions h × ¬ fair_tables.IsFairAtGoals task (numbered_atoms task c.atoms) h
+-- of the value at this place, from 0: versions 1 and 2 have one
+abbrev pub IsUnfairIn : Version → Task → Certificate → ℕ → Instance → Type 0
+IsUnfairIn one task c place i = (place ≡ 0) × MayLose (cost_of task i) task c (potentials_of c) i
+IsUnfairIn two task c place i = (place ≡ 0) × MayLose (cost_of task i) task c (potentials_of c) i
+IsUnfairIn three task c place i = (h : TableFunction) × (slice_get (functions_of (several_of c)) place ≡ Some h) × MayLoseByTables (cost_of task i) task c h i
 
-abbrev pub IsUnfairIn : Version → Task → Certificate → Instance → Type 0
-IsUnfairIn one task c i = MayLose (cost_of task i) task c (potentials_of c) i
-IsUnfairIn two task c i = MayLose (cost_of task i) task c (potentials_of c) i
-IsUnfairIn three task c i = MayLoseByTables (cost_of task i) task c (functions_of (several_of c)) i
+-- more than 0 of it may be left at a goal
+abbrev pub IsUnfairAtGoalsIn : Version → Task → Certificate → ℕ → Type 0
+IsUnfairAtGoalsIn one task c place = (place ≡ 0) × ¬ IsFairAtGoals task (numbered_atoms task c.atoms) (potentials_of c)
+IsUnfairAtGoalsIn two task c place = (place ≡ 0) × ¬ IsFairAtGoals task (numbered_atoms task c.atoms) (potentials_of c)
+IsUnfairAtGoalsIn three task c place = (h : TableFunction) × (slice_get (functions_of (several_of c)) place ≡ Some h) × ¬ fair_tables.IsFairAtGoals task (numbered_atoms task c.atoms) h
 
-abbrev pub IsUnfairAtGoalsIn : Version → Task → Certificate → Type 0
-IsUnfairAtGoalsIn one task c = ¬ IsFairAtGoals task (numbered_atoms task c.atoms) (potentials_of c)
-IsUnfairAtGoalsIn two task c = ¬ IsFairAtGoals task (numbered_atoms task c.atoms) (potentials_of c)
-IsUnfairAtGoalsIn three task c = MayBeLeftByTables task c (functions_of (several_of c))
-
+-- and the same of what reports dead ends, of which nothing may be lost
 abbrev pub IsDeadUnfairIn : Version → Task → Certificate → Instance → Type 0
 IsDeadUnfairIn one task c i = MayLose 0 task c c.dead_ends i
 IsDeadUnfairIn two task c i = MayLose 0 task c c.dead_ends i
-IsDeadUnfairIn three task c i = MayLoseByTables 0 task c (dead_ends_of (several_of c) ∷ []) i
+IsDeadUnfairIn three task c i = MayLoseByTables 0 task c (dead_ends_of (several_of c)) i
 
 abbrev pub IsDeadUnfairAtGoalsIn : Version → Task → Certificate → Type 0
 IsDeadUnfairAtGoalsIn one task c = ¬ IsFairAtGoals task (numbered_atoms task c.atoms) c.dead_ends
 IsDeadUnfairAtGoalsIn two task c = ¬ IsFairAtGoals task (numbered_atoms task c.atoms) c.dead_ends
-IsDeadUnfairAtGoalsIn three task c = MayBeLeftByTables task c (dead_ends_of (several_of c) ∷ [])
+IsDeadUnfairAtGoalsIn three task c = ¬ fair_tables.IsFairAtGoals task (numbered_atoms task c.atoms) (dead_ends_of (several_of c))
 
--- What is wrong, and not with a line: with the whole certificate, with the plan, if one is given, or with the
+-- ---- what is wrong
+
+-- What is wrong with a line of the certificate's text, or with one of its values, by the place of the value, from 0; what
+-- reports dead ends comes behind them.
+abbrev pub IsWrongAt : Task → Certificate → Reason → ℕ → Type 0
+-- its atom is not well-typed, or its predicate is static
+IsWrongAt task c not_fluent line = (a : Atom) × HasAtom c line a × ((is_atom task a && is_fluent task a.predicate) ≡ false)
+-- its atom, or its state, is in a line before
+IsWrongAt task c repeated line = IsRepeatedAtom c line ⊎ IsRepeatedState task c line
+-- its open state meets the goal, at a cost that the claim does not allow
+IsWrongAt task c goal_open line = (l : Line State) × HasState task c line l × (l.mark ≡ opened) × IsTrue (meets_goal task l.state) × ¬ Allows c.claim l.cost
+-- an instance leads from its open state to one that is not listed
+IsWrongAt task c successor_missing line =
+    (l : Line State) × (i : Instance) × (next : State) × LeadsFrom task c line l i next × ¬ IsListed (lines_of task c) next
+-- an instance leads from its open state to one that is listed, but not at so little as its cost and that of the instance
+IsWrongAt task c successor_dearer line =
+    (l : Line State) × (i : Instance) × (next : State) × LeadsFrom task c line l i next × IsListed (lines_of task c) next
+    × ¬ IsListedWithin (lines_of task c) next (l.cost + (system_of task).cost i)
+-- its cut's bound is more than the state's value, or what it claims is less than what is claimed
+IsWrongAt task c cut_weak line =
+    (l : Line State) × (rest : ℕ) × HasState task c line l × (l.mark ≡ cut rest) × ((value_of task c l.state < rest) ⊎ ¬ Allows c.claim (l.cost + rest))
+-- it is a cut, and it is claimed that no list solves
+IsWrongAt task c cut_not_allowed line = (l : Line State) × (rest : ℕ) × HasState task c line l × (l.mark ≡ cut rest) × (c.claim ≡ none)
+-- it is listed as a dead end, and its value is not at least 1
+IsWrongAt task c not_dead line = (l : Line State) × HasState task c line l × (l.mark ≡ dead) × (is_dead_end_of task c l.state ≡ false)
+-- a kept instance may lose more of the value at this place than it costs
+IsWrongAt task c unfair place = (i : Instance) × IsUnfairIn c.version task c place i
+-- more than 0 of it may be left at a goal
+IsWrongAt task c unfair_goal place = IsUnfairAtGoalsIn c.version task c place
+-- a kept instance may make what reports dead ends fall
+IsWrongAt task c dead_unfair place = (place ≡ length c.values) × (i : Instance) × IsDeadUnfairIn c.version task c i
+-- more than 0 of it may be left at a goal
+IsWrongAt task c dead_unfair_goal place = (place ≡ length c.values) × IsDeadUnfairAtGoalsIn c.version task c
+IsWrongAt task c _ line = ⊥
+
+-- What is wrong, and neither with a line nor with a value: with the whole certificate, with the plan, if one is given, or with the
 -- ground task in which the certificate's atoms have the first numbers, of whose instances at most `most` may be kept.
 abbrev pub IsWrong : Task → Certificate → Option (List Instance) → ℕ → Reason → Type 0
 -- the initial state is not listed at 0
@@ -139,20 +148,12 @@ IsWrong task c plan most plan_invalid = MatchOption plan ⊥ (λ p. ¬ Solves (s
 -- the plan solves it, and costs more than is claimed
 IsWrong task c plan most plan_dearer =
     MatchOption plan ⊥ (λ p. (least : ℕ) × (c.claim ≡ bound least) × Solves (system_of task) p × (least < cost_of_all (system_of task) p))
--- a kept instance may lose more than it costs
-IsWrong task c plan most unfair = (i : Instance) × IsUnfairIn c.version task c i
--- more than 0 may be left at a goal
-IsWrong task c plan most unfair_goal = IsUnfairAtGoalsIn c.version task c
--- a kept instance may make what reports dead ends fall
-IsWrong task c plan most dead_unfair = (i : Instance) × IsDeadUnfairIn c.version task c i
--- more than 0 of it may be left at a goal
-IsWrong task c plan most dead_unfair_goal = IsDeadUnfairAtGoalsIn c.version task c
 -- more instances are kept, or too many atoms have numbers
 IsWrong task c plan most limit = IsSome (exceeded_limit most max_numbered_atoms task c.atoms)
 IsWrong task c plan most _ = ⊥
 
--- The checker looks for what is wrong in this order: it reads the lines one by one, grounds the task, looks whether the
--- potential functions are fair and dead-fair, looks for the initial state, goes through the state lines one by one, and holds the plan
+-- The checker looks for what is wrong in this order: it reads the lines one by one, grounds the task, looks whether the values
+-- are fair, one after another, and what reports dead ends is dead-fair, looks for the initial state, goes through the state lines one by one, and holds the plan
 -- against the claim.
 abbrev pub stage_of : Reason → ℕ
 stage_of not_fluent = 0
@@ -184,7 +185,8 @@ rank_of successor_dearer = 1
 rank_of plan_dearer = 1
 rank_of _ = 0
 
--- the one reason comes before the other, in these lines; what is not wrong with a line is reported as in line 0
+-- the one reason comes before the other, in these lines, or in the values at these places; what is wrong with neither is
+-- reported as in line 0
 abbrev pub ComesBefore : Reason → ℕ → Reason → ℕ → Type 0
 ComesBefore earlier line later other =
     (stage_of earlier < stage_of later) ⊎ ((stage_of earlier ≡ stage_of later) × ((line < other) ⊎ ((line ≡ other) × (rank_of earlier < rank_of later))))
@@ -192,7 +194,7 @@ ComesBefore earlier line later other =
 -- nothing is wrong that comes before
 abbrev pub IsFirst : Task → Certificate → Option (List Instance) → ℕ → Reason → ℕ → Type 0
 IsFirst task c plan most reason line =
-    (earlier : Reason) (before : ℕ) → ComesBefore earlier before reason line → ¬ (IsWrongLine task c earlier before ⊎ IsWrong task c plan most earlier)
+    (earlier : Reason) (before : ℕ) → ComesBefore earlier before reason line → ¬ (IsWrongAt task c earlier before ⊎ IsWrong task c plan most earlier)
 
 -- no plan is given, or one that solves the task and costs no more than is claimed
 abbrev pub IsPlanWithin : Task → Claim → Option (List Instance) → Type 0

@@ -83,4 +83,3 @@ pub record AreTextsJudged : Type 0 where
   -- A row is of the last scope before it, and is once in its table, whatever it weighs; another table may have it too.
   pub row_of_another_scope : IsWrongAfter tie_task (first_lines ++ tabled (scope (1 ∷ [])) ∷ tabled (scope (0 ∷ [])) ∷ []) (row_line zeros (1 ∷ [])) 40
   pub row_twice : IsWrongAfter tie_task (first_lines ++ table_lines_of_both) (row_line zeros (0 ∷ 1 ∷ [])) 44
-  pub version_3_is_not_checked : IsWrongAfter tie_task [] (version three) 41

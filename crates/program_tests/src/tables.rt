@@ -2,7 +2,7 @@
 ghost use Rattle.std.specs.Prelude.{IsTrue};
 ghost use Rattle.table_rows.specs.Rows.{are_rising};
 
-use crate::helpers::{Reported, check_text};
+use crate::helpers::{Answer, Reported, check_text};
 use cert_checker::RefusalCode;
 use certificate::{Bounds, Cert, Claim, Header, Mark, Potential, StateLine, Version, write_cert};
 use devices::Memory;
@@ -11,6 +11,7 @@ use indexmap::IndexSet;
 use std::alloc::Global;
 use std::test::Fail;
 use table_rows::Table;
+use task::Task;
 use test_texts::{GO, atom, on_task};
 
 /// The potential function of this constant and these weights.
@@ -83,14 +84,48 @@ fn a_certificate_with_tables_is_written(rt: HostRuntime) -> Result<(), Fail> {
     })
 }
 
+/// What is answered to a certificate of version 3 that ends behind this row of a table of the second atom, which has a row of
+/// no atoms already.
+fn answer_to_row(alloc: Global, task: &Task, row: &[u8]) -> Result<Answer, NoMemory> {
+    let mut text = Vec::from_slice(
+        alloc,
+        b"pddl-cert 3\nclaim bound 0\nconstant 1 2 0\natom 0 -1 0 (p)\natom 3 0 4 (q)\ntable 1\nrow 0 0 0\n",
+    )?;
+    text.extend_from_slice(row)?;
+    Ok(check_text(alloc, task, text, 1))
+}
+
+/// The refusal of the row.
+fn refused_row(code: RefusalCode) -> Answer {
+    Err(Reported::Line { code, line: 8 })
+}
+
 #[test]
-fn version_3_is_not_checked_yet(rt: HostRuntime) -> Result<(), Fail> {
+fn atoms_of_a_row_are_of_its_scope(rt: HostRuntime) -> Result<(), Fail> {
+    on_task(&rt, rt.alloc(), &GO, |rt, alloc, task| {
+        let answer = answer_to_row(alloc, task, b"row -2 5 1 0\n")?;
+        assert_eq!(rt; answer, refused_row(RefusalCode::CertForm));
+        Ok(())
+    })
+}
+
+#[test]
+fn a_table_has_no_row_twice(rt: HostRuntime) -> Result<(), Fail> {
+    on_task(&rt, rt.alloc(), &GO, |rt, alloc, task| {
+        let answer = answer_to_row(alloc, task, b"row -2 5 1\n")?;
+        assert_eq!(rt; answer, refused_row(RefusalCode::Repeated));
+        Ok(())
+    })
+}
+
+#[test]
+fn another_row_of_its_scope_is_taken(rt: HostRuntime) -> Result<(), Fail> {
     let refused = Reported::Line {
-        code: RefusalCode::CertVersion,
-        line: 1,
+        code: RefusalCode::Truncated,
+        line: 9,
     };
     on_task(&rt, rt.alloc(), &GO, |rt, alloc, task| {
-        let answer = check_text(alloc, task, TEXT.to_vec(alloc)?, 1);
+        let answer = answer_to_row(alloc, task, b"row -2 5 1 1\n")?;
         assert_eq!(rt; answer, Err(refused));
         Ok(())
     })

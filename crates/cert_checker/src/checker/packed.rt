@@ -3,38 +3,36 @@ ghost use Rattle.std.proofs.Props.{props};
 ghost use Rattle.grounding.specs.Ground.{task_in, atoms_in};
 ghost use Rattle.certificate.specs.Certificate.{certificate_of, store_in};
 ghost use Rattle.cert_checker.specs.PackedLines.{IsPackedListing};
-ghost use Rattle.cert_checker.specs.Weights.{HasItsWeights};
-ghost use Rattle.potentials.specs.Potentials.{potentials_of};
-ghost use Rattle.std.specs.Prelude.{IsTrue, length};
+ghost use Rattle.cert_checker.specs.Weights.{HaveTheirWeights};
+ghost use Rattle.std.specs.Prelude.{length};
+ghost use Rattle.tables.specs.Several as values_in_memory;
 ghost use Rattle.certificate_definitions.specs.Certificates as certificates;
-ghost use Rattle.certificate_definitions.specs.CertificateChecking.{is_checked};
 
 use certificate::Cert;
+use faults::NoMemory;
 use grounding::Ground;
 use packed_state::{Packed, StateStore};
-use potentials::Potentials;
+use std::alloc::Global;
+use tables::{Room, TableFunctions};
 
-/// A certificate of version 1 or 2 of a ground task in which the certificate's atoms have the first numbers, with its states
-/// packed as the ground task's are, and its potentials and those of dead ends with a weight for each numbered atom.
+/// A certificate of a ground task in which the certificate's atoms have the first numbers, with its states packed as the ground
+/// task's are, and its values with a weight for each numbered atom. Those of versions 1 and 2 are over no tables.
 #[derive(Drop)]
 pub(super) struct PackedListing<'a, 't> {
     pub(super) grounded: &'a Ground<'t>,
     pub(super) cert: &'a Cert,
-    potentials: &'a Potentials,
-    dead_ends: &'a Potentials,
-    ghost checked: { IsTrue (is_checked (certificate_of cert.now).version) } by { Prim.hlevel props },
+    values: TableFunctions<'a>,
     ghost listed: { IsPackedListing (task_in grounded.now) (atoms_in grounded.now) (certificate_of cert.now) (store_in cert.now) } by { Prim.hlevel props },
-    ghost valued: { HasItsWeights (certificates.potentials_of (certificate_of cert.now)) (length (atoms_in grounded.now)) (potentials_of potentials.now) } by { Prim.hlevel props },
-    ghost dead_ends_valued: { HasItsWeights (certificate_of cert.now).dead_ends (length (atoms_in grounded.now)) (potentials_of dead_ends.now) } by { Prim.hlevel props },
+    ghost valued: { HaveTheirWeights (certificates.several_of (certificate_of cert.now)) (length (atoms_in grounded.now)) (values_in_memory.several_of values) } by { Prim.hlevel props },
 }
 
 impl<'a, 't> PackedListing<'a, 't> {
-    ghost use Rattle.std.specs.Prelude.{◌≡◌, ℕ, ◌<◌, MatchOption};
+    ghost use Rattle.std.specs.Prelude.{◌≡◌, ℕ, ◌<◌, IfOk, MatchOption};
     ghost use Rattle.model.specs.Claims.{Mark};
     ghost use Rattle.packed_state.specs.PooledView.{pooled_width};
     ghost use Rattle.cert_checker.specs.FluentAtoms.{AreFluent};
     ghost use Rattle.cert_checker.specs.CheckedLines.{HasCost, IsListedAt, IsListedAs};
-    ghost use Rattle.cert_checker.specs.PackedListing.{task_at, certificate_at, state_at, IsPacked};
+    ghost use Rattle.cert_checker.specs.PackedListing.{task_at, certificate_at, state_at, IsPacked, HasRoomIn};
     ghost use Rattle.model.specs.NumberedAtoms.{numbered_atoms};
     ghost use Rattle.certificate_definitions.specs.Certificates.{is_dead_end_of, lines_of, value_of};
     ghost use Rattle.certificate_definitions.specs.CertificateRefusals.{IsListed};
@@ -43,22 +41,18 @@ impl<'a, 't> PackedListing<'a, 't> {
     pub(super) fn new(
         grounded: &'a Ground<'t>,
         cert: &'a Cert,
-        potentials: &'a Potentials,
-        dead_ends: &'a Potentials,
+        values: TableFunctions<'a>,
     ) -> PackedListing<'a, 't>
-        requires checked { IsTrue (is_checked (certificate_of cert.now).version) }
         requires fluent { AreFluent (task_in grounded.now) (certificate_of cert.now).atoms }
         requires numbered { atoms_in grounded.now ≡ numbered_atoms (task_in grounded.now) (certificate_of cert.now).atoms }
         requires width { pooled_width (store_in cert.now) ≡ length (atoms_in grounded.now) }
-        requires weights { HasItsWeights (certificates.potentials_of (certificate_of cert.now)) (length (atoms_in grounded.now)) (potentials_of potentials.now) }
-        requires dead_ends { HasItsWeights (certificate_of cert.now).dead_ends (length (atoms_in grounded.now)) (potentials_of dead_ends.now) }
+        requires weights { HaveTheirWeights (certificates.several_of (certificate_of cert.now)) (length (atoms_in grounded.now)) (values_in_memory.several_of values) }
         ensures same { (task_at result ≡ task_in grounded.now) × (certificate_at result ≡ certificate_of cert.now) }
     {
         PackedListing {
             grounded,
             cert,
-            potentials,
-            dead_ends,
+            values,
         }
     }
 
@@ -86,19 +80,30 @@ impl<'a, 't> PackedListing<'a, 't> {
         }
     }
 
-    /// The state's value, which what is still to pay from it on does not fall short of.
-    pub(super) fn value(&self, state: &Packed) -> u64
-        requires { IsPacked self.now state.now }
-        ensures { result ≡ value_of (task_at self.now) (certificate_at self.now) (state_at self.now state.now) }
+    /// Room to be lent to the calls that ask for the value of a state.
+    pub(super) fn room(&self, alloc: Global) -> Result<Room, NoMemory>
+        ensures { IfOk result (HasRoomIn self.now) }
     {
-        self.potentials.value(state)
+        self.values.room(alloc)
     }
 
-    /// Whether the certificate's second potentials say that the state is a dead end.
-    pub(super) fn is_dead_end(&self, state: &Packed) -> bool
-        requires { IsPacked self.now state.now }
-        ensures { result ≡ is_dead_end_of (task_at self.now) (certificate_at self.now) (state_at self.now state.now) }
+    /// The state's value, which what is still to pay from it on does not fall short of.
+    pub(super) fn value(&self, state: &Packed, room: &mut Room) -> u64
+        requires state { IsPacked self.now state.now }
+        requires room { HasRoomIn self.now room.old }
+        ensures value { result ≡ value_of (task_at self.now) (certificate_at self.now) (state_at self.now state.now) }
+        ensures room { HasRoomIn self.now room.new }
     {
-        1 <= self.dead_ends.value(state)
+        self.values.value(state, room)
+    }
+
+    /// Whether the certificate's value for dead ends says that the state is one.
+    pub(super) fn is_dead_end(&self, state: &Packed, room: &mut Room) -> bool
+        requires state { IsPacked self.now state.now }
+        requires room { HasRoomIn self.now room.old }
+        ensures dead { result ≡ is_dead_end_of (task_at self.now) (certificate_at self.now) (state_at self.now state.now) }
+        ensures room { HasRoomIn self.now room.new }
+    {
+        self.values.is_dead_end(state, room)
     }
 }

@@ -8,7 +8,7 @@ ghost use Rattle.certificate.specs.Certificate.{certificate_of};
 ghost use Rattle.cert_checker.specs.CertChecker.{IsFirstRefusal, IsTrueRefusal};
 ghost use Rattle.cert_checker.specs.FluentAtoms.{AreFluent};
 ghost use Rattle.cert_checker.specs.CheckedLines.{CutsAreAllowed, IsCutClosed, IsFirstGrounded, IsLineClosed, IsOpenClosed, IsRightGrounded, IsRightUpTo, IsTrueAnyway, IsListedAs};
-ghost use Rattle.cert_checker.specs.PackedListing.{task_at, atoms_at, certificate_at, state_at, IsPacked};
+ghost use Rattle.cert_checker.specs.PackedListing.{task_at, atoms_at, certificate_at, state_at, IsPacked, HasRoomIn};
 ghost use Rattle.model.specs.Task as model_task;
 ghost use Rattle.model.specs.Meaning.{system_of};
 ghost use Rattle.model.specs.Meaning as meaning;
@@ -17,20 +17,21 @@ ghost use Rattle.model.specs.Claims.{opened, cut, dead, Allows, IsListedWithin};
 ghost use Rattle.model.specs.NumberedAtoms.{numbered_atoms};
 ghost use Rattle.model.specs.Grounding.{applicable_numbers};
 ghost use Rattle.certificate_definitions.specs.Certificates.{is_dead_end_of, lines_of, AreFairFor};
-ghost use Rattle.certificate_definitions.specs.CertificateChecking.{is_checked};
+ghost use Rattle.cert_checker.specs.Weights.{AreCounted};
 ghost use Rattle.certificate_definitions.specs.CertificateRefusals.{state_line};
 ghost use Rattle.cert_checker.specs.declared.refusal.Refusal.TheVariants as Refusal;
 
 use crate::checker::packed::PackedListing;
-use crate::checker::weights::{dead_fair_potentials, fair_potentials};
+use crate::checker::values::fair_values;
 use crate::refusal::{Refusal, RefusalCode};
 use certificate::{Cert, Claim, Mark};
 use grounding::{Ground, GroundFault};
 use packed_state::Packed;
 use std::alloc::Global;
+use tables::Room;
 use task::Task;
 
-/// Grounds the task, and checks the certificate: whether its potentials are fair and those of dead ends dead-fair, whether
+/// Grounds the task, and checks the certificate: whether its values are fair and that for dead ends is dead-fair, whether
 /// the initial state is listed at cost 0, and the state lines in order.
 pub(super) fn check_cert(
     alloc: Global,
@@ -38,7 +39,7 @@ pub(super) fn check_cert(
     cert: Cert,
     max_instances: u32,
 ) -> Result<(), Refusal>
-    requires checked { IsTrue (is_checked (certificate_of cert).version) }
+    requires counted { AreCounted cert }
     requires atoms { AreFluent (task_of task.now) (certificate_of cert).atoms }
     requires distinct { AllPairs (λ (k l : claims.Line meaning.State). k.state ≢ l.state) (lines_of (task_of task.now) (certificate_of cert)) }
     requires allowed { CutsAreAllowed (task_of task.now) (certificate_of cert) (length (lines_of (task_of task.now) (certificate_of cert))) }
@@ -73,7 +74,7 @@ fn ground_task<'t>(
 
 /// Checks the certificate by the ground task in which its atoms have the first numbers.
 fn check_grounded(alloc: Global, grounded: &Ground<'_>, cert: Cert) -> Result<(), Refusal>
-    requires checked { IsTrue (is_checked (certificate_of cert).version) }
+    requires counted { AreCounted cert }
     requires fluent { AreFluent (task_in grounded.now) (certificate_of cert).atoms }
     requires numbered { atoms_in grounded.now ≡ numbered_atoms (task_in grounded.now) (certificate_of cert).atoms }
     ensures right { OnOk result (IsRightGrounded (task_in grounded.now) (certificate_of cert)) }
@@ -81,13 +82,12 @@ fn check_grounded(alloc: Global, grounded: &Ground<'_>, cert: Cert) -> Result<()
     ensures first { IfErr result (IsFirstGrounded (task_in grounded.now) (certificate_of cert)) }
 {
     let cert = cert.at_width(alloc, grounded.width())?;
-    let potentials = fair_potentials(alloc, &cert, grounded)?;
-    let dead_ends = dead_fair_potentials(alloc, &cert, grounded)?;
-    let packed = PackedListing::new(grounded, &cert, &potentials, &dead_ends);
+    let values = fair_values(alloc, &cert, grounded)?;
+    let packed = PackedListing::new(grounded, &cert, values);
     check_packed(alloc, &packed)
 }
 
-/// Checks the certificate's states, where its potentials are fair and those of dead ends dead-fair: whether the initial
+/// Checks the certificate's states, where its values are fair and that for dead ends is dead-fair: whether the initial
 /// state is listed at cost 0, and the state lines in order.
 fn check_packed(alloc: Global, listing: &PackedListing) -> Result<(), Refusal>
     requires { AreFairFor (task_at listing.now) (certificate_at listing.now) }
@@ -127,25 +127,36 @@ fn check_lines(alloc: Global, listing: &PackedListing) -> Result<(), Refusal>
     let mut state = Packed::empty(alloc, width)?;
     let mut next = Packed::empty(alloc, width)?;
     let mut numbers = Vec::new(alloc);
+    let mut room = listing.room(alloc)?;
     for place in 0..listing.cert.marks().len() {
-        check_line(listing, place, &mut state, &mut next, &mut numbers)?;
+        check_line(
+            listing,
+            place,
+            &mut state,
+            &mut next,
+            &mut numbers,
+            &mut room,
+        )?;
     }
     Ok(())
 }
 
-/// Checks the state line at this place. The state, the next one and the numbers are lent to work with.
+/// Checks the state line at this place. The state, the next one, the numbers and the room are lent to work with.
 fn check_line(
     listing: &PackedListing,
     place: usize,
     state: &mut Packed,
     next: &mut Packed,
     numbers: &mut Vec<u32>,
+    room: &mut Room,
 ) -> Result<(), Refusal>
     requires within { place < length (certificate_at listing.now).lines }
     requires state { IsPacked listing.now state.old }
     requires next { IsPacked listing.now next.old }
+    requires room { HasRoomIn listing.now room.old }
     ensures state { IsPacked listing.now state.new }
     ensures next { IsPacked listing.now next.new }
+    ensures room { HasRoomIn listing.now room.new }
     ensures right { OnOk result ((line : claims.Line meaning.State) → slice_get (lines_of (task_at listing.now) (certificate_at listing.now)) place ≡ Some line
         → IsLineClosed (task_at listing.now) (certificate_at listing.now) line) }
     ensures wrong { IfErr result (IsTrueAnyway (task_at listing.now) (certificate_at listing.now)) }
@@ -156,8 +167,8 @@ fn check_line(
     listing.get(place, state);
     match listed.mark {
         Mark::Open => check_open(listing, place, listed.cost, state, next, numbers),
-        Mark::Cut { rest } => check_cut(listing, place, listed.cost, rest, state),
-        Mark::Dead => check_dead(listing, place, state),
+        Mark::Cut { rest } => check_cut(listing, place, listed.cost, rest, state, room),
+        Mark::Dead => check_dead(listing, place, state, room),
     }
 }
 
@@ -251,17 +262,20 @@ fn check_cut(
     cost: u64,
     rest: u64,
     state: &Packed,
+    room: &mut Room,
 ) -> Result<(), Refusal>
     requires within { place < length (certificate_at listing.now).lines }
     requires state { IsPacked listing.now state.now }
+    requires room { HasRoomIn listing.now room.old }
     requires listed { IsListedAs (task_at listing.now) (certificate_at listing.now) place (state_at listing.now state.now) cost (cut rest) }
     requires small { (cost < 1152921504606846976) × (rest < 1152921504606846976) }
+    ensures room { HasRoomIn listing.now room.new }
     ensures right { OnOk result (IsCutClosed (task_at listing.now) (certificate_at listing.now) (state_at listing.now state.now) cost rest) }
     ensures wrong { IfErr result (IsTrueAnyway (task_at listing.now) (certificate_at listing.now)) }
     ensures first { IfErr result (λ e. (plan : Option (List model_task.Instance)) (most : ℕ) → IsRightUpTo (task_at listing.now) (certificate_at listing.now) most place
         → IsFirstRefusal (task_at listing.now) (certificate_at listing.now) plan most e) }
 {
-    if rest <= listing.value(state) && allows(listing.cert.claim(), cost + rest) {
+    if rest <= listing.value(state, room) && allows(listing.cert.claim(), cost + rest) {
         Ok(())
     } else {
         Err(state_line(RefusalCode::CutWeak, listing.cert, place))
@@ -269,16 +283,23 @@ fn check_cut(
 }
 
 /// Checks this state, which is listed at this place as a dead end.
-fn check_dead(listing: &PackedListing, place: usize, state: &Packed) -> Result<(), Refusal>
+fn check_dead(
+    listing: &PackedListing,
+    place: usize,
+    state: &Packed,
+    room: &mut Room,
+) -> Result<(), Refusal>
     requires within { place < length (certificate_at listing.now).lines }
     requires state { IsPacked listing.now state.now }
+    requires room { HasRoomIn listing.now room.old }
     requires listed { (cost : ℕ) × IsListedAs (task_at listing.now) (certificate_at listing.now) place (state_at listing.now state.now) cost dead }
+    ensures room { HasRoomIn listing.now room.new }
     ensures right { OnOk result (IsTrue (is_dead_end_of (task_at listing.now) (certificate_at listing.now) (state_at listing.now state.now))) }
     ensures wrong { IfErr result (IsTrueAnyway (task_at listing.now) (certificate_at listing.now)) }
     ensures first { IfErr result (λ e. (plan : Option (List model_task.Instance)) (most : ℕ) → IsRightUpTo (task_at listing.now) (certificate_at listing.now) most place
         → IsFirstRefusal (task_at listing.now) (certificate_at listing.now) plan most e) }
 {
-    if listing.is_dead_end(state) {
+    if listing.is_dead_end(state, room) {
         Ok(())
     } else {
         Err(state_line(RefusalCode::NotDead, listing.cert, place))

@@ -1,5 +1,5 @@
 //! The potentials of a certificate of version 1 or 2 in its ground task.
-ghost use Rattle.std.specs.Prelude.{◌≡◌, ◌<◌, ◌≤◌, ◌↔◌, pos, All, IsTrue, Some, IfErr, IfOk, OnOk, length, slice_get};
+ghost use Rattle.std.specs.Prelude.{◌≡◌, ◌<◌, ◌≤◌, ◌↔◌, pos, All, false, IsTrue, Some, IfErr, IfOk, OnOk, length, slice_get};
 ghost use Rattle.formulas.specs.State.{instance_of};
 ghost use Rattle.grounding.specs.Ground.{task_in, atoms_in};
 ghost use Rattle.potentials.specs.Fairness.{DetectsDead};
@@ -7,7 +7,7 @@ ghost use Rattle.potentials.specs.Potentials.{potentials_of};
 ghost use Rattle.certificate.specs.Certificate.{certificate_of};
 ghost use Rattle.certificate.specs.CertificateParts.{potential_of};
 ghost use Rattle.certificate_definitions.specs.Certificates as certificates;
-ghost use Rattle.certificate_definitions.specs.CertificateChecking.{is_checked};
+ghost use Rattle.certificate_definitions.specs.Certificates.{has_tables};
 ghost use Rattle.cert_checker.specs.FluentAtoms.{AreFluent};
 ghost use Rattle.cert_checker.specs.CheckedLines.{IsFirstGrounded, IsTrueAnyway};
 ghost use Rattle.cert_checker.specs.Weights.{HasItsWeights};
@@ -30,7 +30,7 @@ pub(super) fn fair_potentials(
     cert: &Cert,
     grounded: &Ground<'_>,
 ) -> Result<Potentials, Refusal>
-    requires checked { IsTrue (is_checked (certificate_of cert.now).version) }
+    requires version { has_tables (certificate_of cert.now).version ≡ false }
     requires fluent { AreFluent (task_in grounded.now) (certificate_of cert.now).atoms }
     requires numbered { atoms_in grounded.now ≡ numbered_atoms (task_in grounded.now) (certificate_of cert.now).atoms }
     ensures weights { IfOk result (λ p. HasItsWeights (certificates.potentials_of (certificate_of cert.now)) (length (atoms_in grounded.now)) (potentials_of p)) }
@@ -53,7 +53,7 @@ pub(super) fn dead_fair_potentials(
     cert: &Cert,
     grounded: &Ground<'_>,
 ) -> Result<Potentials, Refusal>
-    requires checked { IsTrue (is_checked (certificate_of cert.now).version) }
+    requires version { has_tables (certificate_of cert.now).version ≡ false }
     requires fluent { AreFluent (task_in grounded.now) (certificate_of cert.now).atoms }
     requires numbered { atoms_in grounded.now ≡ numbered_atoms (task_in grounded.now) (certificate_of cert.now).atoms }
     requires fair { AreFair (task_in grounded.now) (numbered_atoms (task_in grounded.now) (certificate_of cert.now).atoms) (certificates.potentials_of (certificate_of cert.now)) }
@@ -95,7 +95,7 @@ fn are_zero(weights: &[i64]) -> bool
 }
 
 /// These potentials, with the weight 0 for each further number below the width.
-fn at_width(alloc: Global, said: &Potential, width: u32) -> Result<Potentials, NoMemory>
+pub(super) fn at_width(alloc: Global, said: &Potential, width: u32) -> Result<Potentials, NoMemory>
     requires range { AreInRange (potential_of said.now) }
     requires enough { length (potential_of said.now).weights ≤ width }
     ensures { IfOk result (λ p. HasItsWeights (potential_of said.now) width (potentials_of p)) }
@@ -106,7 +106,7 @@ fn at_width(alloc: Global, said: &Potential, width: u32) -> Result<Potentials, N
 }
 
 /// A copy of the kept instance of this number.
-fn kept_instance(grounded: &Ground<'_>, number: u32) -> Instance
+pub(super) fn kept_instance(grounded: &Ground<'_>, number: u32) -> Instance
     requires { number < length (kept_instances (task_in grounded.now)) }
     ensures { slice_get (kept_instances (task_in grounded.now)) number ≡ Some (instance_of result) }
 {

@@ -1,4 +1,4 @@
-use Rattle.std.proofs.Common.{◌+◌, ◌<◌, ◌-◌, ◌∷◌, ◌++◌, [], map, refl, sym, ◌∙◌, subst, arith}
+use Rattle.std.proofs.Common.{◌≡◌, ◌∙◌, ◌+◌, ◌<◌, ◌-◌, ◌∷◌, ◌++◌, [], length, map, refl, sym, ap, subst, arith}
 use Rattle.std.proofs.lemmas.List.{length-map}
 use Rattle.faults.proofs.Results.{passed_on}
 use Rattle.task.specs.Task.{task_of}
@@ -8,21 +8,34 @@ use Rattle.certificate_reader.specs.Lines.{text_line_of}
 use Rattle.certificate_reader.specs.declared.line.CertLine.{CertLine}
 use Rattle.certificate_reader.specs.Reader.{lines_read, source_of}
 use Rattle.std.specs.Option.{option_map_or}
-use Rattle.certificate.specs.CertificateParts.{listed_of}
+use Rattle.certificate_definitions.specs.Certificates.{Certificate}
+use Rattle.certificate.specs.Certificate.{certificate_of, tables_in}
+use Rattle.certificate.specs.CertificateParts.{listed_of, potential_of}
 use Rattle.cert_checker.specs.CertFaults.{refusal_of}
+use Rattle.cert_checker.specs.Tabled.{HaveWeights}
 use Rattle.cert_checker.specs.Taking.{heading_of}
 use Rattle.cert_checker.specs.Reading.{IsLineRefusal, IsListedSoFar, IsRead}
 use Rattle.cert_checker.proofs.ReadingLemmas.{fault_reported, one_read, wrong_counts, wrong_reported}
-use Rattle.cert_checker.proofs.ListingLemmas.{as_many_listed, few_begun, fewer_left, fit_next, read_whole, so_far_next}
+use Rattle.cert_checker.proofs.ListingLemmas.{as_many_listed, few_begun, fewer_left, fit_next, none_listed, read_whole, so_far_next}
 use Rattle.certificate.specs.CertificateParts.{certificate_with}
-use Rattle.cert_checker.proofs.GivenLemmas.{checked_has_no_tables}
-use Rattle.cert_checker.proofs.LimitsLemmas.{limits_kept_without_tables}
+use Rattle.cert_checker.proofs.LimitsLemmas.{limits_kept}
 use Rattle.cert_checker.proofs.cert_reader.read_cert.Goals as goal
 
 pub overflow_cast-len : goal.overflow_cast-len
 overflow_cast-len g c =
     let few = few_begun g.R.Source.remaining (task_of c.args.task.now) c.args.reader.now c.read_header.new.reader c.in_ok-header.header c.in_ok-header.next c.in_ok-header.ensures.begun in
     omega (arith, few, c.len.ensures.len, length-map c.in_ok-header.header.atoms.keys atom_of)
+
+pub states-init : goal.states-init
+states-init g c =
+    let states = c.in_ok-states.states in
+    record {
+      so_far = none_listed g.R.Source.remaining (task_of c.args.task.now) c.args.reader.now c.read_header.new.reader c.in_ok-header.header
+          (pooled_width states.sets) (map listed_of states.marks.items) (pooled_states states.sets)
+          (ap (map listed_of) c.in_ok-states.ensures.none.0) c.in_ok-states.ensures.none.1 c.in_ok-header.next c.in_ok-header.ensures.begun;
+      width = c.in_ok-states.ensures.width ∙ c.len.ensures.len;
+      failures = c.in_ok-header.ensures.failures;
+    }
 
 pub take_line-requires : goal.take_line-requires
 take_line-requires g c =
@@ -99,13 +112,21 @@ from_parts-requires-clause-limits g c =
     let certificate = certificate_with c.in_ok-header.header states in
     let read = read_whole g.R.Source.remaining (task_of c.args.task.now) c.args.reader.now c.states.reader c.in_ok-header.header
     (pooled_width states.sets) (map listed_of states.marks.items) (pooled_states states.sets) (rw c.in_default.is at c.states.invariant.so_far) in
-    limits_kept_without_tables (task_of c.args.task.now) read.text certificate read.is_text (checked_has_no_tables certificate.version read.checked)
+    limits_kept (task_of c.args.task.now) read.text certificate read.is_text read.tables
 
 pub from_parts-requires-clause-marked : goal.from_parts-requires-clause-marked
 from_parts-requires-clause-marked g c =
     let states = c.states.states in
     as_many_listed g.R.Source.remaining (task_of c.args.task.now) c.args.reader.now c.states.reader c.in_ok-header.header
     (pooled_width states.sets) states.marks.items (pooled_states states.sets) (rw c.in_default.is at c.states.invariant.so_far)
+
+pub returns-clause-weighed : goal.returns-clause-weighed
+returns-clause-weighed g c =
+    let bounds = c.in_ok-header.header.bounds in
+    let cert = c.from_parts.result in
+    let count : length (certificate_of cert).values + 1 ≡ length bounds.values.items + 1 =
+    ap (λ (k : Certificate). length k.values + 1) c.from_parts.ensures.certificate ∙ ap (λ n. n + 1) (length-map bounds.values.items potential_of) in
+    subst (λ n. HaveWeights n (tables_in cert)) (sym count) (subst (HaveWeights (length bounds.values.items + 1)) (sym c.from_parts.ensures.tables) c.in_ok-header.ensures.weighed)
 
 pub returns-clause-read : goal.returns-clause-read
 returns-clause-read g c =

@@ -1,9 +1,7 @@
-use Rattle.std.proofs.Common.{rules, ◌≡◌, ◌++◌, ◌∷◌, [], Some, sym, ap, ◌∙◌}
+use Rattle.std.proofs.Common.{rules, ◌++◌, ◌∷◌, [], Some, sym, ap, ◌∙◌}
 use Rattle.std.specs.Int.{w64}
 use Rattle.std.proofs.lemmas.Int.{to_z-of_z}
 use Rattle.std.proofs.lemmas.Option.{slice_get-get_or}
-use Rattle.certificate.specs.CertificateParts.{potential_of}
-use Rattle.cert_checker.specs.Given.{with_weight}
 use Rattle.cert_checker.proofs.HeaderLemmas.{set_pushes}
 use Rattle.cert_checker.proofs.header.push_weight.Goals as goal
 

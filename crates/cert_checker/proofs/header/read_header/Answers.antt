@@ -8,6 +8,7 @@ use Rattle.cert_checker.specs.CertFaults.{refusal_of}
 use Rattle.cert_checker.specs.Reading.{IsAt, IsLineRefusal}
 use Rattle.cert_checker.proofs.GivenLemmas.{no_state_more}
 use Rattle.cert_checker.proofs.ReadingLemmas.{at_next, at_start, fault_reported, few_read, have_begun, one_read, wrong_counts, wrong_reported}
+use Rattle.cert_checker.proofs.TabledLemmas.{fit_head}
 use Rattle.cert_checker.proofs.header.read_header.Given.{Over}
 use Rattle.cert_checker.proofs.header.read_header.Goals.{In-Some}
 use Rattle.cert_checker.proofs.header.read_header.Goals as goal
@@ -28,10 +29,18 @@ lines-init g c =
     record {
       lines = [];
       at = at_start g.R.Source.remaining c.args.reader.now c.requires;
-      reported = c.nothing_reported-header.ensures task;
+      reported = c.nothing_reported-header.ensures.taken task;
+      weighed = c.nothing_reported-header.ensures.weighed;
       no_state = refl;
       failures = refl;
     }
+
+pub take-requires-clause-fit : goal.take-requires-clause-fit
+take-requires-clause-fit g c =
+    let so_far = c.lines.invariant in
+    let line = text_line_of c.in-Some.line in
+    let at = at_line g (goal.at.take-requires-clause-fit g c).In-Some in
+    fit_head (task_of c.args.task.now) so_far.lines c.lines.header so_far.reported line so_far.weighed (have_begun g.R.Source.remaining c.args.reader.now c.next_line.new.self (so_far.lines ++ line ∷ []) at)
 
 pub returns-in_err-line-clause-refused : goal.returns-in_err-line-clause-refused
 returns-in_err-line-clause-refused g c =
@@ -76,6 +85,13 @@ returns-in-Some-2-clause-begun g c =
       subst (λ line. is_body line ≡ true) (sym back.1) back.2,
     )
 
+pub returns-in-Some-2-clause-weighed : goal.returns-in-Some-2-clause-weighed
+returns-in-Some-2-clause-weighed g c =
+    let so_far = c.lines.invariant in
+    let line = text_line_of c.in-Some.line in
+    let at = at_line g (goal.at.returns-in-Some-2-clause-weighed g c).In-Some in
+    c.in_ok-line-2.ensures.weighed so_far.lines (have_begun g.R.Source.remaining c.args.reader.now c.next_line.new.self (so_far.lines ++ line ∷ []) at) so_far.reported so_far.weighed
+
 pub lines-smaller : goal.lines-smaller
 lines-smaller g c =
     let so_far = c.lines.invariant in
@@ -93,6 +109,7 @@ lines-preserved g c =
       lines = so_far.lines ++ line ∷ [];
       at = at;
       reported = taken.0;
+      weighed = c.in_ok-line-2.ensures.weighed so_far.lines (have_begun g.R.Source.remaining c.args.reader.now c.next_line.new.self (so_far.lines ++ line ∷ []) at) so_far.reported so_far.weighed;
       no_state = no_state_more so_far.lines line taken.1 so_far.no_state;
       failures = c.in_ok-line.ensures.failures ∙ so_far.failures;
     }

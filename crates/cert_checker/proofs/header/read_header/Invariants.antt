@@ -4,6 +4,7 @@ use Rattle.task.specs.Task.{task_of}
 use Rattle.certificate_definitions.specs.CertificateText.{TextLine}
 use Rattle.certificate_reader.specs.Reader.{lines_read, source_of}
 use Rattle.cert_checker.specs.Given.{states_given}
+use Rattle.cert_checker.specs.Tabled.{AreWeighed}
 use Rattle.cert_checker.specs.Taking.{HasTaken}
 use Rattle.cert_checker.specs.Reading.{IsAt}
 use Rattle.cert_checker.proofs.header.read_header.Given as goal
@@ -13,6 +14,7 @@ invariant-lines g l = record {
   lines : List TextLine;
   at : IsAt g.R.Source.remaining l.initial.reader l.reader lines;
   reported : HasTaken (task_of l.task) lines l.header;
+  weighed : AreWeighed l.header.bounds;
   no_state : states_given lines ≡ [];
   failures : g.R.Source.failures (source_of l.reader) ≡ g.R.Source.failures (source_of l.initial.reader);
 }

@@ -1,4 +1,4 @@
-use Rattle.std.proofs.Common.{rules, ◌≡◌, ◌+◌, suc, map, ◌++◌, ◌∷◌, [], refl, sym, ap, ◌∙◌, append_assoc, arith}
+use Rattle.std.proofs.Common.{rules, ◌≡◌, ◌+◌, suc, map, ◌++◌, ◌∷◌, [], sym, ap, ◌∙◌, append_assoc, arith}
 use Rattle.std.specs.Int.{w64}
 use Rattle.std.specs.List.{range_with_len}
 use Rattle.std.proofs.lemmas.Int.{to_z-of_z}

@@ -1,9 +1,8 @@
-use Rattle.std.proofs.Common.{◌≡◌, None, refl, sym, ap, subst}
+use Rattle.std.proofs.Common.{◌≡◌, None, refl, sym, subst}
 use Rattle.cert_checker.proofs.WrittenLemmas.{closed_is_accepted, closed_reads_back}
 use Rattle.certificate.specs.Certificate.{certificate_of}
 use Rattle.model.specs.Limits.{max_numbered_atoms}
 use Rattle.model.specs.Grounding.{exceeded_limit}
-use Rattle.certificate_definitions.specs.CertificateChecking.{is_checked}
 use Rattle.certificate_definitions.specs.CertificateRefusals.{IsPlanWithin}
 use Rattle.model.proofs.LimitsLemmas.{limits_alike}
 use Rattle.model.proofs.TaskNames.{task_has_atom_names}
@@ -15,7 +14,7 @@ returns-clause-accepted c = λ domain problem task claim k most_states most plan
     let well = task_is_typed domain problem task read in
     let has_names = task_has_atom_names domain problem task read in (
       closed_reads_back task k well has_names shown.within_limits shown.closed,
-      closed_is_accepted task k plan well has_names shown.within_limits (ap is_checked shown.version) shown.closed (subst (λ claim. IsPlanWithin task claim plan) (sym shown.claims) within),
+      closed_is_accepted task k plan well has_names shown.within_limits shown.closed (subst (λ claim. IsPlanWithin task claim plan) (sym shown.claims) within),
       subst (λ atoms. exceeded_limit most max_numbered_atoms task atoms ≡ None) (sym shown.atoms) (limits_alike most max_numbered_atoms task reported),
     )
 
@@ -29,7 +28,6 @@ returns-clause-at_a_limit c = λ domain problem task states instances least cert
       accepted = record {
         certificate = k;
         is_text = closed_reads_back task k well has_names shown.within_limits shown.closed;
-        checked = ap is_checked shown.version;
         closed = shown.closed;
         within = tt;
       };

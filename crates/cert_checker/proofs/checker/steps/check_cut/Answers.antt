@@ -18,7 +18,7 @@ returns-else-rest-value-clause-wrong c =
     (elim c.else-rest-value.branch [
       | else-rest-value-via-then-rest-value+else-allows w ↦
           inr (not_allowed (claim_of w.claim.result) cert.claim (c.args.cost + c.args.rest) w.allows.result w.claim.ensures w.allows.ensures w.if-allows.false)
-      | else-rest-value-via-else-rest-value w ↦ inl (omega (arith, c.value.ensures, w.if-rest-value.false))
+      | else-rest-value-via-else-rest-value w ↦ inl (omega (arith, c.value.ensures.value, w.if-rest-value.false))
     ]))
 
 pub returns-else-rest-value-clause-first : goal.returns-else-rest-value-clause-first

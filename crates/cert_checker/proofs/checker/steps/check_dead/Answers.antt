@@ -8,14 +8,14 @@ use Rattle.cert_checker.proofs.RefusalsLemmas.{reported, wrong_dead}
 use Rattle.cert_checker.proofs.checker.steps.check_dead.Goals as goal
 
 pub returns-then-is_dead_end-clause-right : goal.returns-then-is_dead_end-clause-right
-returns-then-is_dead_end-clause-right c = sym c.is_dead_end.ensures ∙ c.if-is_dead_end.true
+returns-then-is_dead_end-clause-right c = sym c.is_dead_end.ensures.dead ∙ c.if-is_dead_end.true
 
 pub returns-else-is_dead_end-clause-wrong : goal.returns-else-is_dead_end-clause-wrong
 returns-else-is_dead_end-clause-wrong c =
     let listing = c.args.listing.now in
     let cert = certificate_at listing in
     reported (task_at listing) cert c.state_line.result NotDead (state_line cert c.args.place) c.state_line.ensures
-    (wrong_dead (task_at listing) cert c.args.place (state_at listing c.args.state.now) c.requires.listed.0 c.requires.listed.1 (sym c.is_dead_end.ensures ∙ c.if-is_dead_end.false))
+    (wrong_dead (task_at listing) cert c.args.place (state_at listing c.args.state.now) c.requires.listed.0 c.requires.listed.1 (sym c.is_dead_end.ensures.dead ∙ c.if-is_dead_end.false))
 
 pub returns-else-is_dead_end-clause-first : goal.returns-else-is_dead_end-clause-first
 returns-else-is_dead_end-clause-first c =

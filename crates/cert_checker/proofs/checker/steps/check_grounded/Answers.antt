@@ -1,18 +1,17 @@
-use Rattle.std.proofs.Common.{◌≡◌, ◌∙◌, arith, subst, sym}
-use Rattle.std.specs.Prelude.{IfErr, IsTrue, OnOk}
-use Rattle.certificate.specs.declared.cert.Cert.{Cert}
-use Rattle.certificate.specs.Certificate.{certificate_of}
+use Rattle.std.proofs.Common.{◌≡◌, ◌∙◌, ◌+◌, length, arith, subst, sym}
+use Rattle.std.specs.Prelude.{All, IfErr, OnOk}
+use Rattle.certificate.specs.Certificate.{certificate_of, tables_in}
+use Rattle.table_rows.specs.declared.table.Table.{Table}
+use Rattle.table_rows.specs.Tables.{weight_count_of}
 use Rattle.grounding.specs.Ground.{task_in, atoms_in}
 use Rattle.faults.proofs.Results.{passed_on}
 use Rattle.model.specs.Task.{Task}
 use Rattle.model.specs.NumberedAtoms.{numbered_atoms}
 use Rattle.certificate_definitions.specs.Certificates.{Certificate, AreFairFor}
-use Rattle.certificate_definitions.specs.CertificateChecking.{is_checked}
 use Rattle.cert_checker.specs.CheckedLines.{IsFirstGrounded, IsRightGrounded, IsTrueAnyway}
 use Rattle.cert_checker.specs.FluentAtoms.{AreFluent}
 use Rattle.cert_checker.specs.PackedListing.{task_at, certificate_at}
 use Rattle.cert_checker.proofs.PackedListingLemmas.{numbered_after}
-use Rattle.cert_checker.proofs.VersionLemmas.{fair_in}
 use Rattle.cert_checker.proofs.checker.steps.check_grounded.Goals as goal
 
 -- what is said of the listing's task and certificate is said of these
@@ -26,71 +25,40 @@ at_width-requires c =
     omega (arith, numbered_after (task_in g) (atoms_in g) (certificate_of c.args.cert) c.requires.fluent c.requires.numbered, c.width.ensures)
 
 -- the certificate is the same at the ground task's width
-checked_here : (before after : Cert) → certificate_of after ≡ certificate_of before → IsTrue (is_checked (certificate_of before).version) → IsTrue (is_checked (certificate_of after).version)
-checked_here before after same checked = subst (λ (k : Certificate). IsTrue (is_checked k.version)) (sym same) checked
+pub fair_values-requires-clause-counted : goal.fair_values-requires-clause-counted
+fair_values-requires-clause-counted c =
+    subst (λ tables. All (λ (t : Table). weight_count_of t ≡ length (certificate_of c.in_ok-cert.cert).values + 1) tables) (sym c.in_ok-cert.ensures.tables)
+    (subst (λ (k : Certificate). All (λ (t : Table). weight_count_of t ≡ length k.values + 1) (tables_in c.args.cert)) (sym c.in_ok-cert.ensures.same) c.requires.counted)
 
-pub fair_potentials-requires-clause-checked : goal.fair_potentials-requires-clause-checked
-fair_potentials-requires-clause-checked c = checked_here c.args.cert c.in_ok-cert.cert c.in_ok-cert.ensures.same c.requires.checked
+pub fair_values-requires-clause-fluent : goal.fair_values-requires-clause-fluent
+fair_values-requires-clause-fluent c = subst (λ k. AreFluent (task_in c.args.grounded.now) k.atoms) (sym c.in_ok-cert.ensures.same) c.requires.fluent
 
-pub fair_potentials-requires-clause-fluent : goal.fair_potentials-requires-clause-fluent
-fair_potentials-requires-clause-fluent c = subst (λ k. AreFluent (task_in c.args.grounded.now) k.atoms) (sym c.in_ok-cert.ensures.same) c.requires.fluent
-
-pub fair_potentials-requires-clause-numbered : goal.fair_potentials-requires-clause-numbered
-fair_potentials-requires-clause-numbered c =
+pub fair_values-requires-clause-numbered : goal.fair_values-requires-clause-numbered
+fair_values-requires-clause-numbered c =
     let g = c.args.grounded.now in
     subst (λ k. atoms_in g ≡ numbered_atoms (task_in g) k.atoms) (sym c.in_ok-cert.ensures.same) c.requires.numbered
 
-pub returns-in_err-potentials-clause-wrong : goal.returns-in_err-potentials-clause-wrong
-returns-in_err-potentials-clause-wrong c =
+pub returns-in_err-values-clause-wrong : goal.returns-in_err-values-clause-wrong
+returns-in_err-values-clause-wrong c =
     let task = task_in c.args.grounded.now in
     let cert = certificate_of c.args.cert in
-    let e = c.in_err-potentials.field-0.0 in
-    passed_on (IsTrueAnyway task cert) c.from_residual-in_err-potentials.result e c.from_residual-in_err-potentials.ensures.1
-    (subst (λ k. IsTrueAnyway task k e) c.in_ok-cert.ensures.same c.in_err-potentials.ensures.wrong)
+    let e = c.in_err-values.field-0.0 in
+    passed_on (IsTrueAnyway task cert) c.from_residual-in_err-values.result e c.from_residual-in_err-values.ensures.1
+    (subst (λ k. IsTrueAnyway task k e) c.in_ok-cert.ensures.same c.in_err-values.ensures.wrong)
 
-pub returns-in_err-potentials-clause-first : goal.returns-in_err-potentials-clause-first
-returns-in_err-potentials-clause-first c =
+pub returns-in_err-values-clause-first : goal.returns-in_err-values-clause-first
+returns-in_err-values-clause-first c =
     let task = task_in c.args.grounded.now in
     let cert = certificate_of c.args.cert in
-    let e = c.in_err-potentials.field-0.0 in
-    passed_on (IsFirstGrounded task cert) c.from_residual-in_err-potentials.result e c.from_residual-in_err-potentials.ensures.1
-    (subst (λ k. IsFirstGrounded task k e) c.in_ok-cert.ensures.same c.in_err-potentials.ensures.first)
-
-pub dead_fair_potentials-requires-clause-checked : goal.dead_fair_potentials-requires-clause-checked
-dead_fair_potentials-requires-clause-checked c = checked_here c.args.cert c.in_ok-cert.cert c.in_ok-cert.ensures.same c.requires.checked
-
-pub dead_fair_potentials-requires-clause-fluent : goal.dead_fair_potentials-requires-clause-fluent
-dead_fair_potentials-requires-clause-fluent c = subst (λ k. AreFluent (task_in c.args.grounded.now) k.atoms) (sym c.in_ok-cert.ensures.same) c.requires.fluent
-
-pub dead_fair_potentials-requires-clause-numbered : goal.dead_fair_potentials-requires-clause-numbered
-dead_fair_potentials-requires-clause-numbered c =
-    let g = c.args.grounded.now in
-    subst (λ k. atoms_in g ≡ numbered_atoms (task_in g) k.atoms) (sym c.in_ok-cert.ensures.same) c.requires.numbered
-
-pub returns-in_err-dead_ends-clause-wrong : goal.returns-in_err-dead_ends-clause-wrong
-returns-in_err-dead_ends-clause-wrong c =
-    let task = task_in c.args.grounded.now in
-    let cert = certificate_of c.args.cert in
-    let e = c.in_err-dead_ends.field-0.0 in
-    passed_on (IsTrueAnyway task cert) c.from_residual-in_err-dead_ends.result e c.from_residual-in_err-dead_ends.ensures.1
-    (subst (λ k. IsTrueAnyway task k e) c.in_ok-cert.ensures.same c.in_err-dead_ends.ensures.wrong)
-
-pub returns-in_err-dead_ends-clause-first : goal.returns-in_err-dead_ends-clause-first
-returns-in_err-dead_ends-clause-first c =
-    let task = task_in c.args.grounded.now in
-    let cert = certificate_of c.args.cert in
-    let e = c.in_err-dead_ends.field-0.0 in
-    passed_on (IsFirstGrounded task cert) c.from_residual-in_err-dead_ends.result e c.from_residual-in_err-dead_ends.ensures.1
-    (subst (λ k. IsFirstGrounded task k e) c.in_ok-cert.ensures.same c.in_err-dead_ends.ensures.first)
+    let e = c.in_err-values.field-0.0 in
+    passed_on (IsFirstGrounded task cert) c.from_residual-in_err-values.result e c.from_residual-in_err-values.ensures.1
+    (subst (λ k. IsFirstGrounded task k e) c.in_ok-cert.ensures.same c.in_err-values.ensures.first)
 
 pub check_packed-requires : goal.check_packed-requires
 check_packed-requires c =
     let packed = c.new-packed.result in
-    let task = task_in c.args.grounded.now in
-    let cert = certificate_of c.in_ok-cert.cert in
     along AreFairFor (task_in c.args.grounded.now) (task_at packed) (certificate_of c.in_ok-cert.cert) (certificate_at packed)
-    (sym c.new-packed.ensures.same.0) (sym c.new-packed.ensures.same.1)
-    (fair_in task cert cert.version (checked_here c.args.cert c.in_ok-cert.cert c.in_ok-cert.ensures.same c.requires.checked) (record { values = c.in_ok-potentials.ensures.fair; dead_ends = c.in_ok-dead_ends.ensures.dead_fair }))
+    (sym c.new-packed.ensures.same.0) (sym c.new-packed.ensures.same.1) c.in_ok-values.ensures.fair
 
 pub returns-clause-right : goal.returns-clause-right
 returns-clause-right c =

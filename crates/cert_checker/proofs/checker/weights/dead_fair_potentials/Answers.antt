@@ -12,9 +12,9 @@ use Rattle.certificate_definitions.specs.Certificates.{is_weight}
 use Rattle.model.specs.StaticallyFalse.{kept_instances}
 use Rattle.certificate_definitions.specs.CertificateRefusals.{dead_unfair, dead_unfair_goal}
 use Rattle.cert_checker.specs.Weights.{HasItsWeights}
-use Rattle.cert_checker.proofs.OrderLemmas.{atoms_right, dead_instances_asked, values_asked, states_right_all, first_asked}
+use Rattle.cert_checker.proofs.OrderLemmas.{AreFairUpTo, atoms_right, dead_instances_asked, values_asked, states_right_all, first_asked}
 use Rattle.cert_checker.proofs.PackedListingLemmas.{numbered_after}
-use Rattle.cert_checker.proofs.VersionLemmas.{dead_unfair_in, dead_unfair_at_goals_in, first_dead_to_lose_in, one_weight_each}
+use Rattle.cert_checker.proofs.VersionLemmas.{dead_unfair_in, dead_unfair_at_goals_in, first_dead_to_lose_in, goals_fair_in, none_dead_unfair_in, none_unfair_in, one_weight_each}
 use Rattle.cert_checker.proofs.WeightsLemmas.{fair_reported, first_reported, goals_reported, instances_reported, said_in_range, unfair_reported}
 use Rattle.cert_checker.proofs.checker.weights.dead_fair_potentials.Goals as goal
 use Rattle.cert_checker.proofs.checker.weights.dead_fair_potentials.Goals.{In_ok-potentials}
@@ -36,6 +36,13 @@ has c =
     let p = potentials_of c.in_ok-potentials.potentials in
     subst (λ width. HasItsWeights cert.dead_ends width p) c.width.ensures
     (subst (λ (s : SeveralValues). HasItsWeights s.dead_ends c.width.result p) c.bounds.ensures.bounds c.in_ok-potentials.ensures)
+
+-- nothing is wrong with the value
+values_are_asked : (c : In_ok-potentials) → let cert = certificate_of c.args.cert.now in AreFairUpTo (task_in c.args.grounded.now) cert (length cert.values) 2
+values_are_asked c =
+    let task = task_in c.args.grounded.now in
+    let cert = certificate_of c.args.cert.now in
+    values_asked task cert (none_unfair_in task cert cert.version c.requires.version c.requires.fair.instances) (goals_fair_in task cert cert.version c.requires.version c.requires.fair.goals)
 
 pub kept_instance-requires : goal.kept_instance-requires
 kept_instance-requires c =
@@ -64,7 +71,7 @@ returns-in-Instance-clause-wrong c =
     let cert = certificate_of c.args.cert.now in
     let p = potentials_of c.in_ok-potentials.potentials in
     let i = instance_of c.kept_instance.result in
-    dead_unfair_in task cert cert.version c.requires.checked i
+    dead_unfair_in task cert cert.version c.requires.version i
     (unfair_reported nothing task cert cert.dead_ends atoms p c.requires.numbered (has (goal.at.returns-in-Instance-clause-wrong c).In_ok-potentials) c.in-Instance.number i
     (subst (DetectsDead task atoms p) c.in-Instance.is c.in_ok-dead_fairness.ensures) c.kept_instance.ensures)
 
@@ -75,8 +82,9 @@ returns-in-Instance-clause-first c =
     let atoms = atoms_in c.args.grounded.now in
     let cert = certificate_of c.args.cert.now in
     let p = potentials_of c.in_ok-potentials.potentials in (
-      first_asked task cert dead_unfair plan most refl (atoms_right task cert c.requires.fluent) (states_right_all task cert distinct allowed) within (values_asked task cert c.requires.checked c.requires.fair),
-      first_dead_to_lose_in task cert cert.version c.requires.checked (instance_of c.kept_instance.result)
+      first_asked task cert dead_unfair (length cert.values) plan most refl (atoms_right task cert c.requires.fluent) (states_right_all task cert distinct allowed) within
+          (values_are_asked (goal.at.returns-in-Instance-clause-first c).In_ok-potentials),
+      first_dead_to_lose_in task cert cert.version c.requires.version (instance_of c.kept_instance.result)
           (first_reported nothing task cert cert.dead_ends atoms p c.requires.numbered (has (goal.at.returns-in-Instance-clause-first c).In_ok-potentials) c.in-Instance.number
           (instance_of c.kept_instance.result) (subst (DetectsDead task atoms p) c.in-Instance.is c.in_ok-dead_fairness.ensures) c.kept_instance.ensures),
     )
@@ -87,9 +95,15 @@ returns-in-Goal-clause-wrong c =
     let task = task_in c.args.grounded.now in
     let atoms = atoms_in c.args.grounded.now in
     let cert = certificate_of c.args.cert.now in
-    let p = potentials_of c.in_ok-potentials.potentials in
-    dead_unfair_at_goals_in task cert cert.version c.requires.checked
-    (goals_reported nothing task cert cert.dead_ends atoms p c.requires.numbered (has (goal.at.returns-in-Goal-clause-wrong c).In_ok-potentials) (subst (DetectsDead task atoms p) c.in-Goal.is c.in_ok-dead_fairness.ensures).1)
+    let p = potentials_of c.in_ok-potentials.potentials in (
+      length cert.values,
+      (
+        refl,
+        dead_unfair_at_goals_in task cert cert.version c.requires.version
+            (goals_reported nothing task cert cert.dead_ends atoms p c.requires.numbered (has (goal.at.returns-in-Goal-clause-wrong c).In_ok-potentials)
+            (subst (DetectsDead task atoms p) c.in-Goal.is c.in_ok-dead_fairness.ensures).1),
+      ),
+    )
 
 pub returns-in-Goal-clause-first : goal.returns-in-Goal-clause-first
 returns-in-Goal-clause-first c =
@@ -98,6 +112,6 @@ returns-in-Goal-clause-first c =
     let atoms = atoms_in c.args.grounded.now in
     let cert = certificate_of c.args.cert.now in
     let p = potentials_of c.in_ok-potentials.potentials in
-    first_asked task cert dead_unfair_goal plan most refl (atoms_right task cert c.requires.fluent) (states_right_all task cert distinct allowed) within
-    (dead_instances_asked task cert c.requires.checked c.requires.fair
-    (instances_reported nothing task cert cert.dead_ends atoms p c.requires.numbered (has (goal.at.returns-in-Goal-clause-first c).In_ok-potentials) (subst (DetectsDead task atoms p) c.in-Goal.is c.in_ok-dead_fairness.ensures).0))
+    first_asked task cert dead_unfair_goal (length cert.values) plan most refl (atoms_right task cert c.requires.fluent) (states_right_all task cert distinct allowed) within
+    (dead_instances_asked task cert (values_are_asked (goal.at.returns-in-Goal-clause-first c).In_ok-potentials) (none_dead_unfair_in task cert cert.version c.requires.version
+    (instances_reported nothing task cert cert.dead_ends atoms p c.requires.numbered (has (goal.at.returns-in-Goal-clause-first c).In_ok-potentials) (subst (DetectsDead task atoms p) c.in-Goal.is c.in_ok-dead_fairness.ensures).0)))

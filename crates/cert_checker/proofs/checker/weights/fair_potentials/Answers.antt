@@ -11,11 +11,12 @@ use Rattle.certificate.specs.CertificateParts.{potential_of}
 use Rattle.model.specs.StaticallyFalse.{kept_instances}
 use Rattle.certificate_definitions.specs.Certificates as certificates
 use Rattle.certificate_definitions.specs.Certificates.{is_weight}
-use Rattle.certificate_definitions.specs.CertificateRefusals.{unfair, unfair_goal}
+use Rattle.certificate_definitions.specs.CertificateRefusals.{unfair, unfair_goal, IsUnfairAtGoalsIn}
+use Rattle.potential_functions.specs.Fair.{IsFairAtGoals}
 use Rattle.cert_checker.specs.Weights.{HasItsWeights}
 use Rattle.cert_checker.proofs.OrderLemmas.{atoms_right, instances_asked, none_asked, states_right_all, first_asked}
 use Rattle.cert_checker.proofs.PackedListingLemmas.{numbered_after}
-use Rattle.cert_checker.proofs.VersionLemmas.{first_to_lose_in, one_weight_each, unfair_in, unfair_at_goals_in}
+use Rattle.cert_checker.proofs.VersionLemmas.{first_to_lose_in, none_unfair_in, one_weight_each, unfair_in, unfair_at_goals_in}
 use Rattle.cert_checker.proofs.WeightsLemmas.{fair_reported, first_reported, first_value, first_within, goals_reported, instances_reported, said_in_range, unfair_reported}
 use Rattle.cert_checker.proofs.checker.weights.fair_potentials.Goals as goal
 use Rattle.cert_checker.proofs.checker.weights.fair_potentials.Goals.{In_ok-potentials}
@@ -71,10 +72,12 @@ returns-in-Instance-clause-wrong c =
     let atoms = atoms_in c.args.grounded.now in
     let cert = certificate_of c.args.cert.now in
     let p = potentials_of c.in_ok-potentials.potentials in
-    let i = instance_of c.kept_instance.result in
-    unfair_in task cert cert.version c.requires.checked i
-    (unfair_reported (cost_of task) task cert (certificates.potentials_of cert) atoms p c.requires.numbered (has (goal.at.returns-in-Instance-clause-wrong c).In_ok-potentials) c.in-Instance.number i
-    (subst (Reports task atoms p) c.in-Instance.is c.in_ok-fair.ensures) c.kept_instance.ensures)
+    let i = instance_of c.kept_instance.result in (
+      0,
+      unfair_in task cert cert.version c.requires.version i
+          (unfair_reported (cost_of task) task cert (certificates.potentials_of cert) atoms p c.requires.numbered (has (goal.at.returns-in-Instance-clause-wrong c).In_ok-potentials) c.in-Instance.number i
+          (subst (Reports task atoms p) c.in-Instance.is c.in_ok-fair.ensures) c.kept_instance.ensures),
+    )
 
 pub returns-in-Instance-clause-first : goal.returns-in-Instance-clause-first
 returns-in-Instance-clause-first c =
@@ -83,11 +86,21 @@ returns-in-Instance-clause-first c =
     let atoms = atoms_in c.args.grounded.now in
     let cert = certificate_of c.args.cert.now in
     let p = potentials_of c.in_ok-potentials.potentials in (
-      first_asked task cert unfair plan most refl (atoms_right task cert c.requires.fluent) (states_right_all task cert distinct allowed) within (none_asked task cert),
-      first_to_lose_in task cert cert.version c.requires.checked (instance_of c.kept_instance.result)
+      0,
+      first_asked task cert unfair 0 plan most refl (atoms_right task cert c.requires.fluent) (states_right_all task cert distinct allowed) within (none_asked task cert),
+      first_to_lose_in task cert cert.version c.requires.version (instance_of c.kept_instance.result)
           (first_reported (cost_of task) task cert (certificates.potentials_of cert) atoms p c.requires.numbered (has (goal.at.returns-in-Instance-clause-first c).In_ok-potentials) c.in-Instance.number
           (instance_of c.kept_instance.result) (subst (Reports task atoms p) c.in-Instance.is c.in_ok-fair.ensures) c.kept_instance.ensures),
     )
+
+-- where they are not fair at goals, the certificate's first value is not
+unfair_at_goals : (c : In_ok-potentials) → (¬ IsFairAtGoals (task_in c.args.grounded.now) (atoms_in c.args.grounded.now) (potentials_of c.in_ok-potentials.potentials))
+    → let cert = certificate_of c.args.cert.now in IsUnfairAtGoalsIn cert.version (task_in c.args.grounded.now) cert 0
+unfair_at_goals c unfair_there =
+    let task = task_in c.args.grounded.now in
+    let cert = certificate_of c.args.cert.now in
+    unfair_at_goals_in task cert cert.version c.requires.version
+    (goals_reported (cost_of task) task cert (certificates.potentials_of cert) (atoms_in c.args.grounded.now) (potentials_of c.in_ok-potentials.potentials) c.requires.numbered (has c) unfair_there)
 
 pub returns-in-Goal-clause-wrong : goal.returns-in-Goal-clause-wrong
 returns-in-Goal-clause-wrong c =
@@ -96,8 +109,7 @@ returns-in-Goal-clause-wrong c =
     let atoms = atoms_in c.args.grounded.now in
     let cert = certificate_of c.args.cert.now in
     let p = potentials_of c.in_ok-potentials.potentials in
-    unfair_at_goals_in task cert cert.version c.requires.checked
-    (goals_reported (cost_of task) task cert (certificates.potentials_of cert) atoms p c.requires.numbered (has (goal.at.returns-in-Goal-clause-wrong c).In_ok-potentials) (subst (Reports task atoms p) c.in-Goal.is c.in_ok-fair.ensures).1)
+    (0, unfair_at_goals (goal.at.returns-in-Goal-clause-wrong c).In_ok-potentials (subst (Reports task atoms p) c.in-Goal.is c.in_ok-fair.ensures).1)
 
 pub returns-in-Goal-clause-first : goal.returns-in-Goal-clause-first
 returns-in-Goal-clause-first c =
@@ -106,6 +118,11 @@ returns-in-Goal-clause-first c =
     let atoms = atoms_in c.args.grounded.now in
     let cert = certificate_of c.args.cert.now in
     let p = potentials_of c.in_ok-potentials.potentials in
-    first_asked task cert unfair_goal plan most refl (atoms_right task cert c.requires.fluent) (states_right_all task cert distinct allowed) within
-    (instances_asked task cert c.requires.checked
-    (instances_reported (cost_of task) task cert (certificates.potentials_of cert) atoms p c.requires.numbered (has (goal.at.returns-in-Goal-clause-first c).In_ok-potentials) (subst (Reports task atoms p) c.in-Goal.is c.in_ok-fair.ensures).0))
+    let here = (goal.at.returns-in-Goal-clause-first c).In_ok-potentials in
+    let report = subst (Reports task atoms p) c.in-Goal.is c.in_ok-fair.ensures in (
+      0,
+      unfair_at_goals here report.1,
+      first_asked task cert unfair_goal 0 plan most refl (atoms_right task cert c.requires.fluent) (states_right_all task cert distinct allowed) within
+          (instances_asked task cert 0 (none_asked task cert)
+          (none_unfair_in task cert cert.version c.requires.version (instances_reported (cost_of task) task cert (certificates.potentials_of cert) atoms p c.requires.numbered (has here) report.0) 0)),
+    )

@@ -5,4 +5,4 @@ use Rattle.certificate.proofs.cert.Cert.bounds.Goals as goal
 pub returns : goal.returns
 returns c =
     let cert = c.args.self.now in
-    record { bounds = refl; value_count = value_count_kept cert; values = values_kept cert; dead_ends = dead_ends_kept cert; tables = tables_kept cert }
+    record { bounds = refl; value_count = value_count_kept cert; values = values_kept cert; dead_ends = dead_ends_kept cert; tables = tables_kept cert; in_memory = refl }

@@ -5,8 +5,6 @@ use Rattle.cert_checker.proofs.checker.packed.PackedListing.new.Goals as goal
 
 pub invariant_of-result : goal.invariant_of-result
 invariant_of-result c = record {
-  checked = c.requires.checked;
   valued = c.requires.weights;
-  dead_ends_valued = c.requires.dead_ends;
   listed = record { fluent = c.requires.fluent; numbered = c.requires.numbered; holds = holds_lines c.args.cert.now (length (atoms_in c.args.grounded.now)) c.requires.width };
 }
