@@ -70,11 +70,6 @@ each_as_wide (q ∷ said) width (p ∷ made) (has, have) =
     All-cons (λ (p : Potentials). length (potentials_of p).weights ≡ width) p made has.as_many (each_as_wide said width made have)
 each_as_wide [] width (p ∷ made) have = absurd have
 
--- where there is no table, none has other weights
-pub none_counted : (count : ℕ) (tables : List Table) → map table_of tables ≡ [] → All (λ (t : Table). weight_count_of t ≡ count) tables
-none_counted count [] none = λ k d below. absurd (omega arith)
-none_counted count (t ∷ tables) none = absurd (cc)
-
 -- ---- several values
 
 pub few_values : (v : Version) (count : ℕ) → is_value_count v count ≡ true → count ≤ 32
