@@ -1,4 +1,4 @@
-use Rattle.std.proofs.Common.{◌∙◌, length, map, arith, sym, subst}
+use Rattle.std.proofs.Common.{◌∙◌, map, arith, sym, subst}
 use Rattle.std.specs.Prelude.{IsTrue}
 use Rattle.packed_state.specs.Packed.{bits_of}
 use Rattle.potentials.specs.Potentials.{potentials_of}
