@@ -7,6 +7,8 @@ mod answers;
 #[cfg(test)]
 mod certificates;
 #[cfg(test)]
+mod certificates_with_tables;
+#[cfg(test)]
 mod changed_texts;
 #[cfg(test)]
 mod checked_streams;
@@ -28,7 +30,5 @@ mod reading_certificates;
 mod reported;
 #[cfg(test)]
 mod reports;
-#[cfg(test)]
-mod tables;
 #[cfg(test)]
 mod writing;
