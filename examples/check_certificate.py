@@ -296,11 +296,10 @@ class Certificate:
     def read_row(self, count, words):
         table, width = self.tables[-1], len(self.constants)
         weights = self.read_weights(words[:width])
-        bits = [table.bits[word] for word in words[width:]]
-        if any(a >= b for a, b in zip(bits, bits[1:])):
-            raise ValueError
+        self.read_atom_numbers(words[width:])
         if self.rows == MOST_ROWS:
             raise Refused(55)
+        bits = [table.bits[word] for word in words[width:]]
         if sum(bits) in table.rows:
             raise Refused(44, count)
         table.add(bits, weights)
