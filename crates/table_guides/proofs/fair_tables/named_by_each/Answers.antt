@@ -1,7 +1,6 @@
-use Rattle.std.proofs.Common.{◌≡◌, ◌∙◌, ◌++◌, ◌∷◌, [], List, Bool, length, map, get_or, refl, sym, ap, subst, arith}
+use Rattle.std.proofs.Common.{◌≡◌, ◌∙◌, ◌++◌, ◌∷◌, [], List, Bool, length, map, get_or, sym, ap, subst, arith}
 use Rattle.std.proofs.lemmas.List.{map_push, length-append}
 use Rattle.grounding.specs.Ground.{task_in, atoms_in}
-use Rattle.grounding.specs.Changes.{conditional_of}
 use Rattle.model.specs.ConditionalChanges.{ConditionalChange, conditional_of_number}
 use Rattle.packed_state.specs.Packed.{bits_of}
 use Rattle.tables.specs.Several.{several_of}
@@ -10,7 +9,7 @@ use Rattle.table_guides.proofs.GuideLemmas.{each-pushed}
 use Rattle.table_guides.proofs.fair_tables.named_by_each.Goals as goal
 
 pub loop-number-init : goal.loop-number-init
-loop-number-init c = record { long = refl; each = λ n below. absurd (omega (arith, below)) }
+loop-number-init c = record { long = ap length (ap (map bits_of) c.new-sets.ensures.items); each = λ n below. absurd (omega (arith, below)) }
 
 pub loop-number-preserved : goal.loop-number-preserved
 loop-number-preserved c =
@@ -22,7 +21,7 @@ loop-number-preserved c =
     let sets = map bits_of c.loop-number.sets.items in
     let pushed : map bits_of c.push.new.self.items ≡ sets ++ set ∷ [] = ap (map bits_of) c.in_ok-push.ensures.items ∙ map_push bits_of c.loop-number.sets.items c.in_ok-named_by.field-0 in
     let here : AreNamed tables (conditional_of_number task atoms k) set =
-    subst (λ (changes : List ConditionalChange). AreNamed tables changes set) (ap (map conditional_of) c.deref-changes.ensures.value ∙ c.counting-changes.ensures.conditional) c.in_ok-named_by.ensures in
+    subst (λ (changes : List ConditionalChange). AreNamed tables changes set) c.counting-changes.ensures.conditional c.in_ok-named_by.ensures in
     record {
       long = ap length pushed ∙ length-append sets (set ∷ []) ∙ omega (arith, c.loop-number.invariant.long);
       each = λ n below.
