@@ -7,9 +7,9 @@ For each task it has `optplan solve` write a certificate, and then changes it in
 weight by one, up and down, and each of the first states to another kind of line. Both checkers are asked of each text, and what
 they answer is compared. It prints a line for each task, and each text on which they differ; it ends with status 1 where one does.
 
-With --random it does so with M random tasks as well (random_tasks.py). With --tables both are asked of N texts of version 3 of
-each task besides, as forge_certificates.py makes them at random; by itself it leaves version 3 out, which optplan refuses as
-yet. S is the seed of what is random, and 0 where it is not given.
+With --random it does so with M random tasks as well (random_tasks.py). Both are asked of N texts of version 3 of each task
+besides, as forge_certificates.py makes them at random: 30, or as many as --tables says. S is the seed of what is random, and 0
+where it is not given.
 """
 import argparse
 import itertools
@@ -103,8 +103,8 @@ def compare(name, texts, room, count, chance):
 def main():
     words = argparse.ArgumentParser()
     words.add_argument("tasks", nargs="*")
-    for name in ("--random", "--tables", "--seed"):
-        words.add_argument(name, type=int, default=0)
+    for name, count in (("--random", 0), ("--tables", 30), ("--seed", 0)):
+        words.add_argument(name, type=int, default=count)
     words = words.parse_args()
     bad = 0
     for name, *texts in files_of(words.tasks, words.random, words.seed):

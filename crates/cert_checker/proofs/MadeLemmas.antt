@@ -1,5 +1,5 @@
 -- What a certificate's values and tables in memory are made of.
-use Rattle.std.proofs.Common.{◌≡◌, ◌∙◌, ℕ, zero, suc, ◌+◌, ◌≤◌, ◌<◌, true, ◌&&◌, List, [], ◌∷◌, ◌++◌, length, map, get_or, refl, sym, ap, subst, arith, ℤ}
+use Rattle.std.proofs.Common.{◌≡◌, ℕ, ◌≤◌, true, ◌&&◌, List, [], ◌∷◌, ◌++◌, length, map, get_or, arith}
 use Rattle.std.specs.Prelude.{All, IsTrue, ◌==◌, nat_le}
 use Rattle.std.specs.List.{list_all}
 use Rattle.std.proofs.lemmas.Bool.{and_parts, eqb-true, leb-true}
@@ -14,7 +14,7 @@ use Rattle.cert_checker.specs.Weights.{AreWidened, HasItsWeights, HaveTheirWeigh
 use Rattle.cert_checker.proofs.TablesLemmas.{as_many_widened, widened_at}
 use Rattle.table_functions.specs.TableFunctions.{Row, SeveralValues, is_among}
 use Rattle.table_rows.specs.declared.table.Table.{Table}
-use Rattle.table_rows.specs.Tables.{table_of, weight_count_of}
+use Rattle.table_rows.specs.Tables.{table_of}
 use Rattle.cert_checker.proofs.VersionLemmas.{one_weight_each}
 use Rattle.cert_checker.proofs.WeightsLemmas.{said_in_range, weights_in_range}
 
@@ -69,11 +69,6 @@ each_as_wide said width [] have = λ k d below. absurd (omega arith)
 each_as_wide (q ∷ said) width (p ∷ made) (has, have) =
     All-cons (λ (p : Potentials). length (potentials_of p).weights ≡ width) p made has.as_many (each_as_wide said width made have)
 each_as_wide [] width (p ∷ made) have = absurd have
-
--- where there is no table, none has other weights
-pub none_counted : (count : ℕ) (tables : List Table) → map table_of tables ≡ [] → All (λ (t : Table). weight_count_of t ≡ count) tables
-none_counted count [] none = λ k d below. absurd (omega arith)
-none_counted count (t ∷ tables) none = absurd (cc)
 
 -- ---- several values
 

@@ -1,5 +1,5 @@
 -- What is reported for a certificate is the first thing that is wrong: nothing before it is.
-use Rattle.std.proofs.Common.{◌≡◌, ◌≢◌, ℕ, ◌+◌, ◌<◌, ◌≤◌, ◌⊎◌, ◌&&◌, true, List, length, Option, None, Some, inl, inr, refl, sym, ap, ◌∙◌, subst, arith}
+use Rattle.std.proofs.Common.{◌≡◌, ◌≢◌, ℕ, ◌<◌, ◌⊎◌, ◌&&◌, true, List, length, Option, None, Some, inl, inr, refl, sym, ap, ◌∙◌, subst, arith}
 use Rattle.std.specs.Prelude.{IsSome, IsTrue, AllPairs, slice_get}
 use Rattle.std.proofs.lemmas.Bool.{cases_eq, false≢true}
 use Rattle.std.proofs.lemmas.Option.{slice_get_within, get_or_from_slice_get}
@@ -7,13 +7,12 @@ use Rattle.model.specs.Task.{Atom, Task, Instance}
 use Rattle.model.specs.WellTyped.{is_atom}
 use Rattle.model.specs.Runs.{Solves}
 use Rattle.model.specs.Meaning.{State, system_of, initial_state}
-use Rattle.model.specs.NumberedAtoms.{numbered_atoms}
 use Rattle.model.specs.Limits.{max_numbered_atoms}
 use Rattle.model.specs.Grounding.{exceeded_limit}
 use Rattle.model.specs.Claims.{none, Allows, opened, cut, Line, IsListedWithin}
 use Rattle.model.specs.Fluents.{is_fluent}
-use Rattle.certificate_definitions.specs.Certificates.{Certificate, potentials_of, lines_of, AreFairFor, IsClosedFor}
-use Rattle.certificate_definitions.specs.CertificateRefusals.{Reason, not_fluent, repeated, no_initial, unfair, unfair_goal, goal_open, successor_missing, successor_dearer, cut_weak, cut_not_allowed, plan_invalid, plan_dearer, limit, dead_unfair, dead_unfair_goal, not_dead, IsUnfairIn, IsUnfairAtGoalsIn, IsDeadUnfairIn, IsDeadUnfairAtGoalsIn, IsWrongAt, IsWrong, IsFirst, stage_of, rank_of, state_line}
+use Rattle.certificate_definitions.specs.Certificates.{Certificate, lines_of, AreFairFor, IsClosedFor}
+use Rattle.certificate_definitions.specs.CertificateRefusals.{Reason, not_fluent, repeated, no_initial, unfair, unfair_goal, goal_open, successor_missing, successor_dearer, cut_weak, cut_not_allowed, plan_invalid, plan_dearer, limit, dead_unfair, dead_unfair_goal, not_dead, IsUnfairIn, IsUnfairAtGoalsIn, IsDeadUnfairIn, IsWrongAt, IsWrong, IsFirst, stage_of, rank_of, state_line}
 use Rattle.cert_checker.specs.FluentAtoms.{AreFluent}
 use Rattle.cert_checker.specs.CheckedLines.{CutsAreAllowed, IsLineClosed, IsRightUpTo}
 use Rattle.certificate_definitions.proofs.CertificateRefusalsLemmas.{apart, dead_goals_fair, goals_fair, none_dead_unfair, none_unfair, right_line}

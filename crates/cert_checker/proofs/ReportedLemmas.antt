@@ -1,6 +1,6 @@
 -- What is reported of values in memory is so of the certificate whose values they are, where it has tables.
-use Rattle.std.proofs.Common.{◌≡◌, ◌∙◌, ℕ, zero, suc, ◌+◌, ◌<◌, ◌≤◌, ◌⊎◌, inl, inr, true, false, List, [], ◌∷◌, length, take, get_or, Some, refl, sym, ap, subst, arith}
-use Rattle.std.specs.Prelude.{All, Contains, IsTrue, slice_get}
+use Rattle.std.proofs.Common.{◌≡◌, ◌∙◌, ℕ, suc, ◌<◌, inl, inr, true, List, [], ◌∷◌, length, take, Some, refl, sym, ap, subst, arith}
+use Rattle.std.specs.Prelude.{All, IsTrue, slice_get}
 use Rattle.std.proofs.lemmas.List.{length-take, get_or-take}
 use Rattle.std.proofs.lemmas.List.Elements.{All-contains}
 use Rattle.std.proofs.lemmas.Option.{get_or_from_slice_get, same_Some, slice_get_within}
@@ -16,7 +16,7 @@ use Rattle.table_functions.specs.FairTables.{AreFair, IsFair, IsFairAt, IsFairAt
 use Rattle.tables.specs.Fairness.{AreInstancesFairAt}
 use Rattle.tables.specs.Several.{IsFirstDeadInstance, IsFirstInstance, IsUnfairAtDeadGoals, IsUnfairAtGoals}
 use Rattle.certificate_definitions.specs.Certificates.{Certificate, has_tables, several_of, AreFairFor, AreFairIn}
-use Rattle.certificate_definitions.specs.CertificateRefusals.{Reason, unfair, unfair_goal, dead_unfair, dead_unfair_goal, MayLoseByTables, IsUnfairIn, IsUnfairAtGoalsIn, IsDeadUnfairIn, IsDeadUnfairAtGoalsIn, IsWrongAt, stage_of}
+use Rattle.certificate_definitions.specs.CertificateRefusals.{unfair, unfair_goal, dead_unfair, dead_unfair_goal, MayLoseByTables, IsUnfairIn, IsUnfairAtGoalsIn, IsDeadUnfairIn, IsDeadUnfairAtGoalsIn}
 use Rattle.cert_checker.specs.CertChecker.{IsFirstDeadToLoseIn, IsFirstToLoseByTables, IsFirstToLoseIn}
 use Rattle.cert_checker.specs.Weights.{HaveTheirWeights}
 use Rattle.cert_checker.proofs.VersionLemmas.{of_three, to_three}

@@ -1,6 +1,6 @@
 -- Table functions that give each atom the same weight over the same tables: they are fair alike, and give a state the same value.
-use Rattle.std.proofs.Common.{◌≡◌, ◌∙◌, ℕ, zero, suc, ◌+◌, ◌<◌, ◌≤◌, true, false, Bool, List, [], ◌∷◌, length, take, get_or, Some, refl, sym, ap, subst, arith, ℤ, pos, ◌+ℤ◌, ◌≤ℤ◌}
-use Rattle.std.specs.Prelude.{All, IsTrue, if◌then◌else◌, max, nat_le, slice_get}
+use Rattle.std.proofs.Common.{◌≡◌, ◌∙◌, ℕ, zero, suc, true, false, Bool, List, [], ◌∷◌, length, get_or, Some, refl, sym, ap, subst, arith, pos, ◌+ℤ◌, ◌≤ℤ◌}
+use Rattle.std.specs.Prelude.{All, IsTrue, if◌then◌else◌, max, slice_get}
 use Rattle.std.specs.Int.{int_max}
 use Rattle.std.specs.List.{list_all}
 use Rattle.std.proofs.lemmas.List.Elements.{All-cons}
@@ -8,10 +8,10 @@ use Rattle.model.specs.Task.{Atom, Task, Instance}
 use Rattle.model.specs.Meaning.{cost_of}
 use Rattle.model.specs.StaticallyFalse.{kept_instances}
 use Rattle.model.specs.NumberedLiterals.{NumberedLiteral, NumberedChange, literals_of_instance, literals_of_goal}
-use Rattle.potential_functions.specs.PotentialFunctions.{PotentialFunction, weight, given, or_zero, score}
+use Rattle.potential_functions.specs.PotentialFunctions.{PotentialFunction, given, or_zero, score}
 use Rattle.potential_functions.specs.Fair.{touches, worst, loses, loses_at_most, says, goal_gives, goal_gives_at_most}
 use Rattle.potential_functions.proofs.Sums.{sum-alike}
-use Rattle.table_functions.specs.TableFunctions.{Table, TableFunction, SeveralValues, over_tables, functions_of, dead_ends_of, greatest_value, given_by, has_rows, row_in, score_by_tables, sum_over, value}
+use Rattle.table_functions.specs.TableFunctions.{Table, TableFunction, SeveralValues, over_tables, functions_of, dead_ends_of, greatest_value, given_by, has_rows, row_in, sum_over, value}
 use Rattle.table_functions.specs.FairTables.{ConditionalChange, changes_in, conditional_of_instance, all_give, all_lose, is_asked, is_closed, is_shut_out, table_gives, table_loses, AreFairAt, IsFair, IsFairAt, IsFairAtGoals, IsFirstUnfairAt}
 use Rattle.cert_checker.specs.Weights.{AreWidened, HasItsWeights, HaveTheirWeights}
 use Rattle.cert_checker.proofs.WeightsLemmas.{AreAlike, alike}

@@ -1,9 +1,8 @@
 -- The values of a packed state by a certificate's values in memory are those that the certificate gives to the state that it
 -- stands for.
-use Rattle.std.proofs.Common.{◌≡◌, ◌∙◌, ℕ, zero, suc, ◌+◌, ◌≤◌, ◌<◌, Bool, true, false, List, [], ◌∷◌, length, map, get_or, refl, sym, ap, subst, arith, ℤ, pos, ◌+ℤ◌}
-use Rattle.std.specs.Prelude.{All, IsTrue, if◌then◌else◌, max, nat_le}
+use Rattle.std.proofs.Common.{◌≡◌, ◌∙◌, ℕ, ◌+◌, Bool, true, false, List, [], ◌∷◌, length, get_or, refl, sym, ap, subst, arith, ℤ, pos, ◌+ℤ◌}
+use Rattle.std.specs.Prelude.{if◌then◌else◌, nat_le}
 use Rattle.std.proofs.lemmas.Int.{ints}
-use Rattle.std.proofs.lemmas.Bool.{cases_eq}
 use Rattle.std.proofs.Math.Nat.{max-zero}
 use Rattle.packed_state.specs.declared.pooled.PooledStore.{PooledStore}
 use Rattle.model.specs.Task.{Atom, Task}
@@ -12,9 +11,9 @@ use Rattle.model.specs.NumberedAtoms.{numbered_atoms}
 use Rattle.model.specs.Grounding.{bits_of_state, state_of_bits}
 use Rattle.potential_functions.specs.PotentialFunctions as potential
 use Rattle.potential_functions.specs.PotentialFunctions.{PotentialFunction, or_zero, score, value_of_state, is_dead_state}
-use Rattle.table_functions.specs.TableFunctions.{Table, TableFunction, SeveralValues, over_tables, functions_of, dead_ends_of, greatest_value, has_numbered_fluents, in_state, is_dead_by, value}
+use Rattle.table_functions.specs.TableFunctions.{SeveralValues, over_tables, functions_of, dead_ends_of, greatest_value, in_state, is_dead_by, value}
 use Rattle.table_functions.proofs.LowerBound.{numbered-has}
-use Rattle.certificate_definitions.specs.Certificates.{Version, Certificate, has_tables, is_dead_end_in, is_dead_end_of, keeps_limits, potentials_of, several_of, value_in, value_of}
+use Rattle.certificate_definitions.specs.Certificates.{Certificate, has_tables, is_dead_end_in, is_dead_end_of, keeps_limits, potentials_of, several_of, value_in, value_of}
 use Rattle.cert_checker.specs.PackedLines.{IsPackedListing}
 use Rattle.cert_checker.specs.Weights.{AreWidened, HasItsWeights, HaveTheirWeights}
 use Rattle.cert_checker.proofs.LimitsLemmas.{limits_of}

@@ -1,6 +1,6 @@
 -- What the definitions say of a certificate of a version without tables: it has one potential function and one for dead ends.
-use Rattle.std.proofs.Common.{◌≡◌, ◌∙◌, ℕ, ◌+◌, ◌<◌, true, false, true≢false, List, [], ◌∷◌, length, map, refl, sym, arith, Bool, ℤ}
-use Rattle.std.specs.Prelude.{IsTrue, All, AllPairs, Contains, ◌≢◌, ◌&&◌, ◌==◌, nat_le}
+use Rattle.std.proofs.Common.{◌≡◌, ◌∙◌, ℕ, ◌<◌, true, false, true≢false, List, [], ◌∷◌, length, map, refl, sym, arith, Bool, ℤ}
+use Rattle.std.specs.Prelude.{All, AllPairs, ◌≢◌, ◌&&◌, ◌==◌, nat_le}
 use Rattle.std.specs.List.{list_all}
 use Rattle.std.proofs.lemmas.Bool.{and_parts, eqb-true, false≢true, leb-true}
 use Rattle.std.proofs.lemmas.List.Elements.{All-cons, All-contains}

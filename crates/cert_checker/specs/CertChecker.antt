@@ -1,5 +1,5 @@
 -- What the answers of the checker of certificates say.
-use Rattle.std.specs.Prelude.{◌≡◌, ℕ, ◌+◌, ◌<◌, List, length, Contains, slice_get, MatchOption, Option, None, Some, IsSome}
+use Rattle.std.specs.Prelude.{◌≡◌, ℕ, ◌+◌, ◌<◌, List, length, slice_get, MatchOption, Option, None, Some, IsSome}
 use Rattle.cert_checker.specs.declared.checker.Accepted.{Accepted}
 use Rattle.cert_checker.specs.declared.checker.Accepted.TheVariants.{Optimal, AtLeast, Unsolvable}
 use Rattle.cert_checker.specs.declared.refusal.Refusal.{Refusal}

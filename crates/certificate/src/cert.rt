@@ -5,7 +5,7 @@ ghost use Rattle.packed_state.specs.PooledView.{pooled_states};
 ghost use Rattle.certificate.specs.CertificateParts.{certificate_with};
 
 use crate::header::{Bounds, Header};
-use crate::limits::keeps_limits;
+use crate::limits::{keeps_limits, row_count};
 use crate::listing::states_of;
 use crate::states::{Listed, States};
 use crate::widening::widened;
@@ -26,10 +26,11 @@ pub struct Cert {
 }
 
 impl Cert {
-    ghost use Rattle.std.specs.Prelude.{◌+◌, ◌<◌, ◌≤◌, ◌↔◌, All, IfOk, IfSome, IsSome, OnOk, Some, map, slice_get};
+    ghost use Rattle.std.specs.Prelude.{◌+◌, ◌<◌, ◌≤◌, ◌^◌, ◌↔◌, All, IfOk, IfSome, IsSome, OnOk, Some, map, slice_get};
     ghost use Rattle.task.specs.TaskParts.{atom_of};
     ghost use Rattle.packed_state.specs.Packed.{bits_of};
     ghost use Rattle.packed_state.specs.PooledView.{pooled_width};
+    ghost use Rattle.certificate_definitions.specs.CertificateRefusals.{state_line};
     ghost use Rattle.certificate_definitions.specs.Certificates.{are_potentials, are_tables, is_value_count, is_weight, several_of};
     ghost use Rattle.certificate_reader.specs.Lines.{claim_of, line_of, version_of};
     ghost use Rattle.certificate_reader.specs.declared.line.TheConstants.{MAX_ATOMS, MAX_STATE_LINES};
@@ -117,6 +118,15 @@ impl Cert {
         ensures { result.now ≡ store_in self.now }
     {
         &self.states.sets
+    }
+
+    /// The number of the line of its first state, from 1; each table has a line, and each row.
+    pub fn first_state_line(&self) -> u64
+        ensures line { result ≡ state_line (certificate_of self.now) 0 }
+        ensures small { result < 2 ^ 32 }
+    {
+        let tables = self.header.bounds.tables.as_slice();
+        4 + self.header.atoms.len() as u64 + tables.len() as u64 + row_count(tables)
     }
 
     /// How many states it lists.

@@ -1,5 +1,5 @@
 //! The limits of a certificate's text.
-ghost use Rattle.std.specs.Prelude.{◌≡◌, IsTrue, length, map, nat_le};
+ghost use Rattle.std.specs.Prelude.{◌≡◌, ◌≤◌, IsTrue, length, map, nat_le};
 ghost use Rattle.std.specs.List.{list_all};
 ghost use Rattle.certificate_definitions.specs.Certificates as certificates;
 ghost use Rattle.certificate_definitions.specs.Certificates.{is_number, is_weight, is_dead_end_weight, is_claim, is_mark, rise, is_state_line, are_potentials, is_value_count, is_row, is_table, has_tables, are_tables, rows_of, keeps_limits};
@@ -238,4 +238,16 @@ fn are_few_rows(tables: &[Table]) -> bool
         room -= table.row_count();
     }
     true
+}
+
+/// How many rows the tables have together, which are no more than a certificate may have.
+pub(crate) fn row_count(tables: &[Table]) -> u64
+    requires { length (rows_of (map table_of tables.now)) ≤ MAX_ROWS }
+    ensures { result ≡ length (rows_of (map table_of tables.now)) }
+{
+    let mut count = 0;
+    for table in tables {
+        count += table.row_count() as u64;
+    }
+    count
 }

@@ -15,7 +15,7 @@ use Rattle.table_functions.specs.TableFunctions.{TableFunction, functions_of, de
 use Rattle.table_functions.specs.FairTables as fair_tables
 use Rattle.table_functions.specs.FairTables.{is_asked}
 use Rattle.model.specs.Fluents.{is_fluent}
-use Rattle.certificate_definitions.specs.Certificates.{Version, one, two, three, Certificate, potentials_of, several_of, lines_of, value_of, is_dead_end_of}
+use Rattle.certificate_definitions.specs.Certificates.{Version, one, two, three, Certificate, potentials_of, several_of, rows_of, lines_of, value_of, is_dead_end_of}
 
 -- the reasons, each with the number that is reported
 pub data Reason : Type 0 where
@@ -36,13 +36,13 @@ pub data Reason : Type 0 where
   dead_unfair_goal : Reason  -- 57
   not_dead : Reason  -- 58
 
--- The lines of a certificate's text are counted from 1: its version, its claim and its constant come first, then its
--- atoms, a line each, and then its states.
+-- The lines of a certificate's text are counted from 1: its version, its claim and its constants come first, then its atoms, a
+-- line each, then its tables, each with its rows, and then its states.
 abbrev pub atom_line : ℕ → ℕ
 atom_line place = 4 + place
 
 abbrev pub state_line : Certificate → ℕ → ℕ
-state_line c place = 4 + length c.atoms + place
+state_line c place = 4 + length c.atoms + (length c.tables + length (rows_of c.tables)) + place
 
 -- this line has this atom
 abbrev pub HasAtom : Certificate → ℕ → Atom → Type 0
@@ -153,8 +153,8 @@ IsWrong task c plan most limit = IsSome (exceeded_limit most max_numbered_atoms 
 IsWrong task c plan most _ = ⊥
 
 -- The checker looks for what is wrong in this order: it reads the lines one by one, grounds the task, looks whether the values
--- are fair, one after another, and what reports dead ends is dead-fair, looks for the initial state, goes through the state lines one by one, and holds the plan
--- against the claim.
+-- are fair, one after another, and what reports dead ends is dead-fair, looks for the initial state, goes through the state lines
+-- one by one, and holds the plan against the claim.
 abbrev pub stage_of : Reason → ℕ
 stage_of not_fluent = 0
 stage_of repeated = 0

@@ -15,14 +15,17 @@ struct Row {
     accepted: u64,
 }
 
-/// Two texts that are accepted, and two that are not: that a plan costs more than the cheapest does, and that there is none. Of
-/// their changes are accepted those of the claim to at most 2, and the last cut of the first text at 2.
+/// Three texts that are accepted, the last of them with a table, and two that are not: that a plan costs more than the cheapest
+/// does, and that there is none. Of their changes are accepted those of the claim to at most 2, and the last cut of the first text
+/// at 2.
 #[rattlefmt::skip]
-static ROWS: [Row; 4] = [
+static ROWS: [Row; 5] = [
     Row { texts: HOP, cheapest: 6, accepted: 3,
         text: "pddl-cert 1\nclaim bound 2\nconstant 0\natom 0 (at a)\natom 0 (at b)\natom 0 (at c)\nopen 0 0\ncut 2 0 1\ncut 9 0 2\nend 3\n" },
     Row { texts: PATH, cheapest: 2, accepted: 1,
         text: "pddl-cert 1\nclaim bound 1\nconstant 0\natom 0 (at a)\natom 0 (at b)\nopen 0 0\ncut 1 0 1\nend 2\n" },
+    Row { texts: HOP, cheapest: 6, accepted: 3,
+        text: "pddl-cert 3\nclaim bound 6\nconstant 0 0\natom 0 0 (at a)\natom 0 0 (at b)\natom 0 0 (at c)\ntable 0 1 2\nrow 6 0 0\nrow 3 0 1\nrow 0 0 2\ncut 0 6 0\nend 1\n" },
     Row { texts: HOP, cheapest: 6, accepted: 3,
         text: "pddl-cert 1\nclaim bound 9\nconstant 0\natom 0 (at a)\natom 0 (at b)\natom 0 (at c)\nopen 0 0\nopen 3 1\ncut 6 0 2\nend 3\n" },
     Row { texts: HOP, cheapest: 6, accepted: 0,

@@ -2,17 +2,19 @@
 ghost use Rattle.std.specs.Prelude.{IsTrue};
 ghost use Rattle.table_rows.specs.Rows.{are_rising};
 
-use crate::helpers::{Answer, Reported, check_text};
-use cert_checker::RefusalCode;
+use crate::helpers::{Answer, Reported, check_source, check_text};
+use cert_checker::{Accepted, RefusalCode};
 use certificate::{Bounds, Cert, Claim, Header, Mark, Potential, StateLine, Version, write_cert};
 use devices::Memory;
 use faults::NoMemory;
 use indexmap::IndexSet;
 use std::alloc::Global;
+use std::process::Abort;
 use std::test::Fail;
 use table_rows::Table;
-use task::Task;
-use test_texts::{GO, atom, on_task};
+use task::{SchemaId, Task};
+use test_devices::{FailsAt, InPieces};
+use test_texts::{GO, HOP, atom, on_task};
 
 /// The potential function of this constant and these weights.
 fn potential(alloc: Global, constant: i64, weights: [i64; 2]) -> Result<Potential, NoMemory> {
@@ -136,4 +138,115 @@ fn tables_are_of_version_3(rt: HostRuntime) -> Result<(), Fail> {
     assert!(rt; cert(rt.alloc(), Version::One)?.is_none());
     assert!(rt; cert(rt.alloc(), Version::Two)?.is_none());
     Ok(())
+}
+
+/// What precedes the rows: two values over the places of [`HOP`], and a table that looks at all three.
+const PLACES: &[u8] =
+    b"pddl-cert 3\nclaim bound 6\nconstant 0 0 0\natom 0 0 0 (at a)\natom 0 0 0 (at b)\natom 0 0 0 (at c)\ntable 0 1 2\n";
+
+/// Rows by whose second value 6 is still to pay at the start, and a cut there.
+const ROWS: &[u8] = b"row 1 6 0 0\nrow 1 3 0 1\nrow 0 0 0 2\ncut 0 6 0\nend 1\n";
+
+/// The text of a certificate with these lines behind its table's.
+fn whole(alloc: Global, lines: &[u8]) -> Result<Vec<u8>, NoMemory> {
+    let mut text = Vec::from_slice(alloc, PLACES)?;
+    text.extend_from_slice(lines)?;
+    Ok(text)
+}
+
+/// A certificate with these lines behind its table's is answered so.
+fn is_answered<R: Abort>(rt: &R, alloc: Global, lines: &[u8], wanted: Answer) -> Result<(), Fail> {
+    on_task(rt, alloc, &HOP, |rt, alloc, task| {
+        let answer = check_text(alloc, task, whole(alloc, lines)?, 3);
+        assert_eq!(rt; answer, wanted);
+        Ok(())
+    })
+}
+
+/// The refusal of the line of a state, which is the eleventh.
+fn refused_state(code: RefusalCode) -> Answer {
+    Err(Reported::Line { code, line: 11 })
+}
+
+#[test]
+fn the_greatest_value_is_that_of_a_cut(rt: HostRuntime) -> Result<(), Fail> {
+    is_answered(&rt, rt.alloc(), ROWS, Ok(Accepted::AtLeast { cost: 6 }))
+}
+
+#[test]
+fn the_second_value_is_fair_too(rt: HostRuntime) -> Result<(), Fail> {
+    let lines = b"row 1 7 0 0\nrow 1 3 0 1\nrow 0 0 0 2\ncut 0 6 0\nend 1\n";
+    is_answered(&rt, rt.alloc(), lines, Err(Reported::Unfair(SchemaId(0))))
+}
+
+#[test]
+fn what_comes_after_a_row_is_a_row(rt: HostRuntime) -> Result<(), Fail> {
+    let lines = b"row 1 6 0 0\nrow 0 0 0 2\ncut 0 6 0\nend 1\n";
+    is_answered(&rt, rt.alloc(), lines, Err(Reported::Unfair(SchemaId(0))))
+}
+
+#[test]
+fn each_value_is_0_at_goals(rt: HostRuntime) -> Result<(), Fail> {
+    let lines = b"row 1 6 0 0\nrow 1 3 0 1\nrow 0 1 0 2\ncut 0 6 0\nend 1\n";
+    let wanted = Err(Reported::Plain(RefusalCode::UnfairGoal));
+    is_answered(&rt, rt.alloc(), lines, wanted)
+}
+
+#[test]
+fn no_instance_leaves_a_dead_end(rt: HostRuntime) -> Result<(), Fail> {
+    let lines = b"row 1 6 1 0\nrow 1 3 0 1\nrow 0 0 0 2\ncut 0 6 0\nend 1\n";
+    let wanted = Err(Reported::DeadUnfair(SchemaId(0)));
+    is_answered(&rt, rt.alloc(), lines, wanted)
+}
+
+#[test]
+fn goals_are_no_dead_ends(rt: HostRuntime) -> Result<(), Fail> {
+    let lines = b"row 1 6 0 0\nrow 1 3 0 1\nrow 0 0 1 2\ncut 0 6 0\nend 1\n";
+    let wanted = Err(Reported::Plain(RefusalCode::DeadUnfairGoal));
+    is_answered(&rt, rt.alloc(), lines, wanted)
+}
+
+#[test]
+fn a_cut_is_at_most_the_greatest_value(rt: HostRuntime) -> Result<(), Fail> {
+    let lines = b"row 1 6 0 0\nrow 1 3 0 1\nrow 0 0 0 2\ncut 0 7 0\nend 1\n";
+    is_answered(&rt, rt.alloc(), lines, refused_state(RefusalCode::CutWeak))
+}
+
+#[test]
+fn a_dead_end_is_none_by_its_values(rt: HostRuntime) -> Result<(), Fail> {
+    let lines = b"row 1 6 0 0\nrow 1 3 0 1\nrow 0 0 0 2\ndead 0 0\nend 1\n";
+    is_answered(&rt, rt.alloc(), lines, refused_state(RefusalCode::NotDead))
+}
+
+/// A text that ends early, at each of its bytes, is refused at the line in which it ends.
+fn ends_are_reported(rt: &impl Abort, alloc: Global, task: &Task) -> Result<(), Fail> {
+    let mut line: u64 = 8;
+    for (length, byte) in ROWS.iter().enumerate() {
+        let code = RefusalCode::Truncated;
+        let answer = check_text(alloc, task, whole(alloc, &ROWS[..length])?, 3);
+        assert_eq!(rt; answer, Err(Reported::Line { code, line }), "{length}");
+        line = line.saturating_add(u64::from(*byte == b'\n'));
+    }
+    Ok(())
+}
+
+#[test]
+fn rows_that_end_early_are_refused(rt: HostRuntime) -> Result<(), Fail> {
+    on_task(&rt, rt.alloc(), &HOP, ends_are_reported)
+}
+
+/// A read that fails is reported, at whichever byte.
+fn failures_are_reported(rt: &impl Abort, alloc: Global, task: &Task) -> Result<(), Fail> {
+    let text = whole(alloc, ROWS)?;
+    for reads in 0..=text.len() as u64 {
+        let bytes = InPieces::new(Memory::new(text.to_vec(alloc)?), 1);
+        let answer = check_source(alloc, task, FailsAt::source(bytes, Some(reads)), None, 3);
+        assert_eq!(rt; answer, Err(Reported::Device), "{reads}");
+    }
+    Ok(())
+}
+
+#[test]
+fn reads_of_rows_that_fail_are_reported(rt: HostRuntime) -> Result<(), Fail> {
+    on_task(&rt, rt.alloc(), &HOP, failures_are_reported)
 }

@@ -323,6 +323,6 @@ fn state_line(code: RefusalCode, cert: &Cert, place: usize) -> Refusal
 {
     Refusal::Line {
         code,
-        line: 4 + cert.atoms().len() as u64 + place as u64,
+        line: cert.first_state_line() + place as u64,
     }
 }

@@ -1,18 +1,14 @@
-use Rattle.std.proofs.Common.{◌+◌, inl, length}
+use Rattle.std.proofs.Common.{inl}
 use Rattle.std.specs.Option.{option_map}
 use Rattle.faults.proofs.Results.{passed_on}
 use Rattle.task.specs.Task.{task_of}
 use Rattle.formulas.specs.State.{plan_of}
 use Rattle.certificate_reader.specs.Reader.{source_of}
-use Rattle.certificate.specs.Certificate.{certificate_of, tables_in}
+use Rattle.certificate.specs.Certificate.{certificate_of}
 use Rattle.cert_checker.specs.CertChecker.{IsNoFault}
 use Rattle.cert_checker.specs.Checking.{Refuses}
 use Rattle.cert_checker.proofs.AcceptLemmas.{accepts_read, counts_judged, none_at_fault, not_refused, refuses_read}
 use Rattle.cert_checker.proofs.FirstLemmas.{cuts_allowed}
-use Rattle.cert_checker.proofs.GivenLemmas.{checked_has_no_tables}
-use Rattle.cert_checker.proofs.LimitsLemmas.{limits_of}
-use Rattle.cert_checker.proofs.MadeLemmas.{none_counted}
-use Rattle.cert_checker.proofs.VersionLemmas.{no_tables}
 use Rattle.cert_checker.proofs.checker.check.Goals as goal
 
 pub returns-in_err-cert-clause-refused : goal.returns-in_err-cert-clause-refused
@@ -57,9 +53,6 @@ returns-clause-failures g c =
     counts_judged (task_of c.args.task.now) (certificate_of c.in_ok-cert.cert) (option_map (λ p. plan_of p.now) c.args.plan) c.args.max_instances
     (g.R.Source.failures (source_of c.args.reader.now)) (g.R.Source.failures (source_of c.read_cert.new.reader)) c.judge.result c.judge.ensures.refused c.in_ok-cert.ensures.failures
 
+-- the rows of each table have a weight for each value and one for dead ends
 pub judge-requires-clause-counted : goal.judge-requires-clause-counted
-judge-requires-clause-counted g c =
-    let cert = c.in_ok-cert.cert in
-    let k = certificate_of cert in
-    none_counted (length k.values + 1) (tables_in cert)
-    (no_tables k.version (length k.atoms) (length k.values + 1) k.tables (checked_has_no_tables k.version c.in_ok-cert.ensures.read.checked) (limits_of k cert.within_limits).tables)
+judge-requires-clause-counted g c = c.in_ok-cert.ensures.weighed

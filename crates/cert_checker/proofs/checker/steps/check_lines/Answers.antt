@@ -21,6 +21,11 @@ loop-place-init c = record {
   closed = λ k line lt at. absurd (omega arith);
 }
 
+-- there is a state at the place
+pub check_line-requires-clause-within : goal.check_line-requires-clause-within
+check_line-requires-clause-within c =
+    omega (arith, c.loop-place-test.true, as_many_marks (certificate_at c.args.listing.now) c.marks-place-end.result.now c.marks-place-end.ensures.marks)
+
 pub loop-place-preserved : goal.loop-place-preserved
 loop-place-preserved c = record {
   state = c.in_ok-check_line.ensures.state;

@@ -1,6 +1,5 @@
-use Rattle.std.proofs.Common.{◌≡◌, ◌∙◌, ◌++◌, ◌∷◌, [], ◌≤◌, length, map, take, Some, sym, ap, subst, arith}
-use Rattle.std.specs.Prelude.{slice_get}
-use Rattle.std.proofs.lemmas.List.{map_push, take_all}
+use Rattle.std.proofs.Common.{◌∙◌, ◌++◌, ◌∷◌, [], ◌≤◌, length, map, take, Some, sym, ap, subst}
+use Rattle.std.proofs.lemmas.List.{map_push}
 use Rattle.std.proofs.lemmas.Option.{slice_get-get_or}
 use Rattle.certificate.specs.declared.header.Potential.{Potential}
 use Rattle.certificate.specs.CertificateParts.{potential_of}

@@ -1,4 +1,4 @@
-use Rattle.std.proofs.Common.{◌≡◌, ◌∙◌, ◌≤◌, length, map, sym, ap, subst, refl, arith}
+use Rattle.std.proofs.Common.{◌∙◌, ◌≤◌, length, map, sym, ap, subst, refl, arith}
 use Rattle.std.specs.Prelude.{All}
 use Rattle.std.proofs.lemmas.List.{length-map}
 use Rattle.grounding.specs.Ground.{task_in, atoms_in}
@@ -7,9 +7,7 @@ use Rattle.certificate.specs.Certificate.{certificate_of}
 use Rattle.certificate.specs.CertificateParts.{potential_of}
 use Rattle.certificate_definitions.specs.Certificates as certificates
 use Rattle.certificate_definitions.specs.Certificates.{is_weight}
-use Rattle.potential_functions.specs.PotentialFunctions.{PotentialFunction}
 use Rattle.potentials.specs.Potentials.{potentials_of}
-use Rattle.potentials.specs.declared.potentials.Potentials.{Potentials}
 use Rattle.table_functions.specs.TableFunctions.{SeveralValues}
 use Rattle.tables.specs.Several.{several_of}
 use Rattle.cert_checker.specs.Weights.{AreWidened, HasItsWeights, HaveTheirWeights}

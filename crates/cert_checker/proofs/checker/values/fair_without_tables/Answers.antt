@@ -1,9 +1,8 @@
-use Rattle.std.proofs.Common.{◌≡◌, ◌∙◌, ◌∷◌, [], length, map, sym, ap, subst, refl, pos}
+use Rattle.std.proofs.Common.{◌∙◌, ◌∷◌, [], length, map, sym, ap, subst, refl, pos}
 use Rattle.grounding.specs.Ground.{task_in, atoms_in}
 use Rattle.certificate.specs.Certificate.{certificate_of}
 use Rattle.certificate_definitions.specs.Certificates as certificates
 use Rattle.potentials.specs.Potentials.{potentials_of}
-use Rattle.tables.specs.Several.{several_of}
 use Rattle.cert_checker.specs.Weights.{HaveTheirWeights}
 use Rattle.cert_checker.proofs.LimitsLemmas.{limits_of}
 use Rattle.cert_checker.proofs.MadeLemmas.{have_weights, one_widened}

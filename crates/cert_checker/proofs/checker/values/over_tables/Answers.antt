@@ -6,7 +6,6 @@ use Rattle.task.specs.TaskParts.{atom_of}
 use Rattle.grounding.specs.Ground.{atoms_in}
 use Rattle.certificate.specs.Certificate.{certificate_of, tables_in}
 use Rattle.potential_functions.specs.PotentialFunctions.{IsInRange}
-use Rattle.potentials.specs.Potentials.{potentials_of}
 use Rattle.table_functions.specs.Laws.{are_over}
 use Rattle.table_functions.specs.TableFunctions.{Row}
 use Rattle.table_rows.specs.declared.table.Table.{Table}
