@@ -10,6 +10,7 @@ ghost use Rattle.table_rows.specs.Rows.{are_rising};
 ghost use Rattle.table_rows.specs.Tables.{table_of, weight_count_of};
 ghost use Rattle.tables.specs.AllTables.{tables_of, count_of};
 ghost use Rattle.tables.specs.Several.{width_of};
+ghost use Rattle.table_guides.specs.FairTables.{ground_in};
 
 use faults::NoMemory;
 use grounding::{Ground, GroundFault};
@@ -24,6 +25,9 @@ use table_rows::Table;
 use tables::{IndexedTables, TableFunctions, ValuesFairness};
 use task::Task;
 use test_texts::{HOP, on_task};
+
+/// What a cheapest plan costs, and how many states are found.
+type Found = Option<(u64, usize)>;
 
 /// The table with one row more, of these atoms and with these two weights.
 fn with_row(
@@ -85,39 +89,61 @@ fn nothing(alloc: Global) -> Result<Potentials, NoMemory>
     }
 }
 
-/// What a cheapest plan costs that the search by these values finds, if they are fair, and how many states are found.
-fn searched(
+/// What a cheapest plan costs that the search by these values finds, and how many states are found.
+fn found_by(
     alloc: Global,
     ground: &Ground<'_>,
-    functions: TableFunctions<'_>,
-) -> Result<Option<(u64, usize)>, NoMemory>
-    requires width { width_of functions ≡ length (atoms_in ground.now) }
-    requires numbered { AreAllNumbered (task_in ground.now) (atoms_in ground.now) }
+    guide: &FairTables<'_, '_, '_>,
+) -> Result<Found, NoMemory>
+    requires { ground_in guide.now ≡ ground.now }
 {
-    let ValuesFairness::Fair = functions.fairness(alloc, ground)? else {
-        return Ok(None);
-    };
-    let guide = FairTables::new(functions, ground);
     let store = PooledStore::new(alloc, ground.width())?;
-    match best_first(alloc, &GroundSystem(ground), &guide, store, 10)? {
+    match best_first(alloc, &GroundSystem(ground), guide, store, 10)? {
         Outcome::Found { cost, states, .. } => Ok(Some((cost, states.nodes.len()))),
         _ => Ok(None),
     }
 }
 
-/// The same of the task with three atoms, by what is to be paid from each place.
-fn found(alloc: Global, task: &Task, first: &[i64]) -> Result<Option<(u64, usize)>, GroundFault>
+/// The same by these tables, if their values are fair.
+fn found_by_tables(
+    alloc: Global,
+    ground: &Ground<'_>,
+    tables: IndexedTables<'_>,
+) -> Result<Found, NoMemory>
+    requires count { count_of tables ≡ 2 }
+    requires scopes { IsTrue (are_over 3 (tables_of tables)) }
+    requires width { length (atoms_in ground.now) ≡ 3 }
+    requires numbered { AreAllNumbered (task_in ground.now) (atoms_in ground.now) }
+{
+    let functions = over(alloc, tables)?;
+    let ValuesFairness::Fair = functions.fairness(alloc, ground)? else {
+        return Ok(None);
+    };
+    let guide = FairTables::new(alloc, functions, ground)?;
+    found_by(alloc, ground, &guide)
+}
+
+/// The same of three atoms, by what is to be paid from each place.
+fn found_from(alloc: Global, ground: &Ground<'_>, first: &[i64]) -> Result<Found, NoMemory>
     requires long { length first.now ≡ 2 }
     requires range { All IsInRange first.now }
+    requires numbered { AreAllNumbered (task_in ground.now) (atoms_in ground.now) }
 {
-    let ground = Ground::new(alloc, task, &[], 10)?;
     if ground.width() != 3 {
         return Ok(None);
     }
     let rows = vec![in alloc; distances(alloc, first)?]?;
     let tables = IndexedTables::index(alloc, 3, 2, &rows)?;
-    let functions = over(alloc, tables)?;
-    Ok(searched(alloc, &ground, functions)?)
+    found_by_tables(alloc, ground, tables)
+}
+
+/// The same of the task.
+fn found(alloc: Global, task: &Task, first: &[i64]) -> Result<Found, GroundFault>
+    requires long { length first.now ≡ 2 }
+    requires range { All IsInRange first.now }
+{
+    let ground = Ground::new(alloc, task, &[], 10)?;
+    Ok(found_from(alloc, &ground, first)?)
 }
 
 #[test]

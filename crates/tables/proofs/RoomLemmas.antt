@@ -1,6 +1,6 @@
 -- What the rows of a state give, added up.
 use Rattle.std.proofs.Common.{◌≡◌, ◌∙◌, ℕ, zero, suc, ◌+◌, ◌*◌, ◌<◌, ◌≤◌, ◌^◌, min, inl, inr, Bool, true, false, true≢false, List, [], ◌∷◌, ◌++◌, length, take, map, get_or, Option, None, Some, refl, sym, ap, subst, arith, ℤ, pos, ◌+ℤ◌, neg_ℤ, ◌≤ℤ◌}
-use Rattle.std.specs.Prelude.{IsTrue, All, Contains, ◌==◌, ◌≢◌, cond, filter, is_some, nat_lt, slice_get, slice_set, if◌then◌else◌}
+use Rattle.std.specs.Prelude.{IfSome, MatchOption, IsTrue, All, Contains, ◌==◌, ◌≢◌, cond, filter, is_some, nat_lt, slice_get, slice_set, if◌then◌else◌}
 use Rattle.std.specs.List.{list_all, find}
 use Rattle.std.specs.Cmp.Lexicographic.{pointwise}
 use Rattle.std.proofs.lemmas.Int.{ints}
@@ -18,13 +18,13 @@ use Rattle.table_functions.specs.Laws.{are_over}
 use Rattle.table_functions.specs.TableFunctions.{Row, Table, projection, row_of, row_in, weight_at, given_by, sum_over, has_rows}
 use Rattle.table_functions.proofs.Lists.{all-at, is_some-is}
 use Rattle.table_rows.specs.Rows.{atoms_at}
-use Rattle.tables.specs.Rooms.{widths_of, HasRoom, IsSmall, AreAdded, AreTotals}
+use Rattle.tables.specs.Rooms.{widths_of, HasRoom, IsPlaceOfRow, IsSmall, AreAdded, AreTotals}
 use Rattle.tables.specs.AllTables.{tables_of, count_of}
 use Rattle.tables.specs.Losses.{indexed_of, indexed_count_of}
 use Rattle.tables.specs.declared.indexed.IndexedTable.{IndexedTable}
 use Rattle.tables.specs.declared.rooms.Room.{Room}
 use Rattle.tables.specs.declared.tables.IndexedTables.{IndexedTables}
-use Rattle.tables.proofs.FateLemmas.{row-range}
+use Rattle.tables.proofs.FateLemmas.{row-range, row-there}
 use Rattle.tables.proofs.TablesLemmas.{sum-more, all-more, not-all, mapped-at}
 
 -- ---- the set of a state's row
@@ -42,6 +42,26 @@ module _ (t : Table) (bits : List Bool) (u : Table) (same : u ≡ t) (set : List
 
   pub no-row : row_of u (atoms_at u.scope set) ≡ None → row_in bits t ≡ None
   no-row none = sym (row-is t bits set is) ∙ subst (λ (v : Table). row_of v (atoms_at v.scope set) ≡ None) same none
+
+-- where a look-up finds it
+pub found-place : (t : Table) (bits : List Bool) (u : Table) → u ≡ t → (set : List Bool) → set ≡ map (has bits) t.scope → (o : Option ℕ) → IfSome o (λ place. place < length u.rows)
+    → MatchOption o (row_of u (atoms_at u.scope set) ≡ None) (λ place. slice_get u.rows place ≡ row_of u (atoms_at u.scope set)) → IsPlaceOfRow t bits o
+found-place t bits u same set is None there none = no-row t bits u same set is none
+found-place t bits u same set is (Some place) there at = (subst (λ (v : Table). place < length v.rows) same there, row-of-state t bits u same set is place at)
+
+module _ (t : Table) (bits : List Bool) where
+  pub place-within : (o : Option ℕ) → IsPlaceOfRow t bits o → IfSome o (λ place. place < length t.rows)
+  place-within None is = tt
+  place-within (Some place) is = is.0
+
+  pub place-has : (o : Option ℕ) → IsPlaceOfRow t bits o → is_some o ≡ is_some (row_in bits t)
+  place-has None is = sym (ap is_some is)
+  place-has (Some place) is = let row = row-there t.rows place is.0 in sym (ap is_some (sym is.1 ∙ row.1))
+
+  pub place-added : (o : Option ℕ) → IsPlaceOfRow t bits o → (old new : List ℤ) → ((place : ℕ) (r : Row) → o ≡ Some place → slice_get t.rows place ≡ Some r → AreAdded old r.weights new)
+      → (r : Row) → row_in bits t ≡ Some r → AreAdded old r.weights new
+  place-added None is old new added r at = absurd (cc)
+  place-added (Some place) is old new added r at = added place r refl (is.1 ∙ at)
 
 pub each-at : {X : Type 0} (P : X → Type 0) (xs : List X) (k : ℕ) (x : X) → slice_get xs k ≡ Some x → All P xs → P x
 each-at P xs k x at all = subst P (get_or_from_slice_get xs k x x at) (all k x (slice_get_within xs k x at))

@@ -1,5 +1,5 @@
 -- What the rows of a state give, added up, in memory.
-use Rattle.std.specs.Prelude.{◌≡◌, ℕ, ◌<◌, ℤ, pos, neg_ℤ, ◌+ℤ◌, ◌≤ℤ◌, Bool, List, length, map, slice_index_or}
+use Rattle.std.specs.Prelude.{◌≡◌, ℕ, ◌<◌, ℤ, pos, neg_ℤ, ◌+ℤ◌, ◌≤ℤ◌, Bool, List, Option, None, Some, length, map, slice_get, slice_index_or}
 use Rattle.packed_state.specs.Packed.{bits_of}
 use Rattle.packed_state.specs.declared.packed.Packed.{Packed}
 use Rattle.table_functions.specs.TableFunctions.{Table, row_in, given_by, sum_over}
@@ -13,6 +13,11 @@ widths_of r = map (λ (s : Packed). length (bits_of s)) r.sets.items
 pub record HasRoom (tables : List Table) (count : ℕ) (r : Room) : Type 0 where
   pub sets : widths_of r ≡ map (λ (t : Table). length t.scope) tables
   pub totals : length r.totals.items ≡ count
+
+-- where the packed state's row of the table is, if it has one
+abbrev pub IsPlaceOfRow : Table → List Bool → Option ℕ → Type 0
+IsPlaceOfRow t bits None = row_in bits t ≡ None
+IsPlaceOfRow t bits (Some place) = (place < length t.rows) × (slice_get t.rows place ≡ row_in bits t)
 
 -- a weight less than that is added without an overflow
 pub record IsSmall (z : ℤ) : Type 0 where

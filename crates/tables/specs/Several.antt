@@ -9,7 +9,9 @@ use Rattle.table_functions.specs.FairTables.{IsFair, IsFairAtGoals, IsFirstUnfai
 use Rattle.tables.specs.AllTables.{tables_of, count_of}
 use Rattle.tables.specs.Fairness.{AreInstancesFairAt}
 use Rattle.tables.specs.Rooms.{HasRoom}
+use Rattle.tables.specs.StateRows.{HasRowsRoom}
 use Rattle.tables.specs.declared.rooms.Room.{Room}
+use Rattle.tables.specs.declared.state_rows.StateRows.{StateRows}
 use Rattle.tables.specs.declared.several.TableFunctions.{TableFunctions}
 use Rattle.tables.specs.declared.several.ValuesFairness.{ValuesFairness}
 use Rattle.tables.specs.declared.several.ValuesFairness.TheVariants as reported
@@ -24,6 +26,10 @@ width_of f = length (potentials_of f.dead_ends).weights
 -- there is room for the rows of a state and for what they give to each value
 abbrev pub HasRoomFor : TableFunctions → Room → Type 0
 HasRoomFor f room = HasRoom (tables_of f.tables) (count_of f.tables) room
+
+-- and for where these rows are
+abbrev pub HasRowsFor : TableFunctions → StateRows → Type 0
+HasRowsFor f rows = HasRowsRoom (tables_of f.tables) (count_of f.tables) rows
 
 -- the function is that of the value at this place, and all before it are fair
 pub record IsFirstValue (task : Task) (atoms : List Atom) (s : SeveralValues) (place : ℕ) (function : TableFunction) : Type 0 where

@@ -13,6 +13,7 @@ mod placed;
 mod placing;
 mod rooms;
 mod several;
+mod state_rows;
 mod tables;
 #[cfg(test)]
 mod tests;
@@ -22,4 +23,5 @@ pub use fairness::{TableValue, is_instance_shut_out};
 pub use indexed::IndexedTable;
 pub use rooms::Room;
 pub use several::{TableFunctions, ValuesFairness};
+pub use state_rows::StateRows;
 pub use tables::IndexedTables;

@@ -1,5 +1,5 @@
 //! What the rows of a state give, added up in memory that is lent.
-ghost use Rattle.std.specs.Prelude.{◌≡◌, ℕ, pos, ◌<◌, ◌^◌, All, IfOk, IsTrue, Some, is_some, length, map, nat_lt, slice_index_or, slice_set};
+ghost use Rattle.std.specs.Prelude.{◌≡◌, ℕ, pos, ◌<◌, ◌^◌, All, IfOk, IfSome, IsTrue, Some, is_some, length, map, nat_lt, slice_get, slice_index_or, slice_set};
 ghost use Rattle.std.specs.List.{list_all};
 ghost use Rattle.packed_state.specs.Packed.{bits_of};
 ghost use Rattle.packed_state.specs.Sets.{has};
@@ -8,7 +8,7 @@ ghost use Rattle.table_functions.specs.Laws.{are_over};
 ghost use Rattle.table_functions.specs.TableFunctions.{Row, has_rows, row_in};
 ghost use Rattle.tables.specs.AllTables.{tables_of, count_of};
 ghost use Rattle.tables.specs.Losses.{indexed_of, indexed_count_of};
-ghost use Rattle.tables.specs.Rooms.{HasRoom, IsSmall, AreAdded, AreTotals, widths_of};
+ghost use Rattle.tables.specs.Rooms.{HasRoom, IsPlaceOfRow, IsSmall, AreAdded, AreTotals, widths_of};
 
 use crate::indexed::IndexedTable;
 use crate::tables::IndexedTables;
@@ -62,7 +62,7 @@ impl IndexedTables<'_> {
 
 impl Room {
     /// Adds the weights of the state's row of this table, that at this place, to the totals, if it has one. Whether it has.
-    fn add_row(&mut self, place: usize, table: &IndexedTable<'_>, state: &Packed) -> bool
+    pub(crate) fn add_row(&mut self, place: usize, table: &IndexedTable<'_>, state: &Packed) -> bool
         requires there { place < length self.old.sets.items }
         requires width { slice_index_or (widths_of self.old) place 0 ≡ length (indexed_of table.now).scope }
         requires scope { IsTrue (list_all (λ number. nat_lt number (length (bits_of state.now))) (indexed_of table.now).scope) }
@@ -73,8 +73,39 @@ impl Room {
         ensures long { length self.new.totals.items ≡ length self.old.totals.items }
         ensures widths { widths_of self.new ≡ widths_of self.old }
     {
+        let row = self.find_row(place, table, state);
+        self.add_found(table, row)
+    }
+
+    /// The place of the state's row in this table, that at this place, if it has one.
+    pub(crate) fn find_row(
+        &mut self,
+        place: usize,
+        table: &IndexedTable<'_>,
+        state: &Packed,
+    ) -> Option<u32>
+        requires there { place < length self.old.sets.items }
+        requires width { slice_index_or (widths_of self.old) place 0 ≡ length (indexed_of table.now).scope }
+        requires scope { IsTrue (list_all (λ number. nat_lt number (length (bits_of state.now))) (indexed_of table.now).scope) }
+        ensures row { IsPlaceOfRow (indexed_of table.now) (bits_of state.now) result }
+        ensures totals { self.new.totals.items ≡ self.old.totals.items }
+        ensures widths { widths_of self.new ≡ widths_of self.old }
+    {
         project(table.table().scope(), state, &mut self.sets[place]);
-        match table.table().find(&self.sets[place]) {
+        table.table().find(&self.sets[place])
+    }
+
+    /// Adds the weights of the row at this place of the table to the totals, if there is one. Whether there is.
+    pub(crate) fn add_found(&mut self, table: &IndexedTable<'_>, row: Option<u32>) -> bool
+        requires there { IfSome row (λ place. place < length (indexed_of table.now).rows) }
+        requires count { indexed_count_of table.now ≡ length self.old.totals.items }
+        requires small { All IsSmall self.old.totals.items }
+        ensures has { result ≡ is_some row }
+        ensures totals { (place : ℕ) (r : Row) → row ≡ Some place → slice_get (indexed_of table.now).rows place ≡ Some r → AreAdded self.old.totals.items r.weights self.new.totals.items }
+        ensures long { length self.new.totals.items ≡ length self.old.totals.items }
+        ensures widths { widths_of self.new ≡ widths_of self.old }
+    {
+        match row {
             Some(row) => {
                 add_each(&mut self.totals, table.table().weights(row));
                 true
@@ -109,7 +140,7 @@ fn put(set: &mut Packed, place: u32, value: bool)
 }
 
 /// Makes each total 0.
-fn clear(totals: &mut Vec<i64>)
+pub(crate) fn clear(totals: &mut Vec<i64>)
     ensures long { length totals.new.items ≡ length totals.old.items }
     ensures zero { (place : ℕ) → slice_index_or totals.new.items place (pos 0) ≡ pos 0 }
 {

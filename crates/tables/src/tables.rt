@@ -232,7 +232,7 @@ impl<'a> IndexedTables<'a> {
     }
 
     /// The tables that have an atom of one of the changes in their scope.
-    fn named_by_changes(
+    pub(crate) fn named_by_changes(
         &self,
         alloc: Global,
         changes: &[CountingChange<'_>],

@@ -4,6 +4,12 @@ use Rattle.table_guides.specs.FairTables.{functions_in}
 use Rattle.table_guides.proofs.GuideLemmas.{told}
 use Rattle.table_guides.proofs.fair_tables.FairTablesGuide.value_in.Goals as goal
 
+pub value_unless_dead-requires-clause-room : goal.value_unless_dead-requires-clause-room
+value_unless_dead-requires-clause-room c = c.requires.room.room
+
+pub returns-clause-room : goal.returns-clause-room
+returns-clause-room c = record { room = c.value_unless_dead.ensures.room; rows = c.requires.room.rows }
+
 pub returns-clause-value : goal.returns-clause-value
 returns-clause-value c =
     told (greatest_value (functions_of (functions_in c.args.self.now))) (is_dead_by (dead_ends_of (functions_in c.args.self.now))) (bits_of c.args.state.now) c.value_unless_dead.result c.value_unless_dead.ensures.value

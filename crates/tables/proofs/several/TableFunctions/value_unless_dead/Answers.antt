@@ -20,20 +20,11 @@ returns-then-not-add_up-clause-value c =
       omega arith,
     )
 
-pub is_dead_with_rows-requires-clause-rows : goal.is_dead_with_rows-requires-clause-rows
-is_dead_with_rows-requires-clause-rows c = sym c.add_up.ensures.has ∙ c.if-not-add_up.false
+pub value_with_rows-requires-clause-rows : goal.value_with_rows-requires-clause-rows
+value_with_rows-requires-clause-rows c = sym c.add_up.ensures.has ∙ c.if-not-add_up.false
 
-pub is_dead_with_rows-requires-clause-totals : goal.is_dead_with_rows-requires-clause-totals
-is_dead_with_rows-requires-clause-totals c = c.add_up.ensures.totals c.if-not-add_up.false
-
-pub greatest-requires-clause-rows : goal.greatest-requires-clause-rows
-greatest-requires-clause-rows c = sym c.add_up.ensures.has ∙ c.if-not-add_up.false
-
-pub greatest-requires-clause-totals : goal.greatest-requires-clause-totals
-greatest-requires-clause-totals c = c.add_up.ensures.totals c.if-not-add_up.false
-
-pub returns-then-is_dead_with_rows-clause-value : goal.returns-then-is_dead_with_rows-clause-value
-returns-then-is_dead_with_rows-clause-value c = sym c.is_dead_with_rows.ensures ∙ c.if-is_dead_with_rows.true
+pub value_with_rows-requires-clause-totals : goal.value_with_rows-requires-clause-totals
+value_with_rows-requires-clause-totals c = c.add_up.ensures.totals c.if-not-add_up.false
 
 pub returns-clause-value : goal.returns-clause-value
-returns-clause-value c = (sym c.is_dead_with_rows.ensures ∙ c.if-is_dead_with_rows.false, c.greatest.ensures.value, c.greatest.ensures.small)
+returns-clause-value c = c.value_with_rows.ensures
