@@ -198,12 +198,22 @@ fn add_each(
     ensures { OnOk result (text.new.items ≡ text.old.items ++ reason_lines (task_of task.now) (plan_of plan.now) (map part_of parts.now) (map history_of histories.now)) }
 {
     for (index, part) in parts.iter().enumerate() {
-        let Some(history) = histories.get(index) else {
-            return Ok(());
-        };
-        add_reason(alloc, task, plan, part, *history, text)?;
+        match history_at(histories, index) {
+            Some(history) => add_reason(alloc, task, plan, part, history, text)?,
+            None => return Ok(()),
+        }
     }
     Ok(())
+}
+
+/// The history at this place.
+fn history_at(histories: &[History], place: usize) -> Option<History>
+    ensures { option_map history_of result ≡ slice_get (map history_of histories.now) place }
+{
+    match histories.get(place) {
+        Some(history) => Some(*history),
+        None => None,
+    }
 }
 
 /// Adds the line of a part that is false, with its history.
