@@ -14,6 +14,16 @@ use Rattle.explained_plans.specs.PlanLines.{reason_line, reason_lines}
 use Rattle.model.specs.Task.{Task, Instance}
 use Rattle.model.specs.Task as task
 
+-- ---- pieces that are added one after another
+
+pub two_added : (old first second x y : List ℕ) → x ≡ old ++ first → y ≡ x ++ second → y ≡ old ++ (first ++ second)
+two_added old first second x y one two = two ∙ ap (λ l. l ++ second) one ∙ append_assoc old first second
+
+pub three_added : (old first second third x y z : List ℕ) → x ≡ old ++ first → y ≡ x ++ second → z ≡ y ++ third → z ≡ old ++ (first ++ (second ++ third))
+three_added old first second third x y z one two three =
+    three ∙ ap (λ l. l ++ third) (two_added old first second x y one two)
+    ∙ append_assoc old (first ++ second) third ∙ ap (λ l. old ++ l) (append_assoc first second third)
+
 -- ---- conjunctions and disjunctions
 
 module _ (t : Task) (scope : Scope) where

@@ -23,7 +23,7 @@ loop-index-preserved c =
         slice_get-map part_of parts index ∙ ap (option_map part_of) (slice_get_read parts _ index part refl c.loop-index-test.true c.index-parts-index.is) in
     let there : slice_get told index ≡ Some (history_of c.in-Some.history) = sym c.history_at.ensures ∙ ap (option_map history_of) c.in-Some.is in
     let line = reason_line task plan (part_of part) (history_of c.in-Some.history) in
-    c.in_ok-add_reason.ensures ∙ ap (λ l. l ++ line) c.loop-index.invariant
+    c.in_ok-add_reason-in-Some.ensures ∙ ap (λ l. l ++ line) c.loop-index.invariant
     ∙ append_assoc before (reason_lines task plan (take index all) told) line
     ∙ ap (λ l. before ++ l) (sym (lines_more task plan index (index + 1) (omega arith) all told (part_of part) (history_of c.in-Some.history) here there))
 
