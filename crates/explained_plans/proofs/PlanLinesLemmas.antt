@@ -1,5 +1,5 @@
 -- The texts of conjunctions and disjunctions by the lists of their parts, and the lines of parts one after another.
-use Rattle.std.proofs.Common.{◌≡◌, ℕ, ◌+◌, ◌<◌, suc, zero, List, [], ◌∷◌, ◌++◌, length, map, take, get_or, Option, None, Some, refl, ap, sym, ◌∙◌, subst, append_assoc, append-nil, arith}
+use Rattle.std.proofs.Common.{◌≡◌, ℕ, suc, zero, List, [], ◌∷◌, ◌++◌, take, None, Some, refl, ap, sym, ◌∙◌, append_assoc, append-nil}
 use Rattle.std.specs.Prelude.{codes, slice_get}
 use Rattle.std.specs.Global.{Vec}
 use Rattle.std.specs.List.{flat_map}
@@ -12,7 +12,6 @@ use Rattle.explained_plans.specs.FormulaText.{Scope, formula_text, parts_text}
 use Rattle.explained_plans.specs.Histories.{History}
 use Rattle.explained_plans.specs.PlanLines.{reason_line, reason_lines}
 use Rattle.model.specs.Task.{Task, Instance}
-use Rattle.model.specs.Task as task
 
 -- ---- pieces that are added one after another
 

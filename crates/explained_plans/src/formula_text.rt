@@ -8,7 +8,7 @@ ghost use Rattle.task.specs.Task.{task_of};
 ghost use Rattle.task.specs.TaskParts.{formula_of, lifted_atom_of, object_of, term_of, type_of, union_of};
 ghost use Rattle.explained_plans.specs.FormulaText.{atom_text, formula_text, function_name, next_name, predicate_name, scope_at, term_text, type_name, union_text, variable_declared, variable_text, with_next};
 ghost use Rattle.explained_plans.specs.ScopeView.{scope_of};
-ghost use Rattle.model.specs.PlanWriting.{object_name, object_text};
+ghost use Rattle.model.specs.PlanWriting.{object_name};
 
 use std::alloc::{AllocError, Global};
 use task::{Formula, LiftedAtom, ObjectId, PredicateId, Task, Term, TypeId, TypeUnion};

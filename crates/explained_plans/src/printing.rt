@@ -22,7 +22,7 @@ use crate::histories::History;
 use faults::NoMemory;
 use formulas::{Instance, Plan};
 use plan_file::step_text;
-use std::alloc::{AllocError, Global};
+use std::alloc::Global;
 use task::{Formula, Increase, ObjectId, Task};
 
 /// The line that says what is true of the plan, with LF at its end.
@@ -400,11 +400,7 @@ fn add_lacking_cost(
 }
 
 /// The same of this instance.
-fn add_lacking_value(
-    task: &Task,
-    instance: &Instance,
-    text: &mut Vec<u8>,
-) -> Result<(), NoMemory>
+fn add_lacking_value(task: &Task, instance: &Instance, text: &mut Vec<u8>) -> Result<(), NoMemory>
     ensures { OnOk result (text.new.items ≡ text.old.items ++ instance_increase_text (task_of task.now) (instance_of instance.now)) }
 {
     match task.schema(instance.schema) {

@@ -30,6 +30,7 @@ use Rattle.model.specs.Runs.{IsVerdict}
 use Rattle.model.specs.Files.{IsTaskOf}
 use Rattle.model.specs.PlanText.{AllMean, AreSteps, IsPlanText, Step, placed_from}
 use Rattle.model.specs.Words.{AreParts, Part}
+use Rattle.explained_plans.specs.Explanations as plans
 use Rattle.explained_plans.specs.Explanations.{IsExplained}
 use Rattle.explained_plans.specs.StepPlaces.{IsStepPlace, span_of}
 use Rattle.explained_plans.specs.declared.explanations.PlanExplanation.{PlanExplanation}
@@ -156,6 +157,13 @@ step_located file (runs.not_applicable step) (Some span) at is located = (span, 
 step_located file runs.goal_missed found at is located = tt
 
 module _ (task : model.Task) (steps : List model.Instance) where
+  -- what is told of what is explained is true where that is
+  pub explained_told : (file : Named) (explained : PlanExplanation) → IsVerdict (system_of task) steps (plans.verdict_of explained)
+      → IsExplained task steps explained → (r : Result Explanation NoMemory) → IfOk r (IsPlanTold task steps file explained)
+      → IfOk r (IsVerdictExplained task steps file)
+  explained_told file explained is_true is_explained (Ok e) told = (explained, is_true, is_explained, told)
+  explained_told file explained is_true is_explained (Err failed) told = tt
+
   module _ (texts : NamedTexts) (is_task : IsTaskOf texts.domain.text.now texts.problem.text.now task) (is_plan : IsPlanText task texts.plan.text.now steps) where
     plan_said : (explained : PlanExplanation) (e : Explanation) → IsExplained task steps explained → (told : IsPlanTold task steps (named_of texts.plan) explained e)
         → IsPlanSaid (files_in texts) texts.plan.text.now (verdict_of told.code) e.location (string_bytes e.text)

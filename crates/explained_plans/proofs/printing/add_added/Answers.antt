@@ -6,7 +6,6 @@ use Rattle.formulas.specs.State.{plan_of}
 use Rattle.explained_plans.specs.FormulaText.{formula_text, scope_at}
 use Rattle.explained_plans.specs.Parts.{history_of}
 use Rattle.explained_plans.specs.PlanLines.{added_text}
-use Rattle.explained_plans.specs.ScopeView.{scope_of}
 use Rattle.explained_plans.proofs.PlanLinesLemmas.{three_added}
 use Rattle.explained_plans.proofs.printing.add_added.Goals as goal
 

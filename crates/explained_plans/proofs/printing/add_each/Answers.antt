@@ -1,4 +1,4 @@
-use Rattle.std.proofs.Common.{◌≡◌, ◌+◌, ◌++◌, suc, map, take, Some, None, refl, ap, sym, ◌∙◌, append_assoc, arith}
+use Rattle.std.proofs.Common.{◌≡◌, ◌+◌, ◌++◌, map, take, Some, None, refl, ap, sym, ◌∙◌, append_assoc, arith}
 use Rattle.std.specs.Prelude.{slice_get}
 use Rattle.std.specs.Option.{option_map}
 use Rattle.std.proofs.lemmas.Option.{slice_get-map, slice_get_read}
@@ -20,7 +20,7 @@ loop-index-preserved c =
     let index = c.loop-index.index in
     let before = c.args.text.now.items in
     let here : slice_get all index ≡ Some (part_of part) =
-        slice_get-map part_of parts index ∙ ap (option_map part_of) (slice_get_read parts _ index part refl c.loop-index-test.true c.index-parts-index.is) in
+    slice_get-map part_of parts index ∙ ap (option_map part_of) (slice_get_read parts _ index part refl c.loop-index-test.true c.index-parts-index.is) in
     let there : slice_get told index ≡ Some (history_of c.in-Some.history) = sym c.history_at.ensures ∙ ap (option_map history_of) c.in-Some.is in
     let line = reason_line task plan (part_of part) (history_of c.in-Some.history) in
     c.in_ok-add_reason-in-Some.ensures ∙ ap (λ l. l ++ line) c.loop-index.invariant

@@ -4,7 +4,6 @@ use Rattle.task.specs.Task.{task_of}
 use Rattle.task.specs.TaskParts.{increase_of, lifted_atom_of, object_of}
 use Rattle.explained_plans.specs.FormulaText.{atom_text, function_name, scope_at}
 use Rattle.explained_plans.specs.PlanLines.{increase_text}
-use Rattle.explained_plans.specs.ScopeView.{scope_of}
 use Rattle.explained_plans.proofs.PlanLinesLemmas.{two_added}
 use Rattle.explained_plans.proofs.printing.add_increase.Goals as goal
 
