@@ -6,3 +6,4 @@ pub mod Stopping
 pub mod StepPlaceLemmas
 pub mod Counting
 pub mod FormsLemmas
+pub mod PlanLinesLemmas

@@ -3,5 +3,8 @@ pub mod Histories
 pub mod Forms
 pub mod Parts
 pub mod Explanations
+pub mod FormulaText
+pub mod ScopeView
 pub mod StepPlaces
+pub mod PlanLines
 pub mod Said

@@ -1,19 +1,21 @@
 -- What is said of a plan and of a task, byte by byte.
 use Rattle.std.specs.Prelude.{◌≡◌, ℕ, Bool, List, ◌++◌, codes, if◌then◌else◌, length}
 use Rattle.std.specs.Fmt.{decimal}
+use Rattle.std.specs.Str.Lossy.{utf8_lossy}
 use Rattle.explained_plans.specs.declared.explanations.PlanExplanation.{PlanExplanation}
 use Rattle.explained_plans.specs.declared.explanations.PlanExplanation.TheVariants.{Solves, NotApplicable, GoalMissed}
 use Rattle.explained_plans.specs.declared.forms.Forms.{Forms}
 use Rattle.explained_plans.specs.declared.summary.Summary.{Summary}
 use Rattle.explained_plans.specs.Forms.{AreForms}
-use Rattle.model.specs.Task.{Task}
-use Rattle.model.specs.Runs as runs
+use Rattle.explained_plans.specs.PlanLines.{reasons_text, step_reasons_text}
+use Rattle.model.specs.Task.{Task, Instance}
 
--- the line of a verdict: of a plan that solves its cost, and of one whose step is not applicable the number of the step
-abbrev pub IsVerdictLine : runs.Verdict → (line : List ℕ) → Type 0
-IsVerdictLine (runs.valid cost) line = line ≡ codes "valid, cost " ++ (decimal cost ++ codes "\n")
-IsVerdictLine (runs.not_applicable step) line = (rest : List ℕ) × (line ≡ codes "step " ++ (decimal step ++ (codes ", " ++ rest)))
-IsVerdictLine runs.goal_missed line = line ≡ codes "every step is applicable, but the goal is not reached\n"
+-- The lines beside the verdict are these bytes, where such as are no text are replaced: a name has none. They say why a step is not
+-- applicable, or the goal is missed.
+abbrev pub HasDetails : Task → List Instance → PlanExplanation → (text : List ℕ) → Type 0
+HasDetails task steps (Solves costs total) text = Unit {0}
+HasDetails task steps (NotApplicable step lacks_cost reasons) text = text ≡ utf8_lossy (step_reasons_text task steps step lacks_cost reasons)
+HasDetails task steps (GoalMissed reasons) text = text ≡ utf8_lossy (reasons_text task steps reasons)
 
 -- the numbers and forms are those of the task; numbers of predicates and functions below the greatest of the machine
 pub record IsSummaryOf (task : Task) (s : Summary) : Type 0 where
@@ -46,3 +48,11 @@ forms_line s = codes "costs " ++ (answer s.has_costs ++ (codes ", " ++ (forms_te
 
 abbrev pub summary_text : Summary → List ℕ
 summary_text s = numbers_line s ++ forms_line s
+
+-- ---- on the way
+
+-- they are added
+abbrev pub AddsDetails : Task → List Instance → PlanExplanation → (before after : List ℕ) → Type 0
+AddsDetails task steps (Solves costs total) before after = Unit {0}
+AddsDetails task steps (NotApplicable step lacks_cost reasons) before after = after ≡ before ++ step_reasons_text task steps step lacks_cost reasons
+AddsDetails task steps (GoalMissed reasons) before after = after ≡ before ++ reasons_text task steps reasons

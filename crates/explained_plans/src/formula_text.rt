@@ -1,64 +1,127 @@
 //! Formulas as texts, with objects in place of the variables that have them.
-use faults::NoMemory;
-use std::alloc::Global;
-use task::{Formula, LiftedAtom, ObjectId, Task, Term, TypeId, TypeUnion};
+ghost use Rattle.std.specs.Prelude.{◌≡◌, ◌++◌, ◌∷◌, [], ℕ, List, codes, map, slice_get, IfOk, OnOk};
+ghost use Rattle.std.specs.Borrow.{Bor};
+ghost use Rattle.std.specs.List.{flat_map};
+ghost use Rattle.std.specs.Option.{option_map_or};
+ghost use Rattle.std.specs.String.{string_bytes};
+ghost use Rattle.task.specs.Task.{task_of};
+ghost use Rattle.task.specs.TaskParts.{formula_of, lifted_atom_of, object_of, term_of, type_of, union_of};
+ghost use Rattle.explained_plans.specs.FormulaText.{atom_text, formula_text, function_name, next_name, predicate_name, scope_at, term_text, type_name, union_text, variable_declared, variable_text, with_next};
+ghost use Rattle.explained_plans.specs.ScopeView.{scope_of};
+ghost use Rattle.model.specs.PlanWriting.{object_name};
 
-/// Adds the text of the formula, where the first variables in scope have these objects. A variable of a quantifier in it is
-/// reported as `?1`, `?2` and so on, by its place in scope after those; `inner` counts those that are in scope.
+use std::alloc::{AllocError, Global};
+use task::{Formula, LiftedAtom, ObjectId, PredicateId, Task, Term, TypeId, TypeUnion};
+
+/// What has a place in scope: the objects of the variables that have one, and the names of those behind them.
+#[derive(Clone, Copy)]
+pub(crate) struct Scope<'a> {
+    /// The objects, in order.
+    pub objects: &'a [ObjectId],
+    /// The names, the outermost quantifier's first.
+    pub names: &'a [&'a [u8]],
+}
+
+impl<'a> Scope<'a> {
+    /// A scope of variables that all have objects.
+    pub(crate) fn of(objects: &'a [ObjectId]) -> Scope<'a>
+        ensures { scope_of result ≡ scope_at (map object_of objects.now) }
+    {
+        Scope {
+            objects,
+            names: &[],
+        }
+    }
+}
+
+/// Adds the text of the formula. A variable of a quantifier in it is reported as `?1`, `?2` and so on, by its place in scope
+/// behind those that have objects.
 #[cycle(formula)]
 pub(crate) fn add_formula(
     alloc: Global,
     task: &Task,
     formula: &Formula,
-    objects: &[ObjectId],
-    inner: usize,
+    scope: Scope<'_>,
     text: &mut Vec<u8>,
-) -> Result<(), NoMemory> {
+) -> Result<(), AllocError>
+    ensures { OnOk result (text.new.items ≡ text.old.items ++ formula_text (task_of task.now) (scope_of scope.entry) (formula_of formula.now)) }
+{
     match formula {
         Formula::Atom(atom) => {
-            let name = task.predicate_name(atom.predicate).unwrap_or(b"");
-            add_atom(alloc, task, name, atom, objects, text)
+            let name = predicate_name(task, atom.predicate);
+            add_atom(task, name, atom, scope, text)
         }
-        Formula::Equal(left, right) => add_equality(alloc, task, left, right, objects, text),
-        Formula::And(parts) => add_parts(alloc, task, b"(and", parts, objects, inner, text),
-        Formula::Or(parts) => add_parts(alloc, task, b"(or", parts, objects, inner, text),
-        Formula::Not(part) => {
-            text.extend_from_slice(b"(not ")?;
-            add_formula(alloc, task, part, objects, inner, text)?;
-            text.extend_from_slice(b")")?;
-            Ok(())
-        }
+        Formula::Equal(left, right) => add_equality(task, left, right, scope, text),
+        Formula::And(parts) => add_parts(alloc, task, b"(and", parts, scope, text),
+        Formula::Or(parts) => add_parts(alloc, task, b"(or", parts, scope, text),
+        Formula::Not(part) => add_negation(alloc, task, part, scope, text),
         Formula::Imply(premise, conclusion) => {
             text.extend_from_slice(b"(imply ")?;
-            add_formula(alloc, task, premise, objects, inner, text)?;
+            add_formula(alloc, task, premise, scope, text)?;
             text.extend_from_slice(b" ")?;
-            add_formula(alloc, task, conclusion, objects, inner, text)?;
-            text.extend_from_slice(b")")?;
-            Ok(())
+            add_formula(alloc, task, conclusion, scope, text)?;
+            text.extend_from_slice(b")")
         }
         Formula::Exists(types, part) => {
-            add_quantified(alloc, task, b"(exists (", types, part, objects, inner, text)
+            add_quantified(alloc, task, b"(exists (", types, part, scope, text)
         }
         Formula::Forall(types, part) => {
-            add_quantified(alloc, task, b"(forall (", types, part, objects, inner, text)
+            add_quantified(alloc, task, b"(forall (", types, part, scope, text)
         }
     }
 }
 
 /// Adds an equality.
 fn add_equality(
-    alloc: Global,
     task: &Task,
     left: &Term,
     right: &Term,
-    objects: &[ObjectId],
+    scope: Scope<'_>,
     text: &mut Vec<u8>,
-) -> Result<(), NoMemory> {
+) -> Result<(), AllocError>
+    ensures { OnOk result (text.new.items ≡ text.old.items ++ (codes "(=" ++ (term_text (task_of task.now) (scope_of scope.entry) (term_of left.now)
+        ++ (term_text (task_of task.now) (scope_of scope.entry) (term_of right.now) ++ codes ")")))) }
+{
     text.extend_from_slice(b"(=")?;
-    add_term(alloc, task, left, objects, text)?;
-    add_term(alloc, task, right, objects, text)?;
-    text.extend_from_slice(b")")?;
-    Ok(())
+    add_term(task, left, scope, text)?;
+    add_term(task, right, scope, text)?;
+    text.extend_from_slice(b")")
+}
+
+/// Adds a negation.
+#[cycle(formula)]
+fn add_negation(
+    alloc: Global,
+    task: &Task,
+    part: &Formula,
+    scope: Scope<'_>,
+    text: &mut Vec<u8>,
+) -> Result<(), AllocError>
+    ensures { OnOk result (text.new.items ≡ text.old.items ++ (codes "(not " ++ (formula_text (task_of task.now) (scope_of scope.entry) (formula_of part.now) ++ codes ")"))) }
+{
+    text.extend_from_slice(b"(not ")?;
+    add_formula(alloc, task, part, scope, text)?;
+    text.extend_from_slice(b")")
+}
+
+/// Adds the word of a conjunction or a disjunction and its parts.
+#[cycle(formula)]
+fn add_parts(
+    alloc: Global,
+    task: &Task,
+    opening: &[u8],
+    parts: &[Formula],
+    scope: Scope<'_>,
+    text: &mut Vec<u8>,
+) -> Result<(), AllocError>
+    ensures { OnOk result (text.new.items ≡ text.old.items ++ (opening.now ++ (flat_map (λ part. codes " " ++ formula_text (task_of task.now) (scope_of scope.entry) (formula_of part)) parts.now ++ codes ")"))) }
+{
+    text.extend_from_slice(opening)?;
+    for part in parts {
+        text.extend_from_slice(b" ")?;
+        add_formula(alloc, task, part, scope, text)?;
+    }
+    text.extend_from_slice(b")")
 }
 
 /// Adds a quantifier of this beginning: its variable, what this has to be, and its part.
@@ -69,118 +132,181 @@ fn add_quantified(
     opening: &[u8],
     types: &TypeUnion,
     part: &Formula,
-    objects: &[ObjectId],
-    inner: usize,
+    scope: Scope<'_>,
     text: &mut Vec<u8>,
-) -> Result<(), NoMemory> {
-    add_variable(alloc, task, opening, types, inner, text)?;
-    add_formula(alloc, task, part, objects, inner.saturating_add(1), text)?;
-    text.extend_from_slice(b")")?;
-    Ok(())
-}
-
-/// Adds the word of a conjunction or a disjunction and its parts.
-#[cycle(formula)]
-fn add_parts(
-    alloc: Global,
-    task: &Task,
-    opening: &[u8],
-    parts: &[Formula],
-    objects: &[ObjectId],
-    inner: usize,
-    text: &mut Vec<u8>,
-) -> Result<(), NoMemory> {
+) -> Result<(), AllocError>
+    ensures { OnOk result (text.new.items ≡ text.old.items ++ (opening.now ++ (variable_declared (task_of task.now) (scope_of scope.entry) (union_of types.now)
+        ++ (formula_text (task_of task.now) (with_next (scope_of scope.entry)) (formula_of part.now) ++ codes ")")))) }
+{
+    let name = next_name(alloc, scope)?;
+    let names = with_name(alloc, scope.names, name.as_bytes())?;
     text.extend_from_slice(opening)?;
-    for part in parts {
-        text.extend_from_slice(b" ")?;
-        add_formula(alloc, task, part, objects, inner, text)?;
-    }
-    text.extend_from_slice(b")")?;
-    Ok(())
+    add_declared(task, name.as_bytes(), types, text)?;
+    let inner = Scope {
+        objects: scope.objects,
+        names: names.as_slice(),
+    };
+    add_formula(alloc, task, part, inner, text)?;
+    text.extend_from_slice(b")")
 }
 
-/// Adds the beginning of a quantifier, up to its part: its variable, after so many others, and what this has to be.
-fn add_variable(
+/// The name of the next variable.
+fn next_name(alloc: Global, scope: Scope<'_>) -> Result<String, AllocError>
+    ensures { IfOk result (λ name. string_bytes name ≡ next_name (scope_of scope.entry)) }
+{
+    let number = scope.names.len() + 1;
+    format!(in alloc; "?{number}")
+}
+
+/// The names, and one more.
+fn with_name<'a>(
     alloc: Global,
+    names: &[&'a [u8]],
+    name: &'a [u8],
+) -> Result<Vec<&'a [u8]>, AllocError>
+    ensures { IfOk result (λ all. all.items ≡ names.now ++ name.entry ∷ []) }
+{
+    let mut all = Vec::new(alloc);
+    all.extend_from_slice(names)?;
+    all.push(name)?;
+    Ok(all)
+}
+
+/// Adds the name of a quantifier's variable, and what this has to be.
+fn add_declared(
     task: &Task,
-    opening: &[u8],
+    name: &[u8],
     types: &TypeUnion,
-    inner: usize,
     text: &mut Vec<u8>,
-) -> Result<(), NoMemory> {
-    text.extend_from_slice(opening)?;
-    add_inner(alloc, inner, text)?;
+) -> Result<(), AllocError>
+    ensures { OnOk result (text.new.items ≡ text.old.items ++ (name.now ++ (codes " - " ++ (union_text (task_of task.now) (union_of types.now) ++ codes ") ")))) }
+{
+    text.extend_from_slice(name)?;
     text.extend_from_slice(b" - ")?;
     add_types(task, types, text)?;
-    text.extend_from_slice(b") ")?;
-    Ok(())
-}
-
-/// Adds the name of a quantifier's variable, after so many others.
-fn add_inner(alloc: Global, before: usize, text: &mut Vec<u8>) -> Result<(), NoMemory> {
-    let name = format!(in alloc; "?{}", before.saturating_add(1))?;
-    text.extend_from_slice(name.as_bytes())?;
-    Ok(())
+    text.extend_from_slice(b") ")
 }
 
 /// Adds the name of the type, or `(either ..)` where there are several.
-fn add_types(task: &Task, types: &TypeUnion, text: &mut Vec<u8>) -> Result<(), NoMemory> {
+fn add_types(task: &Task, types: &TypeUnion, text: &mut Vec<u8>) -> Result<(), AllocError>
+    ensures { OnOk result (text.new.items ≡ text.old.items ++ union_text (task_of task.now) (union_of types.now)) }
+{
     match types.0.as_slice() {
-        [only] => add_type(task, *only, text),
-        several => {
-            text.extend_from_slice(b"(either")?;
-            for one in several {
-                text.extend_from_slice(b" ")?;
-                add_type(task, *one, text)?;
-            }
-            text.extend_from_slice(b")")?;
-            Ok(())
-        }
+        [only] => text.extend_from_slice(type_name(task, *only)),
+        several => add_either(task, several, text),
     }
 }
 
-fn add_type(task: &Task, id: TypeId, text: &mut Vec<u8>) -> Result<(), NoMemory> {
-    text.extend_from_slice(task.type_name(id).unwrap_or(b""))?;
-    Ok(())
+/// Adds `(either ..)` of these types.
+fn add_either(task: &Task, types: &[TypeId], text: &mut Vec<u8>) -> Result<(), AllocError>
+    ensures { OnOk result (text.new.items ≡ text.old.items
+        ++ (codes "(either" ++ (flat_map (λ number. codes " " ++ type_name (task_of task.now) number) (map type_of types.now) ++ codes ")"))) }
+{
+    text.extend_from_slice(b"(either")?;
+    for one in types {
+        text.extend_from_slice(b" ")?;
+        text.extend_from_slice(type_name(task, *one))?;
+    }
+    text.extend_from_slice(b")")
 }
 
 /// Adds an atom of this name, or a function of terms.
 pub(crate) fn add_atom(
-    alloc: Global,
     task: &Task,
     name: &[u8],
     atom: &LiftedAtom,
-    objects: &[ObjectId],
+    scope: Scope<'_>,
     text: &mut Vec<u8>,
-) -> Result<(), NoMemory> {
+) -> Result<(), AllocError>
+    ensures { OnOk result (text.new.items ≡ text.old.items ++ atom_text (task_of task.now) (scope_of scope.entry) name.now (lifted_atom_of atom.now).terms) }
+{
     text.extend_from_slice(b"(")?;
     text.extend_from_slice(name)?;
     for term in &atom.terms {
-        add_term(alloc, task, term, objects, text)?;
+        add_term(task, term, scope, text)?;
     }
-    text.extend_from_slice(b")")?;
-    Ok(())
+    text.extend_from_slice(b")")
 }
 
 /// Adds a blank and the term.
 fn add_term(
-    alloc: Global,
     task: &Task,
     term: &Term,
-    objects: &[ObjectId],
+    scope: Scope<'_>,
     text: &mut Vec<u8>,
-) -> Result<(), NoMemory> {
+) -> Result<(), AllocError>
+    ensures { OnOk result (text.new.items ≡ text.old.items ++ term_text (task_of task.now) (scope_of scope.entry) (term_of term.now)) }
+{
     text.extend_from_slice(b" ")?;
+    text.extend_from_slice(term_name(task, term, scope))
+}
+
+/// The name of an object, of the object of a variable, or of a variable that has none.
+fn term_name<'a>(task: &'a Task, term: &Term, scope: Scope<'a>) -> &'a [u8]
+    ensures { codes " " ++ result.now ≡ term_text (task_of task.now) (scope_of scope.entry) (term_of term.now) }
+{
     match term {
-        Term::Object(object) => add_object(task, *object, text),
-        Term::Variable(variable) => match objects.get(variable.0) {
-            Some(object) => add_object(task, *object, text),
-            None => add_inner(alloc, variable.0.saturating_sub(objects.len()), text),
-        },
+        Term::Object(object) => object_name(task, *object),
+        Term::Variable(variable) => variable_name(task, variable.0, scope),
     }
 }
 
-fn add_object(task: &Task, object: ObjectId, text: &mut Vec<u8>) -> Result<(), NoMemory> {
-    text.extend_from_slice(task.object_name(object).unwrap_or(b""))?;
-    Ok(())
+/// The name of the object of the variable of this number, or the variable's where it has none.
+fn variable_name<'a>(task: &'a Task, number: usize, scope: Scope<'a>) -> &'a [u8]
+    ensures { codes " " ++ result.now ≡ variable_text (task_of task.now) (scope_of scope.entry) number }
+{
+    match scope.objects.get(number) {
+        Some(object) => object_name(task, *object),
+        None => inner_name(scope.names, number.saturating_sub(scope.objects.len())),
+    }
+}
+
+/// The name at this place; no bytes where there is none.
+fn inner_name<'a>(names: &[&'a [u8]], place: usize) -> &'a [u8]
+    ensures { result.now ≡ option_map_or (λ (name : Bor (List ℕ)). name.now) (slice_get names.now place) [] }
+{
+    match names.get(place) {
+        Some(name) => name,
+        None => b"",
+    }
+}
+
+/// The object's name; no bytes where there is no such object.
+fn object_name(task: &Task, object: ObjectId) -> &[u8]
+    ensures { result.now ≡ object_name (task_of task.now) object.0 }
+{
+    match task.object_name(object) {
+        Some(name) => name,
+        None => b"",
+    }
+}
+
+/// The type's name; no bytes where there is no such type.
+fn type_name(task: &Task, id: TypeId) -> &[u8]
+    ensures { result.now ≡ type_name (task_of task.now) id.0 }
+{
+    match task.type_name(id) {
+        Some(name) => name,
+        None => b"",
+    }
+}
+
+/// The predicate's name; no bytes where there is no such predicate.
+fn predicate_name(task: &Task, predicate: PredicateId) -> &[u8]
+    ensures { result.now ≡ predicate_name (task_of task.now) predicate.0 }
+{
+    match task.predicate_name(predicate) {
+        Some(name) => name,
+        None => b"",
+    }
+}
+
+/// The function's name; no bytes where there is no such function.
+pub(crate) fn function_name(task: &Task, function: PredicateId) -> &[u8]
+    ensures { result.now ≡ function_name (task_of task.now) function.0 }
+{
+    match task.function_name(function) {
+        Some(name) => name,
+        None => b"",
+    }
 }

@@ -1,16 +1,26 @@
 //! What is said of a plan, as lines of text.
-ghost use Rattle.std.specs.Prelude.{IfOk};
+ghost use Rattle.std.specs.Prelude.{◌≡◌, ◌++◌, ◌-◌, ◌==◌, codes, if◌then◌else◌, map, slice_get, None, IfOk, OnOk};
+ghost use Rattle.std.specs.Borrow.{Bor};
+ghost use Rattle.std.specs.Fmt.{decimal};
+ghost use Rattle.std.specs.Option.{option_map};
 ghost use Rattle.std.specs.String.{string_bytes};
+ghost use Rattle.task.specs.Task.{task_of};
+ghost use Rattle.task.specs.TaskParts.{formula_of, increase_of, object_of};
+ghost use Rattle.formulas.specs.State.{instance_of, plan_of};
+ghost use Rattle.formulas.specs.declared.instance.Instance.{Instance};
 ghost use Rattle.explained_plans.specs.Explanations.{verdict_of};
-ghost use Rattle.explained_plans.specs.Said.{IsVerdictLine};
-ghost use Rattle.model.specs.Runs.{goal_missed, not_applicable, valid};
+ghost use Rattle.explained_plans.specs.FormulaText.{formula_text, scope_at};
+ghost use Rattle.explained_plans.specs.Parts.{history_of, part_of};
+ghost use Rattle.explained_plans.specs.PlanLines.{added_text, cause_text, deleted_text, increase_text, instance_increase_text, lacking_text, made_text, negation_text, reason_line, reason_lines, reasons_text, step_name, step_reasons_text, verdict_line, why_text};
+ghost use Rattle.explained_plans.specs.Said.{AddsDetails, HasDetails};
+ghost use Rattle.model.specs.Runs.{not_applicable};
 
 use crate::explanations::{PlanExplanation, Reasons};
 use crate::false_parts::Part;
-use crate::formula_text::{add_atom, add_formula};
+use crate::formula_text::{Scope, add_atom, add_formula, function_name};
 use crate::histories::History;
 use faults::NoMemory;
-use formulas::Plan;
+use formulas::{Instance, Plan};
 use plan_file::step_text;
 use std::alloc::Global;
 use task::{Formula, Increase, ObjectId, Task};
@@ -32,7 +42,7 @@ pub fn report_verdict(
     plan: &Plan,
     explanation: &PlanExplanation<'_>,
 ) -> Result<String, NoMemory>
-    ensures { IfOk result (λ line. IsVerdictLine (verdict_of explanation.now) (string_bytes line)) }
+    ensures { IfOk result (λ line. string_bytes line ≡ verdict_line (task_of task.now) (plan_of plan.now) (verdict_of explanation.now)) }
 {
     match explanation {
         PlanExplanation::Solves { total, .. } => cost_line(alloc, *total),
@@ -43,14 +53,14 @@ pub fn report_verdict(
 
 /// The line of a plan that solves the task at this cost.
 fn cost_line(alloc: Global, total: u64) -> Result<String, NoMemory>
-    ensures { IfOk result (λ line. IsVerdictLine (valid total) (string_bytes line)) }
+    ensures { IfOk result (λ line. string_bytes line ≡ codes "valid, cost " ++ (decimal total ++ codes "\n")) }
 {
     Ok(format!(in alloc; "valid, cost {total}\n")?)
 }
 
 /// The line of a plan that misses the goal.
 fn missed_line(alloc: Global) -> Result<String, NoMemory>
-    ensures { IfOk result (λ line. IsVerdictLine goal_missed (string_bytes line)) }
+    ensures { IfOk result (λ line. string_bytes line ≡ codes "every step is applicable, but the goal is not reached\n") }
 {
     Ok(String::from_str(
         alloc,
@@ -60,7 +70,7 @@ fn missed_line(alloc: Global) -> Result<String, NoMemory>
 
 /// The line of the step of this number, which is not applicable.
 fn step_line(alloc: Global, task: &Task, plan: &Plan, step: usize) -> Result<String, NoMemory>
-    ensures { IfOk result (λ line. IsVerdictLine (not_applicable step) (string_bytes line)) }
+    ensures { IfOk result (λ line. string_bytes line ≡ verdict_line (task_of task.now) (plan_of plan.now) (not_applicable step)) }
 {
     let words = step_name(alloc, task, plan, step)?;
     numbered_line(alloc, step, words.as_str())
@@ -68,7 +78,7 @@ fn step_line(alloc: Global, task: &Task, plan: &Plan, step: usize) -> Result<Str
 
 /// The same of these words for the step.
 fn numbered_line(alloc: Global, step: usize, words: &str) -> Result<String, NoMemory>
-    ensures { IfOk result (λ line. IsVerdictLine (not_applicable step) (string_bytes line)) }
+    ensures { IfOk result (λ line. string_bytes line ≡ codes "step " ++ (decimal step ++ (codes ", " ++ (words.now ++ codes ", is not applicable\n")))) }
 {
     Ok(format!(in alloc; "step {step}, {words}, is not applicable\n")?)
 }
@@ -92,34 +102,33 @@ pub fn report_details(
     task: &Task,
     plan: &Plan,
     explanation: &PlanExplanation<'_>,
-) -> Result<String, NoMemory> {
+) -> Result<String, NoMemory>
+    ensures { IfOk result (λ text. HasDetails (task_of task.now) (plan_of plan.now) explanation.now (string_bytes text)) }
+{
     let mut text = Vec::new(alloc);
+    add_details(alloc, task, plan, explanation, &mut text)?;
+    Ok(String::from_utf8_lossy(alloc, text.as_slice())?)
+}
+
+/// Adds the lines that say why.
+fn add_details(
+    alloc: Global,
+    task: &Task,
+    plan: &Plan,
+    explanation: &PlanExplanation<'_>,
+    text: &mut Vec<u8>,
+) -> Result<(), NoMemory>
+    ensures { OnOk result (AddsDetails (task_of task.now) (plan_of plan.now) explanation.now text.old.items text.new.items) }
+{
     match explanation {
-        PlanExplanation::Solves { costs, .. } => add_steps(alloc, task, plan, costs, &mut text)?,
+        PlanExplanation::Solves { costs, .. } => add_steps(alloc, task, plan, costs, text),
         PlanExplanation::NotApplicable {
             step,
             lacks_cost,
             reasons,
-        } => {
-            add_reasons(alloc, task, plan, reasons, &mut text)?;
-            if *lacks_cost {
-                add_lacking_cost(alloc, task, plan, *step, &mut text)?;
-            }
-        }
-        PlanExplanation::GoalMissed { reasons } => {
-            add_reasons(alloc, task, plan, reasons, &mut text)?
-        }
+        } => add_step_reasons(alloc, task, plan, *step, *lacks_cost, reasons, text),
+        PlanExplanation::GoalMissed { reasons } => add_reasons(alloc, task, plan, reasons, text),
     }
-    of_bytes(alloc, &text)
-}
-
-/// The text of bytes that are all ASCII, as names are.
-fn of_bytes(alloc: Global, bytes: &[u8]) -> Result<String, NoMemory> {
-    let mut text = String::with_capacity(alloc, bytes.len())?;
-    for byte in bytes {
-        text.push(char::from(*byte))?;
-    }
-    Ok(text)
 }
 
 /// Adds a line for each step: its number, its text, what it costs and what the steps so far cost.
@@ -135,10 +144,27 @@ fn add_steps(
         total = total.saturating_add(u64::from(*cost));
         let step = step_text(alloc, task, step)?;
         let number = index.saturating_add(1);
-        add_text(
-            &format!(in alloc; "{number}  {step}  cost {cost}, {total} so far\n")?,
-            text,
-        )?;
+        let line = format!(in alloc; "{number}  {step}  cost {cost}, {total} so far\n")?;
+        text.extend_from_slice(line.as_bytes())?;
+    }
+    Ok(())
+}
+
+/// Adds why the step of this number is not applicable.
+fn add_step_reasons(
+    alloc: Global,
+    task: &Task,
+    plan: &Plan,
+    step: usize,
+    lacks_cost: bool,
+    reasons: &Reasons<'_>,
+    text: &mut Vec<u8>,
+) -> Result<(), NoMemory>
+    ensures { OnOk result (text.new.items ≡ text.old.items ++ step_reasons_text (task_of task.now) (plan_of plan.now) step lacks_cost reasons.now) }
+{
+    add_reasons(alloc, task, plan, reasons, text)?;
+    if lacks_cost {
+        add_lacking_cost(task, plan, step, text)?;
     }
     Ok(())
 }
@@ -150,14 +176,44 @@ fn add_reasons(
     plan: &Plan,
     reasons: &Reasons<'_>,
     text: &mut Vec<u8>,
-) -> Result<(), NoMemory> {
-    for (part, history) in reasons.parts.iter().zip(&reasons.histories) {
-        add_reason(alloc, task, plan, part, *history, text)?;
-    }
+) -> Result<(), NoMemory>
+    ensures { OnOk result (text.new.items ≡ text.old.items ++ reasons_text (task_of task.now) (plan_of plan.now) reasons.now) }
+{
+    add_each(alloc, task, plan, &reasons.parts, &reasons.histories, text)?;
     if reasons.more {
         text.extend_from_slice(b"More conditions are false.\n")?;
     }
     Ok(())
+}
+
+/// Adds a line for each part, with the history at its place.
+fn add_each(
+    alloc: Global,
+    task: &Task,
+    plan: &Plan,
+    parts: &[Part<'_>],
+    histories: &[History],
+    text: &mut Vec<u8>,
+) -> Result<(), NoMemory>
+    ensures { OnOk result (text.new.items ≡ text.old.items ++ reason_lines (task_of task.now) (plan_of plan.now) (map part_of parts.now) (map history_of histories.now)) }
+{
+    for (index, part) in parts.iter().enumerate() {
+        match history_at(histories, index) {
+            Some(history) => add_reason(alloc, task, plan, part, history, text)?,
+            None => return Ok(()),
+        }
+    }
+    Ok(())
+}
+
+/// The history at this place.
+fn history_at(histories: &[History], place: usize) -> Option<History>
+    ensures { option_map history_of result ≡ slice_get (map history_of histories.now) place }
+{
+    match histories.get(place) {
+        Some(history) => Some(*history),
+        None => None,
+    }
 }
 
 /// Adds the line of a part that is false, with its history.
@@ -168,34 +224,72 @@ fn add_reason(
     part: &Part<'_>,
     history: History,
     text: &mut Vec<u8>,
-) -> Result<(), NoMemory> {
+) -> Result<(), NoMemory>
+    ensures { OnOk result (text.new.items ≡ text.old.items ++ reason_line (task_of task.now) (plan_of plan.now) (part_of part.now) (history_of history)) }
+{
     let objects = part.objects.as_slice();
-    add_formula(alloc, task, part.formula, objects, 0, text)?;
+    add_formula(alloc, task, part.formula, Scope::of(objects), text)?;
     text.extend_from_slice(b" is false")?;
-    match part.formula {
-        Formula::Atom(_) => match history {
-            History::Always => text.extend_from_slice(b": it was never true")?,
-            History::ByStep(step) => add_cause(alloc, task, plan, step, b" deleted it", text)?,
-        },
-        Formula::Not(negated) if is_atom(negated) => {
-            add_negated(alloc, task, plan, negated, objects, history, text)?
-        }
-        _ => {
-            if let History::ByStep(step) = history {
-                add_cause(alloc, task, plan, step, b" made it so", text)?
-            }
-        }
-    }
+    add_why(alloc, task, plan, part.formula, objects, history, text)?;
     text.extend_from_slice(b".\n")?;
     Ok(())
 }
 
-fn is_atom(formula: &Formula) -> bool {
-    matches!(formula, Formula::Atom(_))
+/// Adds how it came that the formula is false.
+fn add_why(
+    alloc: Global,
+    task: &Task,
+    plan: &Plan,
+    formula: &Formula,
+    objects: &[ObjectId],
+    history: History,
+    text: &mut Vec<u8>,
+) -> Result<(), NoMemory>
+    ensures { OnOk result (text.new.items ≡ text.old.items ++ why_text (task_of task.now) (plan_of plan.now) (map object_of objects.now) (formula_of formula.now) (history_of history)) }
+{
+    match formula {
+        Formula::Atom(_) => add_deleted(alloc, task, plan, history, text),
+        Formula::Not(part) => add_negation(alloc, task, plan, part, objects, history, text),
+        _ => add_made(alloc, task, plan, history, text),
+    }
 }
 
-/// Adds how it came that the atom, which was to be false, is true.
-fn add_negated(
+/// Adds how it came that the negation of this part is false.
+fn add_negation(
+    alloc: Global,
+    task: &Task,
+    plan: &Plan,
+    part: &Formula,
+    objects: &[ObjectId],
+    history: History,
+    text: &mut Vec<u8>,
+) -> Result<(), NoMemory>
+    ensures { OnOk result (text.new.items ≡ text.old.items ++ negation_text (task_of task.now) (plan_of plan.now) (map object_of objects.now) (formula_of part.now) (history_of history)) }
+{
+    match part {
+        Formula::Atom(_) => add_added(alloc, task, plan, part, objects, history, text),
+        _ => add_made(alloc, task, plan, history, text),
+    }
+}
+
+/// Adds how it came that an atom, which was to be true, is false.
+fn add_deleted(
+    alloc: Global,
+    task: &Task,
+    plan: &Plan,
+    history: History,
+    text: &mut Vec<u8>,
+) -> Result<(), NoMemory>
+    ensures { OnOk result (text.new.items ≡ text.old.items ++ deleted_text (task_of task.now) (plan_of plan.now) (history_of history)) }
+{
+    match history {
+        History::Always => Ok(text.extend_from_slice(b": it was never true")?),
+        History::ByStep(step) => add_cause(alloc, task, plan, step, b" deleted it", text),
+    }
+}
+
+/// Adds how it came that an atom, which was to be false, is true.
+fn add_added(
     alloc: Global,
     task: &Task,
     plan: &Plan,
@@ -203,19 +297,38 @@ fn add_negated(
     objects: &[ObjectId],
     history: History,
     text: &mut Vec<u8>,
-) -> Result<(), NoMemory> {
+) -> Result<(), NoMemory>
+    ensures { OnOk result (text.new.items ≡ text.old.items ++ added_text (task_of task.now) (plan_of plan.now) (formula_text (task_of task.now) (scope_at (map object_of objects.now)) (formula_of atom.now)) (history_of history)) }
+{
     match history {
         History::Always => {
             text.extend_from_slice(b": ")?;
-            add_formula(alloc, task, atom, objects, 0, text)?;
+            add_formula(alloc, task, atom, Scope::of(objects), text)?;
             text.extend_from_slice(b" was true from the start")?;
+            Ok(())
         }
         History::ByStep(step) => {
             add_cause(alloc, task, plan, step, b" added ", text)?;
-            add_formula(alloc, task, atom, objects, 0, text)?;
+            add_formula(alloc, task, atom, Scope::of(objects), text)?;
+            Ok(())
         }
     }
-    Ok(())
+}
+
+/// Adds since which step another formula is false.
+fn add_made(
+    alloc: Global,
+    task: &Task,
+    plan: &Plan,
+    history: History,
+    text: &mut Vec<u8>,
+) -> Result<(), NoMemory>
+    ensures { OnOk result (text.new.items ≡ text.old.items ++ made_text (task_of task.now) (plan_of plan.now) (history_of history)) }
+{
+    match history {
+        History::Always => Ok(()),
+        History::ByStep(step) => add_cause(alloc, task, plan, step, b" made it so", text),
+    }
 }
 
 /// Adds that the step of this number did it.
@@ -226,69 +339,92 @@ fn add_cause(
     step: usize,
     deed: &[u8],
     text: &mut Vec<u8>,
-) -> Result<(), NoMemory> {
+) -> Result<(), NoMemory>
+    ensures { OnOk result (text.new.items ≡ text.old.items ++ cause_text (task_of task.now) (plan_of plan.now) step deed.now) }
+{
+    let words = step_words(alloc, task, plan, step)?;
     text.extend_from_slice(b": ")?;
-    add_step(alloc, task, plan, step, text)?;
+    text.extend_from_slice(words.as_bytes())?;
     text.extend_from_slice(deed)?;
     Ok(())
 }
 
-/// Adds `step 3, (hop a b),`, where steps are counted from 1.
-fn add_step(
-    alloc: Global,
-    task: &Task,
-    plan: &Plan,
-    step: usize,
-    text: &mut Vec<u8>,
-) -> Result<(), NoMemory> {
-    let words = step_words(alloc, task, plan, step)?;
-    add_text(&words, text)
+/// The words `step 3, (hop a b),`, where steps are counted from 1.
+fn step_words(alloc: Global, task: &Task, plan: &Plan, step: usize) -> Result<String, NoMemory>
+    ensures { IfOk result (λ words. string_bytes words ≡ codes "step " ++ (decimal step ++ (codes ", " ++ (step_name (task_of task.now) (plan_of plan.now) step ++ codes ",")))) }
+{
+    let words = step_name(alloc, task, plan, step)?;
+    numbered_words(alloc, step, words.as_str())
 }
 
-/// The words `step 3, (hop a b),`, where steps are counted from 1.
-fn step_words(alloc: Global, task: &Task, plan: &Plan, step: usize) -> Result<String, NoMemory> {
-    let words = step_name(alloc, task, plan, step)?;
+/// The same of these words for the step.
+fn numbered_words(alloc: Global, step: usize, words: &str) -> Result<String, NoMemory>
+    ensures { IfOk result (λ text. string_bytes text ≡ codes "step " ++ (decimal step ++ (codes ", " ++ (words.now ++ codes ",")))) }
+{
     Ok(format!(in alloc; "step {step}, {words},")?)
 }
 
 /// The step of this number as a plan has it, and nothing where there is none.
-fn step_name(alloc: Global, task: &Task, plan: &Plan, step: usize) -> Result<String, NoMemory> {
-    match plan.steps().get(step.wrapping_sub(1)) {
+fn step_name(alloc: Global, task: &Task, plan: &Plan, step: usize) -> Result<String, NoMemory>
+    ensures { IfOk result (λ name. string_bytes name ≡ step_name (task_of task.now) (plan_of plan.now) step) }
+{
+    match step_at(plan, step) {
         Some(instance) => step_text(alloc, task, instance),
         None => Ok(String::new(alloc)),
     }
 }
 
+/// The step of this number, counted from 1.
+fn step_at(plan: &Plan, step: usize) -> Option<&Instance>
+    ensures { option_map (λ (i : Bor Instance). instance_of i.now) result ≡ (if step == 0 then None else slice_get (plan_of plan.now) (step - 1)) }
+{
+    if step == 0 {
+        return None;
+    }
+    plan.steps().get(step - 1)
+}
+
 /// Adds the line that says that what the step's action increases the total cost by has no value.
 fn add_lacking_cost(
-    alloc: Global,
     task: &Task,
     plan: &Plan,
     step: usize,
     text: &mut Vec<u8>,
-) -> Result<(), NoMemory> {
-    let Some(instance) = plan.steps().get(step.wrapping_sub(1)) else {
-        return Ok(());
-    };
-    let Some(schema) = task.schema(instance.schema) else {
-        return Ok(());
-    };
-    if let Increase::Function(function) = &schema.increase {
-        let name = task.function_name(function.predicate).unwrap_or(b"");
-        add_atom(
-            alloc,
-            task,
-            name,
-            function,
-            instance.objects.as_slice(),
-            text,
-        )?;
-        text.extend_from_slice(b" has no value.\n")?;
+) -> Result<(), NoMemory>
+    ensures { OnOk result (text.new.items ≡ text.old.items ++ lacking_text (task_of task.now) (plan_of plan.now) step) }
+{
+    match step_at(plan, step) {
+        Some(instance) => add_lacking_value(task, instance, text),
+        None => Ok(()),
     }
-    Ok(())
 }
 
-fn add_text(words: &String, text: &mut Vec<u8>) -> Result<(), NoMemory> {
-    text.extend_from_slice(words.as_bytes())?;
-    Ok(())
+/// The same of this instance.
+fn add_lacking_value(task: &Task, instance: &Instance, text: &mut Vec<u8>) -> Result<(), NoMemory>
+    ensures { OnOk result (text.new.items ≡ text.old.items ++ instance_increase_text (task_of task.now) (instance_of instance.now)) }
+{
+    match task.schema(instance.schema) {
+        Some(schema) => add_increase(task, &schema.increase, instance.objects.as_slice(), text),
+        None => Ok(()),
+    }
+}
+
+/// Adds the line of what has no value for these objects.
+fn add_increase(
+    task: &Task,
+    increase: &Increase,
+    objects: &[ObjectId],
+    text: &mut Vec<u8>,
+) -> Result<(), NoMemory>
+    ensures { OnOk result (text.new.items ≡ text.old.items ++ increase_text (task_of task.now) (map object_of objects.now) (increase_of increase.now)) }
+{
+    match increase {
+        Increase::Function(function) => {
+            let name = function_name(task, function.predicate);
+            add_atom(task, name, function, Scope::of(objects), text)?;
+            text.extend_from_slice(b" has no value.\n")?;
+            Ok(())
+        }
+        Increase::Number(_) => Ok(()),
+    }
 }

@@ -14,8 +14,8 @@ use Rattle.source_text.specs.declared.texts.NamedTexts.{NamedTexts}
 use Rattle.validator.specs.Verdict.{verdict_of}
 use Rattle.validator.specs.declared.verdict.Verdict.{Verdict}
 use Rattle.validator.specs.declared.verdict.Verdict.TheVariants.{NotApplicable}
-use Rattle.file_answers.specs.ExplanationLines.{Files, Named, IsLocated, IsSaidOf, IsStepLocated, IsSubjectLocated, SaySubject, SayVerdict, IsStepAt, file_in, files_of, named_of}
-use Rattle.file_answers.specs.Explanations.{IsFaultExplained, IsLocatedIf, IsOfFault, IsStepFound, IsStepOf, IsTaskExplained, IsTrueOf, IsVerdictExplained, files_in, in_texts, text_in}
+use Rattle.file_answers.specs.ExplanationLines.{Files, Named, IsLocated, IsSaidOf, IsStepLocated, IsSubjectLocated, SaySubject, IsPlanSaid, IsStepAt, file_in, files_of, named_of}
+use Rattle.file_answers.specs.Explanations.{IsFaultExplained, IsLocatedIf, IsOfFault, IsPlanTold, IsStepFound, IsStepOf, IsTaskExplained, IsTrueOf, IsVerdictExplained, files_in, in_texts, text_in}
 use Rattle.file_answers.specs.Files.{reported_in}
 use Rattle.file_answers.specs.Inputs.{IsInputFault}
 use Rattle.file_answers.specs.declared.explanation.Explanation.{Explanation}
@@ -30,7 +30,10 @@ use Rattle.model.specs.Runs.{IsVerdict}
 use Rattle.model.specs.Files.{IsTaskOf}
 use Rattle.model.specs.PlanText.{AllMean, AreSteps, IsPlanText, Step, placed_from}
 use Rattle.model.specs.Words.{AreParts, Part}
+use Rattle.explained_plans.specs.Explanations as plans
+use Rattle.explained_plans.specs.Explanations.{IsExplained}
 use Rattle.explained_plans.specs.StepPlaces.{IsStepPlace, span_of}
+use Rattle.explained_plans.specs.declared.explanations.PlanExplanation.{PlanExplanation}
 
 -- the files are among these texts
 abbrev pub AreAmong : Files → NamedTexts → Type 0
@@ -47,7 +50,7 @@ module _ (texts : NamedTexts) (files : Files) (among : AreAmong files texts) whe
     fault_said : IsSaidOf files e
     fault_said = record {
       located = subst (λ (s : Subject). IsSubjectLocated files s e.location) (sym is.subject) (located (file_in files file) (among file));
-      lines = subst (λ (s : Subject). SaySubject s e.location (map string_bytes e.notes.items) (string_bytes e.text)) (sym is.subject) is.says;
+      lines = subst (λ (s : Subject). SaySubject files s e.location (map string_bytes e.notes.items) (string_bytes e.text)) (sym is.subject) is.says;
     }
 
   of_fault_said : (fault : FileFault) (e : Explanation) → IsOfFault texts fault e → IsSaidOf files e
@@ -96,6 +99,12 @@ module _ (texts : NamedTexts) (domain problem : NamedText) (same_domain : texts.
       ∙ (ap (λ (p : NamedText). files_of domain p (Some texts.plan)) same_problem
       ∙ (ap (λ (n : NamedText). files_of domain problem (Some n)) same_plan
       ∙ ap (λ (l : Option NamedText). files_of domain problem l) (sym is)))
+
+  -- their task is that of these texts
+  pub task_given : (task : model.Task) → IsTaskOf domain.text.now problem.text.now task → IsTaskOf texts.domain.text.now texts.problem.text.now task
+  task_given task is =
+      subst (λ (p : NamedText). IsTaskOf texts.domain.text.now p.text.now task) (sym same_problem)
+      (subst (λ (d : NamedText). IsTaskOf d.text.now problem.text.now task) (sym same_domain) is)
 
   -- and the plan's text is among them
   pub plan_given : (plan : Option NamedText) (named : NamedText) → plan ≡ Some named → IfSome plan (λ named. texts.plan ≡ named)
@@ -148,27 +157,46 @@ step_located file (runs.not_applicable step) (Some span) at is located = (span, 
 step_located file runs.goal_missed found at is located = tt
 
 module _ (task : model.Task) (steps : List model.Instance) where
-  verdict_said : (texts : NamedTexts) (e : Explanation) → IsVerdictExplained task steps (named_of texts.plan) e → IsSaidOf (files_in texts) e
-  verdict_said texts e (verdict, is_true, is) = record {
-    located = subst (λ (s : Subject). IsSubjectLocated (files_in texts) s e.location) (sym is.subject)
-        (subst (λ (v : runs.Verdict). IsStepLocated (named_of texts.plan) v e.location) (sym is.same) is.located);
-    lines = subst (λ (s : Subject). SaySubject s e.location (map string_bytes e.notes.items) (string_bytes e.text)) (sym is.subject)
-        (subst (λ (v : runs.Verdict). SayVerdict e.location v (string_bytes e.text)) (sym is.same) is.says);
-  }
+  -- what is told of what is explained is true where that is
+  pub explained_told : (file : Named) (explained : PlanExplanation) → IsVerdict (system_of task) steps (plans.verdict_of explained)
+      → IsExplained task steps explained → (r : Result Explanation NoMemory) → IfOk r (IsPlanTold task steps file explained)
+      → IfOk r (IsVerdictExplained task steps file)
+  explained_told file explained is_true is_explained (Ok e) told = (explained, is_true, is_explained, told)
+  explained_told file explained is_true is_explained (Err failed) told = tt
 
-  pub steps_said : (texts : NamedTexts) (r : Result Explanation NoMemory) → IfOk r (IsVerdictExplained task steps (named_of texts.plan))
-      → IfOk r (IsSaidOf (files_in texts))
-  steps_said texts (Ok e) is = verdict_said texts e is
-  steps_said texts (Err failed) is = tt
+  module _ (texts : NamedTexts) (is_task : IsTaskOf texts.domain.text.now texts.problem.text.now task) (is_plan : IsPlanText task texts.plan.text.now steps) where
+    plan_said : (explained : PlanExplanation) (e : Explanation) → IsExplained task steps explained → (told : IsPlanTold task steps (named_of texts.plan) explained e)
+        → IsPlanSaid (files_in texts) texts.plan.text.now (verdict_of told.code) e.location (string_bytes e.text)
+    plan_said explained e is_explained told = record {
+      task = task;
+      steps = steps;
+      are_read = record { is_task = is_task; is_plan = is_plan };
+      explained = explained;
+      is_explained = is_explained;
+      same = sym told.same;
+      says = told.says;
+    }
+
+    verdict_said : (e : Explanation) → IsVerdictExplained task steps (named_of texts.plan) e → IsSaidOf (files_in texts) e
+    verdict_said e (explained, is_true, is_explained, told) = record {
+      located = subst (λ (s : Subject). IsSubjectLocated (files_in texts) s e.location) (sym told.subject)
+          (subst (λ (v : runs.Verdict). IsStepLocated (named_of texts.plan) v e.location) (sym told.same) told.located);
+      lines = subst (λ (s : Subject). SaySubject (files_in texts) s e.location (map string_bytes e.notes.items) (string_bytes e.text)) (sym told.subject)
+          (plan_said explained e is_explained told);
+    }
+
+    pub steps_said : (r : Result Explanation NoMemory) → IfOk r (IsVerdictExplained task steps (named_of texts.plan)) → IfOk r (IsSaidOf (files_in texts))
+    steps_said (Ok e) is = verdict_said e is
+    steps_said (Err failed) is = tt
 
   module _ (domain problem : List ℕ) (is_task : IsTaskOf domain problem task) (most : ℕ) (text : List ℕ) (is_plan : IsPlanText task text steps) where
     verdict_true : (file : Named) (e : Explanation) → IsVerdictExplained task steps file e → IsTrueOf domain problem (Some text) most e.subject
-    verdict_true file e (verdict, is_true, is) = subst (IsTrueOf domain problem (Some text) most) (sym is.subject)
+    verdict_true file e (explained, is_true, is_explained, told) = subst (IsTrueOf domain problem (Some text) most) (sym told.subject)
         (record {
           task = task;
           steps = steps;
           are_read = record { is_task = is_task; is_plan = is_plan };
-          is_true = subst (IsVerdict (system_of task) steps) (sym is.same) is_true;
+          is_true = subst (IsVerdict (system_of task) steps) (sym told.same) is_true;
         })
 
     pub steps_explained : (file : Named) (r : Result Explanation NoMemory) → IfOk r (IsVerdictExplained task steps file)
@@ -182,7 +210,7 @@ module _ (task : model.Task) (most : ℕ) where
   summary_said : (files : Files) (e : Explanation) → IsTaskExplained task most e → IsSaidOf files e
   summary_said files e is = record {
     located = subst (λ (s : Subject). IsSubjectLocated files s e.location) (sym is.subject) tt;
-    lines = subst (λ (s : Subject). SaySubject s e.location (map string_bytes e.notes.items) (string_bytes e.text)) (sym is.subject) is.says;
+    lines = subst (λ (s : Subject). SaySubject files s e.location (map string_bytes e.notes.items) (string_bytes e.text)) (sym is.subject) is.says;
   }
 
   pub task_said : (files : Files) (r : Result Explanation NoMemory) → IfOk r (IsTaskExplained task most) → IfOk r (IsSaidOf files)

@@ -2,6 +2,7 @@
 use Rattle.std.specs.Prelude.{◌≡◌, ℕ, ◌-◌, List, [], ◌++◌, codes, flat_map, map, unwrap_or, Option, Some, IfSome, IsSomeAnd}
 use Rattle.std.specs.Fmt.{decimal}
 use Rattle.std.specs.Option.{option_map}
+use Rattle.std.specs.Str.Lossy.{utf8_lossy}
 use Rattle.std.specs.String.{string_bytes}
 use Rattle.faults.specs.declared.refused.Span.{Span}
 use Rattle.source_text.specs.Places.{IsPlace}
@@ -10,8 +11,13 @@ use Rattle.source_text.specs.declared.texts.NamedText.{NamedText}
 use Rattle.source_text.specs.declared.texts.File.{File}
 use Rattle.source_text.specs.declared.texts.File.TheVariants as file
 use Rattle.explained_faults.specs.Explained.{BeginsWith, heading}
-use Rattle.explained_plans.specs.Said.{IsVerdictLine, summary_text}
+use Rattle.explained_plans.specs.Explanations.{IsExplained}
+use Rattle.explained_plans.specs.Explanations.{verdict_of as explained_verdict}
+use Rattle.explained_plans.specs.PlanLines.{reasons_text, step_reasons_text, verdict_line}
+use Rattle.explained_plans.specs.Said.{summary_text}
 use Rattle.explained_plans.specs.StepPlaces.{IsStepPlace, span_of}
+use Rattle.explained_plans.specs.declared.explanations.PlanExplanation.{PlanExplanation}
+use Rattle.explained_plans.specs.declared.explanations.PlanExplanation.TheVariants.{Solves, NotApplicable, GoalMissed}
 use Rattle.grounding_kept.specs.declared.fault.GroundLimit.TheVariants as limit
 use Rattle.validator.specs.Verdict.{verdict_of}
 use Rattle.file_answers.specs.declared.explanation.Explanation.{Explanation}
@@ -20,6 +26,8 @@ use Rattle.file_answers.specs.declared.explanation.Subject.{Subject}
 use Rattle.file_answers.specs.declared.explanation.Subject.TheVariants.{Fault, Plan, Task}
 use Rattle.file_answers.specs.declared.explanation.Grounded.{Grounded}
 use Rattle.file_answers.specs.declared.explanation.Grounded.TheVariants.{Within, Beyond}
+use Rattle.model.specs.Task as model
+use Rattle.model.specs.Files.{AreRead}
 use Rattle.model.specs.PlanText.{placed_from}
 use Rattle.model.specs.Runs.{Verdict, valid, not_applicable, goal_missed}
 use Rattle.model.specs.Words.{AreParts, Part}
@@ -83,13 +91,25 @@ IsSubjectLocated files (Task holds grounded) at = Unit {0}
 abbrev pub place_text : Location → List ℕ
 place_text at = string_bytes at.file ++ (codes ":" ++ (decimal at.line ++ (codes ":" ++ (decimal at.column ++ codes ": "))))
 
--- The lines begin or end with the line of the verdict: of a plan that solves its cost, and of one whose step is not applicable the
--- place and the number of the step.
-abbrev pub SayVerdict : Option Location → Verdict → (lines : List ℕ) → Type 0
-SayVerdict at (valid cost) lines = (before line : List ℕ) × IsVerdictLine (valid cost) line × (lines ≡ before ++ line)
-SayVerdict at (not_applicable step) lines =
-    IfSome at (λ at. (line after : List ℕ) × IsVerdictLine (not_applicable step) line × (lines ≡ place_text at ++ (line ++ after)))
-SayVerdict at goal_missed lines = (line after : List ℕ) × IsVerdictLine goal_missed line × (lines ≡ line ++ after)
+-- What the lines say of these steps of the task, of which this is explained. Of a plan that solves they end with the line of its cost. Of
+-- a step that is not applicable they are its place, its line, the line of the file with marks, and why it is not; of a missed goal they
+-- are its line and why it is.
+abbrev pub SayPlan : Option Location → model.Task → List model.Instance → PlanExplanation → (lines : List ℕ) → Type 0
+SayPlan at task steps (Solves costs total) lines = (before : List ℕ) × (lines ≡ before ++ verdict_line task steps (valid total))
+SayPlan at task steps (NotApplicable step lacks_cost reasons) lines =
+    IfSome at (λ at. (marks : List ℕ) × (lines ≡ place_text at ++ (verdict_line task steps (not_applicable step)
+    ++ (marks ++ utf8_lossy (step_reasons_text task steps step lacks_cost reasons)))))
+SayPlan at task steps (GoalMissed reasons) lines = lines ≡ verdict_line task steps goal_missed ++ utf8_lossy (reasons_text task steps reasons)
+
+-- The lines are those of a plan of this text: of its steps, with what is true of them, and why.
+pub record IsPlanSaid (files : Files) (text : List ℕ) (verdict : Verdict) (at : Option Location) (lines : List ℕ) : Type 0 where
+  pub task : model.Task
+  pub steps : List model.Instance
+  pub are_read : AreRead files.domain.text files.problem.text text task steps
+  pub explained : PlanExplanation
+  pub is_explained : IsExplained task steps explained
+  pub same : explained_verdict explained ≡ verdict
+  pub says : SayPlan at task steps explained lines
 
 -- the line of what grounding makes of a task
 abbrev pub grounded_line : Grounded → List ℕ
@@ -103,14 +123,14 @@ abbrev pub on_lines : List (List ℕ) → List ℕ
 on_lines = flat_map (λ (text : List ℕ). text ++ codes "\n")
 
 -- The lines say what is explained: of a fault they begin with its file, its line and column, its number and its name; of a plan they
--- have the verdict; and of a task they are what it holds, what grounding makes of it, and its notes.
-abbrev pub SaySubject : Subject → Option Location → (notes : List (List ℕ)) → (lines : List ℕ) → Type 0
-SaySubject (Fault file code span) at notes lines =
+-- have the verdict and why; and of a task they are what it holds, what grounding makes of it, and its notes.
+abbrev pub SaySubject : Files → Subject → Option Location → (notes : List (List ℕ)) → (lines : List ℕ) → Type 0
+SaySubject files (Fault file code span) at notes lines =
     IfSome at (λ at. BeginsWith lines (heading (string_bytes at.file) (place_in at) code))
-SaySubject (Plan verdict) at notes lines = SayVerdict at (verdict_of verdict) lines
-SaySubject (Task holds grounded) at notes lines = lines ≡ summary_text holds ++ (grounded_line grounded ++ on_lines notes)
+SaySubject files (Plan verdict) at notes lines = IfSome files.plan (λ named. IsPlanSaid files named.text (verdict_of verdict) at lines)
+SaySubject files (Task holds grounded) at notes lines = lines ≡ summary_text holds ++ (grounded_line grounded ++ on_lines notes)
 
 -- the location is the subject's, and the lines say it
 pub record IsSaidOf (files : Files) (e : Explanation) : Type 0 where
   pub located : IsSubjectLocated files e.subject e.location
-  pub lines : SaySubject e.subject e.location (map string_bytes e.notes.items) (string_bytes e.text)
+  pub lines : SaySubject files e.subject e.location (map string_bytes e.notes.items) (string_bytes e.text)

@@ -10,12 +10,15 @@ use Rattle.source_text.specs.declared.texts.File.{File}
 use Rattle.source_text.specs.declared.texts.NamedText.{NamedText}
 use Rattle.source_text.specs.declared.texts.NamedTexts.{NamedTexts}
 use Rattle.explained_faults.specs.Explained.{BeginsWith, heading}
+use Rattle.explained_plans.specs.Explanations as plans
+use Rattle.explained_plans.specs.Explanations.{IsExplained}
+use Rattle.explained_plans.specs.declared.explanations.PlanExplanation.{PlanExplanation}
 use Rattle.explained_plans.specs.Said.{IsSummaryOf, summary_text}
 use Rattle.explained_plans.specs.declared.summary.Summary.{Summary}
 use Rattle.grounding_kept.specs.Numbering.{limit_of}
 use Rattle.validator.specs.Verdict.{verdict_of}
 use Rattle.validator.specs.declared.verdict.Verdict.{Verdict}
-use Rattle.file_answers.specs.ExplanationLines.{Files, Named, IsLocated, IsStepAt, IsStepLocated, SayVerdict, files_of, grounded_line, on_lines, place_in}
+use Rattle.file_answers.specs.ExplanationLines.{Files, Named, IsLocated, IsStepAt, IsStepLocated, SayPlan, files_of, grounded_line, on_lines, place_in}
 use Rattle.file_answers.specs.Files.{fault_at}
 use Rattle.file_answers.specs.Inputs.{IsInputFault}
 use Rattle.file_answers.specs.declared.explanation.Explanation.{Explanation}
@@ -83,18 +86,19 @@ abbrev pub IsOfFault : NamedTexts → FileFault → Explanation → Type 0
 IsOfFault texts (refused.At file code span) e = IsFaultExplained texts file code span e
 IsOfFault texts refused.NoMemory e = ⊥
 
--- the verdict is what is explained, with the place of the step that is not applicable
-pub record IsVerdictSaid (file : Named) (verdict : runs.Verdict) (e : Explanation) : Type 0 where
+-- what is explained of these steps of the task is its verdict, with the place of the step that is not applicable, and the lines say it
+pub record IsPlanTold (task : model.Task) (steps : List model.Instance) (file : Named) (explained : PlanExplanation) (e : Explanation) : Type 0 where
   pub code : Verdict
   pub subject : e.subject ≡ Plan code
-  pub same : verdict_of code ≡ verdict
-  pub located : IsStepLocated file verdict e.location
-  pub says : SayVerdict e.location verdict (string_bytes e.text)
+  pub same : verdict_of code ≡ plans.verdict_of explained
+  pub located : IsStepLocated file (plans.verdict_of explained) e.location
+  pub says : SayPlan e.location task steps explained (string_bytes e.text)
 
--- so is the verdict on these steps of the task
+-- and it is true
 abbrev pub IsVerdictExplained : model.Task → List model.Instance → (file : Named) → Explanation → Type 0
 IsVerdictExplained task steps file e =
-    (verdict : runs.Verdict) × IsVerdict (system_of task) steps verdict × IsVerdictSaid file verdict e
+    (explained : PlanExplanation) × IsVerdict (system_of task) steps (plans.verdict_of explained) × IsExplained task steps explained
+    × IsPlanTold task steps file explained e
 
 -- a step that is not applicable is one of the text's
 abbrev pub IsStepOf : (text : List ℕ) → runs.Verdict → Type 0

@@ -6,8 +6,8 @@ ghost use Rattle.task.specs.Task.{task_of};
 ghost use Rattle.formulas.specs.State.{plan_of};
 ghost use Rattle.validator.specs.Verdict.{verdict_of};
 ghost use Rattle.explained_plans.specs.Explanations as plans;
-ghost use Rattle.file_answers.specs.ExplanationLines.{IsSaidOf, SayVerdict, named_of, place_text};
-ghost use Rattle.file_answers.specs.Explanations.{IsLocatedIf, IsStepFound, IsStepOf, IsTrueOf, IsVerdictExplained, IsVerdictSaid, files_in};
+ghost use Rattle.file_answers.specs.ExplanationLines.{IsSaidOf, SayPlan, named_of, place_text};
+ghost use Rattle.file_answers.specs.Explanations.{IsLocatedIf, IsStepFound, IsStepOf, IsTrueOf, IsPlanTold, IsVerdictExplained, files_in};
 ghost use Rattle.model.specs.Files.{IsTaskOf};
 ghost use Rattle.model.specs.Meaning.{is_instance};
 ghost use Rattle.model.specs.PlanText.{IsPlanText};
@@ -31,7 +31,7 @@ pub(super) fn explain_plan_file(
 ) -> Result<Explanation, NoMemory>
     ensures subject { (domain problem : List ℕ) (most : ℕ) → IsTaskOf domain problem (task_of task.now)
         → IfOk result (λ e. IsTrueOf domain problem (Some texts.now.plan.text.now) most e.subject) }
-    ensures said { IfOk result (IsSaidOf (files_in texts.now)) }
+    ensures said { IsTaskOf texts.now.domain.text.now texts.now.problem.text.now (task_of task.now) → IfOk result (IsSaidOf (files_in texts.now)) }
 {
     match plan_of_file(alloc, task, texts.plan.text) {
         Ok(plan) => explain_steps(alloc, task, texts.plan, &plan),
@@ -63,7 +63,7 @@ fn explain_verdict(
     explained: &PlanExplanation<'_>,
 ) -> Result<Explanation, NoMemory>
     requires { IsStepOf file.text.now (plans.verdict_of explained.now) }
-    ensures { IfOk result (IsVerdictSaid (named_of file.entry) (plans.verdict_of explained.now)) }
+    ensures { IfOk result (IsPlanTold (task_of task.now) (plan_of plan.now) (named_of file.entry) explained.now) }
 {
     let verdict = verdict_in(explained);
     let failed = failed_step(file.text, verdict);
@@ -135,7 +135,7 @@ fn text_of(
     location: &Option<Location>,
     marks: &str,
 ) -> Result<String, NoMemory>
-    ensures { IfOk result (λ text. SayVerdict location.now (plans.verdict_of explained.now) (string_bytes text)) }
+    ensures { IfOk result (λ text. SayPlan location.now (task_of task.now) (plan_of plan.now) explained.now (string_bytes text)) }
 {
     let verdict = report_verdict(alloc, task, plan, explained)?;
     let details = report_details(alloc, task, plan, explained)?;

@@ -5,7 +5,7 @@ use Rattle.file_answers.specs.Files.{reported_in}
 use Rattle.file_answers.proofs.FilesRead.{task_input}
 use Rattle.file_answers.specs.ExplanationLines.{Files, IsSaidOf, files_of}
 use Rattle.file_answers.specs.Explanations.{IsTrueOf, text_in}
-use Rattle.file_answers.proofs.ExplanationLemmas.{files_given, given_among, plan_given, refused_explained, refused_said, task_explained, task_said}
+use Rattle.file_answers.proofs.ExplanationLemmas.{files_given, given_among, plan_given, refused_explained, refused_said, task_explained, task_given, task_said}
 use Rattle.file_answers.proofs.explaining.explain_files.Goals as goal
 
 pub returns-in-Err-clause-subject : goal.returns-in-Err-clause-subject
@@ -34,7 +34,8 @@ returns-in-Some-clause-said c =
     let texts = c.texts_of-texts in
     subst (λ (files : Files). IfOk c.explain_plan_file.result (IsSaidOf files))
     (files_given texts.result c.args.domain c.args.problem texts.ensures.domain texts.ensures.problem c.args.plan _ c.in-Some.is texts.ensures.plan)
-    c.explain_plan_file.ensures.said
+    (c.explain_plan_file.ensures.said
+    (task_given texts.result c.args.domain c.args.problem texts.ensures.domain texts.ensures.problem (task_of c.in-Ok.task) c.in-Ok.ensures.task))
 
 pub returns-clause-subject : goal.returns-clause-subject
 returns-clause-subject c =

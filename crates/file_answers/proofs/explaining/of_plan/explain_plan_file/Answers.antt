@@ -11,7 +11,7 @@ returns-in-Err-clause-subject c = λ domain problem most is.
     refused_explained domain problem (Some c.args.texts.now.plan.text.now) most c.args.texts.now c.in-Err.fault c.explain_refused.result (c.in-Err.ensures.refused domain problem is) c.explain_refused.ensures
 
 pub returns-in-Err-clause-said : goal.returns-in-Err-clause-said
-returns-in-Err-clause-said c =
+returns-in-Err-clause-said c = λ is.
     refused_said c.args.texts.now (files_in c.args.texts.now) (all_among c.args.texts.now) c.in-Err.fault c.explain_refused.result c.explain_refused.ensures
 
 pub returns-in-Ok-clause-subject : goal.returns-in-Ok-clause-subject
@@ -20,5 +20,5 @@ returns-in-Ok-clause-subject c = λ domain problem most is.
     (named_of c.args.texts.now.plan) c.explain_steps.result c.explain_steps.ensures
 
 pub returns-in-Ok-clause-said : goal.returns-in-Ok-clause-said
-returns-in-Ok-clause-said c =
-    steps_said (task_of c.args.task.now) (plan_of c.in-Ok.plan) c.args.texts.now c.explain_steps.result c.explain_steps.ensures
+returns-in-Ok-clause-said c = λ is.
+    steps_said (task_of c.args.task.now) (plan_of c.in-Ok.plan) c.args.texts.now is c.in-Ok.ensures.plan c.explain_steps.result c.explain_steps.ensures
