@@ -10,6 +10,9 @@ use std::alloc::Global;
 /// The most values.
 const MAX_VALUES: usize = 9;
 
+/// The most that may be chosen from.
+const MAX_CANDIDATES: usize = 16;
+
 /// How many trials there are for the best order for the initial state, and for another one.
 const TRIALS: u32 = 400;
 const TRIALS_OF_STATE: u32 = 12;
@@ -32,6 +35,14 @@ struct Candidate {
     given: Vec<i64>,
 }
 
+/// Those that may be chosen, and what they give to states at most: all in all, and by tables alone.
+#[derive(Drop)]
+struct Candidates {
+    all: Vec<Candidate>,
+    most: Vec<i64>,
+    most_by_tables: Vec<i64>,
+}
+
 /// What values are chosen by.
 #[derive(Drop)]
 pub(crate) struct Choosing<'a> {
@@ -50,8 +61,12 @@ impl Choosing<'_> {
         alloc: Global,
         tables: &mut Tables,
     ) -> Result<Vec<Value>, NoMemory> {
-        let mut candidates: Vec<Candidate> = Vec::new(alloc);
         let mut divider = Divider::new(alloc, self.graphs, self.costs, self.rows, MAX_WORK)?;
+        let mut candidates = Candidates {
+            all: Vec::new(alloc),
+            most: vec![in alloc; 0; self.rows.len()]?,
+            most_by_tables: vec![in alloc; 0; self.rows.len()]?,
+        };
         let order = divider.best_order(alloc, TRIALS)?;
         self.add(alloc, tables, &mut divider, &order, &mut candidates)?;
         self.add_after_potentials(alloc, tables, &order, &mut candidates)?;
@@ -59,56 +74,63 @@ impl Choosing<'_> {
             let order = divider.order_for(alloc, state, TRIALS_OF_STATE)?;
             self.add(alloc, tables, &mut divider, &order, &mut candidates)?;
         }
-        self.chosen(alloc, candidates)
+        let Candidates { all, .. } = candidates;
+        self.chosen(alloc, all)
     }
 
-    /// Adds the division in this order, with potentials of what is left, if some state's value is greater by the tables alone
-    /// than by any candidate.
+    /// Adds the division in this order, with potentials of what is left, if by the tables alone some state's value is greater
+    /// than by any before.
     fn add(
         &self,
         alloc: Global,
         tables: &mut Tables,
         divider: &mut Divider<'_>,
         order: &Order,
-        candidates: &mut Vec<Candidate>,
+        candidates: &mut Candidates,
     ) -> Result<(), NoMemory> {
         let division = divider.divide(alloc, order)?;
-        if let Some(potentials) = potentials_of_rest(alloc, tables, &division.left)? {
-            self.push(alloc, Some(division), potentials, candidates)?;
+        let given = divider.values(alloc, &division)?;
+        if !raise(&mut candidates.most_by_tables, &given) {
+            return Ok(());
         }
-        Ok(())
+        match potentials_of_rest(alloc, tables, &division.left)? {
+            Some(potentials) => self.push(alloc, division, potentials, candidates),
+            None => Ok(()),
+        }
     }
 
-    /// Adds the division in this order of what the potentials leave of costs.
+    /// Adds the division in this order of what potentials leave of costs.
     fn add_after_potentials(
         &self,
         alloc: Global,
         tables: &mut Tables,
         order: &Order,
-        candidates: &mut Vec<Candidate>,
+        candidates: &mut Candidates,
     ) -> Result<(), NoMemory> {
         let Some(potentials) = potentials_of_rest(alloc, tables, self.costs)? else {
             return Ok(());
         };
         let left = left_by(alloc, tables, self.costs, potentials.weights())?;
         let division = Division::new(alloc, self.graphs, order, &left)?;
-        self.push(alloc, Some(division), potentials, candidates)
+        self.push(alloc, division, potentials, candidates)
     }
 
-    /// Adds the value.
+    /// Adds the value, if some state's is greater by it than by any before.
     fn push(
         &self,
         alloc: Global,
-        division: Option<Division>,
+        division: Division,
         potentials: Potentials,
-        candidates: &mut Vec<Candidate>,
+        candidates: &mut Candidates,
     ) -> Result<(), NoMemory> {
         let value = Value {
-            division,
+            division: Some(division),
             potentials,
         };
         let given = self.given(alloc, &value)?;
-        candidates.push(Candidate { value, given })?;
+        if raise(&mut candidates.most, &given) && candidates.all.len() < MAX_CANDIDATES {
+            candidates.all.push(Candidate { value, given })?;
+        }
         Ok(())
     }
 
@@ -155,6 +177,18 @@ impl Choosing<'_> {
         }
         Ok(values)
     }
+}
+
+/// Raises each number to that at its place, if that is greater; says whether one was.
+fn raise(most: &mut [i64], given: &[i64]) -> bool {
+    let mut is_raised = false;
+    for (before, value) in most.iter_mut().zip(given) {
+        if *value > *before {
+            *before = *value;
+            is_raised = true;
+        }
+    }
+    is_raised
 }
 
 /// The place of the candidate by which states gain most, of which the initial one counts first, if any do.
