@@ -87,6 +87,6 @@ pub record Expands {S Store : Type 0} (t : System S ℕ) (value : S → ℕ) (is
   pub count : expanded_count (nodes_in states_of new) ≡ expanded_count (nodes_in states_of old) + 1
 
 -- the buffers hold states of this width
-pub record AreWide (width : ℕ) (buffers : Buffers) : Type 0 where
+pub record AreWide {R : Type 0} (width : ℕ) (buffers : Buffers R) : Type 0 where
   pub state : length (bits_of buffers.state) ≡ width
   pub next : length (bits_of buffers.next) ≡ width

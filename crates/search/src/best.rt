@@ -1,11 +1,8 @@
 //! Search for a cheapest plan of a transition system, by expanding states in the order of their cost and estimate.
 ghost use Rattle.std.specs.Prelude.{◌≡◌, ◌≤◌, [], IfOk};
 ghost use Rattle.model.specs.Limits.{max_states_listed};
-ghost use Rattle.search.specs.Estimates.{value_by};
 ghost use Rattle.search.specs.Outcome.{IsTrueOutcome};
 
-use crate::dead_ends::DeadEnd;
-use crate::estimates::Estimate;
 use crate::guide::Guide;
 use crate::nodes::FoundStates;
 use crate::progress::{Buffers, Progress};
@@ -49,7 +46,7 @@ pub enum Outcome<S> {
 /// least estimate; and among these the one that was found first. A goal state is answered when its turn comes. With the
 /// estimate 0 (`NoEstimate`) that is uniform-cost search, or Dijkstra's algorithm.
 ///
-/// A state that `dead_ends` reports dead is listed as a dead end, and never expanded; with `NoDeadEnd` there is none.
+/// A state that the guide reports dead is listed as a dead end, and never expanded; with `NoDeadEnd` there is none.
 ///
 /// What differs from these: the states are in a store, in the order in which they were found, and are named by
 /// their places there; actions are the system's numbers. Where a cheaper way to a waiting state is found, the old entry
@@ -72,36 +69,33 @@ pub enum Outcome<S> {
 ///
 /// ```text
 /// let store = PooledStore::new(alloc, system.width())?;
-/// match best_first(alloc, &system, &NoEstimate(&system), &NoDeadEnd(&system), store, 1_000_000)? {
+/// let estimate = NoEstimate(&system);
+/// let dead_ends = NoDeadEnd(&system);
+/// let guide = EstimateWithDeadEnds::new(&estimate, &dead_ends);
+/// match best_first(alloc, &system, &guide, store, 1_000_000)? {
 ///     Outcome::Found { steps, cost, states } => ..,
 ///     Outcome::Exhausted { states } => ..,
 ///     Outcome::States { bound, states } => ..,
 /// }
 /// ```
-pub fn best_first<T: TransitionSystem, E: Estimate, D: DeadEnd, S: StateStore>(
+pub fn best_first<T: TransitionSystem, G: Guide, S: StateStore>(
     alloc: Global,
     system: &T,
-    estimate: &E,
-    dead_ends: &D,
+    guide: &G,
     store: S,
     max_states: u32,
 ) -> Result<Outcome<S>, NoMemory>
-    requires made_for { E.system_of estimate.now ≡ T.means system.now }
-    requires estimate_width { E.width_of estimate.now ≡ T.width_of system.now }
-    requires dead_for { D.system_of dead_ends.now ≡ T.means system.now }
-    requires dead_width { D.width_of dead_ends.now ≡ T.width_of system.now }
+    requires made_for { G.system_of guide.now ≡ T.means system.now }
+    requires guide_width { G.width_of guide.now ≡ T.width_of system.now }
     requires empty { S.states store ≡ [] }
     requires width { S.width_of store ≡ T.width_of system.now }
     requires some { 1 ≤ max_states }
     requires limit { max_states ≤ max_states_listed }
-    ensures { IfOk result (IsTrueOutcome (T.means system.now) (value_by (E.score_of estimate.now)) (D.is_dead dead_ends.now) S.states max_states) }
+    ensures { IfOk result (IsTrueOutcome (T.means system.now) (G.estimate_of guide.now) (G.is_dead guide.now) S.states max_states) }
 {
-    let mut buffers = Buffers::new(alloc, system.width())?;
-    let guide = Guide {
-        estimate,
-        dead_ends,
-    };
-    let mut progress = Progress::start(alloc, system, &guide, store)?;
+    let room = guide.room(alloc)?;
+    let mut buffers = Buffers::new(alloc, system.width(), room)?;
+    let mut progress = Progress::start(alloc, system, guide, &mut buffers.room, store)?;
     while let Some(turn) = progress.next_waiting() {
         progress.store.get(turn.id.0, &mut buffers.state);
         if system.meets_goal(&buffers.state) {
@@ -113,7 +107,7 @@ pub fn best_first<T: TransitionSystem, E: Estimate, D: DeadEnd, S: StateStore>(
                 states,
             });
         }
-        if !progress.expand(system, &guide, &mut buffers, turn, max_states)? {
+        if !progress.expand(system, guide, &mut buffers, turn, max_states)? {
             return Ok(Outcome::States {
                 bound: turn.sum,
                 states: progress.into_states(),

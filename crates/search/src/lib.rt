@@ -14,5 +14,6 @@ mod turns;
 pub use best::{MAX_STATES, Outcome, best_first};
 pub use dead_ends::{DeadEnd, NoDeadEnd};
 pub use estimates::{Estimate, NoEstimate, value_of};
+pub use guide::{EstimateWithDeadEnds, Guide};
 pub use nodes::{FoundStates, Node, NodeStatus, StateId};
 pub use transitions::TransitionSystem;

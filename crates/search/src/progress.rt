@@ -2,20 +2,17 @@
 ghost use Rattle.std.specs.Prelude.{◌≡◌, ◌≢◌, ℕ, ◌+◌, ◌<◌, ◌≤◌, ◌^◌, true, false, List, [], ◌∷◌, ◌++◌, length, slice_get, slice_set, Contains, All, MatchBool, MatchOption, IfOk, IfNone, IfSome, OnOk, OnSome, Some};
 ghost use Rattle.packed_state.specs.Packed.{bits_of};
 ghost use Rattle.packed_state.specs.Store.{IsPlaced};
-ghost use Rattle.search.specs.Estimates.{value_by};
 ghost use Rattle.search.specs.Outcome.{AreMoreReachable, IsAtLimit};
 ghost use Rattle.search.specs.Nodes.{Waiting, IsEntry, IsCurrent, AreOpen, IsPath, IsReachedIn};
 ghost use Rattle.search.specs.OpenList.{waiting_in, IsOpenList, JoinsBy};
 ghost use Rattle.search.specs.Progress.{TakesNext, nodes_in, IsSearch, IsAtTurn, IsExpanding, Reaches, IsFull, Expands, AreWide};
 
 use crate::best::MAX_STATES;
-use crate::dead_ends::DeadEnd;
-use crate::estimates::Estimate;
 use crate::guide::Guide;
 use crate::nodes::{FoundStates, Node, NodeStatus, ShortId, StateId, steps_to};
 use crate::open_list::OpenList;
 use crate::transitions::TransitionSystem;
-use crate::turns::{Parent, Turn};
+use crate::turns::{Parent, Successor, Turn};
 use faults::NoMemory;
 use packed_state::{Packed, StateStore};
 use std::alloc::Global;
@@ -32,24 +29,28 @@ pub(crate) struct Progress<S> {
 
 /// Buffers that each turn uses again, so that a state takes no memory but its place in the lists.
 #[derive(Drop)]
-pub(crate) struct Buffers {
+pub(crate) struct Buffers<R> {
     /// The state whose turn it is.
     pub(crate) state: Packed,
     /// One of its successors.
     pub(crate) next: Packed,
     /// The actions that are applicable in it.
     pub(crate) applicable: Vec<u32>,
+    /// What the guide works with.
+    pub(crate) room: R,
 }
 
-impl Buffers {
-    /// Buffers for states of this width.
-    pub(crate) fn new(alloc: Global, width: u32) -> Result<Buffers, NoMemory>
-        ensures { IfOk result (AreWide width) }
+impl<R: Drop> Buffers<R> {
+    /// Buffers for states of this width, and for a guide with this room.
+    pub(crate) fn new(alloc: Global, width: u32, room: R) -> Result<Buffers<R>, NoMemory>
+        ensures wide { IfOk result (AreWide width) }
+        ensures room { IfOk result (λ buffers. buffers.room ≡ room) }
     {
         Ok(Buffers {
             state: Packed::empty(alloc, width)?,
             next: Packed::empty(alloc, width)?,
             applicable: Vec::new(alloc),
+            room,
         })
     }
 }
@@ -81,17 +82,19 @@ fn place_of_state<S: StateStore>(
 
 impl<S: StateStore> Progress<S> {
     /// The initial state alone is found, and waits unless it is reported dead.
-    pub(crate) fn start<T: TransitionSystem, E: Estimate, D: DeadEnd>(
+    pub(crate) fn start<T: TransitionSystem, G: Guide>(
         alloc: Global,
         system: &T,
-        guide: &Guide<'_, E, D>,
+        guide: &G,
+        room: &mut G::Room,
         mut store: S,
     ) -> Result<Progress<S>, NoMemory>
-        requires estimate_width { E.width_of guide.now.estimate.now ≡ T.width_of system.now }
-        requires dead_width { D.width_of guide.now.dead_ends.now ≡ T.width_of system.now }
+        requires guide_width { G.width_of guide.now ≡ T.width_of system.now }
+        requires room { G.fits guide.now room.old }
         requires empty { S.states store ≡ [] }
         requires width { S.width_of store ≡ T.width_of system.now }
-        ensures search { IfOk result (λ p. IsSearch (T.means system.now) (value_by (E.score_of guide.now.estimate.now)) (D.is_dead guide.now.dead_ends.now) S.states p) }
+        ensures room { IfOk result (λ _. G.fits guide.now room.new) }
+        ensures search { IfOk result (λ p. IsSearch (T.means system.now) (G.estimate_of guide.now) (G.is_dead guide.now) S.states p) }
         ensures open { IfOk result (λ p. AreOpen (T.means system.now) (nodes_in S.states p)) }
         ensures one { IfOk result (λ p. length (S.states p.store) ≡ 1) }
         ensures width { IfOk result (λ p. S.width_of p.store ≡ T.width_of system.now) }
@@ -103,7 +106,7 @@ impl<S: StateStore> Progress<S> {
             nodes: Vec::new(alloc),
             open_list: OpenList::new(alloc),
         };
-        let value = guide.value_in(&initial);
+        let value = guide.value_in(&initial, room);
         let node = Node {
             cost: 0,
             status: NodeStatus::of_reached(value),
@@ -194,62 +197,61 @@ impl<S: StateStore> Progress<S> {
     }
 
     /// Lists a successor of the state that is being expanded; says whether the limit allows that.
-    fn reach<T: TransitionSystem, E: Estimate, D: DeadEnd>(
+    fn reach<T: TransitionSystem, G: Guide>(
         &mut self,
         system: &T,
-        guide: &Guide<'_, E, D>,
+        guide: &G,
+        room: &mut G::Room,
         parent: &Parent<'_>,
-        action: u32,
-        state: &Packed,
+        to: Successor<'_>,
         max_states: u32,
     ) -> Result<bool, NoMemory>
-        requires made_for { E.system_of guide.now.estimate.now ≡ T.means system.now }
-        requires estimate_width { E.width_of guide.now.estimate.now ≡ S.width_of self.old.store }
-        requires dead_width { D.width_of guide.now.dead_ends.now ≡ S.width_of self.old.store }
-        requires expanding { IsExpanding (T.means system.now) (value_by (E.score_of guide.now.estimate.now)) (D.is_dead guide.now.dead_ends.now) S.states self.old parent.now.id.0 }
+        requires made_for { G.system_of guide.now ≡ T.means system.now }
+        requires guide_width { G.width_of guide.now ≡ S.width_of self.old.store }
+        requires expanding { IsExpanding (T.means system.now) (G.estimate_of guide.now) (G.is_dead guide.now) S.states self.old parent.now.id.0 }
         requires parent { slice_get (S.states self.old.store) parent.now.id.0 ≡ Some (bits_of parent.now.state.now) }
         requires parent_width { length (bits_of parent.now.state.now) ≡ S.width_of self.old.store }
-        requires score { parent.now.score ≡ E.score_of guide.now.estimate.now (bits_of parent.now.state.now) }
-        requires leads { (T.means system.now).step (bits_of parent.now.state.now) action ≡ Some (bits_of state.now) }
-        requires width { length (bits_of state.now) ≡ S.width_of self.old.store }
+        requires room { G.is_at guide.now room.old (bits_of parent.now.state.now) }
+        requires leads { (T.means system.now).step (bits_of parent.now.state.now) to.action ≡ Some (bits_of to.state.now) }
+        requires width { length (bits_of to.state.now) ≡ S.width_of self.old.store }
         requires within { length (S.states self.old.store) ≤ max_states }
         requires limit { max_states ≤ MAX_STATES }
         ensures width { S.width_of self.new.store ≡ S.width_of self.old.store }
+        ensures room { IfOk result (λ _. G.is_at guide.now room.new (bits_of parent.now.state.now)) }
         ensures listed { IfOk result (λ is_listed. MatchBool is_listed
-            (Reaches (T.means system.now) (value_by (E.score_of guide.now.estimate.now)) (D.is_dead guide.now.dead_ends.now) S.states self.old self.new parent.now.id.0 max_states action (bits_of state.now))
-            (IsFull (T.means system.now) (value_by (E.score_of guide.now.estimate.now)) (D.is_dead guide.now.dead_ends.now) S.states self.old self.new max_states)) }
+            (Reaches (T.means system.now) (G.estimate_of guide.now) (G.is_dead guide.now) S.states self.old self.new parent.now.id.0 max_states to.entry.action (bits_of to.entry.state.now))
+            (IsFull (T.means system.now) (G.estimate_of guide.now) (G.is_dead guide.now) S.states self.old self.new max_states)) }
     {
         let before = self.nodes[parent.id.0 as usize];
-        let cost = before.cost + u64::from(system.cost(action));
-        let Some((id, is_new)) = place_of_state(&mut self.store, state, max_states)? else {
+        let cost = before.cost + u64::from(system.cost(to.action));
+        let Some((id, is_new)) = place_of_state(&mut self.store, to.state, max_states)? else {
             return Ok(false);
         };
         if is_new {
-            let value = parent.value_after(guide, action, state);
-            self.add(id, parent.child(cost, action, value), value)?;
+            let value = guide.value_after(parent.state, to.action, to.state, room);
+            self.add(id, parent.child(cost, to.action, value), value)?;
         } else if cost < self.nodes[id.0 as usize].cost {
-            let value = parent.value_after(guide, action, state);
-            self.improve(id, parent.child(cost, action, value), value)?;
+            let value = guide.value_after(parent.state, to.action, to.state, room);
+            self.improve(id, parent.child(cost, to.action, value), value)?;
         }
         Ok(true)
     }
 
     /// Lists the successors of the state whose turn it is, which the buffers hold; says whether the limit allows that.
     /// Where it does not, the state is not expanded.
-    pub(crate) fn expand<T: TransitionSystem, E: Estimate, D: DeadEnd>(
+    pub(crate) fn expand<T: TransitionSystem, G: Guide>(
         &mut self,
         system: &T,
-        guide: &Guide<'_, E, D>,
-        buffers: &mut Buffers,
+        guide: &G,
+        buffers: &mut Buffers<G::Room>,
         turn: Turn,
         max_states: u32,
     ) -> Result<bool, NoMemory>
-        requires made_for { E.system_of guide.now.estimate.now ≡ T.means system.now }
-        requires dead_for { D.system_of guide.now.dead_ends.now ≡ T.means system.now }
-        requires estimate_width { E.width_of guide.now.estimate.now ≡ T.width_of system.now }
-        requires dead_width { D.width_of guide.now.dead_ends.now ≡ T.width_of system.now }
-        requires turn { IsAtTurn (T.means system.now) (value_by (E.score_of guide.now.estimate.now)) (D.is_dead guide.now.dead_ends.now) S.states self.old turn }
-        requires value { turn.estimate ≡ value_by (E.score_of guide.now.estimate.now) (bits_of buffers.old.state) }
+        requires made_for { G.system_of guide.now ≡ T.means system.now }
+        requires guide_width { G.width_of guide.now ≡ T.width_of system.now }
+        requires turn { IsAtTurn (T.means system.now) (G.estimate_of guide.now) (G.is_dead guide.now) S.states self.old turn }
+        requires value { turn.estimate ≡ G.estimate_of guide.now (bits_of buffers.old.state) }
+        requires room { G.fits guide.now buffers.old.room }
         requires open { AreOpen (T.means system.now) (nodes_in S.states self.old) }
         requires state { slice_get (S.states self.old.store) turn.id.0 ≡ Some (bits_of buffers.old.state) }
         requires no_goal { (T.means system.now).meets_goal (bits_of buffers.old.state) ≡ false }
@@ -259,22 +261,26 @@ impl<S: StateStore> Progress<S> {
         requires limit { max_states ≤ MAX_STATES }
         ensures width { IfOk result (λ _. S.width_of self.new.store ≡ T.width_of system.now) }
         ensures buffers { IfOk result (λ _. AreWide (T.width_of system.now) buffers.new) }
+        ensures room { IfOk result (λ _. G.fits guide.now buffers.new.room) }
         ensures listed { IfOk result (λ is_listed. MatchBool is_listed
-            (Expands (T.means system.now) (value_by (E.score_of guide.now.estimate.now)) (D.is_dead guide.now.dead_ends.now) S.states self.old self.new max_states)
-            (AreMoreReachable (T.means system.now) (value_by (E.score_of guide.now.estimate.now)) (D.is_dead guide.now.dead_ends.now) max_states
-            × IsAtLimit (T.means system.now) (value_by (E.score_of guide.now.estimate.now)) (D.is_dead guide.now.dead_ends.now) max_states turn.sum (S.states self.new.store) self.new.nodes.items)) }
+            (Expands (T.means system.now) (G.estimate_of guide.now) (G.is_dead guide.now) S.states self.old self.new max_states)
+            (AreMoreReachable (T.means system.now) (G.estimate_of guide.now) (G.is_dead guide.now) max_states
+            × IsAtLimit (T.means system.now) (G.estimate_of guide.now) (G.is_dead guide.now) max_states turn.sum (S.states self.new.store) self.new.nodes.items)) }
     {
         system.applicable(&buffers.state, &mut buffers.applicable)?;
         self.mark(turn.id, NodeStatus::Expanded);
-        let score = turn.score(guide.estimate, &buffers.state);
+        guide.move_to(&buffers.state, turn.estimate, &mut buffers.room);
         for &action in &buffers.applicable {
             system.successor(action, &buffers.state, &mut buffers.next);
             let parent = Parent {
                 id: turn.id,
                 state: &buffers.state,
-                score,
             };
-            if !self.reach(system, guide, &parent, action, &buffers.next, max_states)? {
+            let to = Successor {
+                action,
+                state: &buffers.next,
+            };
+            if !self.reach(system, guide, &mut buffers.room, &parent, to, max_states)? {
                 self.mark(turn.id, NodeStatus::Open);
                 return Ok(false);
             }

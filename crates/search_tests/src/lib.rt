@@ -25,6 +25,8 @@ mod scores;
 #[cfg(test)]
 mod searches;
 #[cfg(test)]
+mod searches_by_tables;
+#[cfg(test)]
 mod sets;
 #[cfg(test)]
 mod signs;

@@ -11,7 +11,7 @@ use faults::NoMemory;
 use grounding::{Ground, GroundFault};
 use packed_state::{Packed, PlainStore, StateStore};
 use potentials_improved::{DeadFair, Fair};
-use search::{DeadEnd, FoundStates, MAX_STATES, Node, Outcome, best_first};
+use search::{DeadEnd, EstimateWithDeadEnds, FoundStates, MAX_STATES, Node, Outcome, best_first};
 use solver::{Answer, Exceeded, GroundSystem, Limits, solve};
 use std::alloc::Global;
 use std::test::Fail;
@@ -166,7 +166,8 @@ fn is_found(
     let system = GroundSystem(ground);
     let store = PlainStore::new(alloc, ground.width())?;
     let most = most.clamp(1, MAX_STATES);
-    let outcome = best_first(alloc, &system, fair, dead_ends, store, most)?;
+    let guide = EstimateWithDeadEnds::new(fair, dead_ends);
+    let outcome = best_first(alloc, &system, &guide, store, most)?;
     is_of(alloc, fair, dead_ends, &outcome, cert)
 }
 

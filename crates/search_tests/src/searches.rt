@@ -9,8 +9,8 @@ use crate::signs::Signs;
 use faults::NoMemory;
 use packed_state::{Packed, PlainStore, PooledStore, StateStore};
 use search::{
-    FoundStates, MAX_STATES, NoDeadEnd, NoEstimate, Node, Outcome, TransitionSystem, best_first,
-    value_of,
+    EstimateWithDeadEnds, FoundStates, MAX_STATES, NoDeadEnd, NoEstimate, Node, Outcome,
+    TransitionSystem, best_first, value_of,
 };
 use std::alloc::Global;
 use std::test::Fail;
@@ -189,7 +189,9 @@ fn is_as_wanted<S: StateStore>(alloc: Global, row: &Row, store: S) -> Result<boo
         rooms: row.rooms,
         signs: row.signs,
     };
-    let outcome = best_first(alloc, &row.rooms, &signs, &Blind(row.rooms), store, most)?;
+    let blind = Blind(row.rooms);
+    let guide = EstimateWithDeadEnds::new(&signs, &blind);
+    let outcome = best_first(alloc, &row.rooms, &guide, store, most)?;
     is_reported(alloc, &outcome, row)
 }
 
@@ -219,15 +221,10 @@ fn cost_with_no_estimate<S: StateStore>(
     requires width { S.width_of store ≡ row.now.rooms.width }
 {
     let most = row.most.clamp(1, MAX_STATES);
-    let none = NoDeadEnd(&row.rooms);
-    let outcome = best_first(
-        alloc,
-        &row.rooms,
-        &NoEstimate(&row.rooms),
-        &none,
-        store,
-        most,
-    )?;
+    let estimate = NoEstimate(&row.rooms);
+    let dead_ends = NoDeadEnd(&row.rooms);
+    let guide = EstimateWithDeadEnds::new(&estimate, &dead_ends);
+    let outcome = best_first(alloc, &row.rooms, &guide, store, most)?;
     Ok(cost_of(&outcome))
 }
 

@@ -19,7 +19,7 @@ use formulas::Plan;
 use grounding::{Ground, GroundLimit};
 use packed_state::PooledStore;
 use potentials_improved::{DeadFair, Fair, Groundwork};
-use search::{DeadEnd, Estimate, Outcome, best_first};
+use search::{DeadEnd, Estimate, EstimateWithDeadEnds, Outcome, best_first};
 use std::alloc::Global;
 use task::Task;
 
@@ -124,8 +124,9 @@ fn solve_by<E: Estimate + Written, D: DeadEnd + Written>(
     ensures { IfOk result (IsTrueAnswer (task_in ground.now) limits.states limits.instances) }
 {
     let system = GroundSystem(ground);
+    let guide = EstimateWithDeadEnds::new(estimate, dead_ends);
     let store = PooledStore::new(alloc, ground.width())?;
-    let outcome = best_first(alloc, &system, estimate, dead_ends, store, limits.states())?;
+    let outcome = best_first(alloc, &system, &guide, store, limits.states())?;
     match outcome {
         Outcome::Found {
             steps,

@@ -11,7 +11,7 @@ use std::alloc::Global;
 /// ```text
 /// let system = GroundSystem(&ground);
 /// let store = PooledStore::new(alloc, ground.width())?;
-/// let outcome = best_first(alloc, &system, &NoEstimate(&system), &NoDeadEnd(&system), store, 100_000)?;
+/// let outcome = best_first(alloc, &system, &guide, store, 100_000)?;
 /// ```
 #[derive(Clone, Copy)]
 pub struct GroundSystem<'a, 't>(pub &'a Ground<'t>);

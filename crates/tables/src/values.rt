@@ -1,5 +1,5 @@
 //! The values of states.
-ghost use Rattle.std.specs.Prelude.{◌≡◌, IfOk, true, length, max};
+ghost use Rattle.std.specs.Prelude.{◌≡◌, ◌<◌, ◌^◌, IfOk, IsTrue, MatchOption, false, true, length, max};
 ghost use Rattle.packed_state.specs.Packed.{bits_of};
 ghost use Rattle.table_functions.specs.TableFunctions.{functions_of, dead_ends_of, greatest_value, is_dead_by, has_rows};
 ghost use Rattle.tables.specs.AllTables.{tables_of, count_of};
@@ -37,13 +37,32 @@ impl TableFunctions<'_> {
         self.greatest(state, room)
     }
 
+    /// The greatest of the values of the state, unless it is dead. Its rows are looked for once, and no memory is taken.
+    pub fn value_unless_dead(&self, state: &Packed, room: &mut Room) -> Option<u64>
+        requires width { length (bits_of state.now) ≡ width_of self.now }
+        requires room { HasRoomFor self.now room.old }
+        ensures value { MatchOption result
+            (IsTrue (is_dead_by (dead_ends_of (several_of self.now)) (bits_of state.now)))
+            (λ value. (is_dead_by (dead_ends_of (several_of self.now)) (bits_of state.now) ≡ false) × (value ≡ greatest_value (functions_of (several_of self.now)) (bits_of state.now)) × (value < 2 ^ 63)) }
+        ensures room { HasRoomFor self.now room.new }
+    {
+        if !self.tables.add_up(state, room) {
+            return Some(0);
+        }
+        if self.is_dead_with_rows(state, room) {
+            return None;
+        }
+        Some(self.greatest(state, room))
+    }
+
     /// The greatest of the values of a state that has all its rows, which give these totals.
     fn greatest(&self, state: &Packed, room: &Room) -> u64
         requires width { length (bits_of state.now) ≡ width_of self.now }
         requires room { HasRoomFor self.now room.now }
         requires rows { has_rows (tables_of self.now.tables) (bits_of state.now) ≡ true }
         requires totals { AreTotals (bits_of state.now) (tables_of self.now.tables) (count_of self.now.tables) room.now.totals.items }
-        ensures { result ≡ greatest_value (functions_of (several_of self.now)) (bits_of state.now) }
+        ensures value { result ≡ greatest_value (functions_of (several_of self.now)) (bits_of state.now) }
+        ensures small { result < 2 ^ 63 }
     {
         let mut greatest = 0;
         for place in 0..self.values.len() {
@@ -63,6 +82,17 @@ impl TableFunctions<'_> {
         if !self.tables.add_up(state, room) {
             return false;
         }
+        self.is_dead_with_rows(state, room)
+    }
+
+    /// Whether a state is dead that has all its rows, which give these totals.
+    fn is_dead_with_rows(&self, state: &Packed, room: &Room) -> bool
+        requires width { length (bits_of state.now) ≡ width_of self.now }
+        requires room { HasRoomFor self.now room.now }
+        requires rows { has_rows (tables_of self.now.tables) (bits_of state.now) ≡ true }
+        requires totals { AreTotals (bits_of state.now) (tables_of self.now.tables) (count_of self.now.tables) room.now.totals.items }
+        ensures { result ≡ is_dead_by (dead_ends_of (several_of self.now)) (bits_of state.now) }
+    {
         let score = self.dead_ends.score(state) + room.totals[self.values.len()];
         or_zero(score) > 0
     }

@@ -7,7 +7,7 @@ use Rattle.packed_state.specs.Packed.{bits_of}
 use Rattle.search.specs.Progress.{AreWide}
 use Rattle.model.specs.Claims.{bound}
 use Rattle.model.specs.Runs.{System}
-use Rattle.search.specs.Estimates.{IsConsistent, value_by}
+use Rattle.search.specs.Estimates.{IsConsistent}
 use Rattle.search.specs.DeadEnds.{DetectsDeadEnds}
 use Rattle.search.specs.Outcome.{is_expanded, AreFound, AreExpandedWithin}
 use Rattle.search.specs.Nodes.{Found, found_of, expanded_count, IsEntryOf}
@@ -19,7 +19,15 @@ use Rattle.search.proofs.best.best_first.Goals as goal
 
 pub loop-turn-init : goal.loop-turn-init
 loop-turn-init g c =
-    record { search = c.in_ok-progress.ensures.search; are_open = c.in_ok-progress.ensures.open; within = omega (arith, c.in_ok-progress.ensures.one, c.requires.some); width = c.in_ok-progress.ensures.width; buffers = subst (λ w. AreWide w c.in_ok-buffers.buffers) c.width.ensures c.in_ok-buffers.ensures }
+    let wide : AreWide (g.T.TransitionSystem.width_of c.args.system.now) c.in_ok-buffers.buffers = subst (λ w. AreWide w c.in_ok-buffers.buffers) c.width.ensures c.in_ok-buffers.ensures.wide in
+    record {
+      search = c.in_ok-progress.ensures.search;
+      are_open = c.in_ok-progress.ensures.open;
+      within = omega (arith, c.in_ok-progress.ensures.one, c.requires.some);
+      width = c.in_ok-progress.ensures.width;
+      buffers = record { state = wide.state; next = wide.next };
+      room = c.in_ok-progress.ensures.room;
+    }
 
 pub next_waiting-requires-clause-heap : goal.next_waiting-requires-clause-heap
 next_waiting-requires-clause-heap g c =
@@ -53,8 +61,8 @@ returns-then-meets_goal g c =
     let search = c.loop-turn.invariant.search in
     let next = at_turn _ _ _ _ _ _ search.one_each search.nodes _ c.in-Some.turn c.in-Some.ensures.some in
     let t = g.T.TransitionSystem.means c.args.system.now in
-    let value = value_by (g.E.Estimate.score_of c.args.estimate.now) in
-    let is_dead = g.D.DeadEnd.is_dead c.args.dead_ends.now in
+    let value = g.G.Guide.estimate_of c.args.guide.now in
+    let is_dead = g.G.Guide.is_dead c.args.guide.now in
     let states = g.S.StateStore.states c.loop-turn.progress.store in
     let all = c.loop-turn.progress.nodes.items in
     let id = c.in-Some.turn.id.0 in
@@ -66,8 +74,8 @@ returns-then-meets_goal g c =
     let same_cost : next.found.node.cost ≡ c.index.result.now.cost = cc in
     let path = rw c.in-Some.ensures.nodes at c.in_ok-steps.ensures.path in
     let short = rw c.in-Some.ensures.nodes at c.in_ok-steps.ensures.short in
-    let consistent = subst (λ (u : System (List Bool) ℕ). IsConsistent u value) c.requires.made_for (g.met.E.Estimate.is_consistent c.args.estimate.now) in
-    let reports = subst (λ (u : System (List Bool) ℕ). DetectsDeadEnds u is_dead) c.requires.dead_for (g.met.D.DeadEnd.detects_dead_ends c.args.dead_ends.now) in
+    let consistent = subst (λ (u : System (List Bool) ℕ). IsConsistent u value) c.requires.made_for (g.met.G.Guide.is_consistent c.args.guide.now) in
+    let reports = subst (λ (u : System (List Bool) ℕ). DetectsDeadEnds u is_dead) c.requires.made_for (g.met.G.Guide.detects_dead_ends c.args.guide.now) in
     let best = optimal _ _ _ _ _ search.one_each _ search.nodes consistent reports id next.found c.in_ok-steps.steps.items c.args.max_states
     c.loop-turn.invariant.are_open next.occurs next.least meets path short c.loop-turn.invariant.within in (
       best.0,
@@ -95,7 +103,7 @@ expand-requires-clause-turn g c =
       least = rw (c.in-Some.ensures.store, c.in-Some.ensures.nodes) next.least;
       rest = rw (c.in-Some.ensures.store, c.in-Some.ensures.nodes) next.rest;
       entries = rw (c.in-Some.ensures.store, c.in-Some.ensures.nodes)
-          (All-among (IsEntryOf (value_by (g.E.Estimate.score_of c.args.estimate.now)) (g.D.DeadEnd.is_dead c.args.dead_ends.now) (found_of (g.S.StateStore.states c.loop-turn.progress.store) c.loop-turn.progress.nodes.items)) _ _ c.in-Some.ensures.kept search.nodes.entries);
+          (All-among (IsEntryOf (g.G.Guide.estimate_of c.args.guide.now) (g.G.Guide.is_dead c.args.guide.now) (found_of (g.S.StateStore.states c.loop-turn.progress.store) c.loop-turn.progress.nodes.items)) _ _ c.in-Some.ensures.kept search.nodes.entries);
     }
 
 pub expand-requires-clause-value : goal.expand-requires-clause-value
@@ -103,7 +111,7 @@ expand-requires-clause-value g c =
     let search = c.loop-turn.invariant.search in
     let next = at_turn _ _ _ _ _ _ search.one_each search.nodes _ c.in-Some.turn c.in-Some.ensures.some in
     let got : slice_get (g.S.StateStore.states c.loop-turn.progress.store) c.in-Some.turn.id.0 ≡ Some (bits_of c.get.new.into) = rw c.in-Some.ensures.store at c.get.ensures.set in
-    next.estimate ∙ ap (value_by (g.E.Estimate.score_of c.args.estimate.now)) (sym (same_Some (bits_of c.get.new.into) next.found.state (sym got ∙ next.state)))
+    next.estimate ∙ ap (g.G.Guide.estimate_of c.args.guide.now) (sym (same_Some (bits_of c.get.new.into) next.found.state (sym got ∙ next.state)))
 
 pub expand-requires-clause-no_goal : goal.expand-requires-clause-no_goal
 expand-requires-clause-no_goal g c = sym c.meets_goal.ensures ∙ c.if-meets_goal.false
@@ -132,7 +140,7 @@ pub loop-turn-preserved : goal.loop-turn-preserved
 loop-turn-preserved g c =
     let listed : c.in_ok-expand.field-0 ≡ true = c.if-not-branch.false in
     let expands = rw listed at c.in_ok-expand.ensures.listed in
-    record { search = expands.search; are_open = expands.are_open; within = expands.within; width = c.in_ok-expand.ensures.width; buffers = c.in_ok-expand.ensures.buffers }
+    record { search = expands.search; are_open = expands.are_open; within = expands.within; width = c.in_ok-expand.ensures.width; buffers = c.in_ok-expand.ensures.buffers; room = c.in_ok-expand.ensures.room }
 
 pub returns-then-not-branch : goal.returns-then-not-branch
 returns-then-not-branch g c =
@@ -142,10 +150,10 @@ returns-then-not-branch g c =
 pub returns : goal.returns
 returns g c =
     let search = c.loop-turn.invariant.search in
-    let value = value_by (g.E.Estimate.score_of c.args.estimate.now) in
-    let is_dead = g.D.DeadEnd.is_dead c.args.dead_ends.now in
-    let consistent = subst (λ (u : System (List Bool) ℕ). IsConsistent u value) c.requires.made_for (g.met.E.Estimate.is_consistent c.args.estimate.now) in
-    let reports = subst (λ (u : System (List Bool) ℕ). DetectsDeadEnds u is_dead) c.requires.dead_for (g.met.D.DeadEnd.detects_dead_ends c.args.dead_ends.now) in
+    let value = g.G.Guide.estimate_of c.args.guide.now in
+    let is_dead = g.G.Guide.is_dead c.args.guide.now in
+    let consistent = subst (λ (u : System (List Bool) ℕ). IsConsistent u value) c.requires.made_for (g.met.G.Guide.is_consistent c.args.guide.now) in
+    let reports = subst (λ (u : System (List Bool) ℕ). DetectsDeadEnds u is_dead) c.requires.made_for (g.met.G.Guide.detects_dead_ends c.args.guide.now) in
     let result = unsolvable _ _ _ _ _ search.one_each _ search.nodes consistent reports c.args.max_states c.loop-turn.invariant.are_open
     (none_waits _ _ _ _ _ _ search.one_each search.nodes c.in_default.ensures.none) c.loop-turn.invariant.within in
     (result.0, rw (c.into_states-2.ensures.store, c.in_default.ensures.store, c.into_states-2.ensures.nodes, c.in_default.ensures.nodes) result.1)

@@ -1,5 +1,4 @@
 use Rattle.std.proofs.Common.{◌≡◌, ◌≤◌, ◌-◌, length}
-use Rattle.search.specs.Estimates.{value_by}
 use Rattle.search.specs.Nodes.{expanded_count, AreOpen}
 use Rattle.search.specs.Progress.{nodes_in, IsSearch, AreWide}
 use Rattle.search.proofs.best.best_first.Given as goal
@@ -9,11 +8,12 @@ invariant-loop-turn g l =
     let t = g.T.TransitionSystem.means l.system in
     let states_of = g.S.StateStore.states in
     record {
-      search : IsSearch t (value_by (g.E.Estimate.score_of l.estimate)) (g.D.DeadEnd.is_dead l.dead_ends) states_of l.progress;
+      search : IsSearch t (g.G.Guide.estimate_of l.guide) (g.G.Guide.is_dead l.guide) states_of l.progress;
       are_open : AreOpen t (nodes_in states_of l.progress);
       within : length (states_of l.progress.store) ≤ l.max_states;
       width : g.S.StateStore.width_of l.progress.store ≡ g.T.TransitionSystem.width_of l.system;
       buffers : AreWide (g.T.TransitionSystem.width_of l.system) l.buffers;
+      room : g.G.Guide.fits l.guide l.buffers.room;
     }
 
 abbrev pub decreases-loop-turn : goal.decreases-loop-turn

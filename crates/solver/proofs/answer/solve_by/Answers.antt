@@ -1,4 +1,4 @@
-use Rattle.std.proofs.Common.{◌<◌, sym, ap, subst, length, List, ℕ, arith}
+use Rattle.std.proofs.Common.{◌<◌, ◌∙◌, sym, ap, subst, length, List, ℕ, arith}
 use Rattle.std.specs.Prelude.{All}
 use Rattle.std.proofs.lemmas.List.{length-map}
 use Rattle.task.specs.TaskParts.{atom_of}
@@ -17,17 +17,17 @@ use Rattle.solver.proofs.LimitLemmas.{at_limit_of}
 use Rattle.solver.proofs.PotentialLemmas.{lower_bound, dead_ends}
 use Rattle.solver.proofs.answer.solve_by.Goals as goal
 
+pub new-guide-requires-clause-system : goal.new-guide-requires-clause-system
+new-guide-requires-clause-system g c = c.requires.dead_ends.system ∙ sym c.requires.estimate.system
+
+pub new-guide-requires-clause-width : goal.new-guide-requires-clause-width
+new-guide-requires-clause-width g c = c.requires.dead_ends.width ∙ sym c.requires.estimate.width
+
 pub best_first-requires-clause-made_for : goal.best_first-requires-clause-made_for
-best_first-requires-clause-made_for g c = c.requires.estimate.system
+best_first-requires-clause-made_for g c = ap g.E.Estimate.system_of c.new-guide.ensures.estimate ∙ c.requires.estimate.system
 
-pub best_first-requires-clause-estimate_width : goal.best_first-requires-clause-estimate_width
-best_first-requires-clause-estimate_width g c = c.requires.estimate.width
-
-pub best_first-requires-clause-dead_for : goal.best_first-requires-clause-dead_for
-best_first-requires-clause-dead_for g c = c.requires.dead_ends.system
-
-pub best_first-requires-clause-dead_width : goal.best_first-requires-clause-dead_width
-best_first-requires-clause-dead_width g c = c.requires.dead_ends.width
+pub best_first-requires-clause-guide_width : goal.best_first-requires-clause-guide_width
+best_first-requires-clause-guide_width g c = ap g.E.Estimate.width_of c.new-guide.ensures.estimate ∙ c.requires.estimate.width
 
 -- ---- a plan
 
@@ -37,7 +37,8 @@ cert_of-requires-clause-claim g c =
     let atoms = atoms_in c.args.ground.now in
     let p = g.E.Written.written c.args.estimate.now in
     let q = g.D.Written.written c.args.dead_ends.now in
-    let reported = outcome_by (ground_system task atoms) (g.E.Estimate.score_of c.args.estimate.now) p (g.D.DeadEnd.is_dead c.args.dead_ends.now) q pooled_states c.states.result _ _ c.requires.estimate.score c.requires.dead_ends.is_dead
+    let reported = outcome_by (ground_system task atoms) (g.E.Estimate.score_of c.new-guide.result.estimate.now) p (g.D.DeadEnd.is_dead c.new-guide.result.dead_ends.now) q pooled_states c.states.result _ _
+    (ap g.E.Estimate.score_of c.new-guide.ensures.estimate ∙ c.requires.estimate.score) (ap g.D.DeadEnd.is_dead c.new-guide.ensures.dead_ends ∙ c.requires.dead_ends.is_dead)
     c.in-Found.is c.in_ok-outcome.ensures in
     let lower = lower_bound (g.E.Estimate.system_of c.args.estimate.now) (ground_system task atoms) (g.E.Estimate.score_of c.args.estimate.now) p (g.met.E.Estimate.is_consistent c.args.estimate.now) c.requires.estimate.system
     c.requires.estimate.score in
@@ -54,7 +55,8 @@ cert_of-requires-clause-found g c =
     let atoms = atoms_in c.args.ground.now in
     let p = g.E.Written.written c.args.estimate.now in
     let q = g.D.Written.written c.args.dead_ends.now in
-    let reported = outcome_by (ground_system task atoms) (g.E.Estimate.score_of c.args.estimate.now) p (g.D.DeadEnd.is_dead c.args.dead_ends.now) q pooled_states c.states.result _ _ c.requires.estimate.score c.requires.dead_ends.is_dead
+    let reported = outcome_by (ground_system task atoms) (g.E.Estimate.score_of c.new-guide.result.estimate.now) p (g.D.DeadEnd.is_dead c.new-guide.result.dead_ends.now) q pooled_states c.states.result _ _
+    (ap g.E.Estimate.score_of c.new-guide.ensures.estimate ∙ c.requires.estimate.score) (ap g.D.DeadEnd.is_dead c.new-guide.ensures.dead_ends ∙ c.requires.dead_ends.is_dead)
     c.in-Found.is c.in_ok-outcome.ensures in
     found_among_more reported.2 (omega (arith, c.states.ensures, most_of_limit c.args.limits.states c.args.limits.states_within))
 
@@ -64,7 +66,8 @@ plan_of-requires-clause-named g c =
     let atoms = atoms_in c.args.ground.now in
     let p = g.E.Written.written c.args.estimate.now in
     let q = g.D.Written.written c.args.dead_ends.now in
-    let reported = outcome_by (ground_system task atoms) (g.E.Estimate.score_of c.args.estimate.now) p (g.D.DeadEnd.is_dead c.args.dead_ends.now) q pooled_states c.states.result _ _ c.requires.estimate.score c.requires.dead_ends.is_dead
+    let reported = outcome_by (ground_system task atoms) (g.E.Estimate.score_of c.new-guide.result.estimate.now) p (g.D.DeadEnd.is_dead c.new-guide.result.dead_ends.now) q pooled_states c.states.result _ _
+    (ap g.E.Estimate.score_of c.new-guide.ensures.estimate ∙ c.requires.estimate.score) (ap g.D.DeadEnd.is_dead c.new-guide.ensures.dead_ends ∙ c.requires.dead_ends.is_dead)
     c.in-Found.is c.in_ok-outcome.ensures in
     subst (λ (numbers : List ℕ). All (λ (n : ℕ). n < length (kept_instances task)) numbers) (sym c.deref.ensures.value)
     (plan_named task atoms c.requires.ground.atoms c.in-Found.steps.items reported.0)
@@ -75,7 +78,8 @@ plan_of-requires-clause-few g c =
     let atoms = atoms_in c.args.ground.now in
     let p = g.E.Written.written c.args.estimate.now in
     let q = g.D.Written.written c.args.dead_ends.now in
-    let reported = outcome_by (ground_system task atoms) (g.E.Estimate.score_of c.args.estimate.now) p (g.D.DeadEnd.is_dead c.args.dead_ends.now) q pooled_states c.states.result _ _ c.requires.estimate.score c.requires.dead_ends.is_dead
+    let reported = outcome_by (ground_system task atoms) (g.E.Estimate.score_of c.new-guide.result.estimate.now) p (g.D.DeadEnd.is_dead c.new-guide.result.dead_ends.now) q pooled_states c.states.result _ _
+    (ap g.E.Estimate.score_of c.new-guide.ensures.estimate ∙ c.requires.estimate.score) (ap g.D.DeadEnd.is_dead c.new-guide.ensures.dead_ends ∙ c.requires.dead_ends.is_dead)
     c.in-Found.is c.in_ok-outcome.ensures in
     omega (arith, ap length c.deref.ensures.value, reported.3, c.states.ensures, most_of_limit c.args.limits.states c.args.limits.states_within)
 
@@ -93,7 +97,8 @@ returns-in_ok-cert-in-Found g c =
     let numbered = c.requires.ground.atoms in
     let numbers = c.in-Found.steps.items in
     let plan = plan_of c.in_ok-steps-in-Found.steps in
-    let reported = outcome_by (ground_system task atoms) (g.E.Estimate.score_of c.args.estimate.now) p (g.D.DeadEnd.is_dead c.args.dead_ends.now) q pooled_states c.states.result _ _ c.requires.estimate.score c.requires.dead_ends.is_dead
+    let reported = outcome_by (ground_system task atoms) (g.E.Estimate.score_of c.new-guide.result.estimate.now) p (g.D.DeadEnd.is_dead c.new-guide.result.dead_ends.now) q pooled_states c.states.result _ _
+    (ap g.E.Estimate.score_of c.new-guide.ensures.estimate ∙ c.requires.estimate.score) (ap g.D.DeadEnd.is_dead c.new-guide.ensures.dead_ends ∙ c.requires.dead_ends.is_dead)
     c.in-Found.is c.in_ok-outcome.ensures in
     let named = rw c.deref.ensures.value at c.in_ok-steps-in-Found.ensures in
     let optimal = plan_optimal task atoms numbered numbers plan named reported.0 in
@@ -116,7 +121,8 @@ cert_of-requires-in-Exhausted-clause-found g c =
     let atoms = atoms_in c.args.ground.now in
     let p = g.E.Written.written c.args.estimate.now in
     let q = g.D.Written.written c.args.dead_ends.now in
-    let reported = outcome_by (ground_system task atoms) (g.E.Estimate.score_of c.args.estimate.now) p (g.D.DeadEnd.is_dead c.args.dead_ends.now) q pooled_states c.states.result _ _ c.requires.estimate.score c.requires.dead_ends.is_dead
+    let reported = outcome_by (ground_system task atoms) (g.E.Estimate.score_of c.new-guide.result.estimate.now) p (g.D.DeadEnd.is_dead c.new-guide.result.dead_ends.now) q pooled_states c.states.result _ _
+    (ap g.E.Estimate.score_of c.new-guide.ensures.estimate ∙ c.requires.estimate.score) (ap g.D.DeadEnd.is_dead c.new-guide.ensures.dead_ends ∙ c.requires.dead_ends.is_dead)
     c.in-Exhausted.is c.in_ok-outcome.ensures in
     found_among_more reported.1 (omega (arith, c.states.ensures, most_of_limit c.args.limits.states c.args.limits.states_within))
 
@@ -131,7 +137,8 @@ returns-in_ok-cert-in-Exhausted g c =
     let nodes = c.in-Exhausted.states.nodes.items in
     let cert = certificate_of c.in_ok-cert-in-Exhausted.cert in
     let numbered = c.requires.ground.atoms in
-    let reported = outcome_by (ground_system task atoms) (g.E.Estimate.score_of c.args.estimate.now) p (g.D.DeadEnd.is_dead c.args.dead_ends.now) q pooled_states c.states.result _ _ c.requires.estimate.score c.requires.dead_ends.is_dead
+    let reported = outcome_by (ground_system task atoms) (g.E.Estimate.score_of c.new-guide.result.estimate.now) p (g.D.DeadEnd.is_dead c.new-guide.result.dead_ends.now) q pooled_states c.states.result _ _
+    (ap g.E.Estimate.score_of c.new-guide.ensures.estimate ∙ c.requires.estimate.score) (ap g.D.DeadEnd.is_dead c.new-guide.ensures.dead_ends ∙ c.requires.dead_ends.is_dead)
     c.in-Exhausted.is c.in_ok-outcome.ensures in
     let made = c.in_ok-cert-in-Exhausted.ensures in (
       task_unsolvable task atoms numbered reported.0,
@@ -149,7 +156,8 @@ cert_of-requires-in-States-clause-claim g c =
     let atoms = atoms_in c.args.ground.now in
     let p = g.E.Written.written c.args.estimate.now in
     let q = g.D.Written.written c.args.dead_ends.now in
-    let reported = outcome_by (ground_system task atoms) (g.E.Estimate.score_of c.args.estimate.now) p (g.D.DeadEnd.is_dead c.args.dead_ends.now) q pooled_states c.states.result _ _ c.requires.estimate.score c.requires.dead_ends.is_dead
+    let reported = outcome_by (ground_system task atoms) (g.E.Estimate.score_of c.new-guide.result.estimate.now) p (g.D.DeadEnd.is_dead c.new-guide.result.dead_ends.now) q pooled_states c.states.result _ _
+    (ap g.E.Estimate.score_of c.new-guide.ensures.estimate ∙ c.requires.estimate.score) (ap g.D.DeadEnd.is_dead c.new-guide.ensures.dead_ends ∙ c.requires.dead_ends.is_dead)
     c.in-States.is c.in_ok-outcome.ensures in
     limit_allowed task atoms c.requires.ground.atoms p q c.in-States.bound c.states.result (pooled_states c.in-States.states.store) c.in-States.states.nodes.items reported.1
     (g.met.E.Written.in_range c.args.estimate.now)
@@ -162,7 +170,8 @@ cert_of-requires-in-States-clause-found g c =
     let atoms = atoms_in c.args.ground.now in
     let p = g.E.Written.written c.args.estimate.now in
     let q = g.D.Written.written c.args.dead_ends.now in
-    let reported = outcome_by (ground_system task atoms) (g.E.Estimate.score_of c.args.estimate.now) p (g.D.DeadEnd.is_dead c.args.dead_ends.now) q pooled_states c.states.result _ _ c.requires.estimate.score c.requires.dead_ends.is_dead
+    let reported = outcome_by (ground_system task atoms) (g.E.Estimate.score_of c.new-guide.result.estimate.now) p (g.D.DeadEnd.is_dead c.new-guide.result.dead_ends.now) q pooled_states c.states.result _ _
+    (ap g.E.Estimate.score_of c.new-guide.ensures.estimate ∙ c.requires.estimate.score) (ap g.D.DeadEnd.is_dead c.new-guide.ensures.dead_ends ∙ c.requires.dead_ends.is_dead)
     c.in-States.is c.in_ok-outcome.ensures in
     found_among_more reported.1.found (omega (arith, c.states.ensures, most_of_limit c.args.limits.states c.args.limits.states_within))
 
@@ -178,7 +187,8 @@ returns-in_ok-cert-in-States g c =
     let least = c.in-States.bound in
     let cert = certificate_of c.in_ok-cert-in-States.cert in
     let numbered = c.requires.ground.atoms in
-    let reported = outcome_by (ground_system task atoms) (g.E.Estimate.score_of c.args.estimate.now) p (g.D.DeadEnd.is_dead c.args.dead_ends.now) q pooled_states c.states.result _ _ c.requires.estimate.score c.requires.dead_ends.is_dead
+    let reported = outcome_by (ground_system task atoms) (g.E.Estimate.score_of c.new-guide.result.estimate.now) p (g.D.DeadEnd.is_dead c.new-guide.result.dead_ends.now) q pooled_states c.states.result _ _
+    (ap g.E.Estimate.score_of c.new-guide.ensures.estimate ∙ c.requires.estimate.score) (ap g.D.DeadEnd.is_dead c.new-guide.ensures.dead_ends ∙ c.requires.dead_ends.is_dead)
     c.in-States.is c.in_ok-outcome.ensures in
     let more = subst (λ (count : ℕ). AreMoreReachable (ground_system task atoms) (value p) (is_dead_by q) count) c.states.ensures reported.0 in
     let made = c.in_ok-cert-in-States.ensures in (

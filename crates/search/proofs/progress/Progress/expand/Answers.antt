@@ -1,4 +1,4 @@
-use Rattle.std.proofs.Common.{rules, ◌≡◌, ℕ, Bool, List, ◌+◌, get_or, drop, set, sym, ap, ◌∙◌, subst, arith, Some, true, false}
+use Rattle.std.proofs.Common.{◌≡◌, ℕ, Bool, List, ◌+◌, get_or, drop, set, sym, ap, ◌∙◌, subst, arith, Some, true, false}
 use Rattle.std.specs.Prelude.{IsTrue, is_some, slice_get}
 use Rattle.search.specs.declared.nodes.NodeStatus.TheVariants.{Open, Expanded}
 use Rattle.search.specs.OpenList.{waiting_in}
@@ -7,7 +7,7 @@ use Rattle.std.proofs.lemmas.Option.{same_Some}
 use Rattle.model.proofs.ListLemmas.{Contains-here}
 use Rattle.packed_state.specs.Packed.{bits_of}
 use Rattle.model.specs.Runs.{System}
-use Rattle.search.specs.Estimates.{IsConsistent, value_by}
+use Rattle.search.specs.Estimates.{IsConsistent}
 use Rattle.search.specs.DeadEnds.{DetectsDeadEnds}
 use Rattle.search.specs.declared.nodes.Node.{Node}
 use Rattle.search.specs.Nodes.{Found, found_of, total_of, marked_as, marked}
@@ -26,15 +26,15 @@ is_state g c =
     same_Some _ turn.found.state (sym c.requires.state ∙ (found_of-get (g.S.StateStore.states c.args.self.now.store) c.args.self.now.nodes.items c.args.turn.id.0 turn.found turn.occurs).0)
 
 -- what guides the search keeps its laws
-consistent : (g : Over) (c : After-deref-action-items g) → IsConsistent (g.T.TransitionSystem.means c.args.system.now) (value_by (g.E.Estimate.score_of c.args.guide.now.estimate.now))
+consistent : (g : Over) (c : After-deref-action-items g) → IsConsistent (g.T.TransitionSystem.means c.args.system.now) (g.G.Guide.estimate_of c.args.guide.now)
 consistent g c =
-    subst (λ (u : System (List Bool) ℕ). IsConsistent u (value_by (g.E.Estimate.score_of c.args.guide.now.estimate.now))) c.requires.made_for (g.met.E.Estimate.is_consistent c.args.guide.now.estimate.now)
+    subst (λ (u : System (List Bool) ℕ). IsConsistent u (g.G.Guide.estimate_of c.args.guide.now)) c.requires.made_for (g.met.G.Guide.is_consistent c.args.guide.now)
 
-reports : (g : Over) (c : After-deref-action-items g) → DetectsDeadEnds (g.T.TransitionSystem.means c.args.system.now) (g.D.DeadEnd.is_dead c.args.guide.now.dead_ends.now)
+reports : (g : Over) (c : After-deref-action-items g) → DetectsDeadEnds (g.T.TransitionSystem.means c.args.system.now) (g.G.Guide.is_dead c.args.guide.now)
 reports g c =
-    subst (λ (u : System (List Bool) ℕ). DetectsDeadEnds u (g.D.DeadEnd.is_dead c.args.guide.now.dead_ends.now)) c.requires.dead_for (g.met.D.DeadEnd.detects_dead_ends c.args.guide.now.dead_ends.now)
+    subst (λ (u : System (List Bool) ℕ). DetectsDeadEnds u (g.G.Guide.is_dead c.args.guide.now)) c.requires.made_for (g.met.G.Guide.detects_dead_ends c.args.guide.now)
 
-has_begun : (g : Over) (c : After-deref-action-items g) → HasBegun (g.T.TransitionSystem.means c.args.system.now) (value_by (g.E.Estimate.score_of c.args.guide.now.estimate.now)) (g.D.DeadEnd.is_dead c.args.guide.now.dead_ends.now)
+has_begun : (g : Over) (c : After-deref-action-items g) → HasBegun (g.T.TransitionSystem.means c.args.system.now) (g.G.Guide.estimate_of c.args.guide.now) (g.G.Guide.is_dead c.args.guide.now)
     (found_of (g.S.StateStore.states c.args.self.now.store) c.args.self.now.nodes.items) (g.S.StateStore.states c.mark.new.self.store) c.mark.new.self.nodes.items
     (waiting_in c.args.self.now.open_list) c.args.turn.id.0 c.requires.turn.found
 has_begun g c =
@@ -63,7 +63,7 @@ loop-action-init g c =
       continues = continues_same nodes c.args.turn.id.0;
       width = rw c.mark.ensures.store c.requires.width;
       state = c.requires.buffers.state;
-      score = search rules;
+      room = c.move_to.ensures;
       next = c.requires.buffers.next;
       occurs = rw c.mark.ensures.store c.requires.state;
       left = rw c.deref-action-items.ensures.value
@@ -110,7 +110,7 @@ loop-action-preserved g c =
       continues = continues_trans begun nodes after c.args.turn.id.0 inv.continues reaches.continues;
       width = c.in_ok-reach.ensures.width ∙ inv.width;
       state = inv.state;
-      score = inv.score;
+      room = c.in_ok-reach.ensures.room;
       next = c.successor.ensures.width;
       occurs = occurs_still states states' c.loop-action.self.nodes.items c.reach.new.self.nodes.items c.args.turn.id.0 e.turn.found s e.turn.occurs reaches.continues inv.occurs;
       left = left_more t nodes c.args.turn.id.0 e.turn.found e.turn.occurs after a next (drop (c.loop-action.action-index + 1) numbers) left leads reaches.continues reaches.listed;
@@ -120,8 +120,8 @@ pub returns-then-not-branch-clause-listed : goal.returns-then-not-branch-clause-
 returns-then-not-branch-clause-listed g c =
     let inv = c.loop-action.invariant in
     let e = inv.expanding in
-    let value = value_by (g.E.Estimate.score_of c.args.guide.now.estimate.now) in
-    let is_dead = g.D.DeadEnd.is_dead c.args.guide.now.dead_ends.now in
+    let value = g.G.Guide.estimate_of c.args.guide.now in
+    let is_dead = g.G.Guide.is_dead c.args.guide.now in
     let states = g.S.StateStore.states c.loop-action.self.store in
     let all = c.loop-action.self.nodes.items in
     let i = c.args.turn.id.0 in

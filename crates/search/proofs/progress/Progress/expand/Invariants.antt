@@ -1,7 +1,6 @@
 use Rattle.std.proofs.Common.{◌≡◌, ◌≤◌, Some, length, drop}
 use Rattle.std.specs.Prelude.{slice_get}
 use Rattle.packed_state.specs.Packed.{bits_of}
-use Rattle.search.specs.Estimates.{value_by}
 use Rattle.search.specs.Progress.{nodes_in, IsExpanding, Continues}
 use Rattle.search.proofs.Steps.{AreLeft}
 use Rattle.search.proofs.progress.Progress.expand.Given as goal
@@ -11,13 +10,13 @@ invariant-loop-action g l =
     let t = g.T.TransitionSystem.means l.system in
     let states_of = g.S.StateStore.states in
     record {
-      expanding : IsExpanding t (value_by (g.E.Estimate.score_of l.guide.estimate.now)) (g.D.DeadEnd.is_dead l.guide.dead_ends.now) states_of l.self l.turn.id.0;
+      expanding : IsExpanding t (g.G.Guide.estimate_of l.guide) (g.G.Guide.is_dead l.guide) states_of l.self l.turn.id.0;
       within : length (states_of l.self.store) ≤ l.max_states;
       continues : Continues (nodes_in states_of l.initial.self) (nodes_in states_of l.self) l.turn.id.0;
       width : g.S.StateStore.width_of l.self.store ≡ g.T.TransitionSystem.width_of l.system;
       state : length (bits_of l.buffers.1.0) ≡ g.T.TransitionSystem.width_of l.system;
       next : length (bits_of l.buffers.1.1.0) ≡ g.T.TransitionSystem.width_of l.system;
       occurs : slice_get (states_of l.self.store) l.turn.id.0 ≡ Some (bits_of l.buffers.1.0);
-      score : l.score ≡ g.E.Estimate.score_of l.guide.estimate.now (bits_of l.buffers.1.0);
+      room : g.G.Guide.is_at l.guide l.buffers.1.1.1.1.0 (bits_of l.buffers.1.0);
       left : AreLeft t (nodes_in states_of l.self) l.turn.id.0 (drop l.action-index l.action-items);
     }

@@ -7,7 +7,7 @@ use Rattle.packed_state.specs.Packed.{bits_of}
 use Rattle.packed_state.specs.Store.{IsPlaced}
 use Rattle.search.specs.declared.nodes.Node.{Node}
 use Rattle.model.specs.Runs.{System}
-use Rattle.search.specs.Estimates.{IsConsistent, value_by}
+use Rattle.search.specs.Estimates.{IsConsistent}
 use Rattle.search.specs.Outcome.{is_expanded_status, is_dead_status}
 use Rattle.search.specs.Nodes.{found_of}
 use Rattle.search.specs.Progress.{IsListed}
@@ -35,30 +35,30 @@ limits g c =
     let states = g.S.StateStore.states c.args.self.now.store in
     let all = c.args.self.now.nodes.items in
     subst (λ (n : Node). n.cost + 4294967295 ≤ 72057594021150720) (sym (read_parent g c))
-    (turn_limits (value_by (g.E.Estimate.score_of c.args.guide.now.estimate.now)) (found_of states all) c.args.parent.now.id.0 c.args.max_states e.turn (omega (arith, length-found_of states all e.search.one_each, c.requires.within)) c.requires.limit)
+    (turn_limits (g.G.Guide.estimate_of c.args.guide.now) (found_of states all) c.args.parent.now.id.0 c.args.max_states e.turn (omega (arith, length-found_of states all e.search.one_each, c.requires.within)) c.requires.limit)
 
 -- the action leads from the state whose turn it is to the successor
-leads : (g : Over) (c : After-from g) → (g.T.TransitionSystem.means c.args.system.now).step c.requires.expanding.turn.found.state c.args.action ≡ Some (bits_of c.args.state.now)
+leads : (g : Over) (c : After-from g) → (g.T.TransitionSystem.means c.args.system.now).step c.requires.expanding.turn.found.state c.args.to.action ≡ Some (bits_of c.args.to.state.now)
 leads g c =
     let turn = c.requires.expanding.turn in
     let states = g.S.StateStore.states c.args.self.now.store in
-    leads_from (g.T.TransitionSystem.means c.args.system.now) states _ turn.found.state _ c.args.parent.now.id.0 c.args.action c.requires.parent
+    leads_from (g.T.TransitionSystem.means c.args.system.now) states _ turn.found.state _ c.args.parent.now.id.0 c.args.to.action c.requires.parent
     (found_of-get states c.args.self.now.nodes.items c.args.parent.now.id.0 turn.found turn.occurs).0 c.requires.leads
 
 -- and the estimate falls there by no more than what it costs
-falls : (g : Over) (c : After-from g) → value_by (g.E.Estimate.score_of c.args.guide.now.estimate.now) c.requires.expanding.turn.found.state
-    ≤ (g.T.TransitionSystem.means c.args.system.now).cost c.args.action + value_by (g.E.Estimate.score_of c.args.guide.now.estimate.now) (bits_of c.args.state.now)
+falls : (g : Over) (c : After-from g) → g.G.Guide.estimate_of c.args.guide.now c.requires.expanding.turn.found.state
+    ≤ (g.T.TransitionSystem.means c.args.system.now).cost c.args.to.action + g.G.Guide.estimate_of c.args.guide.now (bits_of c.args.to.state.now)
 falls g c =
-    let value = value_by (g.E.Estimate.score_of c.args.guide.now.estimate.now) in
-    (subst (λ (u : System (List Bool) ℕ). IsConsistent u value) c.requires.made_for (g.met.E.Estimate.is_consistent c.args.guide.now.estimate.now)).falls_by_no_more
-    c.requires.expanding.turn.found.state (bits_of c.args.state.now) c.args.action (leads g c)
+    let value = g.G.Guide.estimate_of c.args.guide.now in
+    (subst (λ (u : System (List Bool) ℕ). IsConsistent u value) c.requires.made_for (g.met.G.Guide.is_consistent c.args.guide.now)).falls_by_no_more
+    c.requires.expanding.turn.found.state (bits_of c.args.to.state.now) c.args.to.action (leads g c)
 
 -- a state that is not new has its place, and a node
-was_listed : (g : Over) (c : In-Some g) → c.in-Some.is_new ≡ false → (slice_get (g.S.StateStore.states c.args.self.now.store) c.in-Some.id.0 ≡ Some (bits_of c.args.state.now))
+was_listed : (g : Over) (c : In-Some g) → c.in-Some.is_new ≡ false → (slice_get (g.S.StateStore.states c.args.self.now.store) c.in-Some.id.0 ≡ Some (bits_of c.args.to.state.now))
     × (g.S.StateStore.states c.place_of_state.new.store ≡ g.S.StateStore.states c.args.self.now.store) × (c.in-Some.id.0 < length c.args.self.now.nodes.items)
 was_listed g c is_old =
     let states = g.S.StateStore.states c.args.self.now.store in
-    let s = bits_of c.args.state.now in
+    let s = bits_of c.args.to.state.now in
     let placed : IsPlaced states (g.S.StateStore.states c.place_of_state.new.store) s c.in-Some.id.0 c.in-Some.is_new = rw c.in-Some.is at c.in_ok-id.ensures.placed in
     let known = placed_old states _ s c.in-Some.id.0 c.in-Some.is_new is_old placed in
     (known.0, known.1, omega (arith, slice_get_within states c.in-Some.id.0 s known.0, c.requires.expanding.search.one_each))
@@ -92,11 +92,11 @@ pub returns-in_default-clause-listed : goal.returns-in_default-clause-listed
 returns-in_default-clause-listed g c =
     let e = c.requires.expanding in
     let states = g.S.StateStore.states c.args.self.now.store in
-    let s = bits_of c.args.state.now in
+    let s = bits_of c.args.to.state.now in
     let full : (¬ Contains states s) × (length states ≡ c.args.max_states) × (g.S.StateStore.states c.place_of_state.new.store ≡ states) = rw c.in_default.is at c.in_ok-id.ensures.placed in
     record {
-      more = more_reachable (g.T.TransitionSystem.means c.args.system.now) (value_by (g.E.Estimate.score_of c.args.guide.now.estimate.now)) (g.D.DeadEnd.is_dead c.args.guide.now.dead_ends.now) states
-          c.args.self.now.nodes.items (waiting_in c.args.self.now.open_list) e.search.one_each e.search.nodes c.args.parent.now.id.0 e.turn c.args.action s
+      more = more_reachable (g.T.TransitionSystem.means c.args.system.now) (g.G.Guide.estimate_of c.args.guide.now) (g.G.Guide.is_dead c.args.guide.now) states
+          c.args.self.now.nodes.items (waiting_in c.args.self.now.open_list) e.search.one_each e.search.nodes c.args.parent.now.id.0 e.turn c.args.to.action s
           (leads g (goal.at.returns-in_default-clause-listed g c).After-from) full.0 c.args.max_states full.1;
       full = full.1;
       store = full.2;
@@ -118,17 +118,17 @@ returns-in_ok-add-clause-listed g c =
     let states = g.S.StateStore.states c.args.self.now.store in
     let after = g.S.StateStore.states c.place_of_state.new.store in
     let all = c.args.self.now.nodes.items in
-    let s = bits_of c.args.state.now in
+    let s = bits_of c.args.to.state.now in
     let here = (goal.at.returns-in_ok-add-clause-listed g c).After-from in
     let same : c.index-before.result.now.cost ≡ e.turn.found.node.cost = ap (λ (n : Node). n.cost) (read_parent g here) in
     let placed : IsPlaced states after s c.in-Some.id.0 c.in-Some.is_new = rw c.in-Some.is at c.in_ok-id.ensures.placed in
     let new = placed_new states after s c.in-Some.id.0 c.in-Some.is_new c.if-is_new.true placed in
     let stored : g.S.StateStore.states c.add.new.self.store ≡ after = rw c.in_ok-add.ensures.store refl in
-    let joined = joined_by (value_by (g.E.Estimate.score_of c.args.guide.now.estimate.now)) (g.D.DeadEnd.is_dead c.args.guide.now.dead_ends.now) s c.value_after-value.result c.args.self.now.open_list c.add.new.self.open_list
-    c.child.result.cost c.in-Some.id.0 c.value_after-value.ensures c.in_ok-add.ensures.open_list in
-    let marks = marked_by (value_by (g.E.Estimate.score_of c.args.guide.now.estimate.now)) (g.D.DeadEnd.is_dead c.args.guide.now.dead_ends.now) s c.value_after-value.result c.value_after-value.ensures in
+    let joined = joined_by (g.G.Guide.estimate_of c.args.guide.now) (g.G.Guide.is_dead c.args.guide.now) s c.value_after-value.result c.args.self.now.open_list c.add.new.self.open_list
+    c.child.result.cost c.in-Some.id.0 c.value_after-value.ensures.value c.in_ok-add.ensures.open_list in
+    let marks = marked_by (g.G.Guide.estimate_of c.args.guide.now) (g.G.Guide.is_dead c.args.guide.now) s c.value_after-value.result c.value_after-value.ensures.value in
     let paid = ap (g.T.TransitionSystem.means c.args.system.now).cost c.child.ensures.action in
-    let step = stepped_new (g.T.TransitionSystem.means c.args.system.now) (value_by (g.E.Estimate.score_of c.args.guide.now.estimate.now)) (g.D.DeadEnd.is_dead c.args.guide.now.dead_ends.now) states all (waiting_in c.args.self.now.open_list) c.args.parent.now.id.0
+    let step = stepped_new (g.T.TransitionSystem.means c.args.system.now) (g.G.Guide.estimate_of c.args.guide.now) (g.G.Guide.is_dead c.args.guide.now) states all (waiting_in c.args.self.now.open_list) c.args.parent.now.id.0
     e.search.one_each e.search.nodes e.turn e.others_open s
     c.child.result (ap is_expanded_status c.child.ensures.status ∙ marks.0) c.child.ensures.parent
     (omega (arith, c.child.ensures.cost, same, c.from.ensures, c.cost.ensures, paid)) (omega (arith, c.cost.ensures, paid))
@@ -154,18 +154,18 @@ returns-in_ok-improve-clause-listed g c =
     let states = g.S.StateStore.states c.args.self.now.store in
     let after = g.S.StateStore.states c.place_of_state.new.store in
     let all = c.args.self.now.nodes.items in
-    let s = bits_of c.args.state.now in
+    let s = bits_of c.args.to.state.now in
     let here = (goal.at.returns-in_ok-improve-clause-listed g c).After-from in
     let same : c.index-before.result.now.cost ≡ e.turn.found.node.cost = ap (λ (n : Node). n.cost) (read_parent g here) in
     let known = was_listed g (goal.at.returns-in_ok-improve-clause-listed g c).In-Some c.if-is_new.false in
     let was : slice_get all c.in-Some.id.0 ≡ Some c.index.result.now =
     slice_get_read all (length all) c.in-Some.id.0 c.index.result.now refl known.2 c.index.ensures in
     let stored : g.S.StateStore.states c.improve.new.self.store ≡ after = rw c.in_ok-improve.ensures.store refl in
-    let joined = joined_by (value_by (g.E.Estimate.score_of c.args.guide.now.estimate.now)) (g.D.DeadEnd.is_dead c.args.guide.now.dead_ends.now) s c.value_after-value-then-cost-index.result c.args.self.now.open_list c.improve.new.self.open_list
-    c.child-then-cost-index.result.cost c.in-Some.id.0 c.value_after-value-then-cost-index.ensures c.in_ok-improve.ensures.open_list in
-    let marks = marked_by (value_by (g.E.Estimate.score_of c.args.guide.now.estimate.now)) (g.D.DeadEnd.is_dead c.args.guide.now.dead_ends.now) s c.value_after-value-then-cost-index.result c.value_after-value-then-cost-index.ensures in
+    let joined = joined_by (g.G.Guide.estimate_of c.args.guide.now) (g.G.Guide.is_dead c.args.guide.now) s c.value_after-value-then-cost-index.result c.args.self.now.open_list c.improve.new.self.open_list
+    c.child-then-cost-index.result.cost c.in-Some.id.0 c.value_after-value-then-cost-index.ensures.value c.in_ok-improve.ensures.open_list in
+    let marks = marked_by (g.G.Guide.estimate_of c.args.guide.now) (g.G.Guide.is_dead c.args.guide.now) s c.value_after-value-then-cost-index.result c.value_after-value-then-cost-index.ensures.value in
     let paid = ap (g.T.TransitionSystem.means c.args.system.now).cost c.child-then-cost-index.ensures.action in
-    let step = stepped_cheaper (g.T.TransitionSystem.means c.args.system.now) (value_by (g.E.Estimate.score_of c.args.guide.now.estimate.now)) (g.D.DeadEnd.is_dead c.args.guide.now.dead_ends.now) states all (waiting_in c.args.self.now.open_list) c.args.parent.now.id.0
+    let step = stepped_cheaper (g.T.TransitionSystem.means c.args.system.now) (g.G.Guide.estimate_of c.args.guide.now) (g.G.Guide.is_dead c.args.guide.now) states all (waiting_in c.args.self.now.open_list) c.args.parent.now.id.0
     e.search.one_each e.search.nodes e.turn e.others_open s
     c.child-then-cost-index.result (ap is_expanded_status c.child-then-cost-index.ensures.status ∙ marks.0) c.child-then-cost-index.ensures.parent
     (omega (arith, c.child-then-cost-index.ensures.cost, same, c.from.ensures, c.cost.ensures, paid)) (omega (arith, c.cost.ensures, paid))
@@ -192,15 +192,15 @@ returns-else-cost-index-clause-listed g c =
     let states = g.S.StateStore.states c.args.self.now.store in
     let after = g.S.StateStore.states c.place_of_state.new.store in
     let all = c.args.self.now.nodes.items in
-    let s = bits_of c.args.state.now in
+    let s = bits_of c.args.to.state.now in
     let here = (goal.at.returns-else-cost-index-clause-listed g c).After-from in
     let same : c.index-before.result.now.cost ≡ e.turn.found.node.cost = ap (λ (n : Node). n.cost) (read_parent g here) in
     let known = was_listed g (goal.at.returns-else-cost-index-clause-listed g c).In-Some c.if-is_new.false in
     let was : slice_get all c.in-Some.id.0 ≡ Some c.index.result.now =
     slice_get_read all (length all) c.in-Some.id.0 c.index.result.now refl known.2 c.index.ensures in
-    let step = stepped_same (g.T.TransitionSystem.means c.args.system.now) (value_by (g.E.Estimate.score_of c.args.guide.now.estimate.now)) (g.D.DeadEnd.is_dead c.args.guide.now.dead_ends.now) states all (waiting_in c.args.self.now.open_list) c.args.parent.now.id.0
+    let step = stepped_same (g.T.TransitionSystem.means c.args.system.now) (g.G.Guide.estimate_of c.args.guide.now) (g.G.Guide.is_dead c.args.guide.now) states all (waiting_in c.args.self.now.open_list) c.args.parent.now.id.0
     e.search.one_each e.search.nodes e.turn e.others_open s
-    c.args.action (c.index-before.result.now.cost + c.from.result) (omega (arith, same, c.from.ensures, c.cost.ensures))
+    c.args.to.action (c.index-before.result.now.cost + c.from.result) (omega (arith, same, c.from.ensures, c.cost.ensures))
     c.in-Some.id.0 c.index.result.now known.0 was c.if-cost-index.false after known.1 in
     record {
       expanding = record {
@@ -215,21 +215,21 @@ returns-else-cost-index-clause-listed g c =
 
 pub add-requires-clause-sum : goal.add-requires-clause-sum
 add-requires-clause-sum g c =
-    value_fits (value_by (g.E.Estimate.score_of c.args.guide.now.estimate.now)) (g.D.DeadEnd.is_dead c.args.guide.now.dead_ends.now) (bits_of c.args.state.now)
-    c.value_after-value.result c.child.result.cost c.value_after-value.ensures
+    value_fits (g.G.Guide.estimate_of c.args.guide.now) (g.G.Guide.is_dead c.args.guide.now) (bits_of c.args.to.state.now)
+    c.value_after-value.result c.child.result.cost c.value_after-value.ensures.value
     (omega (arith, c.child.ensures.cost, limits g (goal.at.add-requires-clause-sum g c).After-from, c.from.ensures, c.cost.ensures))
 
 pub improve-requires-clause-sum : goal.improve-requires-clause-sum
 improve-requires-clause-sum g c =
-    value_fits (value_by (g.E.Estimate.score_of c.args.guide.now.estimate.now)) (g.D.DeadEnd.is_dead c.args.guide.now.dead_ends.now) (bits_of c.args.state.now)
-    c.value_after-value-then-cost-index.result c.child-then-cost-index.result.cost c.value_after-value-then-cost-index.ensures
+    value_fits (g.G.Guide.estimate_of c.args.guide.now) (g.G.Guide.is_dead c.args.guide.now) (bits_of c.args.to.state.now)
+    c.value_after-value-then-cost-index.result c.child-then-cost-index.result.cost c.value_after-value-then-cost-index.ensures.value
     (omega (arith, c.child-then-cost-index.ensures.cost, limits g (goal.at.improve-requires-clause-sum g c).After-from, c.from.ensures, c.cost.ensures))
 
 pub add-requires-clause-place : goal.add-requires-clause-place
 add-requires-clause-place g c =
     let states = g.S.StateStore.states c.args.self.now.store in
     let after = g.S.StateStore.states c.place_of_state.new.store in
-    let s = bits_of c.args.state.now in
+    let s = bits_of c.args.to.state.now in
     let placed : IsPlaced states after s c.in-Some.id.0 c.in-Some.is_new = rw c.in-Some.is at c.in_ok-id.ensures.placed in
     let new = placed_new states after s c.in-Some.id.0 c.in-Some.is_new c.if-is_new.true placed in
     omega (arith, ap length new.1, length-append states (s ∷ []), new.2, c.in_ok-id.ensures.within, c.requires.limit)

@@ -1,7 +1,6 @@
 use Rattle.std.proofs.Common.{◌≡◌, refl, ap, ◌∙◌, arith}
 use Rattle.search.specs.OpenList.{waiting_in}
 use Rattle.packed_state.specs.Packed.{bits_of}
-use Rattle.search.specs.Estimates.{value_by}
 use Rattle.search.specs.Outcome.{is_expanded_status, is_dead_status}
 use Rattle.search.proofs.Steps.{value_fits, joined_by, marked_by, placed_first, nodes_start}
 use Rattle.search.proofs.progress.Progress.start.Goals as goal
@@ -13,10 +12,10 @@ returns-clause-search g c =
     let stored = states c.insert_copy_if_new.new.self in
     let placed = placed_first (states c.args.store) stored s c.in_ok-place.place c.in_ok-place.field-0-1 c.requires.empty c.in_ok-place.ensures.ok in
     let same : states c.add.new.self.store ≡ stored = rw c.in_ok-add.ensures.store refl in
-    let value = value_by (g.E.Estimate.score_of c.args.guide.now.estimate.now) in
-    let is_dead = g.D.DeadEnd.is_dead c.args.guide.now.dead_ends.now in
-    let joined = joined_by value is_dead s c.value_in-value.result c.new-2.result c.add.new.self.open_list 0 c.in_ok-place.place c.value_in-value.ensures c.in_ok-add.ensures.open_list in
-    let marks = marked_by value is_dead s c.value_in-value.result c.value_in-value.ensures in
+    let value = g.G.Guide.estimate_of c.args.guide.now in
+    let is_dead = g.G.Guide.is_dead c.args.guide.now in
+    let joined = joined_by value is_dead s c.value_in-value.result c.new-2.result c.add.new.self.open_list 0 c.in_ok-place.place c.value_in-value.ensures.value c.in_ok-add.ensures.open_list in
+    let marks = marked_by value is_dead s c.value_in-value.result c.value_in-value.ensures.value in
     let nodes = nodes_start (g.T.TransitionSystem.means c.args.system.now) value is_dead (states c.add.new.self.store) c.add.new.self.nodes.items
     (waiting_in c.new-2.result) (waiting_in c.add.new.self.open_list) s c.in_ok-place.place _ _ _
     (ap is_expanded_status c.of_reached.ensures ∙ marks.0) (ap is_dead_status c.of_reached.ensures ∙ marks.1) (same ∙ placed.0)
@@ -32,5 +31,5 @@ add-requires-clause-place g c =
 
 pub add-requires-clause-sum : goal.add-requires-clause-sum
 add-requires-clause-sum g c =
-    value_fits (value_by (g.E.Estimate.score_of c.args.guide.now.estimate.now)) (g.D.DeadEnd.is_dead c.args.guide.now.dead_ends.now) (bits_of c.in_ok-initial.initial)
-    c.value_in-value.result 0 c.value_in-value.ensures (omega arith)
+    value_fits (g.G.Guide.estimate_of c.args.guide.now) (g.G.Guide.is_dead c.args.guide.now) (bits_of c.in_ok-initial.initial)
+    c.value_in-value.result 0 c.value_in-value.ensures.value (omega arith)

@@ -5,6 +5,7 @@ use Rattle.std.proofs.lemmas.List.{length-map, take_all}
 use Rattle.std.proofs.lemmas.Option.{slice_get_read, get_or_from_slice_get}
 use Rattle.packed_state.specs.Packed.{bits_of}
 use Rattle.potential_functions.specs.PotentialFunctions.{score}
+use Rattle.potential_functions.proofs.Falls.{or_zero-most}
 use Rattle.potentials.specs.Potentials.{potentials_of}
 use Rattle.table_functions.specs.TableFunctions.{functions_of, greatest_value}
 use Rattle.tables.specs.AllTables.{tables_of, count_of}
@@ -65,12 +66,19 @@ loop-place-preserved c =
     let same : 0 + k ≡ k = omega arith in
     let named = over-at tables 0 (map potentials_of items) k p (mapped-at potentials_of items k c.index.result.now read) ∙ ap (λ n. Some (function_at tables p n)) same in
     let value = value-is (function_at tables p k) bits c.or_zero.result (to_z w64 (of_z w64 (to_z w64 (of_z w64 c.score.result) +ℤ to_z w64 (of_z w64 c.index-in-loop-place.result.now)))) (score p bits) (get_or c.args.room.now.totals.items k (pos 0)) c.or_zero.ensures c.requires.rows refl (c.requires.totals k (below here)) (omega (arith, ints)) in
-    greatest-more (functions_of (several_of self)) k (function_at tables p k) bits c.loop-place.greatest c.greater-greatest.result c.or_zero.result named c.loop-place.invariant value c.greater-greatest.ensures
+    let sum = to_z w64 (of_z w64 (to_z w64 (of_z w64 c.score.result) +ℤ to_z w64 (of_z w64 c.index-in-loop-place.result.now))) in
+    let below_most = or_zero-most sum 9223372036854775807 (omega (arith, ints)) in (
+      greatest-more (functions_of (several_of self)) k (function_at tables p k) bits c.loop-place.greatest c.greater-greatest.result c.or_zero.result named c.loop-place.invariant.0 value c.greater-greatest.ensures,
+      omega (arith, below_most, c.or_zero.ensures, c.greater-greatest.ensures, c.loop-place.invariant.1),
+    )
 
-pub returns : goal.returns
-returns c =
+pub returns-clause-small : goal.returns-clause-small
+returns-clause-small c = c.loop-place.invariant.1
+
+pub returns-clause-value : goal.returns-clause-value
+returns-clause-value c =
     let items = c.args.self.now.values.items in
     let functions = functions_of (several_of c.args.self.now) in
     let all : length functions ≤ c.loop-place.place =
     omega (arith, c.loop-place-test.false, c.len-place-end.ensures, length-over (tables_of c.args.self.now.tables) 0 (map potentials_of items), length-map items potentials_of) in
-    c.loop-place.invariant ∙ ap (λ l. greatest_value l (bits_of c.args.state.now)) (take_all c.loop-place.place functions all)
+    c.loop-place.invariant.0 ∙ ap (λ l. greatest_value l (bits_of c.args.state.now)) (take_all c.loop-place.place functions all)

@@ -1,19 +1,11 @@
-use Rattle.std.proofs.Common.{◌≡◌, ◌∙◌, ◌<◌, ◌^◌, length, map, get_or, refl, sym, ap, subst, arith, pos, ◌+ℤ◌, to_z, of_z, w64}
-use Rattle.std.specs.Prelude.{IsTrue, nat_lt}
-use Rattle.std.proofs.lemmas.Int.{ints}
-use Rattle.std.proofs.lemmas.List.{length-map}
-use Rattle.std.proofs.lemmas.Option.{slice_get_read, get_or_from_slice_get}
+use Rattle.std.proofs.Common.{◌∙◌, sym, subst}
+use Rattle.std.specs.Prelude.{IsTrue}
 use Rattle.packed_state.specs.Packed.{bits_of}
-use Rattle.potential_functions.specs.PotentialFunctions.{score}
-use Rattle.potentials.specs.Potentials.{potentials_of}
 use Rattle.table_functions.specs.Laws.{are_over}
 use Rattle.table_functions.specs.TableFunctions.{dead_ends_of}
-use Rattle.tables.specs.AllTables.{tables_of, count_of}
+use Rattle.tables.specs.AllTables.{tables_of}
 use Rattle.tables.specs.Several.{several_of}
-use Rattle.tables.proofs.RoomLemmas.{total-range, all-ranged, few-tables}
-use Rattle.tables.proofs.SeveralLemmas.{function_at}
-use Rattle.tables.proofs.ValueLemmas.{none-dead, value-is, score-small}
-use Rattle.tables.proofs.several.TableFunctions.is_dead_end.Goals.{After-index}
+use Rattle.tables.proofs.ValueLemmas.{none-dead}
 use Rattle.tables.proofs.several.TableFunctions.is_dead_end.Goals as goal
 
 pub add_up-requires-clause-scopes : goal.add_up-requires-clause-scopes
@@ -22,53 +14,8 @@ add_up-requires-clause-scopes c = subst (λ n. IsTrue (are_over n (tables_of c.a
 pub returns-then-not-add_up-clause-dead : goal.returns-then-not-add_up-clause-dead
 returns-then-not-add_up-clause-dead c = none-dead (dead_ends_of (several_of c.args.self.now)) (bits_of c.args.state.now) (sym c.add_up.ensures.has ∙ c.if-not-add_up.true)
 
--- the place of the total for dead ends
-place-is : (c : After-index) → c.len.result ≡ length (map potentials_of c.args.self.now.values.items)
-place-is c = omega (arith, c.len.ensures, length-map c.args.self.now.values.items potentials_of)
+pub is_dead_with_rows-requires-clause-rows : goal.is_dead_with_rows-requires-clause-rows
+is_dead_with_rows-requires-clause-rows c = sym c.add_up.ensures.has ∙ c.if-not-add_up.false
 
-below : (c : After-index) → length (map potentials_of c.args.self.now.values.items) < count_of c.args.self.now.tables
-below c = omega (arith, length-map c.args.self.now.values.items potentials_of, c.args.self.now.together.counts)
-
-total-is : (c : After-index) → get_or c.add_up.new.room.totals.items (length (map potentials_of c.args.self.now.values.items)) (pos 0) ≡ c.index.result.now
-total-is c =
-    let totals = c.add_up.new.room.totals.items in
-    let within : c.len.result < length totals = omega (arith, below c, place-is c, c.add_up.ensures.room.totals) in
-    ap (λ j. get_or totals j (pos 0)) (sym (place-is c)) ∙ get_or_from_slice_get totals c.len.result c.index.result.now (pos 0) (slice_get_read totals (length totals) c.len.result c.index.result.now refl within c.index.ensures)
-
-pub overflow_add-score : goal.overflow_add-score
-overflow_add-score c =
-    let self = c.args.self.now in
-    let bits = bits_of c.args.state.now in
-    let few : length bits < 2 ^ 24 = omega (arith, c.requires.width, self.together.few) in
-    let small = score-small self.dead_ends bits few in
-    let low = small.0 in
-    let high = small.1 in
-    let is = c.score.ensures in
-    let here = (goal.at.overflow_add-score c).After-index in
-    let total = total-is here in
-    let range = total-range bits (tables_of self.tables) (count_of self.tables) c.add_up.new.room.totals.items (length (map potentials_of self.values.items)) (all-ranged self.tables) (few-tables self.tables) (below here)
-    (c.add_up.ensures.totals c.if-not-add_up.false) in
-    let least = range.0 in
-    let most = range.1 in
-    omega (arith, ints)
-
-pub returns-clause-dead : goal.returns-clause-dead
-returns-clause-dead c =
-    let self = c.args.self.now in
-    let tables = tables_of self.tables in
-    let bits = bits_of c.args.state.now in
-    let place = length (map potentials_of self.values.items) in
-    let p = potentials_of self.dead_ends in
-    let few : length bits < 2 ^ 24 = omega (arith, c.requires.width, self.together.few) in
-    let small = score-small self.dead_ends bits few in
-    let low = small.0 in
-    let high = small.1 in
-    let scored = c.score.ensures in
-    let here = (goal.at.returns-clause-dead c).After-index in
-    let total = total-is here in
-    let are = c.add_up.ensures.totals c.if-not-add_up.false in
-    let range = total-range bits tables (count_of self.tables) c.add_up.new.room.totals.items place (all-ranged self.tables) (few-tables self.tables) (below here) are in
-    let least = range.0 in
-    let most = range.1 in
-    let value = value-is (function_at tables p place) bits c.or_zero.result (to_z w64 (of_z w64 (to_z w64 (of_z w64 c.score.result) +ℤ to_z w64 (of_z w64 c.index.result.now)))) (score p bits) (get_or c.add_up.new.room.totals.items place (pos 0)) c.or_zero.ensures (sym c.add_up.ensures.has ∙ c.if-not-add_up.false) refl (are place (below here)) (omega (arith, ints)) in
-    ap (nat_lt 0) value
+pub is_dead_with_rows-requires-clause-totals : goal.is_dead_with_rows-requires-clause-totals
+is_dead_with_rows-requires-clause-totals c = c.add_up.ensures.totals c.if-not-add_up.false

@@ -1,0 +1,11 @@
+-- Fair values over tables of the code, as the values that they are.
+use Rattle.grounding.specs.declared.ground.Ground.{Ground}
+use Rattle.table_functions.specs.TableFunctions.{SeveralValues}
+use Rattle.tables.specs.Several.{several_of}
+use Rattle.table_guides.specs.declared.fair_tables.FairTables.{FairTables}
+
+abbrev pub functions_in : FairTables → SeveralValues
+functions_in f = several_of f.functions
+
+abbrev pub ground_in : FairTables → Ground
+ground_in f = f.ground.now
