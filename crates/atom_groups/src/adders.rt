@@ -67,9 +67,7 @@ impl Adders {
 
 /// Whether the change takes the atom away under no condition.
 pub(crate) fn surely_deletes(changes: &[CountingChange<'_>], atom: u32) -> bool {
-    changes
-        .iter()
-        .any(|change| change.atom == atom && !change.value && change.is_unconditional())
+    changes.iter().any(|change| change.atom == atom && !change.value && change.is_unconditional())
 }
 
 /// What the instance of this number does to the marked atoms.

@@ -109,10 +109,7 @@ impl Family {
 }
 
 /// For each atom its families.
-fn families_of_atoms(
-    alloc: Global,
-    ground: &Ground<'_>,
-) -> Result<Vec<Vec<Family>>, NoMemory> {
+fn families_of_atoms(alloc: Global, ground: &Ground<'_>) -> Result<Vec<Vec<Family>>, NoMemory> {
     let mut of_atom = Vec::new(alloc);
     for atom in ground.atoms().as_slice() {
         of_atom.push(families_of(alloc, atom.predicate, atom.objects.as_slice())?)?;

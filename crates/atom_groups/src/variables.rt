@@ -26,11 +26,7 @@ pub struct Variables {
 impl Variables {
     /// Variables for so many atoms. As long as there is a group that has several atoms no variable has yet, the one that has
     /// most of these is taken whole; each atom that is left is a variable by itself.
-    pub fn new(
-        alloc: Global,
-        width: u32,
-        groups: &[AtomGroup],
-    ) -> Result<Variables, NoMemory> {
+    pub fn new(alloc: Global, width: u32, groups: &[AtomGroup]) -> Result<Variables, NoMemory> {
         let mut of_atom: Vec<Vec<Value>> = Vec::new(alloc);
         for _ in 0..width {
             of_atom.push(Vec::new(alloc))?;
@@ -123,8 +119,9 @@ impl Variables {
 
     /// Whether an atom says something of both variables.
     pub fn overlap(&self, one: u32, other: u32) -> bool {
-        self.atoms(one)
+        self.atoms(one).iter().any(|atom| self
+            .of_atom(*atom)
             .iter()
-            .any(|atom| self.of_atom(*atom).iter().any(|value| value.variable == other))
+            .any(|value| value.variable == other))
     }
 }

@@ -1,8 +1,8 @@
 //! Which orders give states great values.
 use crate::chance::Chance;
 use crate::costs::Costs;
-use crate::goal_distances::{NO_WAY, distance_of, distances, take};
 use crate::division::Division;
+use crate::goal_distances::{NO_WAY, distance_of, distances, take};
 use crate::orders::{Order, Worth};
 use faults::NoMemory;
 use reached_rows::RowGraph;

@@ -67,9 +67,7 @@ impl InstancePart<'_, '_> {
 
     /// Whether a literal wants one of the variable's atoms.
     fn wants_atom(&self) -> bool {
-        self.literals
-            .iter()
-            .any(|literal| literal.value && self.value_of(literal.atom).is_some())
+        self.literals.iter().any(|literal| literal.value && self.value_of(literal.atom).is_some())
     }
 
     /// The value that the atom stands for, if the variable has it.
@@ -84,12 +82,10 @@ impl InstancePart<'_, '_> {
 
     /// Whether none of the literals is against the value.
     fn allows(&self, literals: &[NumberedLiteral], from: u32) -> bool {
-        literals
-            .iter()
-            .all(|literal| match self.value_of(literal.atom) {
-                Some(value) => (value == from) == literal.value,
-                None => true,
-            })
+        literals.iter().all(|literal| match self.value_of(literal.atom) {
+            Some(value) => (value == from) == literal.value,
+            None => true,
+        })
     }
 
     /// Adds the moves from this value.
@@ -100,7 +96,10 @@ impl InstancePart<'_, '_> {
             return Ok(());
         };
         moves.push(Move { from, to: certain })?;
-        if value > 0 && !self.makes(Made::Always, true, value, from) && self.makes(Made::Sometimes, false, value, from) {
+        if value > 0
+            && !self.makes(Made::Always, true, value, from)
+            && self.makes(Made::Sometimes, false, value, from)
+        {
             let to = Target::Value(0);
             moves.push(Move { from, to })?;
         }

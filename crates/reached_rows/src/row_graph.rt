@@ -60,6 +60,11 @@ impl RowGraph {
         self.arcs.len()
     }
 
+    /// How many instances are in classes.
+    pub fn instance_count(&self) -> usize {
+        self.instances.len()
+    }
+
     /// The classes, by their numbers.
     pub fn classes(&self) -> &[RowClass] {
         &self.classes

@@ -44,12 +44,12 @@ struct Drafts {
 }
 
 impl Steps {
-    /// Those of the ground task's instances. A variable whose moves would be too many has none.
+    /// Those of the ground task's instances; none where they would have too many moves.
     pub fn new(
         alloc: Global,
         ground: &Ground<'_>,
         variables: &Variables,
-    ) -> Result<Steps, NoMemory> {
+    ) -> Result<Option<Steps>, NoMemory> {
         let mut drafts = Drafts {
             moves: Vec::new(alloc),
             count: 0,
@@ -65,6 +65,9 @@ impl Steps {
                 ground.literals(number),
                 ground.counting(number),
             )?;
+            if drafts.count > MAX_MOVES {
+                return Ok(None);
+            }
         }
         let Drafts { moves, .. } = drafts;
         let mut steps = Steps {
@@ -75,7 +78,7 @@ impl Steps {
                 .variables
                 .push(VariableSteps::new(alloc, of_variable)?)?;
         }
-        Ok(steps)
+        Ok(Some(steps))
     }
 
     /// What instances do to the variable of this number.
@@ -101,12 +104,10 @@ impl Drafts {
                 literals,
                 changes,
             };
-            if self.count < MAX_MOVES {
-                let moves = part.moves(alloc)?;
-                self.count = self.count.saturating_add(moves.len());
-                if let Some(all) = self.moves.get_mut(place_of(variable)) {
-                    all.push((moves, number))?;
-                }
+            let moves = part.moves(alloc)?;
+            self.count = self.count.saturating_add(moves.len());
+            if let Some(all) = self.moves.get_mut(place_of(variable)) {
+                all.push((moves, number))?;
             }
         }
         Ok(())

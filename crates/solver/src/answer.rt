@@ -1,5 +1,6 @@
 //! The answer to a task.
-ghost use Rattle.std.specs.Prelude.{[], IfOk, IsTrue};
+ghost use Rattle.std.specs.Prelude.{◌≡◌, [], IfOk, IfSome, IsTrue};
+ghost use Rattle.potentials_improved.specs.FairPotentials.{potentials_in, ground_in};
 ghost use Rattle.task.specs.Task.{task_of};
 ghost use Rattle.grounding.specs.Ground.{task_in, atoms_in, IsGroundOf};
 ghost use Rattle.solver.specs.Guided.{IsEstimateBy, IsTestBy};
@@ -7,6 +8,7 @@ ghost use Rattle.solver.specs.Improved.{AreSettledOrHigh, AreDeadSettledOrHigh};
 ghost use Rattle.solver.specs.Solver.{IsTrueAnswer};
 ghost use Rattle.model.specs.WellTyped.{is_task};
 
+use crate::by_tables::solve_by_tables;
 use crate::improved::improved;
 use crate::limits::Limits;
 use crate::listing::cert_of;
@@ -22,6 +24,10 @@ use potentials_improved::{DeadFair, Fair, Groundwork};
 use search::{DeadEnd, Estimate, EstimateWithDeadEnds, Outcome, best_first};
 use std::alloc::Global;
 use task::Task;
+
+/// How many states a search may list by potentials alone, before tables are looked for. So a task that is solved by fewer is
+/// solved without them.
+const FIRST_STATES: u32 = 10_000;
 
 /// What is found out of a task.
 #[derive(Drop)]
@@ -58,6 +64,13 @@ pub enum Exceeded {
         /// It shows that no plan costs less.
         cert: Cert,
     },
+}
+
+impl Answer {
+    /// Whether the limit of the listed states is exceeded.
+    fn is_stopped(&self) -> bool {
+        matches!(self, Answer::Unknown(Exceeded::States { .. }))
+    }
 }
 
 /// A cheapest plan of the task, or that it has none, with the certificate that shows it.
@@ -104,7 +117,44 @@ fn solve_ground(alloc: Global, ground: &Ground<'_>, limits: Limits) -> Result<An
     let estimate: Fair<'_, '_> = improved(alloc, ground, &groundwork)?;
     let dead_ends: DeadFair<'_, '_> = improved(alloc, ground, &groundwork)?;
     drop(groundwork);
+    if let Some(answer) = solved_first(alloc, ground, &estimate, &dead_ends, limits)? {
+        return Ok(answer);
+    }
     solve_by(alloc, ground, &estimate, &dead_ends, limits)
+}
+
+/// The answer by potentials, if it lists few states, and else that by tables, if some are found that are better. None where more
+/// is not allowed, or no tables are found.
+fn solved_first(
+    alloc: Global,
+    ground: &Ground<'_>,
+    estimate: &Fair<'_, '_>,
+    dead_ends: &DeadFair<'_, '_>,
+    limits: Limits,
+) -> Result<Option<Answer>, NoMemory>
+    requires typed { IsTrue (is_task (task_in ground.now)) }
+    requires ground { IsGroundOf (task_in ground.now) [] limits.instances ground.now }
+    requires improved { AreSettledOrHigh (task_in ground.now) (atoms_in ground.now) (potentials_in estimate.now) }
+    requires dead_ends_improved { AreDeadSettledOrHigh (task_in ground.now) (atoms_in ground.now) (potentials_in dead_ends.now) }
+    requires estimate_of { ground_in estimate.now ≡ ground.now }
+    requires dead_ends_of { ground_in dead_ends.now ≡ ground.now }
+    ensures { IfOk result (λ o. IfSome o (IsTrueAnswer (task_in ground.now) limits.states limits.instances)) }
+{
+    let Some(few) = limits.with_fewer_states(FIRST_STATES) else {
+        return Ok(None);
+    };
+    let first = solve_by(alloc, ground, estimate, dead_ends, few)?;
+    if !first.is_stopped() {
+        return Ok(Some(first));
+    }
+    drop(first);
+    solve_by_tables(
+        alloc,
+        ground,
+        estimate.potentials(),
+        dead_ends.potentials(),
+        limits,
+    )
 }
 
 /// The same by this estimate and this test for dead ends.

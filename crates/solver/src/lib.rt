@@ -2,6 +2,8 @@
 #![tactic(auto)]
 
 mod answer;
+mod by_tables;
+mod fitting;
 mod improved;
 mod limits;
 mod listing;

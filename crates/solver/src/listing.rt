@@ -71,7 +71,7 @@ pub(crate) fn cert_of<E: Estimate + Written, D: DeadEnd + Written>(
 }
 
 /// The same atoms, in order, of which no two are the same.
-fn copied(alloc: Global, atoms: &[Atom]) -> Result<IndexSet<Atom>, NoMemory>
+pub(crate) fn copied(alloc: Global, atoms: &[Atom]) -> Result<IndexSet<Atom>, NoMemory>
     requires { IsTrue (are_distinct (map atom_of atoms.now)) }
     ensures { IfOk result (λ copy. map atom_of copy.keys ≡ map atom_of atoms.now) }
 {

@@ -15,6 +15,7 @@ const MAX_CANDIDATES: usize = 16;
 
 /// How many trials there are for the best order for the initial state, and for another one.
 const TRIALS: u32 = 400;
+
 const TRIALS_OF_STATE: u32 = 12;
 
 /// How many arcs may be looked at in all.

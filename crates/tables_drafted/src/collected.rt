@@ -14,8 +14,9 @@ const MAX_DEPTH: u32 = 3;
 /// How many rows and eighths of arcs there are in all, at most.
 const MAX_ROOM: usize = 1_500_000;
 
-/// How much may be looked at in all: instances of classes, and arcs.
-const MAX_WORK: usize = 60_000_000;
+/// How often classes may be looked at in rows in all, and instances in tables.
+const MAX_LOOKS: u64 = 40_000_000;
+const MAX_MENTIONED: usize = 40_000_000;
 
 /// The most tables.
 const MAX_TABLES: usize = 2_000;
@@ -31,7 +32,9 @@ pub(crate) struct Collecting<'a, 't> {
     /// The value of each variable in states whose values are to be raised, the initial state first.
     pub(crate) states: &'a [Vec<u32>],
     pub(crate) collected: Collected,
-    pub(crate) work: usize,
+    /// How many instances the tables so far had in all.
+    pub(crate) mentioned: usize,
+    /// How many rows and eighths of arcs.
     pub(crate) room: usize,
 }
 
@@ -118,11 +121,7 @@ impl Collecting<'_, '_> {
     }
 
     /// Those of the sets of variables that are not too large, the smallest ones first.
-    fn candidates(
-        &self,
-        alloc: Global,
-        level: Vec<Vec<u32>>,
-    ) -> Result<Vec<Candidate>, NoMemory> {
+    fn candidates(&self, alloc: Global, level: Vec<Vec<u32>>) -> Result<Vec<Candidate>, NoMemory> {
         let mut candidates = Vec::new(alloc);
         for variables in level {
             if let Some(combinations) = self.reaching.combinations(&variables) {
@@ -187,28 +186,16 @@ impl Collecting<'_, '_> {
     /// Adds the table over these variables, if there is room and work left for it and it is of use: it shuts instances out,
     /// or gives some state more than tables over some of its variables.
     fn add(&mut self, alloc: Global, variables: &[u32]) -> Result<(), NoMemory> {
-        if self.work > MAX_WORK
-            || self.room > MAX_ROOM
-            || self.collected.graphs.len() >= MAX_TABLES
-        {
+        if self.is_done() {
             return Ok(());
         }
         let Some(graph) = self.reaching.reached(alloc, variables, &self.shutters)? else {
-            self.work = self.work.saturating_add(10_000);
             return Ok(());
         };
         let shut_out = graph.shut_out(alloc)?;
         let is_shutting = !shut_out.is_empty();
         self.shutters.shut_out(&shut_out);
-        let mentioned: usize = graph
-            .classes()
-            .iter()
-            .map(|class| graph.instances_of(class).len())
-            .fold(0, |sum, count| sum.saturating_add(count));
-        self.work = self
-            .work
-            .saturating_add(mentioned)
-            .saturating_add(graph.arc_count().saturating_mul(4));
+        self.mentioned = self.mentioned.saturating_add(graph.instance_count());
         let given = self.given(alloc, &graph)?;
         if !is_shutting && self.collected.has_as_much(variables, &given) {
             return Ok(());
@@ -221,6 +208,14 @@ impl Collecting<'_, '_> {
         self.collected.is_shutting.push(is_shutting)?;
         self.collected.given.push(given)?;
         Ok(())
+    }
+
+    /// Whether nothing more is to be looked at, or kept.
+    fn is_done(&self) -> bool {
+        self.reaching.looks() > MAX_LOOKS
+            || self.mentioned > MAX_MENTIONED
+            || self.room > MAX_ROOM
+            || self.collected.graphs.len() >= MAX_TABLES
     }
 
     /// What the table gives each of the states, where all costs are its own.

@@ -20,7 +20,11 @@ const LIMITS: RowLimits = RowLimits {
 
 /// The most atoms and the most instances of a task for which tables are drafted.
 const MAX_ATOMS: u32 = 20_000;
+
 const MAX_INSTANCES: usize = 200_000;
+
+/// How many rows are looked at of tables that may be of use for dead ends alone.
+const MAX_ROWS_FOR_DEAD_ENDS: usize = 50_000;
 
 /// Several values over tables, of which the greatest counts, and one for dead ends. Of each row the weights are theirs in this
 /// order, that for dead ends last.
@@ -54,7 +58,9 @@ pub fn drafted_tables(
     let variables = Variables::new(alloc, ground.width(), &groups)?;
     drop(groups);
     let states = values_of_all(alloc, &variables, tables.states())?;
-    let steps = Steps::new(alloc, ground, &variables)?;
+    let Some(steps) = Steps::new(alloc, ground, &variables)? else {
+        return Ok(None);
+    };
     let goals = GoalValues::new(alloc, &variables, ground.goal_literals())?;
     let (collected, costs) = collected(alloc, ground, &variables, &steps, &goals, &states)?;
     drop(steps);
@@ -94,7 +100,7 @@ fn collected<'a, 't>(
         shutters: Shutters::new(alloc, ground)?,
         states,
         collected: Collected::new(alloc),
-        work: 0,
+        mentioned: 0,
         room: 0,
     };
     collecting.collect(alloc)?;
@@ -118,15 +124,19 @@ fn written(
         weight_of_dead: weight_of_dead(dead_ends),
     };
     let mut tables = Vec::new(alloc);
+    let mut rows_for_dead_ends = 0usize;
     for (place, graph) in collected.graphs.iter().enumerate() {
         let reach = distances(alloc, graph, costs)?;
         let is_shutting = match collected.is_shutting.get(place) {
             Some(is_shutting) => *is_shutting,
             None => false,
         };
-        let is_of_use = is_shutting
-            || reach.iter().any(|distance| *distance == NO_WAY)
-            || values.iter().any(|value| part_of(value, place).is_some());
+        let is_taken = values.iter().any(|value| part_of(value, place).is_some());
+        let mut is_of_use = is_shutting || is_taken;
+        if !is_of_use && rows_for_dead_ends < MAX_ROWS_FOR_DEAD_ENDS {
+            is_of_use = reach.iter().any(|distance| *distance == NO_WAY);
+            rows_for_dead_ends = rows_for_dead_ends.saturating_add(reach.len());
+        }
         if is_of_use {
             let Some(table) = writing.table(alloc, place, graph, &reach)? else {
                 return Ok(None);

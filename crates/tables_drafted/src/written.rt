@@ -112,12 +112,7 @@ fn weight_of(part: &Part, row: usize) -> i64 {
 }
 
 /// Adds the row of these atoms and weights, if it is one.
-fn add(
-    alloc: Global,
-    table: &mut Table,
-    atoms: &[u32],
-    weights: &[i64],
-) -> Result<(), NoMemory> {
+fn add(alloc: Global, table: &mut Table, atoms: &[u32], weights: &[i64]) -> Result<(), NoMemory> {
     if is_rising(atoms)
         && weights.len() == place_of(table.weight_count())
         && table.row_count() < 16_777_216

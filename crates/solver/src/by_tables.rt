@@ -1,0 +1,211 @@
+//! Answers by a search that goes by values over tables.
+//!
+//! Tables are drafted, of which nothing is known. They are taken if they are tested to be fair, and give the initial state no
+//! lower value than the potentials. Of these the first value is.
+use crate::answer::{Answer, Exceeded};
+use crate::fitting::fit_together;
+use crate::limits::Limits;
+use crate::listing::copied;
+use crate::steps::plan_of;
+use crate::system::GroundSystem;
+use certificate::{Bounds, Cert, Claim, Header, Listed, Mark, Potential, States, Version};
+use faults::NoMemory;
+use grounding::Ground;
+use packed_state::{Packed, PooledStore, StateStore};
+use potentials_improved::Potentials;
+use search::{FoundStates, Guide, Node, NodeStatus, Outcome, best_first};
+use std::alloc::Global;
+use table_guides::FairTables;
+use table_rows::Table;
+use tables::{IndexedTables, TableFunctions, ValuesFairness};
+use tables_drafted::{DraftedTables, drafted_tables};
+
+/// What a search by tables came to, and what its certificate says of each state that it found, in order.
+#[derive(Drop)]
+struct Searched {
+    outcome: Outcome<PooledStore>,
+    marks: Vec<Listed>,
+}
+
+/// The answer by tables, none where no tables are found that are fair and no worse for the initial state than these potentials.
+pub(crate) fn solve_by_tables(
+    alloc: Global,
+    ground: &Ground<'_>,
+    potentials: &Potentials,
+    dead_ends: &Potentials,
+    limits: Limits,
+) -> Result<Option<Answer>, NoMemory> {
+    let Some(draft) = drafted_tables(alloc, ground, potentials, dead_ends)? else {
+        return Ok(None);
+    };
+    let DraftedTables {
+        tables,
+        values,
+        dead_ends,
+    } = draft;
+    let mut written = Vec::new(alloc);
+    for value in &values {
+        written.push(potential_of(alloc, value)?)?;
+    }
+    let written_dead_ends = potential_of(alloc, &dead_ends)?;
+    let least = initial_value(alloc, ground, potentials)?;
+    let searched = match guide_of(alloc, ground, &tables, values, dead_ends)? {
+        Some(guide) => searched(alloc, ground, &guide, least, limits)?,
+        None => None,
+    };
+    let Some(Searched { outcome, marks }) = searched else {
+        return Ok(None);
+    };
+    let bounds = Bounds {
+        values: written,
+        dead_ends: written_dead_ends,
+        tables,
+    };
+    Ok(Some(answer_of(alloc, ground, outcome, marks, bounds)?))
+}
+
+/// The value of the initial state by the potentials.
+fn initial_value(
+    alloc: Global,
+    ground: &Ground<'_>,
+    potentials: &Potentials,
+) -> Result<u64, NoMemory> {
+    let initial = ground.initial(alloc)?;
+    Ok(potentials.value(&initial))
+}
+
+/// The values over these tables as a guide, if they fit together and are fair.
+fn guide_of<'g, 't, 'a>(
+    alloc: Global,
+    ground: &'g Ground<'t>,
+    tables: &'a [Table],
+    values: Vec<Potentials>,
+    dead_ends: Potentials,
+) -> Result<Option<FairTables<'g, 't, 'a>>, NoMemory> {
+    if !fit_together(tables, &values, &dead_ends, ground.width()) {
+        return Ok(None);
+    }
+    let count = values.len() as u32 + 1;
+    let indexed = IndexedTables::index(alloc, ground.width(), count, tables)?;
+    let functions = TableFunctions::new(values, dead_ends, indexed);
+    match functions.fairness(alloc, ground)? {
+        ValuesFairness::Fair => Ok(Some(FairTables::new(functions, ground))),
+        _ => Ok(None),
+    }
+}
+
+/// What a search by the guide comes to, if that gives the initial state at least this value.
+fn searched<G: Guide>(
+    alloc: Global,
+    ground: &Ground<'_>,
+    guide: &G,
+    least: u64,
+    limits: Limits,
+) -> Result<Option<Searched>, NoMemory> {
+    let mut room = guide.room(alloc)?;
+    let initial = ground.initial(alloc)?;
+    if guide
+        .value_in(&initial, &mut room)
+        .is_some_and(|value| value < least)
+    {
+        return Ok(None);
+    }
+    let system = GroundSystem(ground);
+    let store = PooledStore::new(alloc, ground.width())?;
+    let outcome = best_first(alloc, &system, guide, store, limits.states())?;
+    let marks = match &outcome {
+        Outcome::Found { states, .. } => marks(alloc, guide, states)?,
+        Outcome::Exhausted { states } => marks(alloc, guide, states)?,
+        Outcome::States { states, .. } => marks(alloc, guide, states)?,
+    };
+    Ok(Some(Searched { outcome, marks }))
+}
+
+/// A mark for each found state, in order.
+fn marks<G: Guide>(
+    alloc: Global,
+    guide: &G,
+    found: &FoundStates<PooledStore>,
+) -> Result<Vec<Listed>, NoMemory> {
+    let mut room = guide.room(alloc)?;
+    let mut state = Packed::empty(alloc, found.store.width())?;
+    let mut marks = Vec::with_capacity(alloc, found.nodes.len())?;
+    for place in 0..found.nodes.len() {
+        found.store.get(place as u32, &mut state);
+        marks.push(listed(guide, &state, found.nodes[place], &mut room))?;
+    }
+    Ok(marks)
+}
+
+/// How a state is listed that was reached so: as a dead end where its node says so. The guide is asked of a cut alone.
+fn listed<G: Guide>(guide: &G, state: &Packed, node: Node, room: &mut G::Room) -> Listed {
+    let mark = match node.status {
+        NodeStatus::Expanded => Mark::Open,
+        NodeStatus::Dead => Mark::Dead,
+        NodeStatus::Open => match guide.value_in(state, room) {
+            Some(rest) => Mark::Cut { rest },
+            None => Mark::Dead,
+        },
+    };
+    Listed {
+        cost: node.cost,
+        mark,
+    }
+}
+
+/// The answer of the search, with its certificate.
+fn answer_of(
+    alloc: Global,
+    ground: &Ground<'_>,
+    outcome: Outcome<PooledStore>,
+    marks: Vec<Listed>,
+    bounds: Bounds,
+) -> Result<Answer, NoMemory> {
+    match outcome {
+        Outcome::Found {
+            steps,
+            cost,
+            states,
+        } => {
+            let steps = plan_of(alloc, ground, &steps)?;
+            let cert = cert_of(alloc, ground, Claim::Bound(cost), bounds, marks, states)?;
+            Ok(Answer::Plan { steps, cost, cert })
+        }
+        Outcome::Exhausted { states } => {
+            let cert = cert_of(alloc, ground, Claim::Unsolvable, bounds, marks, states)?;
+            Ok(Answer::Unsolvable { cert })
+        }
+        Outcome::States { bound, states } => {
+            let cert = cert_of(alloc, ground, Claim::Bound(bound), bounds, marks, states)?;
+            Ok(Answer::Unknown(Exceeded::States { bound, cert }))
+        }
+    }
+}
+
+/// The certificate of the found states.
+fn cert_of(
+    alloc: Global,
+    ground: &Ground<'_>,
+    claim: Claim,
+    bounds: Bounds,
+    marks: Vec<Listed>,
+    found: FoundStates<PooledStore>,
+) -> Result<Cert, NoMemory> {
+    let header = Header {
+        version: Version::Three,
+        claim,
+        atoms: copied(alloc, ground.atoms().as_slice())?,
+        bounds,
+    };
+    let sets = found.store;
+    Ok(Cert::from_parts(header, States { marks, sets }))
+}
+
+/// The same constant and weights, as a certificate has them.
+fn potential_of(alloc: Global, potentials: &Potentials) -> Result<Potential, NoMemory> {
+    let weights = Vec::from_slice(alloc, potentials.weights())?;
+    Ok(Potential {
+        constant: potentials.constant(),
+        weights,
+    })
+}
