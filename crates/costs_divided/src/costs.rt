@@ -29,7 +29,7 @@ impl Costs {
     }
 
     /// What is left of the instance's, at least 0; none where nothing is asked of it.
-    fn of(&self, instance: u32) -> Option<i64> {
+    pub(crate) fn of(&self, instance: u32) -> Option<i64> {
         match self.left.get(place_of(instance)) {
             Some(Some(left)) => Some((*left).max(0)),
             Some(None) => None,
@@ -49,6 +49,15 @@ impl Costs {
             }
         }
         least
+    }
+
+    /// Asks nothing of these instances any more.
+    pub fn shut_out(&mut self, instances: &[u32]) {
+        for instance in instances {
+            if let Some(left) = self.left.get_mut(place_of(*instance)) {
+                *left = None;
+            }
+        }
     }
 
     /// Takes so much from the cost of the instance.

@@ -2,7 +2,7 @@
 use crate::chance::Chance;
 use crate::costs::Costs;
 use crate::division::Division;
-use crate::goal_distances::{NO_WAY, distance_of, distances, take};
+use crate::goal_distances::{NO_WAY, distance_of, distances, taken};
 use crate::orders::{Order, Worth};
 use faults::NoMemory;
 use reached_rows::RowGraph;
@@ -23,8 +23,9 @@ pub struct Divider<'a> {
     /// And what it takes then.
     taken: Vec<i64>,
     chance: Chance,
-    /// How many arcs may still be looked at.
+    /// About how many arcs, rows and instances were looked at, and may be before an order is moved no further.
     work: u64,
+    max_work: u64,
 }
 
 /// How good a division is: the initial state's value, and the sum of all states'.
@@ -35,13 +36,12 @@ struct Merit {
 }
 
 impl<'a> Divider<'a> {
-    /// That of these tables, costs and states, which looks at about so many arcs.
+    /// That of these tables, costs and states.
     pub fn new(
         alloc: Global,
         graphs: &'a [RowGraph],
         costs: &'a Costs,
         states: &'a [StateRows],
-        work: u64,
     ) -> Result<Divider<'a>, NoMemory> {
         let mut divider = Divider {
             graphs,
@@ -50,7 +50,8 @@ impl<'a> Divider<'a> {
             alone: Vec::new(alloc),
             taken: Vec::new(alloc),
             chance: Chance::new(),
-            work,
+            work: 0,
+            max_work: 0,
         };
         for (table, graph) in graphs.iter().enumerate() {
             divider.add(alloc, table, graph)?;
@@ -68,18 +69,30 @@ impl<'a> Divider<'a> {
                 None => 0,
             })?;
         }
-        let mut left = self.costs.copied(alloc)?;
-        take(alloc, graph, &distances, &mut left)?;
-        self.taken.push(difference(self.costs, &left))?;
+        self.taken
+            .push(taken(alloc, graph, &distances, self.costs)?)?;
         self.alone.push(given)?;
         self.count(graph);
         Ok(())
     }
 
-    /// Counts the arcs of the table as looked at.
+    /// Lets orders be moved until about so many arcs, rows and instances more were looked at.
+    pub fn allow(&mut self, more: u64) {
+        self.max_work = self.work.saturating_add(more);
+    }
+
+    /// Whether as many were looked at as may be.
+    pub fn is_done(&self) -> bool {
+        self.work > self.max_work
+    }
+
+    /// Counts the arcs, rows and instances of the table as looked at.
     fn count(&mut self, graph: &RowGraph) {
-        let arcs = graph.arc_count().saturating_add(graph.row_count());
-        self.work = self.work.saturating_sub(arcs as u64);
+        let looks = graph
+            .arc_count()
+            .saturating_add(graph.row_count())
+            .saturating_add(graph.instance_count());
+        self.work = self.work.saturating_add(looks as u64);
     }
 
     /// How good each table is for the state at this place, of those that give some state something.
@@ -160,7 +173,7 @@ impl<'a> Divider<'a> {
         trials: u32,
     ) -> Result<Order, NoMemory> {
         for _ in 0..trials {
-            if self.work == 0 {
+            if self.work > self.max_work {
                 return Ok(order);
             }
             let from = self.chance.below(order.tables().len());
@@ -195,15 +208,4 @@ impl<'a> Divider<'a> {
 /// The distance, and 0 where there is no way.
 fn or_nothing(distance: i64) -> i64 {
     if distance == NO_WAY { 0 } else { distance }
-}
-
-/// How much less is left in the second costs than in the first, of those of which less is left.
-fn difference(costs: &Costs, left: &Costs) -> i64 {
-    let mut sum = 0i64;
-    for (before, after) in costs.left().iter().zip(left.left()) {
-        if let (Some(before), Some(after)) = (before, after) {
-            sum = sum.saturating_add(before.saturating_sub(*after).max(0));
-        }
-    }
-    sum
 }

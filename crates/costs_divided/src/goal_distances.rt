@@ -102,6 +102,26 @@ pub(crate) fn take(
     Ok(())
 }
 
+/// How much the distances need of all costs, those of instances of which nothing is asked left out.
+pub fn taken(
+    alloc: Global,
+    graph: &RowGraph,
+    distances: &[i64],
+    costs: &Costs,
+) -> Result<i64, NoMemory> {
+    let shares = shares(alloc, graph, distances)?;
+    let mut sum = 0i64;
+    for (class, share) in graph.classes().iter().zip(&shares) {
+        let share = share.unwrap_or(0).max(0);
+        for instance in graph.instances_of(class) {
+            if costs.of(*instance).is_some() {
+                sum = sum.saturating_add(share);
+            }
+        }
+    }
+    Ok(sum)
+}
+
 /// What is taken of the cost of each class, none where it makes no difference.
 pub(crate) fn shares(
     alloc: Global,

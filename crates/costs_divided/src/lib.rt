@@ -14,5 +14,5 @@ mod orders;
 pub use costs::Costs;
 pub use divider::{Divider, StateRows};
 pub use division::{Division, Part};
-pub use goal_distances::{NO_WAY, distances};
+pub use goal_distances::{NO_WAY, distances, taken};
 pub use orders::Order;

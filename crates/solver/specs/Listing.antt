@@ -1,5 +1,5 @@
 -- What the certificate of a search's found states is made of.
-use Rattle.std.specs.Prelude.{◌≡◌, ℕ, ◌+◌, ◌≤◌, Bool, IsTrue, List, [], ◌∷◌, length, map, Contains}
+use Rattle.std.specs.Prelude.{◌≡◌, ℕ, ◌+◌, ◌≤◌, ◌⊎◌, Bool, IsTrue, List, [], ◌∷◌, length, map, Contains}
 use Rattle.std.specs.List.{filter, range_with_len}
 use Rattle.packed_state.specs.Sets.{has}
 use Rattle.search.specs.declared.nodes.Node.{Node}
@@ -8,7 +8,7 @@ use Rattle.model.specs.Task.{Task, Atom}
 use Rattle.model.specs.Meaning.{State}
 use Rattle.model.specs.Claims.{Claim, opened, dead, Line}
 use Rattle.potential_functions.specs.PotentialFunctions.{PotentialFunction, value, is_dead_by}
-use Rattle.certificate_definitions.specs.Certificates.{two, Certificate, StateLine, IsClosedFor, keeps_limits, lines_of, value_of, is_dead_end_of}
+use Rattle.certificate_definitions.specs.Certificates.{two, three, Certificate, StateLine, IsClosedFor, keeps_limits, lines_of, value_of, is_dead_end_of}
 use Rattle.certificate.specs.ListedSets.{Marked}
 use Rattle.model.specs.NumberedAtoms.{numbered_atoms}
 
@@ -38,15 +38,15 @@ found_certificate claim atoms p dead_ends states nodes = record {
 }
 
 -- The certificate is closed for the task, claims this, keeps the limits of a certificate's text, and lists at most
--- `max_states` states by the numbered atoms, each at the place that is its number. It is of version 2, and each listed state
--- that its potentials report a dead end is listed as one.
+-- `max_states` states by the numbered atoms, each at the place that is its number. It is of version 2, or of version 3 where
+-- the search went by tables, and each listed state that its values report a dead end is listed as one.
 pub record IsShownBy (task : Task) (claim : Claim) (max_states : ℕ) (certificate : Certificate) : Type 0 where
   pub claims : certificate.claim ≡ claim
   pub closed : IsClosedFor task certificate
   pub within_limit : length certificate.lines ≤ max_states
   pub atoms : certificate.atoms ≡ numbered_atoms task []
   pub within_limits : IsTrue (keeps_limits certificate)
-  pub version : certificate.version ≡ two
+  pub version : (certificate.version ≡ two) ⊎ (certificate.version ≡ three)
   pub dead_ends_are_reported : (line : Line State) → Contains (lines_of task certificate) line → IsTrue (is_dead_end_of task certificate line.state) → line.mark ≡ dead
 
 -- each open state of the certificate costs, with its value, at most this

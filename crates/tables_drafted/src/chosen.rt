@@ -18,8 +18,10 @@ const TRIALS: u32 = 400;
 
 const TRIALS_OF_STATE: u32 = 12;
 
-/// How many arcs may be looked at in all.
-const MAX_WORK: u64 = 150_000_000;
+/// How many arcs may be looked at for the best order for the initial state, and for those for all others.
+const MAX_WORK: u64 = 20_000_000;
+
+const MAX_WORK_OF_STATES: u64 = 20_000_000;
 
 /// A value: a division of costs among tables, and potentials.
 #[derive(Drop)]
@@ -62,7 +64,8 @@ impl Choosing<'_> {
         alloc: Global,
         tables: &mut Tables,
     ) -> Result<Vec<Value>, NoMemory> {
-        let mut divider = Divider::new(alloc, self.graphs, self.costs, self.rows, MAX_WORK)?;
+        let mut divider = Divider::new(alloc, self.graphs, self.costs, self.rows)?;
+        divider.allow(MAX_WORK);
         let mut candidates = Candidates {
             all: Vec::new(alloc),
             most: vec![in alloc; 0; self.rows.len()]?,
@@ -71,7 +74,11 @@ impl Choosing<'_> {
         let order = divider.best_order(alloc, TRIALS)?;
         self.add(alloc, tables, &mut divider, &order, &mut candidates)?;
         self.add_after_potentials(alloc, tables, &order, &mut candidates)?;
+        divider.allow(MAX_WORK_OF_STATES);
         for state in 1..self.rows.len() {
+            if divider.is_done() {
+                break;
+            }
             let order = divider.order_for(alloc, state, TRIALS_OF_STATE)?;
             self.add(alloc, tables, &mut divider, &order, &mut candidates)?;
         }

@@ -1,7 +1,7 @@
 //! Which tables there are: over single variables, and over pairs and triples that go together.
 use crate::links::Links;
 use atom_groups::{Variables, place_of};
-use costs_divided::{Costs, NO_WAY, distances};
+use costs_divided::{Costs, NO_WAY, distances, taken};
 use faults::NoMemory;
 use grounding::Ground;
 use potentials::instance_count;
@@ -16,6 +16,7 @@ const MAX_ROOM: usize = 1_500_000;
 
 /// How often classes may be looked at in rows in all, and instances in tables.
 const MAX_LOOKS: u64 = 40_000_000;
+
 const MAX_MENTIONED: usize = 40_000_000;
 
 /// The most tables.
@@ -29,6 +30,8 @@ pub(crate) struct Collecting<'a, 't> {
     pub(crate) goals: &'a GoalValues,
     pub(crate) reaching: Reaching<'a>,
     pub(crate) shutters: Shutters,
+    /// What each instance costs, none where it is shut out.
+    pub(crate) costs: Costs,
     /// The value of each variable in states whose values are to be raised, the initial state first.
     pub(crate) states: &'a [Vec<u32>],
     pub(crate) collected: Collected,
@@ -44,7 +47,14 @@ pub(crate) struct Collected {
     pub(crate) graphs: Vec<RowGraph>,
     /// Whether it shuts instances out.
     pub(crate) is_shutting: Vec<bool>,
-    given: Vec<Vec<i64>>,
+    gifts: Vec<Gift>,
+}
+
+/// What a table gives each of some states where all costs are its own, and how much of these it takes.
+#[derive(Drop)]
+struct Gift {
+    given: Vec<i64>,
+    taken: i64,
 }
 
 /// A table that may be made: its variables, and how many combinations of their values there are.
@@ -60,36 +70,56 @@ impl Collected {
         Collected {
             graphs: Vec::new(alloc),
             is_shutting: Vec::new(alloc),
-            given: Vec::new(alloc),
+            gifts: Vec::new(alloc),
         }
     }
 
-    /// Whether these values are no greater than those which tables over some of the variables give.
-    fn has_as_much(&self, variables: &[u32], given: &[i64]) -> bool {
-        for (state, value) in given.iter().enumerate() {
+    /// Whether tables over some of the variables give each state as much, and one of them the initial state for no more.
+    fn has_as_much(&self, variables: &[u32], gift: &Gift) -> bool {
+        for (state, value) in gift.given.iter().enumerate() {
             if *value > self.most(variables, state) {
                 return false;
             }
         }
-        true
+        gift.at(0) == 0 || gift.taken >= self.least_taken(variables, gift.at(0))
     }
 
     /// The most that a table over some of the variables gives the state at this place.
     fn most(&self, variables: &[u32], state: usize) -> i64 {
         let mut most = 0i64;
-        for (graph, given) in self.graphs.iter().zip(&self.given) {
-            if graph
-                .variables()
-                .iter()
-                .all(|variable| variables.contains(variable))
-            {
-                if let Some(value) = given.get(state) {
-                    most = most.max(*value);
-                }
+        for (graph, gift) in self.graphs.iter().zip(&self.gifts) {
+            if is_part(graph.variables(), variables) {
+                most = most.max(gift.at(state));
             }
         }
         most
     }
+
+    /// The least that a table over some of the variables takes, of those that give the initial state at least this.
+    fn least_taken(&self, variables: &[u32], given: i64) -> i64 {
+        let mut least = i64::MAX;
+        for (graph, gift) in self.graphs.iter().zip(&self.gifts) {
+            if gift.at(0) >= given && is_part(graph.variables(), variables) {
+                least = least.min(gift.taken);
+            }
+        }
+        least
+    }
+}
+
+impl Gift {
+    /// What the state at this place is given.
+    fn at(&self, state: usize) -> i64 {
+        match self.given.get(state) {
+            Some(value) => *value,
+            None => 0,
+        }
+    }
+}
+
+/// Whether each of these variables is one of the others.
+fn is_part(part: &[u32], variables: &[u32]) -> bool {
+    part.iter().all(|variable| variables.contains(variable))
 }
 
 impl Collecting<'_, '_> {
@@ -195,9 +225,10 @@ impl Collecting<'_, '_> {
         let shut_out = graph.shut_out(alloc)?;
         let is_shutting = !shut_out.is_empty();
         self.shutters.shut_out(&shut_out);
+        self.costs.shut_out(&shut_out);
         self.mentioned = self.mentioned.saturating_add(graph.instance_count());
-        let given = self.given(alloc, &graph)?;
-        if !is_shutting && self.collected.has_as_much(variables, &given) {
+        let gift = self.gift(alloc, &graph)?;
+        if !is_shutting && self.collected.has_as_much(variables, &gift) {
             return Ok(());
         }
         self.room = self
@@ -206,7 +237,7 @@ impl Collecting<'_, '_> {
             .saturating_add(graph.arc_count() / 8);
         self.collected.graphs.push(graph)?;
         self.collected.is_shutting.push(is_shutting)?;
-        self.collected.given.push(given)?;
+        self.collected.gifts.push(gift)?;
         Ok(())
     }
 
@@ -218,10 +249,9 @@ impl Collecting<'_, '_> {
             || self.collected.graphs.len() >= MAX_TABLES
     }
 
-    /// What the table gives each of the states, where all costs are its own.
-    fn given(&self, alloc: Global, graph: &RowGraph) -> Result<Vec<i64>, NoMemory> {
-        let costs = self.costs(alloc)?;
-        let distances = distances(alloc, graph, &costs)?;
+    /// What the table gives each of the states, and takes, where all costs are its own.
+    fn gift(&self, alloc: Global, graph: &RowGraph) -> Result<Gift, NoMemory> {
+        let distances = distances(alloc, graph, &self.costs)?;
         let mut given = Vec::with_capacity(alloc, self.states.len())?;
         for values in self.states {
             let distance = match graph.row_of(values) {
@@ -233,19 +263,24 @@ impl Collecting<'_, '_> {
             };
             given.push(if distance == NO_WAY { 1 } else { distance })?;
         }
-        Ok(given)
+        let taken = taken(alloc, graph, &distances, &self.costs)?;
+        Ok(Gift { given, taken })
     }
+}
 
-    /// What each instance costs, none where it is shut out.
-    pub(crate) fn costs(&self, alloc: Global) -> Result<Costs, NoMemory> {
-        let mut left = Vec::new(alloc);
-        for number in 0..instance_count(self.ground) {
-            left.push(if self.shutters.is_shut_out(number) {
-                None
-            } else {
-                Some(i64::from(self.ground.cost(number)))
-            })?;
-        }
-        Ok(Costs::new(left))
+/// What each instance costs, none where it is shut out.
+pub(crate) fn costs_of(
+    alloc: Global,
+    ground: &Ground<'_>,
+    shutters: &Shutters,
+) -> Result<Costs, NoMemory> {
+    let mut left = Vec::new(alloc);
+    for number in 0..instance_count(ground) {
+        left.push(if shutters.is_shut_out(number) {
+            None
+        } else {
+            Some(i64::from(ground.cost(number)))
+        })?;
     }
+    Ok(Costs::new(left))
 }

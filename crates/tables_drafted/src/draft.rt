@@ -1,6 +1,6 @@
 //! Drafts of values over tables, from the ground task to tables in memory.
 use crate::chosen::{Choosing, Value, copied};
-use crate::collected::{Collected, Collecting};
+use crate::collected::{Collected, Collecting, costs_of};
 use crate::written::{Writing, part_of, weight_of_dead};
 use atom_groups::{Variables, found_groups, place_of};
 use costs_divided::{Costs, NO_WAY, StateRows, distances};
@@ -92,20 +92,25 @@ fn collected<'a, 't>(
         Some(values) => values,
         None => &[],
     };
+    let shutters = Shutters::new(alloc, ground)?;
     let mut collecting = Collecting {
         ground,
         variables,
         goals,
         reaching: Reaching::new(alloc, variables, steps, goals, initial, LIMITS)?,
-        shutters: Shutters::new(alloc, ground)?,
+        costs: costs_of(alloc, ground, &shutters)?,
+        shutters,
         states,
         collected: Collected::new(alloc),
         mentioned: 0,
         room: 0,
     };
     collecting.collect(alloc)?;
-    let costs = collecting.costs(alloc)?;
-    let Collecting { collected, .. } = collecting;
+    let Collecting {
+        collected,
+        costs,
+        ..
+    } = collecting;
     Ok((collected, costs))
 }
 

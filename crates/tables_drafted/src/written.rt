@@ -1,5 +1,6 @@
 //! Tables in memory, with the weights of several values.
-ghost use Rattle.std.specs.Prelude.{◌≡◌};
+ghost use Rattle.std.specs.Prelude.{◌≡◌, nat_lt, slice_get, true};
+ghost use Rattle.std.specs.Option.{option_map_or};
 ghost use Rattle.table_rows.specs.Rows as rows;
 
 use crate::chosen::Value;
@@ -127,7 +128,17 @@ fn is_rising(numbers: &[u32]) -> bool
     ensures { result ≡ rows.are_rising numbers.now }
 {
     match numbers {
-        [first, second, ..] => *first < *second && is_rising(&numbers[1..]),
-        _ => true,
+        [first, others @ ..] => is_below(*first, others) && is_rising(others),
+        [] => true,
+    }
+}
+
+/// Whether the number is below the first of the others, if there are some.
+fn is_below(number: u32, others: &[u32]) -> bool
+    ensures { result ≡ option_map_or (λ first. nat_lt number first) (slice_get others.now 0) true }
+{
+    match others {
+        [first, ..] => number < *first,
+        [] => true,
     }
 }
