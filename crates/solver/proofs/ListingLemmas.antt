@@ -1,6 +1,6 @@
 -- The lines of the found states make a closed certificate.
-use Rattle.std.proofs.Common.{◌≡◌, ◌∙◌, ◌≢◌, ℕ, zero, suc, ◌+◌, ◌<◌, ◌≤◌, Bool, true, false, not, ◌&&◌, List, [], ◌∷◌, ◌++◌, length, map, get_or, cond, Some, refl, sym, ap, subst, arith}
-use Rattle.std.specs.Prelude.{inl, nat_le, nat_lt, slice_get, Contains, All, AllPairs, IsTrue, filter, if◌then◌else◌}
+use Rattle.std.proofs.Common.{◌≡◌, ◌∙◌, ◌≢◌, inl, ℕ, zero, suc, ◌+◌, ◌<◌, ◌≤◌, Bool, true, false, not, ◌&&◌, List, [], ◌∷◌, ◌++◌, length, map, get_or, cond, Some, refl, sym, ap, subst, arith}
+use Rattle.std.specs.Prelude.{nat_le, nat_lt, slice_get, Contains, All, AllPairs, IsTrue, filter, if◌then◌else◌}
 use Rattle.std.specs.List.{list_all, filter_map, range_with_len, cons_option}
 use Rattle.std.specs.Option.{option_map}
 use Rattle.std.specs.FinSet.{from_list}

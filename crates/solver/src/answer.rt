@@ -13,6 +13,7 @@ use crate::improved::improved;
 use crate::limits::Limits;
 use crate::listing::cert_of;
 use crate::steps::plan_of;
+use crate::stopped::Stopped;
 use crate::system::GroundSystem;
 use crate::written::Written;
 use certificate::{Cert, Claim};
@@ -27,7 +28,7 @@ use task::Task;
 
 /// How many states a search may list by potentials alone, before tables are looked for. So a task that is solved by fewer is
 /// solved without them.
-const FIRST_STATES: u32 = 10_000;
+const FIRST_STATES: u32 = 50_000;
 
 /// What is found out of a task.
 #[derive(Drop)]
@@ -67,9 +68,15 @@ pub enum Exceeded {
 }
 
 impl Answer {
-    /// Whether the limit of the listed states is exceeded.
-    fn is_stopped(&self) -> bool {
-        matches!(self, Answer::Unknown(Exceeded::States { .. }))
+    /// What was found where the limit of the listed states is exceeded.
+    fn stopped(&self) -> Option<Stopped<'_>> {
+        match self {
+            Answer::Unknown(Exceeded::States { bound, cert }) => Some(Stopped {
+                bound: *bound,
+                cert,
+            }),
+            _ => None,
+        }
     }
 }
 
@@ -144,15 +151,15 @@ fn solved_first(
         return Ok(None);
     };
     let first = solve_by(alloc, ground, estimate, dead_ends, few)?;
-    if !first.is_stopped() {
+    let Some(stopped) = first.stopped() else {
         return Ok(Some(first));
-    }
-    drop(first);
+    };
     solve_by_tables(
         alloc,
         ground,
         estimate.potentials(),
         dead_ends.potentials(),
+        &stopped,
         limits,
     )
 }

@@ -1,12 +1,14 @@
 //! Answers by a search that goes by values over tables.
 //!
-//! Tables are drafted, of which nothing is known. They are taken if they are tested to be fair, and give the initial state no
-//! lower value than the potentials. Of these the first value is.
+//! Tables are drafted, of which nothing is known. They are taken if they are tested to be fair, give the initial state no lower
+//! value than the potentials, and would have saved a first search by these at least half of what it expanded. Of the values
+//! over tables the first one is that of the potentials.
 use crate::answer::{Answer, Exceeded};
 use crate::fitting::fit_together;
 use crate::limits::Limits;
 use crate::listing::copied;
 use crate::steps::plan_of;
+use crate::stopped::Stopped;
 use crate::system::GroundSystem;
 use certificate::{Bounds, Cert, Claim, Header, Listed, Mark, Potential, States, Version};
 use faults::NoMemory;
@@ -27,17 +29,21 @@ struct Searched {
     marks: Vec<Listed>,
 }
 
-/// The answer by tables, none where no tables are found that are fair and no worse for the initial state than these potentials.
+/// The answer by tables, none where no tables are found that are better than these potentials, by which a first search was
+/// stopped so.
 pub(crate) fn solve_by_tables(
     alloc: Global,
     ground: &Ground<'_>,
     potentials: &Potentials,
     dead_ends: &Potentials,
+    stopped: &Stopped<'_>,
     limits: Limits,
 ) -> Result<Option<Answer>, NoMemory> {
-    let Some(draft) = drafted_tables(alloc, ground, potentials, dead_ends)? else {
+    let states = stopped.samples(alloc)?;
+    let Some(draft) = drafted_tables(alloc, ground, potentials, dead_ends, &states)? else {
         return Ok(None);
     };
+    drop(states);
     let DraftedTables {
         tables,
         values,
@@ -50,8 +56,10 @@ pub(crate) fn solve_by_tables(
     let written_dead_ends = potential_of(alloc, &dead_ends)?;
     let least = initial_value(alloc, ground, potentials)?;
     let searched = match guide_of(alloc, ground, &tables, values, dead_ends)? {
-        Some(guide) => searched(alloc, ground, &guide, least, limits)?,
-        None => None,
+        Some(guide) if is_better(alloc, ground, &guide, least, stopped)? => {
+            Some(searched(alloc, ground, &guide, limits)?)
+        }
+        _ => None,
     };
     let Some(Searched { outcome, marks }) = searched else {
         return Ok(None);
@@ -94,22 +102,30 @@ fn guide_of<'g, 't, 'a>(
     }
 }
 
-/// What a search by the guide comes to, if that gives the initial state at least this value.
-fn searched<G: Guide>(
+/// Whether the guide gives the initial state at least this value, and would have saved the first search enough.
+fn is_better<G: Guide>(
     alloc: Global,
     ground: &Ground<'_>,
     guide: &G,
     least: u64,
-    limits: Limits,
-) -> Result<Option<Searched>, NoMemory> {
+    stopped: &Stopped<'_>,
+) -> Result<bool, NoMemory> {
     let mut room = guide.room(alloc)?;
     let initial = ground.initial(alloc)?;
-    if guide
-        .value_in(&initial, &mut room)
-        .is_some_and(|value| value < least)
-    {
-        return Ok(None);
-    }
+    let is_no_lower = match guide.value_in(&initial, &mut room) {
+        Some(value) => value >= least,
+        None => true,
+    };
+    Ok(is_no_lower && stopped.is_shorter_by(alloc, guide)?)
+}
+
+/// What a search by the guide comes to.
+fn searched<G: Guide>(
+    alloc: Global,
+    ground: &Ground<'_>,
+    guide: &G,
+    limits: Limits,
+) -> Result<Searched, NoMemory> {
     let system = GroundSystem(ground);
     let store = PooledStore::new(alloc, ground.width())?;
     let outcome = best_first(alloc, &system, guide, store, limits.states())?;
@@ -118,7 +134,7 @@ fn searched<G: Guide>(
         Outcome::Exhausted { states } => marks(alloc, guide, states)?,
         Outcome::States { states, .. } => marks(alloc, guide, states)?,
     };
-    Ok(Some(Searched { outcome, marks }))
+    Ok(Searched { outcome, marks })
 }
 
 /// A mark for each found state, in order.

@@ -8,6 +8,7 @@ mod improved;
 mod limits;
 mod listing;
 mod steps;
+mod stopped;
 mod system;
 mod written;
 

@@ -38,8 +38,9 @@ pub struct DraftedTables {
     pub dead_ends: Potentials,
 }
 
-/// Values over tables that may be greater than those of these potentials, of which the second ones are for dead ends. None where
-/// nothing is gained, or the task is too large.
+/// Values over tables that may be greater than those of these potentials, of which the second ones are for dead ends. They are
+/// to be greater in the initial state, in these states, which are given by their true atoms, and in some on random walks. None
+/// where no table is of use, or the task is too large.
 ///
 /// # Errors
 /// Where memory is refused.
@@ -48,6 +49,7 @@ pub fn drafted_tables(
     ground: &Ground<'_>,
     potentials: &Potentials,
     dead_ends: &Potentials,
+    found: &[Vec<u32>],
 ) -> Result<Option<DraftedTables>, NoMemory> {
     if ground.width() > MAX_ATOMS || ground.instances().len() > MAX_INSTANCES {
         return Ok(None);
@@ -57,7 +59,8 @@ pub fn drafted_tables(
     let groups = found_groups(alloc, ground, &initial)?;
     let variables = Variables::new(alloc, ground.width(), &groups)?;
     drop(groups);
-    let states = values_of_all(alloc, &variables, tables.states())?;
+    let atoms = samples(alloc, tables.states(), found)?;
+    let states = values_of_all(alloc, &variables, &atoms)?;
     let Some(steps) = Steps::new(alloc, ground, &variables)? else {
         return Ok(None);
     };
@@ -65,7 +68,6 @@ pub fn drafted_tables(
     let (collected, costs) = collected(alloc, ground, &variables, &steps, &goals, &states)?;
     drop(steps);
     let rows = rows_of_all(alloc, &collected.graphs, &states)?;
-    let atoms = copied_states(alloc, tables.states())?;
     let choosing = Choosing {
         graphs: &collected.graphs,
         costs: &costs,
@@ -206,10 +208,20 @@ fn rows_of_all(
     Ok(all)
 }
 
-/// The same lists once more.
-fn copied_states(alloc: Global, states: &[Vec<u32>]) -> Result<Vec<Vec<u32>>, NoMemory> {
-    let mut all = Vec::with_capacity(alloc, states.len())?;
-    for atoms in states {
+/// The true atoms of the first one of these states, then of those that a search found, and then of the others.
+fn samples(
+    alloc: Global,
+    states: &[Vec<u32>],
+    found: &[Vec<u32>],
+) -> Result<Vec<Vec<u32>>, NoMemory> {
+    let mut all = Vec::new(alloc);
+    for atoms in states.iter().take(1) {
+        all.push(Vec::from_slice(alloc, atoms)?)?;
+    }
+    for atoms in found {
+        all.push(Vec::from_slice(alloc, atoms)?)?;
+    }
+    for atoms in states.iter().skip(1) {
         all.push(Vec::from_slice(alloc, atoms)?)?;
     }
     Ok(all)
