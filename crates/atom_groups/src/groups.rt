@@ -214,8 +214,10 @@ impl Finder<'_, '_> {
 
 /// How many of the atoms are true in the state.
 fn true_among(atoms: &[u32], state: &Packed) -> usize {
-    atoms
-        .iter()
-        .filter(|atom| **atom < state.width() && state.has(**atom))
-        .count()
+    atoms.iter().filter(|atom| is_true(**atom, state)).count()
+}
+
+/// Whether the atom is true in the state.
+fn is_true(atom: u32, state: &Packed) -> bool {
+    atom < state.width() && state.has(atom)
 }

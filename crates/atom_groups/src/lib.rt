@@ -6,6 +6,7 @@
 mod adders;
 mod families;
 mod groups;
+mod mentioned;
 mod numbers;
 mod variables;
 

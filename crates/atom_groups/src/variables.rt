@@ -2,7 +2,6 @@
 use crate::groups::AtomGroup;
 use crate::numbers::{number_of, place_of};
 use faults::NoMemory;
-use packed_state::Packed;
 use std::alloc::Global;
 
 /// A value of a variable: 0 where none of its atoms is true, and else the place of the one that is, from 1.
@@ -105,16 +104,6 @@ impl Variables {
             Some(values) => values,
             None => &[],
         }
-    }
-
-    /// The value of the variable in the state: that of its first atom that is true.
-    pub fn value_in(&self, variable: u32, state: &Packed) -> u32 {
-        for (place, atom) in self.atoms(variable).iter().enumerate() {
-            if *atom < state.width() && state.has(*atom) {
-                return number_of(place).saturating_add(1);
-            }
-        }
-        0
     }
 
     /// Whether an atom says something of both variables.

@@ -1,10 +1,10 @@
 //! Which orders give states great values.
-use crate::chance::Chance;
 use crate::costs::Costs;
 use crate::division::Division;
 use crate::goal_distances::{NO_WAY, distance_of, distances, taken};
 use crate::orders::{Order, Worth};
 use faults::NoMemory;
+use potentials_drafted::Chance;
 use reached_rows::RowGraph;
 use std::alloc::Global;
 

@@ -4,7 +4,6 @@
 //! Nothing is claimed of a division. Which order is good is found out by states whose values are to be raised.
 #![tactic(auto)]
 
-mod chance;
 mod costs;
 mod divider;
 mod division;

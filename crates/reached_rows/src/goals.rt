@@ -1,8 +1,7 @@
-//! Which values of variables the goal allows, and which values they have in a state.
+//! Which values of variables the goal allows.
 use atom_groups::{Variables, place_of};
 use faults::NoMemory;
 use grounding::NumberedLiteral;
-use packed_state::Packed;
 use std::alloc::Global;
 
 /// For each variable which of its values the goal allows.
@@ -68,17 +67,4 @@ impl GoalValues {
             None => false,
         }
     }
-}
-
-/// The value of each variable in the state.
-pub fn values_in(
-    alloc: Global,
-    variables: &Variables,
-    state: &Packed,
-) -> Result<Vec<u32>, NoMemory> {
-    let mut values = Vec::with_capacity(alloc, place_of(variables.count()))?;
-    for variable in 0..variables.count() {
-        values.push(variables.value_in(variable, state))?;
-    }
-    Ok(values)
 }

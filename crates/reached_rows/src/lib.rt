@@ -11,7 +11,7 @@ mod reached;
 mod row_graph;
 mod steps;
 
-pub use goals::{GoalValues, values_in};
+pub use goals::GoalValues;
 pub use reached::{MAX_TABLE_VARIABLES, Reaching, RowLimits};
 pub use row_graph::{Arc, RowClass, RowGraph};
 pub use steps::{Shutters, Steps};

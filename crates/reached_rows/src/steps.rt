@@ -97,7 +97,11 @@ impl Drafts {
         literals: &'a [NumberedLiteral],
         changes: &'a [CountingChange<'t>],
     ) -> Result<(), NoMemory> {
-        for variable in mentioned(alloc, variables, literals, changes)? {
+        let mut mentioned = variables.of_literals(alloc, literals)?;
+        mentioned.extend_from_slice(&variables.of_changes(alloc, changes)?)?;
+        mentioned.sort_unstable();
+        mentioned.dedup();
+        for variable in mentioned {
             let part = InstancePart {
                 variables,
                 variable,
@@ -112,29 +116,6 @@ impl Drafts {
         }
         Ok(())
     }
-}
-
-/// The variables of the atoms of these literals and changes, rising.
-fn mentioned(
-    alloc: Global,
-    variables: &Variables,
-    literals: &[NumberedLiteral],
-    changes: &[CountingChange<'_>],
-) -> Result<Vec<u32>, NoMemory> {
-    let mut found = Vec::new(alloc);
-    for literal in literals {
-        for value in variables.of_atom(literal.atom) {
-            found.push(value.variable)?;
-        }
-    }
-    for change in changes {
-        for value in variables.of_atom(change.atom) {
-            found.push(value.variable)?;
-        }
-    }
-    found.sort_unstable();
-    found.dedup();
-    Ok(found)
 }
 
 impl VariableSteps {

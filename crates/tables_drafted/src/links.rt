@@ -1,7 +1,7 @@
 //! Which variables go well together in a table.
 use atom_groups::{Variables, place_of};
 use faults::NoMemory;
-use grounding::{CountingChange, Ground, NumberedLiteral};
+use grounding::Ground;
 use potentials::instance_count;
 use std::alloc::Global;
 
@@ -31,8 +31,8 @@ impl Links {
             links.changed.push(Vec::new(alloc))?;
         }
         for number in 0..instance_count(ground) {
-            let wanted = of_literals(alloc, variables, ground.literals(number))?;
-            let changed = of_changes(alloc, variables, ground.counting(number))?;
+            let wanted = variables.of_literals(alloc, ground.literals(number))?;
+            let changed = variables.of_changes(alloc, ground.counting(number))?;
             if changed.len() <= MAX_CHANGED {
                 links.add(&wanted, &changed)?;
             }
@@ -84,38 +84,4 @@ fn join(links: &mut Vec<u32>, more: &[u32], but: u32) -> Result<(), NoMemory> {
         }
     }
     Ok(())
-}
-
-/// The variables of the atoms of these literals, rising.
-fn of_literals(
-    alloc: Global,
-    variables: &Variables,
-    literals: &[NumberedLiteral],
-) -> Result<Vec<u32>, NoMemory> {
-    let mut found = Vec::new(alloc);
-    for literal in literals {
-        for value in variables.of_atom(literal.atom) {
-            found.push(value.variable)?;
-        }
-    }
-    found.sort_unstable();
-    found.dedup();
-    Ok(found)
-}
-
-/// The variables of the atoms of these changes, rising.
-fn of_changes(
-    alloc: Global,
-    variables: &Variables,
-    changes: &[CountingChange<'_>],
-) -> Result<Vec<u32>, NoMemory> {
-    let mut found = Vec::new(alloc);
-    for change in changes {
-        for value in variables.of_atom(change.atom) {
-            found.push(value.variable)?;
-        }
-    }
-    found.sort_unstable();
-    found.dedup();
-    Ok(found)
 }
