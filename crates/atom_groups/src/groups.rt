@@ -19,7 +19,7 @@ const MAX_FAMILIES: usize = 5;
 const MAX_TRIED: usize = 60;
 
 /// How many instances are looked at in all, at most.
-const MAX_LOOKS: u64 = 20_000_000;
+const MAX_LOOKS: u64 = 4_000_000;
 
 /// The numbers of a group's atoms, rising.
 pub type AtomGroup = Vec<u32>;

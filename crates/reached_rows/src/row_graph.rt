@@ -13,8 +13,8 @@ pub struct RowClass {
     pub(crate) end: u32,
     /// Whether some row may stay as it is where one of them is applied.
     pub stays: bool,
-    /// Whether some row allows them.
-    pub is_allowed: bool,
+    /// How many rows allow them.
+    pub row_count: u32,
 }
 
 /// That the instances of a class may lead from a row to another.
@@ -65,6 +65,16 @@ impl RowGraph {
         self.instances.len()
     }
 
+    /// How many rows have to be looked at to test what each instance loses: of each those that allow it.
+    pub fn test_count(&self) -> u64 {
+        let mut count = 0u64;
+        for class in &self.classes {
+            let instances = self.instances_of(class).len() as u64;
+            count = count.saturating_add(instances.saturating_mul(u64::from(class.row_count)));
+        }
+        count
+    }
+
     /// The classes, by their numbers.
     pub fn classes(&self) -> &[RowClass] {
         &self.classes
@@ -113,7 +123,7 @@ impl RowGraph {
     pub fn shut_out(&self, alloc: Global) -> Result<Vec<u32>, NoMemory> {
         let mut found = Vec::new(alloc);
         for class in &self.classes {
-            if !class.is_allowed {
+            if class.row_count == 0 {
                 found.extend_from_slice(self.instances_of(class))?;
             }
         }

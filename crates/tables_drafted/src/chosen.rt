@@ -10,7 +10,7 @@ use std::alloc::Global;
 /// The most values.
 const MAX_VALUES: usize = 9;
 
-/// The most that may be chosen from.
+/// The most that are tried, of which some are chosen.
 const MAX_CANDIDATES: usize = 16;
 
 /// How many trials there are for the best order for the initial state, and for another one.
@@ -44,6 +44,8 @@ struct Candidates {
     all: Vec<Candidate>,
     most: Vec<i64>,
     most_by_tables: Vec<i64>,
+    /// How often potentials of what is left were looked for.
+    rests: usize,
 }
 
 /// What values are chosen by.
@@ -70,6 +72,7 @@ impl Choosing<'_> {
             all: Vec::new(alloc),
             most: vec![in alloc; 0; self.rows.len()]?,
             most_by_tables: vec![in alloc; 0; self.rows.len()]?,
+            rests: 0,
         };
         let order = divider.best_order(alloc, TRIALS)?;
         self.add(alloc, tables, &mut divider, &order, &mut candidates)?;
@@ -98,9 +101,10 @@ impl Choosing<'_> {
     ) -> Result<(), NoMemory> {
         let division = divider.divide(alloc, order)?;
         let given = divider.values(alloc, &division)?;
-        if !raise(&mut candidates.most_by_tables, &given) {
+        if !raise(&mut candidates.most_by_tables, &given) || candidates.rests >= MAX_CANDIDATES {
             return Ok(());
         }
+        candidates.rests = candidates.rests.saturating_add(1);
         match potentials_of_rest(alloc, tables, &division.left)? {
             Some(potentials) => self.push(alloc, division, potentials, candidates),
             None => Ok(()),

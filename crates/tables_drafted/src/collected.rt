@@ -14,10 +14,11 @@ const MAX_DEPTH: u32 = 3;
 /// How many rows and eighths of arcs there are in all, at most.
 const MAX_ROOM: usize = 1_500_000;
 
-/// How often classes may be looked at in rows in all, and instances in tables.
-const MAX_LOOKS: u64 = 40_000_000;
+/// How much may be looked at in all to find them: instances, and classes in rows.
+const MAX_LOOKS: u64 = 16_000_000;
 
-const MAX_MENTIONED: usize = 40_000_000;
+/// How many rows may have to be looked at in all to test what instances lose by one value.
+const MAX_TESTS: u64 = 4_000_000;
 
 /// The most tables.
 const MAX_TABLES: usize = 2_000;
@@ -35,8 +36,8 @@ pub(crate) struct Collecting<'a, 't> {
     /// The value of each variable in states whose values are to be raised, the initial state first.
     pub(crate) states: &'a [Vec<u32>],
     pub(crate) collected: Collected,
-    /// How many instances the tables so far had in all.
-    pub(crate) mentioned: usize,
+    /// How many rows have to be looked at to test what instances lose by one value.
+    pub(crate) tests: u64,
     /// How many rows and eighths of arcs.
     pub(crate) room: usize,
 }
@@ -75,35 +76,31 @@ impl Collected {
     }
 
     /// Whether tables over some of the variables give each state as much, and one of them the initial state for no more.
-    fn has_as_much(&self, variables: &[u32], gift: &Gift) -> bool {
+    fn has_as_much(&self, alloc: Global, variables: &[u32], gift: &Gift) -> Result<bool, NoMemory> {
+        let parts = self.parts(alloc, variables)?;
         for (state, value) in gift.given.iter().enumerate() {
-            if *value > self.most(variables, state) {
-                return false;
+            if parts.iter().all(|part| part.at(state) < *value) && *value > 0 {
+                return Ok(false);
             }
         }
-        gift.at(0) == 0 || gift.taken >= self.least_taken(variables, gift.at(0))
+        let first = gift.at(0);
+        Ok(
+            first == 0
+                || parts
+                    .iter()
+                    .any(|part| part.at(0) >= first && part.taken <= gift.taken),
+        )
     }
 
-    /// The most that a table over some of the variables gives the state at this place.
-    fn most(&self, variables: &[u32], state: usize) -> i64 {
-        let mut most = 0i64;
+    /// What tables over some of the variables give and take.
+    fn parts(&self, alloc: Global, variables: &[u32]) -> Result<Vec<&Gift>, NoMemory> {
+        let mut parts = Vec::new(alloc);
         for (graph, gift) in self.graphs.iter().zip(&self.gifts) {
             if is_part(graph.variables(), variables) {
-                most = most.max(gift.at(state));
+                parts.push(gift)?;
             }
         }
-        most
-    }
-
-    /// The least that a table over some of the variables takes, of those that give the initial state at least this.
-    fn least_taken(&self, variables: &[u32], given: i64) -> i64 {
-        let mut least = i64::MAX;
-        for (graph, gift) in self.graphs.iter().zip(&self.gifts) {
-            if gift.at(0) >= given && is_part(graph.variables(), variables) {
-                least = least.min(gift.taken);
-            }
-        }
-        least
+        Ok(parts)
     }
 }
 
@@ -226,11 +223,15 @@ impl Collecting<'_, '_> {
         let is_shutting = !shut_out.is_empty();
         self.shutters.shut_out(&shut_out);
         self.costs.shut_out(&shut_out);
-        self.mentioned = self.mentioned.saturating_add(graph.instance_count());
-        let gift = self.gift(alloc, &graph)?;
-        if !is_shutting && self.collected.has_as_much(variables, &gift) {
+        let tests = self.tests.saturating_add(graph.test_count());
+        if tests > MAX_TESTS && !is_shutting {
             return Ok(());
         }
+        let gift = self.gift(alloc, &graph)?;
+        if !is_shutting && self.collected.has_as_much(alloc, variables, &gift)? {
+            return Ok(());
+        }
+        self.tests = tests;
         self.room = self
             .room
             .saturating_add(graph.row_count())
@@ -244,7 +245,6 @@ impl Collecting<'_, '_> {
     /// Whether nothing more is to be looked at, or kept.
     fn is_done(&self) -> bool {
         self.reaching.looks() > MAX_LOOKS
-            || self.mentioned > MAX_MENTIONED
             || self.room > MAX_ROOM
             || self.collected.graphs.len() >= MAX_TABLES
     }

@@ -104,7 +104,7 @@ fn collected<'a, 't>(
         shutters,
         states,
         collected: Collected::new(alloc),
-        mentioned: 0,
+        tests: 0,
         room: 0,
     };
     collecting.collect(alloc)?;
