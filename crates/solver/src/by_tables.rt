@@ -20,7 +20,7 @@ use std::alloc::Global;
 use table_guides::FairTables;
 use table_rows::Table;
 use tables::{IndexedTables, TableFunctions, ValuesFairness};
-use tables_drafted::{DraftedTables, drafted_tables};
+use tables_drafted::{DraftedTables, Wanted, drafted_tables};
 
 /// What a search by tables came to, and what its certificate says of each state that it found, in order.
 #[derive(Drop)]
@@ -40,7 +40,12 @@ pub(crate) fn solve_by_tables(
     limits: Limits,
 ) -> Result<Option<Answer>, NoMemory> {
     let states = stopped.samples(alloc)?;
-    let Some(draft) = drafted_tables(alloc, ground, potentials, dead_ends, &states)? else {
+    let wanted = Wanted {
+        potentials,
+        dead_ends,
+        states: &states,
+    };
+    let Some(draft) = drafted_tables(alloc, ground, &wanted)? else {
         return Ok(None);
     };
     drop(states);

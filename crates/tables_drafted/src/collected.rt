@@ -46,8 +46,8 @@ pub(crate) struct Collecting<'a, 't> {
 #[derive(Drop)]
 pub(crate) struct Collected {
     pub(crate) graphs: Vec<RowGraph>,
-    /// Whether it shuts instances out.
-    pub(crate) is_shutting: Vec<bool>,
+    /// Whether each shuts instances out.
+    is_shutting: Vec<bool>,
     gifts: Vec<Gift>,
 }
 
@@ -72,6 +72,14 @@ impl Collected {
             graphs: Vec::new(alloc),
             is_shutting: Vec::new(alloc),
             gifts: Vec::new(alloc),
+        }
+    }
+
+    /// Whether the table at this place shuts instances out.
+    pub(crate) fn is_shutting(&self, place: usize) -> bool {
+        match self.is_shutting.get(place) {
+            Some(is_shutting) => *is_shutting,
+            None => false,
         }
     }
 

@@ -1,14 +1,15 @@
 //! Drafts of values over tables, from the ground task to tables in memory.
 use crate::chosen::{Choosing, Value, copied};
 use crate::collected::{Collected, Collecting, costs_of};
+use crate::states::{rows_of_all, samples, values_of_all};
 use crate::written::{Writing, part_of, weight_of_dead};
-use atom_groups::{Variables, found_groups, place_of};
-use costs_divided::{Costs, NO_WAY, StateRows, distances};
+use atom_groups::{Variables, found_groups};
+use costs_divided::{Costs, NO_WAY, distances};
 use faults::NoMemory;
 use grounding::Ground;
 use potentials::Potentials;
 use potentials_drafted::Tables;
-use reached_rows::{GoalValues, Reaching, RowGraph, RowLimits, Shutters, Steps};
+use reached_rows::{GoalValues, Reaching, RowLimits, Shutters, Steps};
 use std::alloc::Global;
 use table_rows::Table;
 
@@ -38,47 +39,77 @@ pub struct DraftedTables {
     pub dead_ends: Potentials,
 }
 
-/// Values over tables that may be greater than those of these potentials, of which the second ones are for dead ends. They are
-/// to be greater in the initial state, in these states, which are given by their true atoms, and in some on random walks. None
-/// where no table is of use, or the task is too large.
+/// Tables, and what instances cost that they do not shut out.
+#[derive(Drop)]
+struct Known {
+    collected: Collected,
+    costs: Costs,
+}
+
+/// What a draft is made for: potentials, whose values those over tables are to exceed, and such for dead ends; and states, by
+/// their true atoms, in which they are to.
+#[derive(Clone, Copy)]
+pub struct Wanted<'a> {
+    /// The potentials.
+    pub potentials: &'a Potentials,
+    /// Those for dead ends.
+    pub dead_ends: &'a Potentials,
+    /// The states. The initial one counts too, and some on random walks from it.
+    pub states: &'a [Vec<u32>],
+}
+
+/// Values over tables that may be greater than those of potentials. None where no table is of use, or the task is too large.
 ///
 /// # Errors
 /// Where memory is refused.
 pub fn drafted_tables(
     alloc: Global,
     ground: &Ground<'_>,
-    potentials: &Potentials,
-    dead_ends: &Potentials,
-    found: &[Vec<u32>],
+    wanted: &Wanted<'_>,
 ) -> Result<Option<DraftedTables>, NoMemory> {
     if ground.width() > MAX_ATOMS || ground.instances().len() > MAX_INSTANCES {
         return Ok(None);
     }
     let initial = ground.initial(alloc)?;
-    let mut tables = Tables::new(alloc, ground, &initial)?;
     let groups = found_groups(alloc, ground, &initial)?;
     let variables = Variables::new(alloc, ground.width(), &groups)?;
     drop(groups);
-    let atoms = samples(alloc, tables.states(), found)?;
-    let states = values_of_all(alloc, &variables, &atoms)?;
-    let Some(steps) = Steps::new(alloc, ground, &variables)? else {
+    let mut tables = Tables::new(alloc, ground, &initial)?;
+    drop(initial);
+    let draft = draft_over(alloc, ground, &variables, &mut tables, wanted)?;
+    Ok(draft)
+}
+
+/// The same over these variables.
+fn draft_over(
+    alloc: Global,
+    ground: &Ground<'_>,
+    variables: &Variables,
+    tables: &mut Tables,
+    wanted: &Wanted<'_>,
+) -> Result<Option<DraftedTables>, NoMemory> {
+    let atoms = samples(alloc, tables.states(), wanted.states)?;
+    let states = values_of_all(alloc, variables, &atoms)?;
+    let Some(steps) = Steps::new(alloc, ground, variables)? else {
         return Ok(None);
     };
-    let goals = GoalValues::new(alloc, &variables, ground.goal_literals())?;
-    let (collected, costs) = collected(alloc, ground, &variables, &steps, &goals, &states)?;
+    let known = known_over(alloc, ground, variables, &steps, &states)?;
     drop(steps);
-    let rows = rows_of_all(alloc, &collected.graphs, &states)?;
-    let choosing = Choosing {
-        graphs: &collected.graphs,
-        costs: &costs,
-        rows: &rows,
-        atoms: &atoms,
-        potentials,
-    };
-    let values = choosing.values(alloc, &mut tables)?;
-    drop(tables);
-    let draft = written(alloc, &variables, &collected, &costs, values, dead_ends)?;
+    let draft = draft_by(alloc, variables, &known, &atoms, &states, tables, wanted)?;
     Ok(draft)
+}
+
+/// What is known of tables over these variables.
+fn known_over<'a, 't>(
+    alloc: Global,
+    ground: &'a Ground<'t>,
+    variables: &'a Variables,
+    steps: &'a Steps,
+    states: &'a [Vec<u32>],
+) -> Result<Known, NoMemory> {
+    let goals = GoalValues::new(alloc, variables, ground.goal_literals())?;
+    let known = collected(alloc, ground, variables, steps, &goals, states)?;
+    Ok(known)
 }
 
 /// Tables over these variables, and what instances cost that they do not shut out.
@@ -89,18 +120,20 @@ fn collected<'a, 't>(
     steps: &'a Steps,
     goals: &'a GoalValues,
     states: &'a [Vec<u32>],
-) -> Result<(Collected, Costs), NoMemory> {
+) -> Result<Known, NoMemory> {
     let initial: &[u32] = match states.first() {
         Some(values) => values,
         None => &[],
     };
     let shutters = Shutters::new(alloc, ground)?;
+    let costs = costs_of(alloc, ground, &shutters)?;
+    let reaching = Reaching::new(alloc, variables, steps, goals, initial, LIMITS)?;
     let mut collecting = Collecting {
         ground,
         variables,
         goals,
-        reaching: Reaching::new(alloc, variables, steps, goals, initial, LIMITS)?,
-        costs: costs_of(alloc, ground, &shutters)?,
+        reaching,
+        costs,
         shutters,
         states,
         collected: Collected::new(alloc),
@@ -109,37 +142,59 @@ fn collected<'a, 't>(
     };
     collecting.collect(alloc)?;
     let Collecting {
-        collected,
-        costs,
-        ..
+        collected, costs, ..
     } = collecting;
-    Ok((collected, costs))
+    Ok(Known { collected, costs })
+}
+
+/// The draft by what is known of tables, for states of these true atoms and these values of variables.
+fn draft_by(
+    alloc: Global,
+    variables: &Variables,
+    known: &Known,
+    atoms: &[Vec<u32>],
+    states: &[Vec<u32>],
+    tables: &mut Tables,
+    wanted: &Wanted<'_>,
+) -> Result<Option<DraftedTables>, NoMemory> {
+    let graphs = &known.collected.graphs;
+    let rows = rows_of_all(alloc, graphs, states)?;
+    let choosing = Choosing {
+        graphs,
+        costs: &known.costs,
+        rows: &rows,
+        atoms,
+        potentials: wanted.potentials,
+    };
+    let values = choosing.values(alloc, tables)?;
+    let Some(written) = tables_of_use(alloc, variables, known, &values, wanted.dead_ends)? else {
+        return Ok(None);
+    };
+    Ok(Some(DraftedTables {
+        tables: written,
+        values: potentials_of(alloc, values)?,
+        dead_ends: copied(alloc, wanted.dead_ends)?,
+    }))
 }
 
 /// The tables that are of use, with the weights of these values; none where none is.
-fn written(
+fn tables_of_use(
     alloc: Global,
     variables: &Variables,
-    collected: &Collected,
-    costs: &Costs,
-    values: Vec<Value>,
+    known: &Known,
+    values: &[Value],
     dead_ends: &Potentials,
-) -> Result<Option<DraftedTables>, NoMemory> {
+) -> Result<Option<Vec<Table>>, NoMemory> {
     let writing = Writing {
         variables,
-        values: &values,
+        values,
         weight_of_dead: weight_of_dead(dead_ends),
     };
     let mut tables = Vec::new(alloc);
     let mut rows_for_dead_ends = 0usize;
-    for (place, graph) in collected.graphs.iter().enumerate() {
-        let reach = distances(alloc, graph, costs)?;
-        let is_shutting = match collected.is_shutting.get(place) {
-            Some(is_shutting) => *is_shutting,
-            None => false,
-        };
-        let is_taken = values.iter().any(|value| part_of(value, place).is_some());
-        let mut is_of_use = is_shutting || is_taken;
+    for (place, graph) in known.collected.graphs.iter().enumerate() {
+        let reach = distances(alloc, graph, &known.costs)?;
+        let mut is_of_use = known.is_used(place, values);
         if !is_of_use && rows_for_dead_ends < MAX_ROWS_FOR_DEAD_ENDS {
             is_of_use = reach.iter().any(|distance| *distance == NO_WAY);
             rows_for_dead_ends = rows_for_dead_ends.saturating_add(reach.len());
@@ -151,14 +206,15 @@ fn written(
             tables.push(table)?;
         }
     }
-    if tables.is_empty() {
-        return Ok(None);
+    Ok(if tables.is_empty() { None } else { Some(tables) })
+}
+
+impl Known {
+    /// Whether the table at this place shuts instances out, or takes a part of the costs in one of these values.
+    fn is_used(&self, place: usize, values: &[Value]) -> bool {
+        self.collected.is_shutting(place)
+            || values.iter().any(|value| part_of(value, place).is_some())
     }
-    Ok(Some(DraftedTables {
-        tables,
-        values: potentials_of(alloc, values)?,
-        dead_ends: copied(alloc, dead_ends)?,
-    }))
 }
 
 /// The potentials of the values.
@@ -168,61 +224,4 @@ fn potentials_of(alloc: Global, values: Vec<Value>) -> Result<Vec<Potentials>, N
         potentials.push(value.potentials)?;
     }
     Ok(potentials)
-}
-
-/// The value of each variable in each of the states, which are given by their true atoms.
-fn values_of_all(
-    alloc: Global,
-    variables: &Variables,
-    states: &[Vec<u32>],
-) -> Result<Vec<Vec<u32>>, NoMemory> {
-    let mut all = Vec::new(alloc);
-    for atoms in states {
-        let mut values = vec![in alloc; 0; place_of(variables.count())]?;
-        for atom in atoms {
-            for said in variables.of_atom(*atom) {
-                if let Some(value) = values.get_mut(place_of(said.variable)) {
-                    *value = said.value;
-                }
-            }
-        }
-        all.push(values)?;
-    }
-    Ok(all)
-}
-
-/// The rows of each of the states, by the places of tables.
-fn rows_of_all(
-    alloc: Global,
-    graphs: &[RowGraph],
-    states: &[Vec<u32>],
-) -> Result<Vec<StateRows>, NoMemory> {
-    let mut all = Vec::new(alloc);
-    for values in states {
-        let mut rows = Vec::with_capacity(alloc, graphs.len())?;
-        for graph in graphs {
-            rows.push(graph.row_of(values).unwrap_or(u32::MAX))?;
-        }
-        all.push(rows)?;
-    }
-    Ok(all)
-}
-
-/// The true atoms of the first one of these states, then of those that a search found, and then of the others.
-fn samples(
-    alloc: Global,
-    states: &[Vec<u32>],
-    found: &[Vec<u32>],
-) -> Result<Vec<Vec<u32>>, NoMemory> {
-    let mut all = Vec::new(alloc);
-    for atoms in states.iter().take(1) {
-        all.push(Vec::from_slice(alloc, atoms)?)?;
-    }
-    for atoms in found {
-        all.push(Vec::from_slice(alloc, atoms)?)?;
-    }
-    for atoms in states.iter().skip(1) {
-        all.push(Vec::from_slice(alloc, atoms)?)?;
-    }
-    Ok(all)
 }

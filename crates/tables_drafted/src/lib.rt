@@ -9,6 +9,7 @@ mod collected;
 mod draft;
 mod links;
 mod rests;
+mod states;
 mod written;
 
-pub use draft::{DraftedTables, drafted_tables};
+pub use draft::{DraftedTables, Wanted, drafted_tables};
