@@ -121,7 +121,7 @@ fn is_better<G: Guide>(
         Some(value) => value >= least,
         None => true,
     };
-    Ok(is_no_lower && stopped.is_shorter_by(alloc, guide)?)
+    Ok(is_no_lower && stopped.is_shorter_by(alloc, ground, guide)?)
 }
 
 /// What a search by the guide comes to.

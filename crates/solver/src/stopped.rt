@@ -1,7 +1,8 @@
 //! What a first search found that was stopped.
-use certificate::{Cert, Mark};
+use certificate::{Cert, Mark, StateLine};
 use faults::NoMemory;
-use packed_state::{Packed, StateStore};
+use grounding::Ground;
+use packed_state::Packed;
 use search::Guide;
 use std::alloc::Global;
 
@@ -18,19 +19,24 @@ pub(crate) struct Stopped<'a> {
     pub(crate) cert: &'a Cert,
 }
 
+/// How many states were expanded, of those that are asked, and how many of these would not have been.
+#[derive(Clone, Copy)]
+struct Saving {
+    expanded: usize,
+    saved: usize,
+}
+
 impl Stopped<'_> {
     /// The true atoms of some of the states, which are spread evenly over them all.
     pub(crate) fn samples(&self, alloc: Global) -> Result<Vec<Vec<u32>>, NoMemory> {
-        let sets = self.cert.sets();
-        let mut state = Packed::empty(alloc, sets.width())?;
+        let mut set = Packed::empty(alloc, self.cert.sets().width())?;
         let mut samples = Vec::new(alloc);
-        let step = sets.len() / SAMPLES + 1;
-        for place in 0..sets.len() {
+        let step = self.cert.line_count() / SAMPLES + 1;
+        for place in 0..self.cert.line_count() {
             if place % step == step / 2 {
-                sets.get(place as u32, &mut state);
-                let mut atoms = Vec::new(alloc);
-                state.list_numbers(&mut atoms)?;
-                samples.push(atoms)?;
+                let mut line = no_line(alloc);
+                self.cert.read_line(place, &mut set, &mut line)?;
+                samples.push(line.atoms)?;
             }
         }
         Ok(samples)
@@ -41,28 +47,58 @@ impl Stopped<'_> {
     pub(crate) fn is_shorter_by<G: Guide>(
         &self,
         alloc: Global,
+        ground: &Ground<'_>,
         guide: &G,
     ) -> Result<bool, NoMemory> {
-        let sets = self.cert.sets();
-        let marks = self.cert.marks();
         let mut room = guide.room(alloc)?;
-        let mut state = Packed::empty(alloc, sets.width())?;
-        let (mut expanded, mut saved) = (0usize, 0usize);
-        let step = marks.len() / ASKED + 1;
-        for place in 0..marks.len() {
-            let listed = marks[place];
-            if place % step == 0 && listed.mark == Mark::Open {
-                sets.get(place as u32, &mut state);
-                expanded += 1;
-                let is_saved = match guide.value_in(&state, &mut room) {
-                    Some(value) => listed.cost.saturating_add(value) > self.bound,
-                    None => true,
-                };
-                if is_saved {
-                    saved += 1;
+        let mut set = Packed::empty(alloc, self.cert.sets().width())?;
+        let mut line = no_line(alloc);
+        let mut saving = Saving {
+            expanded: 0,
+            saved: 0,
+        };
+        let step = self.cert.line_count() / ASKED + 1;
+        for place in 0..self.cert.line_count() {
+            if place % step == 0 && set.width() == ground.width() {
+                self.cert.read_line(place, &mut set, &mut line)?;
+                if line.mark == Mark::Open {
+                    let value = guide.value_in(&set, &mut room);
+                    saving.count(self.is_saved(line.cost, value));
                 }
             }
         }
-        Ok(saved >= expanded - saved)
+        Ok(saving.is_enough())
+    }
+
+    /// Whether a state that was reached at this cost is not expanded before the bound, where it has this estimate, or is dead.
+    fn is_saved(&self, cost: u64, estimate: Option<u64>) -> bool {
+        match estimate {
+            Some(estimate) => cost.saturating_add(estimate) > self.bound,
+            None => true,
+        }
+    }
+}
+
+impl Saving {
+    /// One state more was expanded, which would have been saved or not.
+    fn count(&mut self, is_saved: bool) {
+        self.expanded = self.expanded.saturating_add(1);
+        if is_saved {
+            self.saved = self.saved.saturating_add(1);
+        }
+    }
+
+    /// Whether at least half would have been saved.
+    fn is_enough(self) -> bool {
+        self.saved >= self.expanded.saturating_sub(self.saved)
+    }
+}
+
+/// A line to read into.
+fn no_line(alloc: Global) -> StateLine {
+    StateLine {
+        cost: 0,
+        mark: Mark::Open,
+        atoms: Vec::new(alloc),
     }
 }
