@@ -31,11 +31,11 @@ struct Searched {
 
 /// The answer by tables, none where no tables are found that are better than these potentials, by which a first search was
 /// stopped so.
-pub(crate) fn solve_by_tables(
+pub(crate) fn solve_by_tables<'a>(
     alloc: Global,
     ground: &Ground<'_>,
-    potentials: &Potentials,
-    dead_ends: &Potentials,
+    potentials: &'a Potentials,
+    dead_ends: &'a Potentials,
     stopped: &Stopped<'_>,
     limits: Limits,
 ) -> Result<Option<Answer>, NoMemory> {
@@ -49,22 +49,30 @@ pub(crate) fn solve_by_tables(
         return Ok(None);
     };
     drop(states);
+    let least = initial_value(alloc, ground, potentials)?;
+    answer_by(alloc, ground, draft, least, stopped, limits)
+}
+
+/// The answer by these tables, none where they are not fair, or not better: they have to give the initial state at least this
+/// value.
+fn answer_by(
+    alloc: Global,
+    ground: &Ground<'_>,
+    draft: DraftedTables,
+    least: u64,
+    stopped: &Stopped<'_>,
+    limits: Limits,
+) -> Result<Option<Answer>, NoMemory> {
     let DraftedTables {
         tables,
         values,
         dead_ends,
     } = draft;
-    let mut written = Vec::new(alloc);
-    for value in &values {
-        written.push(potential_of(alloc, value)?)?;
-    }
+    let written = written_of(alloc, &values)?;
     let written_dead_ends = potential_of(alloc, &dead_ends)?;
-    let least = initial_value(alloc, ground, potentials)?;
     let searched = match guide_of(alloc, ground, &tables, values, dead_ends)? {
-        Some(guide) if is_better(alloc, ground, &guide, least, stopped)? => {
-            Some(searched(alloc, ground, &guide, limits)?)
-        }
-        _ => None,
+        Some(guide) => searched_if_better(alloc, ground, &guide, least, stopped, limits)?,
+        None => None,
     };
     let Some(Searched { outcome, marks }) = searched else {
         return Ok(None);
@@ -105,6 +113,21 @@ fn guide_of<'g, 't, 'a>(
         ValuesFairness::Fair => Ok(Some(FairTables::new(functions, ground))),
         _ => Ok(None),
     }
+}
+
+/// What a search by the guide comes to, if that is better.
+fn searched_if_better<G: Guide>(
+    alloc: Global,
+    ground: &Ground<'_>,
+    guide: &G,
+    least: u64,
+    stopped: &Stopped<'_>,
+    limits: Limits,
+) -> Result<Option<Searched>, NoMemory> {
+    if !is_better(alloc, ground, guide, least, stopped)? {
+        return Ok(None);
+    }
+    Ok(Some(searched(alloc, ground, guide, limits)?))
 }
 
 /// Whether the guide gives the initial state at least this value, and would have saved the first search enough.
@@ -220,6 +243,15 @@ fn cert_of(
     };
     let sets = found.store;
     Ok(Cert::from_parts(header, States { marks, sets }))
+}
+
+/// The same constants and weights of all values, as a certificate has them.
+fn written_of(alloc: Global, values: &[Potentials]) -> Result<Vec<Potential>, NoMemory> {
+    let mut written = Vec::new(alloc);
+    for value in values {
+        written.push(potential_of(alloc, value)?)?;
+    }
+    Ok(written)
 }
 
 /// The same constant and weights, as a certificate has them.

@@ -142,22 +142,24 @@ fn collected<'a, 't>(
     };
     collecting.collect(alloc)?;
     let Collecting {
-        collected, costs, ..
+        collected,
+        costs,
+        ..
     } = collecting;
     Ok(Known { collected, costs })
 }
 
 /// The draft by what is known of tables, for states of these true atoms and these values of variables.
-fn draft_by(
+fn draft_by<'a>(
     alloc: Global,
     variables: &Variables,
-    known: &Known,
-    atoms: &[Vec<u32>],
+    known: &'a Known,
+    atoms: &'a [Vec<u32>],
     states: &[Vec<u32>],
     tables: &mut Tables,
-    wanted: &Wanted<'_>,
+    wanted: &Wanted<'a>,
 ) -> Result<Option<DraftedTables>, NoMemory> {
-    let graphs = &known.collected.graphs;
+    let graphs = known.collected.graphs.as_slice();
     let rows = rows_of_all(alloc, graphs, states)?;
     let choosing = Choosing {
         graphs,
@@ -178,11 +180,11 @@ fn draft_by(
 }
 
 /// The tables that are of use, with the weights of these values; none where none is.
-fn tables_of_use(
+fn tables_of_use<'a>(
     alloc: Global,
-    variables: &Variables,
+    variables: &'a Variables,
     known: &Known,
-    values: &[Value],
+    values: &'a [Value],
     dead_ends: &Potentials,
 ) -> Result<Option<Vec<Table>>, NoMemory> {
     let writing = Writing {
@@ -206,7 +208,11 @@ fn tables_of_use(
             tables.push(table)?;
         }
     }
-    Ok(if tables.is_empty() { None } else { Some(tables) })
+    Ok(if tables.is_empty() {
+        None
+    } else {
+        Some(tables)
+    })
 }
 
 impl Known {
