@@ -67,19 +67,6 @@ pub enum Exceeded {
     },
 }
 
-impl Answer {
-    /// What was found where the limit of the listed states is exceeded.
-    fn stopped(&self) -> Option<Stopped<'_>> {
-        match self {
-            Answer::Unknown(Exceeded::States { bound, cert }) => Some(Stopped {
-                bound: *bound,
-                cert,
-            }),
-            _ => None,
-        }
-    }
-}
-
 /// A cheapest plan of the task, or that it has none, with the certificate that shows it.
 ///
 /// ```text
@@ -150,18 +137,15 @@ fn solved_first(
     let Some(few) = limits.with_fewer_states(FIRST_STATES) else {
         return Ok(None);
     };
-    let first = solve_by(alloc, ground, estimate, dead_ends, few)?;
-    let Some(stopped) = first.stopped() else {
-        return Ok(Some(first));
-    };
-    solve_by_tables(
-        alloc,
-        ground,
-        estimate.potentials(),
-        dead_ends.potentials(),
-        &stopped,
-        limits,
-    )
+    match solve_by(alloc, ground, estimate, dead_ends, few)? {
+        Answer::Unknown(Exceeded::States { bound, cert }) => {
+            let stopped = Stopped { bound, cert: &cert };
+            let potentials = estimate.potentials();
+            let dead_ends = dead_ends.potentials();
+            solve_by_tables(alloc, ground, potentials, dead_ends, &stopped, limits)
+        }
+        answer => Ok(Some(answer)),
+    }
 }
 
 /// The same by this estimate and this test for dead ends.
