@@ -2,7 +2,7 @@
 use certificate::{Cert, Mark, StateLine};
 use faults::NoMemory;
 use grounding::Ground;
-use packed_state::Packed;
+use packed_state::{Packed, StateStore};
 use search::Guide;
 use std::alloc::Global;
 
