@@ -83,42 +83,29 @@ impl Collected {
         }
     }
 
-    /// Whether tables over some of the variables give each state as much, and one of them the initial state for no more.
-    fn has_as_much(&self, alloc: Global, variables: &[u32], gift: &Gift) -> Result<bool, NoMemory> {
-        let parts = self.parts(alloc, variables)?;
-        for (state, value) in gift.given.iter().enumerate() {
-            if parts.iter().all(|part| part.at(state) < *value) && *value > 0 {
-                return Ok(false);
-            }
-        }
-        let first = gift.at(0);
-        Ok(
-            first == 0
-                || parts
-                    .iter()
-                    .any(|part| part.at(0) >= first && part.taken <= gift.taken),
-        )
-    }
-
-    /// What tables over some of the variables give and take.
-    fn parts(&self, alloc: Global, variables: &[u32]) -> Result<Vec<&Gift>, NoMemory> {
-        let mut parts = Vec::new(alloc);
-        for (graph, gift) in self.graphs.iter().zip(&self.gifts) {
-            if is_part(graph.variables(), variables) {
-                parts.push(gift)?;
-            }
-        }
-        Ok(parts)
+    /// Whether some table over some of the variables gives each state as much, and takes no more for that.
+    fn has_as_much(&self, variables: &[u32], gift: &Gift) -> bool {
+        self.graphs.iter().zip(&self.gifts).any(|(graph, part)| is_part(
+            graph.variables(),
+            variables,
+        ) && part.is_no_worse(gift))
     }
 }
 
 impl Gift {
-    /// What the state at this place is given.
-    fn at(&self, state: usize) -> i64 {
-        match self.given.get(state) {
-            Some(value) => *value,
-            None => 0,
-        }
+    /// Whether each state is given as much as by the other, and no more is taken.
+    fn is_no_worse(&self, other: &Gift) -> bool {
+        self.taken <= other.taken
+            && self
+                .given
+                .iter()
+                .zip(&other.given)
+                .all(|(own, more)| own >= more)
+    }
+
+    /// Whether no state is given anything.
+    fn is_nothing(&self) -> bool {
+        self.given.iter().all(|value| *value == 0)
     }
 }
 
@@ -236,7 +223,7 @@ impl Collecting<'_, '_> {
             return Ok(());
         }
         let gift = self.gift(alloc, &graph)?;
-        if !is_shutting && self.collected.has_as_much(alloc, variables, &gift)? {
+        if !is_shutting && (gift.is_nothing() || self.collected.has_as_much(variables, &gift)) {
             return Ok(());
         }
         self.tests = tests;
