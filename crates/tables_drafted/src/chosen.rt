@@ -14,9 +14,9 @@ const MAX_VALUES: usize = 9;
 const MAX_CANDIDATES: usize = 16;
 
 /// How many trials there are for the best order for the initial state, and for another one.
-const TRIALS: u32 = 1_500;
+const TRIALS: u32 = 400;
 
-const TRIALS_OF_STATE: u32 = 30;
+const TRIALS_OF_STATE: u32 = 12;
 
 /// How many arcs may be looked at for the best order for the initial state, and for those for all others.
 const MAX_WORK: u64 = 20_000_000;
