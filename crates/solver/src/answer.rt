@@ -24,11 +24,15 @@ use packed_state::PooledStore;
 use potentials_improved::{DeadFair, Fair, Groundwork};
 use search::{DeadEnd, Estimate, EstimateWithDeadEnds, Outcome, best_first};
 use std::alloc::Global;
+use tables_drafted::Effort;
 use task::Task;
 
 /// How many states a search may list by potentials alone, before tables are looked for. So a task that is solved by fewer is
 /// solved without them.
 const FIRST_STATES: u32 = 50_000;
+
+/// How many it may list then, before they are looked for thoroughly.
+const MORE_STATES: u32 = 500_000;
 
 /// What is found out of a task.
 #[derive(Drop)]
@@ -111,19 +115,28 @@ fn solve_ground(alloc: Global, ground: &Ground<'_>, limits: Limits) -> Result<An
     let estimate: Fair<'_, '_> = improved(alloc, ground, &groundwork)?;
     let dead_ends: DeadFair<'_, '_> = improved(alloc, ground, &groundwork)?;
     drop(groundwork);
-    if let Some(answer) = solved_first(alloc, ground, &estimate, &dead_ends, limits)? {
-        return Ok(answer);
+    for (states, effort) in [
+        (FIRST_STATES, Effort::Quick),
+        (MORE_STATES, Effort::Thorough),
+    ] {
+        let few = limits.with_fewer_states(states);
+        let answer = solved_first(alloc, ground, &estimate, &dead_ends, few, effort, limits)?;
+        if let Some(answer) = answer {
+            return Ok(answer);
+        }
     }
     solve_by(alloc, ground, &estimate, &dead_ends, limits)
 }
 
-/// The answer by potentials, if it lists few states, and else that by tables, if some are found that are better. None where more
-/// is not allowed, or no tables are found.
+/// The answer by potentials, if it lists no more states than these few, and else that by tables, if some are found that are
+/// better. None where no more are allowed, or no tables are found.
 fn solved_first(
     alloc: Global,
     ground: &Ground<'_>,
     estimate: &Fair<'_, '_>,
     dead_ends: &DeadFair<'_, '_>,
+    few: Option<Limits>,
+    effort: Effort,
     limits: Limits,
 ) -> Result<Option<Answer>, NoMemory>
     requires typed { IsTrue (is_task (task_in ground.now)) }
@@ -134,12 +147,16 @@ fn solved_first(
     requires dead_ends_of { ground_in dead_ends.now ≡ ground.now }
     ensures { IfOk result (λ o. IfSome o (IsTrueAnswer (task_in ground.now) limits.states limits.instances)) }
 {
-    let Some(few) = limits.with_fewer_states(FIRST_STATES) else {
+    let Some(few) = few else {
         return Ok(None);
     };
     match solve_by(alloc, ground, estimate, dead_ends, few)? {
         Answer::Unknown(Exceeded::States { bound, cert }) => {
-            let stopped = Stopped { bound, cert: &cert };
+            let stopped = Stopped {
+                bound,
+                cert: &cert,
+                effort,
+            };
             let potentials = estimate.potentials();
             let dead_ends = dead_ends.potentials();
             solve_by_tables(alloc, ground, potentials, dead_ends, &stopped, limits)

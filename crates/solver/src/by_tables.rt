@@ -44,6 +44,7 @@ pub(crate) fn solve_by_tables<'a>(
         potentials,
         dead_ends,
         states: &states,
+        effort: stopped.effort,
     };
     let Some(draft) = drafted_tables(alloc, ground, &wanted)? else {
         return Ok(None);

@@ -5,6 +5,7 @@ use grounding::Ground;
 use packed_state::{Packed, StateStore};
 use search::Guide;
 use std::alloc::Global;
+use tables_drafted::Effort;
 
 /// How many of the states that were found are samples, at most.
 const SAMPLES: usize = 32;
@@ -17,6 +18,8 @@ const ASKED: usize = 1_000;
 pub(crate) struct Stopped<'a> {
     pub(crate) bound: u64,
     pub(crate) cert: &'a Cert,
+    /// How much may be looked at for tables now.
+    pub(crate) effort: Effort,
 }
 
 /// How many states were expanded, of those that are asked, and how many of these would not have been.

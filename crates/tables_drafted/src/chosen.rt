@@ -1,4 +1,5 @@
 //! Several values, of which the greatest counts: those are chosen by which some states have greater values than by the others.
+use crate::draft::Effort;
 use crate::rests::{left_by, potentials_of_rest, score};
 use costs_divided::{Costs, Divider, Division, Order, StateRows};
 use faults::NoMemory;
@@ -11,7 +12,7 @@ use std::alloc::Global;
 const MAX_VALUES: usize = 9;
 
 /// The most that are tried, of which some are chosen.
-const MAX_CANDIDATES: usize = 16;
+const MAX_CANDIDATES: u64 = 20;
 
 /// How many trials there are for the best order for the initial state, and for another one.
 const TRIALS: u32 = 400;
@@ -45,7 +46,7 @@ struct Candidates {
     most: Vec<i64>,
     most_by_tables: Vec<i64>,
     /// How often potentials of what is left were looked for.
-    rests: usize,
+    rests: u64,
 }
 
 /// What values are chosen by.
@@ -57,6 +58,7 @@ pub(crate) struct Choosing<'a> {
     /// The true atoms of the same states.
     pub(crate) atoms: &'a [Vec<u32>],
     pub(crate) potentials: &'a Potentials,
+    pub(crate) effort: Effort,
 }
 
 impl Choosing<'_> {
@@ -67,7 +69,7 @@ impl Choosing<'_> {
         tables: &mut Tables,
     ) -> Result<Vec<Value>, NoMemory> {
         let mut divider = Divider::new(alloc, self.graphs, self.costs, self.rows)?;
-        divider.allow(MAX_WORK);
+        divider.allow(self.effort.part_of(MAX_WORK));
         let mut candidates = Candidates {
             all: Vec::new(alloc),
             most: vec![in alloc; 0; self.rows.len()]?,
@@ -77,7 +79,7 @@ impl Choosing<'_> {
         let order = divider.best_order(alloc, TRIALS)?;
         self.add(alloc, tables, &mut divider, &order, &mut candidates)?;
         self.add_after_potentials(alloc, tables, &order, &mut candidates)?;
-        divider.allow(MAX_WORK_OF_STATES);
+        divider.allow(self.effort.part_of(MAX_WORK_OF_STATES));
         for state in 1..self.rows.len() {
             if divider.is_done() {
                 break;
@@ -101,7 +103,9 @@ impl Choosing<'_> {
     ) -> Result<(), NoMemory> {
         let division = divider.divide(alloc, order)?;
         let given = divider.values(alloc, &division)?;
-        if !raise(&mut candidates.most_by_tables, &given) || candidates.rests >= MAX_CANDIDATES {
+        if !raise(&mut candidates.most_by_tables, &given)
+            || candidates.rests >= self.effort.part_of(MAX_CANDIDATES)
+        {
             return Ok(());
         }
         candidates.rests = candidates.rests.saturating_add(1);
@@ -140,7 +144,7 @@ impl Choosing<'_> {
             potentials,
         };
         let given = self.given(alloc, &value)?;
-        if raise(&mut candidates.most, &given) && candidates.all.len() < MAX_CANDIDATES {
+        if raise(&mut candidates.most, &given) {
             candidates.all.push(Candidate { value, given })?;
         }
         Ok(())

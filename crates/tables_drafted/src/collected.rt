@@ -1,4 +1,5 @@
 //! Which tables there are: over single variables, and over pairs and triples that go together.
+use crate::draft::Effort;
 use crate::links::Links;
 use atom_groups::{Variables, place_of};
 use costs_divided::{Costs, NO_WAY, distances, taken};
@@ -35,6 +36,7 @@ pub(crate) struct Collecting<'a, 't> {
     pub(crate) costs: Costs,
     /// The value of each variable in states whose values are to be raised, the initial state first.
     pub(crate) states: &'a [Vec<u32>],
+    pub(crate) effort: Effort,
     pub(crate) collected: Collected,
     /// How many rows have to be looked at to test what instances lose by one value.
     pub(crate) tests: u64,
@@ -219,7 +221,7 @@ impl Collecting<'_, '_> {
         self.shutters.shut_out(&shut_out);
         self.costs.shut_out(&shut_out);
         let tests = self.tests.saturating_add(graph.test_count());
-        if tests > MAX_TESTS && !is_shutting {
+        if tests > self.effort.part_of(MAX_TESTS) && !is_shutting {
             return Ok(());
         }
         let gift = self.gift(alloc, &graph)?;
@@ -239,7 +241,7 @@ impl Collecting<'_, '_> {
 
     /// Whether nothing more is to be looked at, or kept.
     fn is_done(&self) -> bool {
-        self.reaching.looks() > MAX_LOOKS
+        self.reaching.looks() > self.effort.part_of(MAX_LOOKS)
             || self.room > MAX_ROOM
             || self.collected.graphs.len() >= MAX_TABLES
     }

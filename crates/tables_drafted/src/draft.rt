@@ -46,6 +46,25 @@ struct Known {
     costs: Costs,
 }
 
+/// How much is looked at for a draft.
+#[derive(Clone, Copy, Debug, PartialEq, Eq)]
+pub enum Effort {
+    /// A tenth of the other.
+    Quick,
+    /// As much as there may be.
+    Thorough,
+}
+
+impl Effort {
+    /// The part of this count that may be looked at.
+    pub(crate) fn part_of(self, count: u64) -> u64 {
+        match self {
+            Effort::Quick => count / 10,
+            Effort::Thorough => count,
+        }
+    }
+}
+
 /// What a draft is made for: potentials, whose values those over tables are to exceed, and such for dead ends; and states, by
 /// their true atoms, in which they are to.
 #[derive(Clone, Copy)]
@@ -56,6 +75,8 @@ pub struct Wanted<'a> {
     pub dead_ends: &'a Potentials,
     /// The states. The initial one counts too, and some on random walks from it.
     pub states: &'a [Vec<u32>],
+    /// How much is looked at.
+    pub effort: Effort,
 }
 
 /// Values over tables that may be greater than those of potentials. None where no table is of use, or the task is too large.
@@ -93,7 +114,7 @@ fn draft_over(
     let Some(steps) = Steps::new(alloc, ground, variables)? else {
         return Ok(None);
     };
-    let known = known_over(alloc, ground, variables, &steps, &states)?;
+    let known = known_over(alloc, ground, variables, &steps, &states, wanted.effort)?;
     drop(steps);
     let draft = draft_by(alloc, variables, &known, &atoms, &states, tables, wanted)?;
     Ok(draft)
@@ -106,9 +127,10 @@ fn known_over<'a, 't>(
     variables: &'a Variables,
     steps: &'a Steps,
     states: &'a [Vec<u32>],
+    effort: Effort,
 ) -> Result<Known, NoMemory> {
     let goals = GoalValues::new(alloc, variables, ground.goal_literals())?;
-    let known = collected(alloc, ground, variables, steps, &goals, states)?;
+    let known = collected(alloc, ground, variables, steps, &goals, states, effort)?;
     Ok(known)
 }
 
@@ -120,6 +142,7 @@ fn collected<'a, 't>(
     steps: &'a Steps,
     goals: &'a GoalValues,
     states: &'a [Vec<u32>],
+    effort: Effort,
 ) -> Result<Known, NoMemory> {
     let initial: &[u32] = match states.first() {
         Some(values) => values,
@@ -136,6 +159,7 @@ fn collected<'a, 't>(
         costs,
         shutters,
         states,
+        effort,
         collected: Collected::new(alloc),
         tests: 0,
         room: 0,
@@ -167,6 +191,7 @@ fn draft_by<'a>(
         rows: &rows,
         atoms,
         potentials: wanted.potentials,
+        effort: wanted.effort,
     };
     let values = choosing.values(alloc, tables)?;
     let Some(written) = tables_of_use(alloc, variables, known, &values, wanted.dead_ends)? else {

@@ -12,4 +12,4 @@ mod rests;
 mod states;
 mod written;
 
-pub use draft::{DraftedTables, Wanted, drafted_tables};
+pub use draft::{DraftedTables, Effort, Wanted, drafted_tables};
