@@ -10,6 +10,8 @@ use Rattle.std.proofs.lemmas.Option.{slice_get-get_or, slice_get_within}
 use Rattle.std.proofs.lemmas.Slice.Zip.{AllZip-long}
 use Rattle.formulas.specs.declared.instance.Instance as code
 use Rattle.formulas.specs.State.{instance_of}
+use Rattle.packed_state.specs.PooledView.{pooled_states}
+use Rattle.packed_state.specs.declared.pooled.PooledStore.{PooledStore}
 use Rattle.search.specs.declared.nodes.Node.{Node}
 use Rattle.search.specs.Outcome as search
 use Rattle.search.specs.declared.best.Outcome.{Outcome}
@@ -57,11 +59,11 @@ most_of_limit limit within = leb-true limit 16777216 (and_parts (nat_le 1 limit)
 -- ---- an outcome
 
 -- what the states that a search found show
-pub found_of : {Store : Type 0} (t : System (List Bool) ℕ) (estimate : List Bool → ℕ) (is_dead : List Bool → Bool) (states_of : Store → List (List Bool)) (max_states : ℕ) (outcome : Outcome Store)
-    → IsTrueOutcome t estimate is_dead states_of max_states outcome → (claim : Claim) × AreFound t estimate is_dead claim max_states (states_of (found_in outcome).store) (found_in outcome).nodes.items
-found_of t estimate is_dead states_of max_states (Found steps cost found) told = (bound cost, told.2)
-found_of t estimate is_dead states_of max_states (Exhausted found) told = (none, told.1)
-found_of t estimate is_dead states_of max_states (States least found) told = (bound least, told.1.found)
+pub found_of : (t : System (List Bool) ℕ) (estimate : List Bool → ℕ) (is_dead : List Bool → Bool) (max_states : ℕ) (outcome : Outcome PooledStore)
+    → IsTrueOutcome t estimate is_dead pooled_states max_states outcome → (claim : Claim) × AreFound t estimate is_dead claim max_states (pooled_states (found_in outcome).store) (found_in outcome).nodes.items
+found_of t estimate is_dead max_states (Found steps cost found) told = (bound cost, told.2)
+found_of t estimate is_dead max_states (Exhausted found) told = (none, told.1)
+found_of t estimate is_dead max_states (States least found) told = (bound least, told.1.found)
 
 -- they are as wide as the atoms are many
 pub found_widths : (task : Task) (atoms : List Atom) {estimate : List Bool → ℕ} {is_dead : List Bool → Bool} {claim : Claim} {most : ℕ} (states : List (List Bool)) (nodes : List Node)

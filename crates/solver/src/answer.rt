@@ -14,7 +14,7 @@ use crate::guidance::{Guidance, potential_of};
 use crate::improved::improved;
 use crate::limits::Limits;
 use crate::listing::cert_of;
-use crate::searched::{Searched, searched};
+use crate::searched::{Searched, search_by};
 use crate::steps::plan_of;
 use certificate::{Cert, Claim};
 use faults::{NoMemory, Refused};
@@ -126,7 +126,7 @@ fn solve_by_potentials(
     ensures { IfOk result (IsTrueAnswer (task_in ground.now) limits.states limits.instances) }
 {
     let guide = EstimateWithDeadEnds::new(estimate, dead_ends);
-    let searched = searched(alloc, ground, &guide, limits)?;
+    let searched = search_by(alloc, ground, &guide, limits)?;
     let guidance = Guidance::Potentials {
         value: potential_of(alloc, estimate.potentials())?,
         dead_ends: potential_of(alloc, dead_ends.potentials())?,

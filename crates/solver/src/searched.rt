@@ -33,7 +33,7 @@ pub(crate) struct Searched {
 }
 
 /// What a search of the ground task by the guide comes to.
-pub(crate) fn searched<G: Guide>(
+pub(crate) fn search_by<G: Guide>(
     alloc: Global,
     ground: &Ground<'_>,
     guide: &G,

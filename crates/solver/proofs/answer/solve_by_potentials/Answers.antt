@@ -26,11 +26,11 @@ new-guide-requires-clause-system c = ap system_of (c.requires.dead_ends ∙ sym 
 pub new-guide-requires-clause-width : goal.new-guide-requires-clause-width
 new-guide-requires-clause-width c = ap width_of (c.requires.dead_ends ∙ sym c.requires.estimate)
 
-pub searched-requires-clause-system : goal.searched-requires-clause-system
-searched-requires-clause-system c = ap (λ f. system_of (ground_in f)) c.new-guide.ensures.estimate ∙ ap system_of c.requires.estimate
+pub search_by-requires-clause-system : goal.search_by-requires-clause-system
+search_by-requires-clause-system c = ap (λ f. system_of (ground_in f)) c.new-guide.ensures.estimate ∙ ap system_of c.requires.estimate
 
-pub searched-requires-clause-width : goal.searched-requires-clause-width
-searched-requires-clause-width c = ap (λ f. width_of (ground_in f)) c.new-guide.ensures.estimate ∙ ap width_of c.requires.estimate
+pub search_by-requires-clause-width : goal.search_by-requires-clause-width
+search_by-requires-clause-width c = ap (λ f. width_of (ground_in f)) c.new-guide.ensures.estimate ∙ ap width_of c.requires.estimate
 
 pub answer_of-requires-clause-guidance : goal.answer_of-requires-clause-guidance
 answer_of-requires-clause-guidance c =

@@ -12,32 +12,32 @@ use Rattle.search.proofs.Consistent.{lower_bound as lower_bound_of}
 use Rattle.search.proofs.DeadEnds.{are_dead_ends}
 use Rattle.solver.specs.Guided.{found_in, AreMarksOf}
 use Rattle.solver.proofs.AnswerLemmas.{found_of, found_widths, most_of_limit}
-use Rattle.solver.proofs.searched.searched.Goals as goal
+use Rattle.solver.proofs.searched.search_by.Goals as goal
 
 pub marks-requires-clause-one_for_each : goal.marks-requires-clause-one_for_each
 marks-requires-clause-one_for_each g c =
     let known = c.args.ground.now in
-    let (claim, found) = found_of (ground_system (task_in known) (atoms_in known)) (g.G.Guide.estimate_of c.args.guide.now) (g.G.Guide.is_dead c.args.guide.now) pooled_states c.states.result c.in_ok-outcome.outcome c.in_ok-outcome.ensures in
+    let (claim, found) = found_of (ground_system (task_in known) (atoms_in known)) (g.G.Guide.estimate_of c.args.guide.now) (g.G.Guide.is_dead c.args.guide.now) c.states.result c.in_ok-outcome.outcome c.in_ok-outcome.ensures in
     subst (λ (f : FoundStates PooledStore). length f.nodes.items ≡ length (pooled_states f.store)) (sym c.found_in.ensures) found.one_for_each
 
 pub marks-requires-clause-few : goal.marks-requires-clause-few
 marks-requires-clause-few g c =
     let known = c.args.ground.now in
-    let (claim, found) = found_of (ground_system (task_in known) (atoms_in known)) (g.G.Guide.estimate_of c.args.guide.now) (g.G.Guide.is_dead c.args.guide.now) pooled_states c.states.result c.in_ok-outcome.outcome c.in_ok-outcome.ensures in
+    let (claim, found) = found_of (ground_system (task_in known) (atoms_in known)) (g.G.Guide.estimate_of c.args.guide.now) (g.G.Guide.is_dead c.args.guide.now) c.states.result c.in_ok-outcome.outcome c.in_ok-outcome.ensures in
     subst (λ (f : FoundStates PooledStore). length (pooled_states f.store) ≤ 16777216) (sym c.found_in.ensures)
     (omega (arith, found.within_limit, c.states.ensures, most_of_limit c.args.limits.states c.args.limits.states_within))
 
 pub marks-requires-clause-width : goal.marks-requires-clause-width
 marks-requires-clause-width g c =
     let known = c.args.ground.now in
-    let (claim, found) = found_of (ground_system (task_in known) (atoms_in known)) (g.G.Guide.estimate_of c.args.guide.now) (g.G.Guide.is_dead c.args.guide.now) pooled_states c.states.result c.in_ok-outcome.outcome c.in_ok-outcome.ensures in
+    let (claim, found) = found_of (ground_system (task_in known) (atoms_in known)) (g.G.Guide.estimate_of c.args.guide.now) (g.G.Guide.is_dead c.args.guide.now) c.states.result c.in_ok-outcome.outcome c.in_ok-outcome.ensures in
     subst (λ (f : FoundStates PooledStore). All (λ (bits : List Bool). length bits ≡ g.G.Guide.width_of c.args.guide.now) (pooled_states f.store)) (sym c.found_in.ensures)
     (subst (λ (n : ℕ). All (λ (bits : List Bool). length bits ≡ n) (pooled_states (found_in c.in_ok-outcome.outcome).store)) (sym c.requires.width) (found_widths (task_in known) (atoms_in known) (pooled_states (found_in c.in_ok-outcome.outcome).store) (found_in c.in_ok-outcome.outcome).nodes.items found))
 
 pub marks-requires-clause-marked : goal.marks-requires-clause-marked
 marks-requires-clause-marked g c =
     let known = c.args.ground.now in
-    let (claim, found) = found_of (ground_system (task_in known) (atoms_in known)) (g.G.Guide.estimate_of c.args.guide.now) (g.G.Guide.is_dead c.args.guide.now) pooled_states c.states.result c.in_ok-outcome.outcome c.in_ok-outcome.ensures in
+    let (claim, found) = found_of (ground_system (task_in known) (atoms_in known)) (g.G.Guide.estimate_of c.args.guide.now) (g.G.Guide.is_dead c.args.guide.now) c.states.result c.in_ok-outcome.outcome c.in_ok-outcome.ensures in
     subst (λ (f : FoundStates PooledStore). AreMarked (g.G.Guide.is_dead c.args.guide.now) (pooled_states f.store) f.nodes.items) (sym c.found_in.ensures) found.marked
 
 pub returns : goal.returns
