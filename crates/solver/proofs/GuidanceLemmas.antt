@@ -74,7 +74,7 @@ weight-in-range : (w : ℤ) → is_weight w ≡ true → IsInRange w
 weight-in-range (pos n) is = let most = leb-true n 2147483647 is in record { least = omega (arith, ints); most = omega (arith, ints) }
 weight-in-range (negsuc n) is = let most = ltb-true n 2147483647 is in record { least = omega (arith, ints); most = omega (arith, ints) }
 
-weights-in-range : (weights : List ℤ) → list_all is_weight weights ≡ true → All IsInRange weights
+pub weights-in-range : (weights : List ℤ) → list_all is_weight weights ≡ true → All IsInRange weights
 weights-in-range [] all = All-nil IsInRange
 weights-in-range (w ∷ weights) all =
     let (here, more) = and_parts (is_weight w) (list_all is_weight weights) all in

@@ -156,15 +156,18 @@ pub(crate) fn answer_of(
             states,
         } => {
             let steps = plan_of(alloc, ground, &steps)?;
-            let cert = cert_of(alloc, ground, guidance, Claim::Bound(cost), marks, states)?;
+            let claim = Claim::Bound(cost);
+            let cert = cert_of(alloc, ground, guidance, claim, marks, states)?;
             Ok(Answer::Plan { steps, cost, cert })
         }
         Outcome::Exhausted { states } => {
-            let cert = cert_of(alloc, ground, guidance, Claim::Unsolvable, marks, states)?;
+            let claim = Claim::Unsolvable;
+            let cert = cert_of(alloc, ground, guidance, claim, marks, states)?;
             Ok(Answer::Unsolvable { cert })
         }
         Outcome::States { bound, states } => {
-            let cert = cert_of(alloc, ground, guidance, Claim::Bound(bound), marks, states)?;
+            let claim = Claim::Bound(bound);
+            let cert = cert_of(alloc, ground, guidance, claim, marks, states)?;
             Ok(Answer::Unknown(Exceeded::States { bound, cert }))
         }
     }

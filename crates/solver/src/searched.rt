@@ -91,17 +91,18 @@ fn listed<G: Guide>(guide: &G, state: &Packed, node: Node, room: &mut G::Room) -
     ensures listed { parts.listed_of result ≡ mark_of_line (line_of (G.estimate_of guide.now) (G.is_dead guide.now) (bits_of state.now) node) }
     ensures room { G.fits guide.now room.new }
 {
+    let cost = node.cost;
     match node.status {
         NodeStatus::Expanded => Listed {
-            cost: node.cost,
+            cost,
             mark: Mark::Open,
         },
         NodeStatus::Dead => Listed {
-            cost: node.cost,
+            cost,
             mark: Mark::Dead,
         },
         NodeStatus::Open => Listed {
-            cost: node.cost,
+            cost,
             mark: unexpanded(guide, state, room),
         },
     }
