@@ -2,6 +2,7 @@ pub mod TypedLemmas
 pub mod GroundLemmas
 pub mod PotentialLemmas
 pub mod GuidanceLemmas
+pub mod TablesLemmas
 pub mod FoundLines
 pub mod ListingLemmas
 pub mod LimitLemmas

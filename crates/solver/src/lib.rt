@@ -2,6 +2,7 @@
 #![tactic(auto)]
 
 mod answer;
+mod by_tables;
 mod guidance;
 mod improved;
 mod limits;
