@@ -7,5 +7,6 @@ pub mod FoundLines
 pub mod ListingLemmas
 pub mod LimitLemmas
 pub mod AnswerLemmas
+pub mod MoreStates
 pub mod ByCost
 pub mod LoopLemmas

@@ -293,7 +293,7 @@ module _ (task : Task) (claim : Claim) (most : ℕ) (guidance : Guidance) (state
 -- ---- for a certificate of these parts
 
 -- what is shown with so many states is shown with more
-more_allowed : {task : Task} {claim : Claim} {count most : ℕ} {certificate : Certificate} → IsShownBy task claim count certificate → count ≤ most → IsShownBy task claim most certificate
+pub more_allowed : {task : Task} {claim : Claim} {count most : ℕ} {certificate : Certificate} → IsShownBy task claim count certificate → count ≤ most → IsShownBy task claim most certificate
 more_allowed given le = record {
   claims = given.claims;
   closed = given.closed;

@@ -1,12 +1,12 @@
 //! The answer to a task.
-ghost use Rattle.std.specs.Prelude.{◌≡◌, [], IfOk, IsTrue};
+ghost use Rattle.std.specs.Prelude.{◌≡◌, [], IfOk, IfSome, IsTrue};
 ghost use Rattle.task.specs.Task.{task_of};
 ghost use Rattle.grounding.specs.Ground.{task_in, atoms_in, IsGroundOf};
 ghost use Rattle.potentials_improved.specs.FairPotentials.{potentials_in, ground_in};
 ghost use Rattle.solver.specs.Guidance.{estimate_by, reports_dead};
 ghost use Rattle.solver.specs.Guided.{IsGuidanceFor, IsSearched};
 ghost use Rattle.solver.specs.Improved.{AreSettledOrHigh, AreDeadSettledOrHigh};
-ghost use Rattle.solver.specs.Solver.{IsTrueAnswer};
+ghost use Rattle.solver.specs.Solver.{IsTrueAnswer, is_stopped};
 ghost use Rattle.solver.specs.Written.{guidance_of};
 ghost use Rattle.model.specs.WellTyped.{is_task};
 
@@ -24,6 +24,10 @@ use potentials_improved::{DeadFair, Fair, Groundwork};
 use search::{EstimateWithDeadEnds, Outcome};
 use std::alloc::Global;
 use task::Task;
+
+/// How many states a search may list by potentials alone, before tables are looked for. So a task that is solved by fewer is
+/// solved without them.
+const FIRST_STATES: u32 = 50_000;
 
 /// What is found out of a task.
 #[derive(Drop)]
@@ -60,6 +64,21 @@ pub enum Exceeded {
         /// It shows that no plan costs less.
         cert: Cert,
     },
+}
+
+impl Answer {
+    /// Whether the limit of the listed states is exceeded.
+    fn is_stopped(&self) -> bool
+        ensures { result ≡ is_stopped self.now }
+    {
+        match self {
+            Answer::Plan { .. } => false,
+            Answer::Unsolvable { .. } => false,
+            Answer::Unknown(Exceeded::Instances) => false,
+            Answer::Unknown(Exceeded::Atoms) => false,
+            Answer::Unknown(Exceeded::States { .. }) => true,
+        }
+    }
 }
 
 /// A cheapest plan of the task, or that it has none, with the certificate that shows it.
@@ -107,6 +126,32 @@ fn solve_ground(alloc: Global, ground: &Ground<'_>, limits: Limits) -> Result<An
     let dead_ends: DeadFair<'_, '_> = improved(alloc, ground, &groundwork)?;
     drop(groundwork);
     solve_by_potentials(alloc, ground, &estimate, &dead_ends, limits)
+}
+
+/// The same by these potentials, where few states are listed; none where more would have to be, or no more may be.
+fn solve_first(
+    alloc: Global,
+    ground: &Ground<'_>,
+    estimate: &Fair<'_, '_>,
+    dead_ends: &DeadFair<'_, '_>,
+    limits: Limits,
+) -> Result<Option<Answer>, NoMemory>
+    requires typed { IsTrue (is_task (task_in ground.now)) }
+    requires ground { IsGroundOf (task_in ground.now) [] limits.instances ground.now }
+    requires estimate { ground_in estimate.now ≡ ground.now }
+    requires improved { AreSettledOrHigh (task_in ground.now) (atoms_in ground.now) (potentials_in estimate.now) }
+    requires dead_ends { ground_in dead_ends.now ≡ ground.now }
+    requires dead_ends_improved { AreDeadSettledOrHigh (task_in ground.now) (atoms_in ground.now) (potentials_in dead_ends.now) }
+    ensures { IfOk result (λ o. IfSome o (IsTrueAnswer (task_in ground.now) limits.states limits.instances)) }
+{
+    let Some(few) = limits.with_fewer_states(FIRST_STATES) else {
+        return Ok(None);
+    };
+    let first = solve_by_potentials(alloc, ground, estimate, dead_ends, few)?;
+    if first.is_stopped() {
+        return Ok(None);
+    }
+    Ok(Some(first))
 }
 
 /// The same by these potentials.
