@@ -1,5 +1,8 @@
 pub mod Limit
 pub mod Improved
+pub mod Guidance
+pub mod Written
+pub mod SeveralOver
 pub mod Guided
 pub mod Listing
 pub mod AtLimit

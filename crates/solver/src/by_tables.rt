@@ -1,0 +1,129 @@
+//! Answers by a search that goes by values over tables.
+//!
+//! Nothing is known of the values but that a certificate can have them: whether they are fair is tested. They are with the tables
+//! as the certificate has them, and go into it, so that the tables are in memory once.
+ghost use Rattle.std.specs.Prelude.{◌≡◌, ◌==◌, [], IfOk, IfSome, IsTrue, length, map};
+ghost use Rattle.std.specs.List.{list_all};
+ghost use Rattle.certificate.specs.CertificateParts.{are_bounds, bounds_of};
+ghost use Rattle.certificate_definitions.specs.Certificates.{three};
+ghost use Rattle.grounding.specs.Ground.{task_in, atoms_in, IsGroundOf};
+ghost use Rattle.model.specs.NumberedAtoms.{numbered_atoms};
+ghost use Rattle.model.specs.WellTyped.{is_task};
+ghost use Rattle.potentials.specs.Potentials.{potentials_of};
+ghost use Rattle.solver.specs.Guidance.{by_tables, estimate_by, first_value, reports_dead};
+ghost use Rattle.solver.specs.Guided.{IsSearched};
+ghost use Rattle.solver.specs.Improved.{AreSettledOrHigh, AreDeadSettledOrHigh};
+ghost use Rattle.solver.specs.SeveralOver.{several_over};
+ghost use Rattle.solver.specs.Solver.{IsTrueAnswer};
+ghost use Rattle.table_functions.specs.FairTables.{AreFair};
+ghost use Rattle.table_guides.specs.FairTables.{functions_in, ground_in};
+ghost use Rattle.table_rows.specs.Tables.{weight_count_of};
+ghost use Rattle.table_rows.specs.declared.table.Table as in_memory;
+
+use crate::answer::{Answer, answer_of};
+use crate::guidance::Guidance;
+use crate::limits::Limits;
+use crate::searched::{Searched, search_by};
+use certificate::Bounds;
+use faults::NoMemory;
+use grounding::Ground;
+use potentials::Potentials;
+use std::alloc::Global;
+use table_guides::FairTables;
+use table_rows::Table;
+use tables::{IndexedTables, TableFunctions, ValuesFairness};
+
+/// The answer by these values, which are given as potentials too, over their tables; none where they are not fair.
+pub(crate) fn answer_by_tables(
+    alloc: Global,
+    ground: &Ground<'_>,
+    bounds: Bounds,
+    values: Vec<Potentials>,
+    dead_ends: Potentials,
+    limits: Limits,
+) -> Result<Option<Answer>, NoMemory>
+    requires typed { IsTrue (is_task (task_in ground.now)) }
+    requires ground { IsGroundOf (task_in ground.now) [] limits.instances ground.now }
+    requires within_limits { IsTrue (are_bounds three (length (atoms_in ground.now)) (bounds_of bounds)) }
+    requires values { map potentials_of values.items ≡ (bounds_of bounds).values }
+    requires dead_ends { potentials_of dead_ends ≡ (bounds_of bounds).dead_ends }
+    requires improved { AreSettledOrHigh (task_in ground.now) (atoms_in ground.now) (first_value (by_tables (bounds_of bounds))) }
+    requires dead_ends_improved { AreDeadSettledOrHigh (task_in ground.now) (atoms_in ground.now) (bounds_of bounds).dead_ends }
+    ensures { IfOk result (λ o. IfSome o (IsTrueAnswer (task_in ground.now) limits.states limits.instances)) }
+{
+    let Some(searched) = search_by_tables(alloc, ground, &bounds, values, dead_ends, limits)? else {
+        return Ok(None);
+    };
+    let answer = answer_of(alloc, ground, Guidance::Tables(bounds), searched, limits)?;
+    Ok(Some(answer))
+}
+
+/// What a search by these values comes to; none where they are not fair.
+fn search_by_tables(
+    alloc: Global,
+    ground: &Ground<'_>,
+    bounds: &Bounds,
+    values: Vec<Potentials>,
+    dead_ends: Potentials,
+    limits: Limits,
+) -> Result<Option<Searched>, NoMemory>
+    requires atoms { atoms_in ground.now ≡ numbered_atoms (task_in ground.now) [] }
+    requires within_limits { IsTrue (are_bounds three (length (atoms_in ground.now)) (bounds_of bounds.now)) }
+    requires values { map potentials_of values.items ≡ (bounds_of bounds.now).values }
+    requires dead_ends { potentials_of dead_ends ≡ (bounds_of bounds.now).dead_ends }
+    ensures fair { IfOk result (λ o. IfSome o (λ _. AreFair (task_in ground.now) (atoms_in ground.now) (bounds_of bounds.now))) }
+    ensures searched { IfOk result (λ o. IfSome o (λ s. IsSearched ground.now (estimate_by (by_tables (bounds_of bounds.now))) (reports_dead (by_tables (bounds_of bounds.now))) limits.states s.outcome s.marks.items)) }
+{
+    let Some(guide) = guide_of(alloc, ground, &bounds.tables, values, dead_ends)? else {
+        return Ok(None);
+    };
+    let searched = search_by(alloc, ground, &guide, limits)?;
+    Ok(Some(searched))
+}
+
+/// These values over these tables as a guide, if they are fair.
+fn guide_of<'g, 't, 'a>(
+    alloc: Global,
+    ground: &'g Ground<'t>,
+    tables: &'a [Table],
+    values: Vec<Potentials>,
+    dead_ends: Potentials,
+) -> Result<Option<FairTables<'g, 't, 'a>>, NoMemory>
+    requires atoms { atoms_in ground.now ≡ numbered_atoms (task_in ground.now) [] }
+    requires within_limits { IsTrue (are_bounds three (length (atoms_in ground.now)) (several_over values.items dead_ends tables.now)) }
+    ensures functions { IfOk result (λ o. IfSome o (λ f. functions_in f ≡ several_over values.items dead_ends tables.now)) }
+    ensures ground { IfOk result (λ o. IfSome o (λ f. ground_in f ≡ ground.now)) }
+{
+    let count = values.len() as u32 + 1;
+    if !have_weights(tables, count) {
+        return Ok(None);
+    }
+    let indexed = IndexedTables::index(alloc, ground.width(), count, tables)?;
+    let functions = TableFunctions::new(values, dead_ends, indexed);
+    match functions.fairness(alloc, ground)? {
+        ValuesFairness::Fair => {
+            let guide = FairTables::new(alloc, functions, ground)?;
+            Ok(Some(guide))
+        }
+        _ => Ok(None),
+    }
+}
+
+/// Whether the rows of each table have so many weights; so they would in one that has no row.
+fn have_weights(tables: &[Table], count: u32) -> bool
+    ensures { result ≡ list_all (λ (t : in_memory.Table). weight_count_of t == count) tables.now }
+{
+    for table in tables {
+        if !has_weights(table, count) {
+            return false;
+        }
+    }
+    true
+}
+
+/// Whether the table's rows do.
+fn has_weights(table: &Table, count: u32) -> bool
+    ensures { result ≡ (weight_count_of table.now == count) }
+{
+    table.weight_count() == count
+}
