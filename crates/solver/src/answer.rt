@@ -6,16 +6,18 @@ ghost use Rattle.potentials_improved.specs.FairPotentials.{potentials_in, ground
 ghost use Rattle.solver.specs.Guidance.{estimate_by, reports_dead};
 ghost use Rattle.solver.specs.Guided.{IsGuidanceFor, IsSearched};
 ghost use Rattle.solver.specs.Improved.{AreSettledOrHigh, AreDeadSettledOrHigh};
-ghost use Rattle.solver.specs.Solver.{IsTrueAnswer, is_stopped};
+ghost use Rattle.solver.specs.Solver.{IsTrueAnswer};
 ghost use Rattle.solver.specs.Written.{guidance_of};
 ghost use Rattle.model.specs.WellTyped.{is_task};
 
+use crate::by_tables::solve_by_tables;
 use crate::guidance::{Guidance, potential_of};
 use crate::improved::improved;
 use crate::limits::Limits;
 use crate::listing::cert_of;
 use crate::searched::{Searched, search_by};
 use crate::steps::plan_of;
+use crate::stopped::Stopped;
 use certificate::{Cert, Claim};
 use faults::{NoMemory, Refused};
 use formulas::Plan;
@@ -23,11 +25,22 @@ use grounding::{Ground, GroundLimit};
 use potentials_improved::{DeadFair, Fair, Groundwork};
 use search::{EstimateWithDeadEnds, Outcome};
 use std::alloc::Global;
+use tables_drafted::Effort;
 use task::Task;
 
 /// How many states a search may list by potentials alone, before tables are looked for. So a task that is solved by fewer is
 /// solved without them.
 const FIRST_STATES: u32 = 50_000;
+
+/// How many it may list then, before they are looked for thoroughly.
+const MORE_STATES: u32 = 500_000;
+
+/// A search by potentials alone, which ends at so many states, and how much is looked at for tables then.
+#[derive(Clone, Copy)]
+struct Trial {
+    states: u32,
+    effort: Effort,
+}
 
 /// What is found out of a task.
 #[derive(Drop)]
@@ -64,21 +77,6 @@ pub enum Exceeded {
         /// It shows that no plan costs less.
         cert: Cert,
     },
-}
-
-impl Answer {
-    /// Whether the limit of the listed states is exceeded.
-    fn is_stopped(&self) -> bool
-        ensures { result ≡ is_stopped self.now }
-    {
-        match self {
-            Answer::Plan { .. } => false,
-            Answer::Unsolvable { .. } => false,
-            Answer::Unknown(Exceeded::Instances) => false,
-            Answer::Unknown(Exceeded::Atoms) => false,
-            Answer::Unknown(Exceeded::States { .. }) => true,
-        }
-    }
 }
 
 /// A cheapest plan of the task, or that it has none, with the certificate that shows it.
@@ -125,15 +123,31 @@ fn solve_ground(alloc: Global, ground: &Ground<'_>, limits: Limits) -> Result<An
     let estimate: Fair<'_, '_> = improved(alloc, ground, &groundwork)?;
     let dead_ends: DeadFair<'_, '_> = improved(alloc, ground, &groundwork)?;
     drop(groundwork);
+    let quick = Trial {
+        states: FIRST_STATES,
+        effort: Effort::Quick,
+    };
+    if let Some(answer) = try_few(alloc, ground, &estimate, &dead_ends, quick, limits)? {
+        return Ok(answer);
+    }
+    let thorough = Trial {
+        states: MORE_STATES,
+        effort: Effort::Thorough,
+    };
+    if let Some(answer) = try_few(alloc, ground, &estimate, &dead_ends, thorough, limits)? {
+        return Ok(answer);
+    }
     solve_by_potentials(alloc, ground, &estimate, &dead_ends, limits)
 }
 
-/// The same by these potentials, where few states are listed; none where more would have to be, or no more may be.
-fn solve_first(
+/// The answer by these potentials, where few states are listed, and else that by tables, if such are found that are better. None
+/// where none are, or no more states may be listed.
+fn try_few(
     alloc: Global,
     ground: &Ground<'_>,
     estimate: &Fair<'_, '_>,
     dead_ends: &DeadFair<'_, '_>,
+    trial: Trial,
     limits: Limits,
 ) -> Result<Option<Answer>, NoMemory>
     requires typed { IsTrue (is_task (task_in ground.now)) }
@@ -144,14 +158,22 @@ fn solve_first(
     requires dead_ends_improved { AreDeadSettledOrHigh (task_in ground.now) (atoms_in ground.now) (potentials_in dead_ends.now) }
     ensures { IfOk result (λ o. IfSome o (IsTrueAnswer (task_in ground.now) limits.states limits.instances)) }
 {
-    let Some(few) = limits.with_fewer_states(FIRST_STATES) else {
+    let Some(few) = limits.with_fewer_states(trial.states) else {
         return Ok(None);
     };
-    let first = solve_by_potentials(alloc, ground, estimate, dead_ends, few)?;
-    if first.is_stopped() {
-        return Ok(None);
+    match solve_by_potentials(alloc, ground, estimate, dead_ends, few)? {
+        Answer::Unknown(Exceeded::States { bound, cert }) => {
+            let stopped = Stopped {
+                bound,
+                cert: &cert,
+                effort: trial.effort,
+            };
+            let potentials = estimate.potentials();
+            let dead_ends = dead_ends.potentials();
+            solve_by_tables(alloc, ground, potentials, dead_ends, &stopped, limits)
+        }
+        answer => Ok(Some(answer)),
     }
-    Ok(Some(first))
 }
 
 /// The same by these potentials.

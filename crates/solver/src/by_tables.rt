@@ -55,7 +55,7 @@ pub(crate) fn solve_by_tables(
         return Ok(None);
     };
     let values = values_with(alloc, potentials, draft.values)?;
-    let dead_ends = copied(alloc, dead_ends)?;
+    let dead_ends = dead_ends.copied(alloc)?;
     let bounds = Bounds {
         values: written(alloc, &values)?,
         dead_ends: potential_of(alloc, &dead_ends)?,
@@ -95,15 +95,8 @@ fn values_with(
     ensures { IfOk result (λ values. map potentials_of values.items ≡ potentials_of potentials.now ∷ map potentials_of others.items) }
 {
     let mut values = others;
-    values.insert(0, copied(alloc, potentials)?)?;
+    values.insert(0, potentials.copied(alloc)?)?;
     Ok(values)
-}
-
-/// The same potentials once more.
-fn copied(alloc: Global, potentials: &Potentials) -> Result<Potentials, NoMemory>
-    ensures { IfOk result (λ copy. potentials_of copy ≡ potentials_of potentials.now) }
-{
-    potentials.copied(alloc)
 }
 
 /// The same constants and weights of all values, as a certificate has them.
@@ -137,7 +130,10 @@ fn answer_by_tables(
     requires dead_ends_improved { AreDeadSettledOrHigh (task_in ground.now) (atoms_in ground.now) (bounds_of bounds).dead_ends }
     ensures { IfOk result (λ o. IfSome o (IsTrueAnswer (task_in ground.now) limits.states limits.instances)) }
 {
-    let Some(searched) = search_by_tables(alloc, ground, &bounds, values, dead_ends, stopped, limits)? else {
+    let Some(searched) = search_by_tables(
+        alloc, ground, &bounds, values, dead_ends, stopped, limits,
+    )?
+    else {
         return Ok(None);
     };
     let answer = answer_of(alloc, ground, Guidance::Tables(bounds), searched, limits)?;

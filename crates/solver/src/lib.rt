@@ -9,6 +9,7 @@ mod limits;
 mod listing;
 mod searched;
 mod steps;
+mod stopped;
 mod system;
 
 pub use answer::{Answer, Exceeded, solve};

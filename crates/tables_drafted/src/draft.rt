@@ -1,5 +1,5 @@
 //! Drafts of values over tables, from the ground task to tables in memory.
-use crate::chosen::{Choosing, Value, copied};
+use crate::chosen::{Choosing, Value};
 use crate::collected::{Collected, Collecting, costs_of};
 use crate::states::{rows_of_all, samples, values_of_all};
 use crate::written::{Writing, part_of, weight_of_dead};
@@ -27,16 +27,14 @@ const MAX_INSTANCES: usize = 200_000;
 /// How many rows are looked at of tables that may be of use for dead ends alone.
 const MAX_ROWS_FOR_DEAD_ENDS: usize = 50_000;
 
-/// Several values over tables, of which the greatest counts, and one for dead ends. Of each row the weights are theirs in this
-/// order, that for dead ends last.
+/// Values over tables, beside those of given potentials: of all these the greatest counts. Of each row the first weight is for
+/// the potentials, and 0; then come those of the values, in their order, and last that for dead ends.
 #[derive(Drop)]
 pub struct DraftedTables {
     /// The tables.
     pub tables: Vec<Table>,
-    /// Of each value the constant and the weights of atoms, the first one that of the given potentials.
+    /// Of each value the constant and the weights of atoms.
     pub values: Vec<Potentials>,
-    /// Those for dead ends.
-    pub dead_ends: Potentials,
 }
 
 /// Tables, and what instances cost that they do not shut out.
@@ -200,7 +198,6 @@ fn draft_by<'a>(
     Ok(Some(DraftedTables {
         tables: written,
         values: potentials_of(alloc, values)?,
-        dead_ends: copied(alloc, wanted.dead_ends)?,
     }))
 }
 
@@ -248,10 +245,10 @@ impl Known {
     }
 }
 
-/// The potentials of the values.
+/// The potentials of the values behind the first.
 fn potentials_of(alloc: Global, values: Vec<Value>) -> Result<Vec<Potentials>, NoMemory> {
     let mut potentials = Vec::new(alloc);
-    for value in values {
+    for value in values.into_iter().skip(1) {
         potentials.push(value.potentials)?;
     }
     Ok(potentials)
