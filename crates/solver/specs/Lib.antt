@@ -6,5 +6,6 @@ pub mod SeveralOver
 pub mod Guided
 pub mod Listing
 pub mod AtLimit
+pub mod Attempts
 pub mod Reachable
 pub mod Solver

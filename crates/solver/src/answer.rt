@@ -1,8 +1,9 @@
 //! The answer to a task.
-ghost use Rattle.std.specs.Prelude.{◌≡◌, [], IfOk, IfSome, IsTrue};
+ghost use Rattle.std.specs.Prelude.{◌≡◌, [], IfOk, IsTrue};
 ghost use Rattle.task.specs.Task.{task_of};
 ghost use Rattle.grounding.specs.Ground.{task_in, atoms_in, IsGroundOf};
 ghost use Rattle.potentials_improved.specs.FairPotentials.{potentials_in, ground_in};
+ghost use Rattle.solver.specs.Attempts.{IfDone};
 ghost use Rattle.solver.specs.Guidance.{estimate_by, reports_dead};
 ghost use Rattle.solver.specs.Guided.{IsGuidanceFor, IsSearched};
 ghost use Rattle.solver.specs.Improved.{AreSettledOrHigh, AreDeadSettledOrHigh};
@@ -10,6 +11,7 @@ ghost use Rattle.solver.specs.Solver.{IsTrueAnswer};
 ghost use Rattle.solver.specs.Written.{guidance_of};
 ghost use Rattle.model.specs.WellTyped.{is_task};
 
+use crate::attempt::Attempt;
 use crate::by_tables::solve_by_tables;
 use crate::guidance::{Guidance, potential_of};
 use crate::improved::improved;
@@ -28,19 +30,24 @@ use std::alloc::Global;
 use tables_drafted::Effort;
 use task::Task;
 
-/// How many states a search may list by potentials alone, before tables are looked for. So a task that is solved by fewer is
-/// solved without them.
-const FIRST_STATES: u32 = 50_000;
-
-/// How many it may list then, before they are looked for thoroughly.
-const MORE_STATES: u32 = 500_000;
-
-/// A search by potentials alone, which ends at so many states, and how much is looked at for tables then.
+/// A search by potentials alone, which is stopped at so many states, and how much is looked at for tables then.
 #[derive(Clone, Copy)]
 struct Trial {
     states: u32,
     effort: Effort,
 }
+
+/// What is tried first. So a task that is solved by fewer states is solved without tables.
+const QUICK: Trial = Trial {
+    states: 100_000,
+    effort: Effort::Quick,
+};
+
+/// What is tried where tables that were found quickly are of some use, but not of enough.
+const THOROUGH: Trial = Trial {
+    states: 500_000,
+    effort: Effort::Thorough,
+};
 
 /// What is found out of a task.
 #[derive(Drop)]
@@ -123,25 +130,21 @@ fn solve_ground(alloc: Global, ground: &Ground<'_>, limits: Limits) -> Result<An
     let estimate: Fair<'_, '_> = improved(alloc, ground, &groundwork)?;
     let dead_ends: DeadFair<'_, '_> = improved(alloc, ground, &groundwork)?;
     drop(groundwork);
-    let quick = Trial {
-        states: FIRST_STATES,
-        effort: Effort::Quick,
-    };
-    if let Some(answer) = try_few(alloc, ground, &estimate, &dead_ends, quick, limits)? {
-        return Ok(answer);
-    }
-    let thorough = Trial {
-        states: MORE_STATES,
-        effort: Effort::Thorough,
-    };
-    if let Some(answer) = try_few(alloc, ground, &estimate, &dead_ends, thorough, limits)? {
-        return Ok(answer);
+    match try_few(alloc, ground, &estimate, &dead_ends, QUICK, limits)? {
+        Attempt::Done(answer) => return Ok(answer),
+        Attempt::Promising => {
+            let next = try_few(alloc, ground, &estimate, &dead_ends, THOROUGH, limits)?;
+            if let Attempt::Done(answer) = next {
+                return Ok(answer);
+            }
+        }
+        Attempt::InVain => {}
     }
     solve_by_potentials(alloc, ground, &estimate, &dead_ends, limits)
 }
 
-/// The answer by these potentials, where few states are listed, and else that by tables, if such are found that are better. None
-/// where none are, or no more states may be listed.
+/// The answer by these potentials, where few states are listed, and else that by tables, if such are found that are better. In
+/// vain too where no more states may be listed.
 fn try_few(
     alloc: Global,
     ground: &Ground<'_>,
@@ -149,17 +152,17 @@ fn try_few(
     dead_ends: &DeadFair<'_, '_>,
     trial: Trial,
     limits: Limits,
-) -> Result<Option<Answer>, NoMemory>
+) -> Result<Attempt<Answer>, NoMemory>
     requires typed { IsTrue (is_task (task_in ground.now)) }
     requires ground { IsGroundOf (task_in ground.now) [] limits.instances ground.now }
     requires estimate { ground_in estimate.now ≡ ground.now }
     requires improved { AreSettledOrHigh (task_in ground.now) (atoms_in ground.now) (potentials_in estimate.now) }
     requires dead_ends { ground_in dead_ends.now ≡ ground.now }
     requires dead_ends_improved { AreDeadSettledOrHigh (task_in ground.now) (atoms_in ground.now) (potentials_in dead_ends.now) }
-    ensures { IfOk result (λ o. IfSome o (IsTrueAnswer (task_in ground.now) limits.states limits.instances)) }
+    ensures { IfOk result (IfDone (IsTrueAnswer (task_in ground.now) limits.states limits.instances)) }
 {
     let Some(few) = limits.with_fewer_states(trial.states) else {
-        return Ok(None);
+        return Ok(Attempt::InVain);
     };
     match solve_by_potentials(alloc, ground, estimate, dead_ends, few)? {
         Answer::Unknown(Exceeded::States { bound, cert }) => {
@@ -172,7 +175,7 @@ fn try_few(
             let dead_ends = dead_ends.potentials();
             solve_by_tables(alloc, ground, potentials, dead_ends, &stopped, limits)
         }
-        answer => Ok(Some(answer)),
+        answer => Ok(Attempt::Done(answer)),
     }
 }
 

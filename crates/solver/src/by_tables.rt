@@ -1,8 +1,8 @@
 //! Answers by a search that goes by values over tables.
 //!
-//! Tables are drafted, of which nothing is known. They are taken if a certificate can have them, they are tested to be fair, give
-//! the initial state no lower value than the potentials, and would have saved a first search by these at least half of what it
-//! expanded. Of the values over tables the first one is that of the potentials.
+//! Tables are drafted, of which nothing is known. They are taken if a certificate can have them, they are tested to be fair, and
+//! they would have saved a first search by potentials enough of the states that it expanded. Of the values over tables the first
+//! one is that of the potentials.
 ghost use Rattle.std.specs.Prelude.{◌≡◌, ◌==◌, ◌∷◌, [], IfOk, IfSome, IsTrue, length, map};
 ghost use Rattle.std.specs.List.{list_all};
 ghost use Rattle.certificate.specs.CertificateParts.{are_bounds, bounds_of, potential_of};
@@ -11,6 +11,7 @@ ghost use Rattle.grounding.specs.Ground.{task_in, atoms_in, IsGroundOf};
 ghost use Rattle.model.specs.NumberedAtoms.{numbered_atoms};
 ghost use Rattle.model.specs.WellTyped.{is_task};
 ghost use Rattle.potentials.specs.Potentials.{potentials_of};
+ghost use Rattle.solver.specs.Attempts.{IfDone};
 ghost use Rattle.solver.specs.Guidance.{by_tables, estimate_by, first_value, reports_dead};
 ghost use Rattle.solver.specs.Guided.{IsSearched};
 ghost use Rattle.solver.specs.Improved.{AreSettledOrHigh, AreDeadSettledOrHigh};
@@ -22,6 +23,7 @@ ghost use Rattle.table_rows.specs.Tables.{weight_count_of};
 ghost use Rattle.table_rows.specs.declared.table.Table as in_memory;
 
 use crate::answer::{Answer, answer_of};
+use crate::attempt::Attempt;
 use crate::guidance::{Guidance, potential_of};
 use crate::limits::Limits;
 use crate::searched::{Searched, search_by};
@@ -36,7 +38,7 @@ use table_rows::Table;
 use tables::{IndexedTables, TableFunctions, ValuesFairness};
 use tables_drafted::{DraftedTables, Wanted, drafted_tables};
 
-/// The answer by tables; none where none are found that are better than these potentials, by which a first search was stopped so.
+/// The answer by tables, if such are found that are better than these potentials, by which a first search was stopped so.
 pub(crate) fn solve_by_tables(
     alloc: Global,
     ground: &Ground<'_>,
@@ -44,15 +46,15 @@ pub(crate) fn solve_by_tables(
     dead_ends: &Potentials,
     stopped: &Stopped<'_>,
     limits: Limits,
-) -> Result<Option<Answer>, NoMemory>
+) -> Result<Attempt<Answer>, NoMemory>
     requires typed { IsTrue (is_task (task_in ground.now)) }
     requires ground { IsGroundOf (task_in ground.now) [] limits.instances ground.now }
     requires improved { AreSettledOrHigh (task_in ground.now) (atoms_in ground.now) (potentials_of potentials.now) }
     requires dead_ends_improved { AreDeadSettledOrHigh (task_in ground.now) (atoms_in ground.now) (potentials_of dead_ends.now) }
-    ensures { IfOk result (λ o. IfSome o (IsTrueAnswer (task_in ground.now) limits.states limits.instances)) }
+    ensures { IfOk result (IfDone (IsTrueAnswer (task_in ground.now) limits.states limits.instances)) }
 {
     let Some(draft) = drafted(alloc, ground, potentials, dead_ends, stopped)? else {
-        return Ok(None);
+        return Ok(Attempt::InVain);
     };
     let values = values_with(alloc, potentials, draft.values)?;
     let dead_ends = dead_ends.copied(alloc)?;
@@ -62,7 +64,7 @@ pub(crate) fn solve_by_tables(
         tables: draft.tables,
     };
     if !bounds.keep_limits(Version::Three, ground.width() as usize) {
-        return Ok(None);
+        return Ok(Attempt::InVain);
     }
     answer_by_tables(alloc, ground, bounds, values, dead_ends, stopped, limits)
 }
@@ -110,8 +112,8 @@ fn written(alloc: Global, values: &[Potentials]) -> Result<Vec<Potential>, NoMem
     Ok(written)
 }
 
-/// The answer by these values, which are given as potentials too, over their tables; none where they are not fair, or not better
-/// than what the first search was guided by.
+/// The answer by these values, which are given as potentials too, over their tables, if they are fair, and better than what the
+/// first search was guided by.
 fn answer_by_tables(
     alloc: Global,
     ground: &Ground<'_>,
@@ -120,7 +122,7 @@ fn answer_by_tables(
     dead_ends: Potentials,
     stopped: &Stopped<'_>,
     limits: Limits,
-) -> Result<Option<Answer>, NoMemory>
+) -> Result<Attempt<Answer>, NoMemory>
     requires typed { IsTrue (is_task (task_in ground.now)) }
     requires ground { IsGroundOf (task_in ground.now) [] limits.instances ground.now }
     requires within_limits { IsTrue (are_bounds three (length (atoms_in ground.now)) (bounds_of bounds)) }
@@ -140,7 +142,7 @@ fn answer_by_tables(
     Ok(Some(answer))
 }
 
-/// What a search by these values comes to; none where they are not fair, or not better.
+/// What a search by these values comes to, if they are fair, and better.
 fn search_by_tables(
     alloc: Global,
     ground: &Ground<'_>,
@@ -149,22 +151,27 @@ fn search_by_tables(
     dead_ends: Potentials,
     stopped: &Stopped<'_>,
     limits: Limits,
-) -> Result<Option<Searched>, NoMemory>
+) -> Result<Attempt<Searched>, NoMemory>
     requires atoms { atoms_in ground.now ≡ numbered_atoms (task_in ground.now) [] }
     requires within_limits { IsTrue (are_bounds three (length (atoms_in ground.now)) (bounds_of bounds.now)) }
     requires values { map potentials_of values.items ≡ (bounds_of bounds.now).values }
     requires dead_ends { potentials_of dead_ends ≡ (bounds_of bounds.now).dead_ends }
-    ensures fair { IfOk result (λ o. IfSome o (λ _. AreFair (task_in ground.now) (atoms_in ground.now) (bounds_of bounds.now))) }
-    ensures searched { IfOk result (λ o. IfSome o (λ s. IsSearched ground.now (estimate_by (by_tables (bounds_of bounds.now))) (reports_dead (by_tables (bounds_of bounds.now))) limits.states s.outcome s.marks.items)) }
+    ensures fair { IfOk result (IfDone (λ _. AreFair (task_in ground.now) (atoms_in ground.now) (bounds_of bounds.now))) }
+    ensures searched { IfOk result (IfDone (λ s. IsSearched ground.now (estimate_by (by_tables (bounds_of bounds.now))) (reports_dead (by_tables (bounds_of bounds.now))) limits.states s.outcome s.marks.items)) }
 {
     let Some(guide) = guide_of(alloc, ground, &bounds.tables, values, dead_ends)? else {
-        return Ok(None);
+        return Ok(Attempt::InVain);
     };
-    if !stopped.is_outdone_by(alloc, ground, &guide)? {
-        return Ok(None);
+    let saving = stopped.saving_by(alloc, ground, &guide)?;
+    if !saving.is_worth(bounds.tables.len()) {
+        return Ok(if saving.is_promising() {
+            Attempt::Promising
+        } else {
+            Attempt::InVain
+        });
     }
     let searched = search_by(alloc, ground, &guide, limits)?;
-    Ok(Some(searched))
+    Ok(Attempt::Done(searched))
 }
 
 /// These values over these tables as a guide, if they are fair.

@@ -2,6 +2,7 @@
 #![tactic(auto)]
 
 mod answer;
+mod attempt;
 mod by_tables;
 mod guidance;
 mod improved;

@@ -27,10 +27,13 @@ pub(crate) struct Stopped<'a> {
 
 /// How many states were expanded, of those that are asked, and how many of these would not have been.
 #[derive(Clone, Copy)]
-struct Saving {
+pub(crate) struct Saving {
     expanded: usize,
     saved: usize,
 }
+
+/// A state's value by so many tables takes about as much time again as all else that is done for a state.
+const TABLES_AT_A_TIME: usize = 6;
 
 impl Stopped<'_> {
     /// The true atoms of some of the states, which are spread evenly over them all.
@@ -48,26 +51,26 @@ impl Stopped<'_> {
         Ok(samples)
     }
 
-    /// Whether a search by the guide would not have expanded at least half of the states that were expanded, before it came to
-    /// the same bound: they are dead by it, or cost, with its estimate, more. Some are asked, which are spread evenly.
-    pub(crate) fn is_outdone_by<G: Guide>(
+    /// What a search by the guide would have saved, before it came to the same bound: states that are dead by it, or cost, with its
+    /// estimate, more. Some are asked, which are spread evenly.
+    pub(crate) fn saving_by<G: Guide>(
         &self,
         alloc: Global,
         ground: &Ground<'_>,
         guide: &G,
-    ) -> Result<bool, NoMemory>
+    ) -> Result<Saving, NoMemory>
         requires width { G.width_of guide.now ≡ length (atoms_in ground.now) }
     {
-        if self.cert.sets().width() != ground.width() {
-            return Ok(false);
-        }
-        let mut room = guide.room(alloc)?;
-        let mut set = Packed::empty(alloc, ground.width())?;
-        let mut line = no_line(alloc);
         let mut saving = Saving {
             expanded: 0,
             saved: 0,
         };
+        if self.cert.sets().width() != ground.width() {
+            return Ok(saving);
+        }
+        let mut room = guide.room(alloc)?;
+        let mut set = Packed::empty(alloc, ground.width())?;
+        let mut line = no_line(alloc);
         let step = self.cert.line_count() / MAX_ASKED + 1;
         for place in 0..self.cert.line_count() {
             if place % step == 0 {
@@ -78,7 +81,7 @@ impl Stopped<'_> {
                 }
             }
         }
-        Ok(saving.is_half())
+        Ok(saving)
     }
 
     /// Whether a state that was reached at this cost is not expanded before the bound, where it has this estimate, or is dead.
@@ -99,9 +102,18 @@ impl Saving {
         }
     }
 
-    /// Whether at least half would have been saved.
-    fn is_half(self) -> bool {
-        self.saved >= self.expanded.saturating_sub(self.saved)
+    /// Whether a search by so many tables takes no more time, as far as the samples tell: it expands fewer states, and each takes
+    /// longer.
+    pub(crate) fn is_worth(self, tables: usize) -> bool {
+        let left = self.expanded.saturating_sub(self.saved);
+        let slower = tables.saturating_add(TABLES_AT_A_TIME);
+        self.expanded > 0
+            && left.saturating_mul(slower) <= self.expanded.saturating_mul(TABLES_AT_A_TIME)
+    }
+
+    /// Whether more and other tables may save enough, as these would have saved a tenth.
+    pub(crate) fn is_promising(self) -> bool {
+        self.expanded > 0 && self.saved >= self.expanded / 10
     }
 }
 
