@@ -8,12 +8,12 @@ use Rattle.std.proofs.lemmas.Int.{ints}
 use Rattle.std.proofs.lemmas.List.Elements.{All-cons, All-nil}
 use Rattle.model.specs.Task.{Task, Atom}
 use Rattle.model.specs.Claims.{Claim, Mark, opened, cut, dead}
-use Rattle.model.specs.Meaning.{State}
+use Rattle.model.specs.Meaning.{State, initial_state}
 use Rattle.model.specs.Fluents.{is_fluent}
 use Rattle.model.specs.NumberedAtoms.{numbered_atoms}
-use Rattle.model.specs.Grounding.{bits_of_state, state_of_bits}
+use Rattle.model.specs.Grounding.{bits_of_state, state_of_bits, ground_system}
 use Rattle.model.proofs.LimitsLemmas.{numbered_again}
-use Rattle.model.proofs.GroundTaskLemmas.{packs_states}
+use Rattle.model.proofs.GroundTaskLemmas.{initial-numbered, packs_states}
 use Rattle.search.specs.declared.nodes.Node.{Node}
 use Rattle.certificate_definitions.specs.Certificates.{Version, two, three, Certificate, is_value_count, is_weight, is_mark, are_potentials, is_dead_end_weight, are_tables, are_weights, has_tables, is_row, is_table, rows_of, rise, value_of, is_dead_end_of, AreFairFor}
 use Rattle.certificate.specs.CertificateParts.{are_bounds}
@@ -194,6 +194,11 @@ module _ (task : Task) where
       subst (λ (those : List Atom). in_state task those f state ≡ f bits) (sym (numbered_again task))
       (ap (λ b. if b then f (bits_of_state atoms state) else 0) (numbered-has task atoms state (there.fluents bits)) ∙ ap f (there.one_packed bits long))
 
+  packed-start : (f : List Bool → ℕ) → in_state task (numbered_atoms task atoms) f (initial_state task) ≡ f (ground_system task atoms).initial
+  packed-start f =
+      subst (λ (those : List Atom). in_state task those f (initial_state task) ≡ f (ground_system task atoms).initial) (sym (numbered_again task))
+      (ap (λ b. if b then f (bits_of_state atoms (initial_state task)) else 0) (numbered-has task atoms (initial_state task) (initial-numbered task [])))
+
   module _ (claim : Claim) (states : List (List Bool)) (nodes : List Node) (bits : List Bool) (long : length bits ≡ length atoms) where
     -- the certificate gives a state the estimate by which it was found
     pub value-found : (guidance : Guidance) → value_of task (found_certificate claim atoms guidance states nodes) (state_of_bits task atoms bits) ≡ estimate_by guidance bits
@@ -204,6 +209,12 @@ module _ (task : Task) where
     pub dead-found : (guidance : Guidance) → is_dead_end_of task (found_certificate claim atoms guidance states nodes) (state_of_bits task atoms bits) ≡ reports_dead guidance bits
     dead-found (by_potentials p dead_ends) = ap (nat_le 1) (value-packed task dead_ends bits long)
     dead-found (by_tables s) = ap (nat_le 1) (packed (value (dead_ends_of s)) bits long)
+
+  -- so it is of the initial state
+  pub value-at-start : (claim : Claim) (states : List (List Bool)) (nodes : List Node) (guidance : Guidance)
+      → value_of task (found_certificate claim atoms guidance states nodes) (initial_state task) ≡ estimate_by guidance (ground_system task atoms).initial
+  value-at-start claim states nodes (by_potentials p dead_ends) = refl
+  value-at-start claim states nodes (by_tables s) = packed-start (greatest_value (functions_of s))
 
   -- its atoms are numbered as they are, so what is fair is fair for it
   pub fair-found : (claim : Claim) (states : List (List Bool)) (nodes : List Node) (guidance : Guidance) → AreFairBy task atoms guidance → AreFairFor task (found_certificate claim atoms guidance states nodes)

@@ -13,18 +13,19 @@ use Rattle.packed_state.specs.Store.{AreDistinct}
 use Rattle.search.specs.declared.nodes.Node.{Node}
 use Rattle.search.specs.Outcome as search
 use Rattle.search.specs.Outcome.{AreFound, AreExpandedWithin}
+use Rattle.potential_functions.specs.Settled.{initial_value}
 use Rattle.solver.specs.Improved.{AreSettledOrHigh, AreDeadSettledOrHigh, HasSettledOrHigh}
 use Rattle.solver.specs.Listing.{numbers_in, state_line, found_certificate, IsShownBy, AreOpenWithin}
 use Rattle.solver.proofs.TypedLemmas.{numbered_typed}
 use Rattle.solver.proofs.GroundLemmas.{length-reachable, distinct_states}
 use Rattle.solver.specs.Guidance.{Guidance, by_potentials, by_tables, CanBeWritten, AreFairBy, estimate_by, reports_dead, version_by, values_by, first_value}
-use Rattle.solver.proofs.GuidanceLemmas.{AreLimits, limits_of, one_weight_each, weights_of_each, most_value, estimate-most, mark-passes, value-found, dead-found, fair-found}
+use Rattle.solver.proofs.GuidanceLemmas.{AreLimits, limits_of, one_weight_each, weights_of_each, most_value, estimate-most, mark-passes, value-found, value-at-start, dead-found, fair-found}
 use Rattle.solver.proofs.FoundLines.{expanded_of_open, dead_of_reported, found_line, length-lines, node_at}
 use Rattle.model.specs.Task.{Task, Atom}
 use Rattle.model.specs.WellTyped.{is_task, is_atom}
 use Rattle.model.specs.Runs.{System}
 use Rattle.model.specs.Claims.{Claim, opened, cut, dead, Line, IsClosed}
-use Rattle.model.specs.Meaning.{State, system_of}
+use Rattle.model.specs.Meaning.{State, system_of, initial_state}
 use Rattle.model.specs.Fluents.{is_fluent, static_atoms}
 use Rattle.model.specs.NumberedAtoms.{occurs_in, are_distinct, numbered_atoms}
 use Rattle.model.specs.Grounding.{chosen, state_of_bits, ground_system, NamesKept}
@@ -322,8 +323,18 @@ module _ (task : Task) (claim : Claim) (most : ℕ) (guidance : Guidance) (state
   pub opened_within : (cost : ℕ) → AreExpandedWithin (estimate_by guidance) cost states nodes → AreOpenWithin task cost certificate
   opened_within cost within = subst (AreOpenWithin task cost) is_made (open_within task claim most guidance states nodes same_found cost within)
 
-  pub settled_or_high : AreSettledOrHigh task known (first_value guidance) → AreDeadSettledOrHigh task known (values_by guidance).dead_ends → HasSettledOrHigh task certificate
-  settled_or_high given dead_given = subst (HasSettledOrHigh task) (sym is) (record { potentials = given; dead_ends = dead_given })
+  pub settled_or_high : AreSettledOrHigh task known (first_value guidance) → AreDeadSettledOrHigh task known (values_by guidance).dead_ends
+      → initial_value task known (first_value guidance) ≤ estimate_by guidance (ground_system task known).initial → HasSettledOrHigh task certificate
+  settled_or_high given dead_given start =
+      subst (HasSettledOrHigh task) (sym is) (record {
+        potentials = given;
+        dead_ends = dead_given;
+        no_lower = subst (λ (n : ℕ). initial_value task known (first_value guidance) ≤ n) (sym at_start) start;
+      })
+    where
+      at_start : value_of task (found_certificate claim known guidance states nodes) (initial_state task) ≡ estimate_by guidance (ground_system task known).initial
+      at_start = subst (λ (l : List Atom). value_of task (found_certificate claim l guidance states nodes) (initial_state task) ≡ estimate_by guidance (ground_system task l).initial) (sym numbered)
+          (value-at-start task claim states nodes guidance)
 
   pub within_limits : CanBeWritten (length known) guidance → is_claim claim ≡ true → length known ≤ 1048576 → most ≤ 16777216 → keeps_limits certificate ≡ true
   within_limits written small few_atoms few =

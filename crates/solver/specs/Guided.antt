@@ -1,5 +1,5 @@
 -- What a search may go by, if its certificate is to have it, and what it came to.
-use Rattle.std.specs.Prelude.{◌≡◌, ℕ, Bool, List, length, map}
+use Rattle.std.specs.Prelude.{◌≡◌, ℕ, ◌≤◌, Bool, List, length, map}
 use Rattle.packed_state.specs.PooledView.{pooled_states}
 use Rattle.packed_state.specs.declared.pooled.PooledStore.{PooledStore}
 use Rattle.grounding.specs.declared.ground.Ground.{Ground}
@@ -8,22 +8,24 @@ use Rattle.certificate.specs.CertificateParts.{listed_of}
 use Rattle.certificate.specs.declared.states.Listed.{Listed}
 use Rattle.model.specs.Grounding.{ground_system}
 use Rattle.model.specs.Claims.{IsLowerBound, AreDeadEnds}
+use Rattle.potential_functions.specs.Settled.{initial_value}
 use Rattle.search.specs.Outcome as search
 use Rattle.search.specs.Outcome.{IsTrueOutcome}
 use Rattle.search.specs.declared.best.Outcome.{Outcome}
 use Rattle.search.specs.declared.best.Outcome.TheVariants.{Found, Exhausted, States}
 use Rattle.search.specs.declared.nodes.FoundStates.{FoundStates}
-use Rattle.solver.specs.Guidance.{Guidance, CanBeWritten, AreFairBy, first_value, values_by}
+use Rattle.solver.specs.Guidance.{Guidance, CanBeWritten, AreFairBy, estimate_by, first_value, values_by}
 use Rattle.solver.specs.Improved.{AreSettledOrHigh, AreDeadSettledOrHigh}
 use Rattle.solver.specs.Listing.{mark_of_line}
 
--- A certificate of the ground task can have the guidance, its values are fair, and the first and that of dead ends are settled or
--- high.
+-- A certificate of the ground task can have the guidance, its values are fair, the first and that of dead ends are settled or
+-- high, and the initial state's lower bound is at least its first value.
 pub record IsGuidanceFor (g : Ground) (guidance : Guidance) : Type 0 where
   pub written : CanBeWritten (length (atoms_in g)) guidance
   pub fair : AreFairBy (task_in g) (atoms_in g) guidance
   pub improved : AreSettledOrHigh (task_in g) (atoms_in g) (first_value guidance)
   pub dead_ends_improved : AreDeadSettledOrHigh (task_in g) (atoms_in g) (values_by guidance).dead_ends
+  pub no_lower : initial_value (task_in g) (atoms_in g) (first_value guidance) ≤ estimate_by guidance (ground_system (task_in g) (atoms_in g)).initial
 
 -- the states that a search found
 abbrev pub found_in : Outcome PooledStore → FoundStates PooledStore

@@ -169,11 +169,11 @@ fn try_few(
             let stopped = Stopped {
                 bound,
                 cert: &cert,
+                potentials: estimate.potentials(),
+                dead_ends: dead_ends.potentials(),
                 effort: trial.effort,
             };
-            let potentials = estimate.potentials();
-            let dead_ends = dead_ends.potentials();
-            solve_by_tables(alloc, ground, potentials, dead_ends, &stopped, limits)
+            solve_by_tables(alloc, ground, &stopped, limits)
         }
         answer => Ok(Attempt::Done(answer)),
     }

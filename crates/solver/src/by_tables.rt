@@ -3,13 +3,15 @@
 //! Tables are drafted, of which nothing is known. They are taken if a certificate can have them, they are tested to be fair, and
 //! they would have saved a first search by potentials enough of the states that it expanded. Of the values over tables the first
 //! one is that of the potentials.
-ghost use Rattle.std.specs.Prelude.{◌≡◌, ◌==◌, ◌∷◌, [], IfOk, IfSome, IsTrue, length, map};
+ghost use Rattle.std.specs.Prelude.{◌≡◌, ◌==◌, ◌≤◌, ◌∷◌, [], IfOk, IfSome, IsTrue, length, map};
 ghost use Rattle.std.specs.List.{list_all};
 ghost use Rattle.certificate.specs.CertificateParts.{are_bounds, bounds_of, potential_of};
 ghost use Rattle.certificate_definitions.specs.Certificates.{three};
 ghost use Rattle.grounding.specs.Ground.{task_in, atoms_in, IsGroundOf};
+ghost use Rattle.model.specs.Grounding.{ground_system};
 ghost use Rattle.model.specs.NumberedAtoms.{numbered_atoms};
 ghost use Rattle.model.specs.WellTyped.{is_task};
+ghost use Rattle.potential_functions.specs.Settled.{initial_value};
 ghost use Rattle.potentials.specs.Potentials.{potentials_of};
 ghost use Rattle.solver.specs.Attempts.{IfDone};
 ghost use Rattle.solver.specs.Guidance.{by_tables, estimate_by, first_value, reports_dead};
@@ -18,6 +20,7 @@ ghost use Rattle.solver.specs.Improved.{AreSettledOrHigh, AreDeadSettledOrHigh};
 ghost use Rattle.solver.specs.SeveralOver.{several_over};
 ghost use Rattle.solver.specs.Solver.{IsTrueAnswer};
 ghost use Rattle.table_functions.specs.FairTables.{AreFair};
+ghost use Rattle.table_functions.specs.TableFunctions.{functions_of, greatest_value};
 ghost use Rattle.table_guides.specs.FairTables.{functions_in, ground_in};
 ghost use Rattle.table_rows.specs.Tables.{weight_count_of};
 ghost use Rattle.table_rows.specs.declared.table.Table as in_memory;
@@ -38,26 +41,25 @@ use table_rows::Table;
 use tables::{IndexedTables, TableFunctions, ValuesFairness};
 use tables_drafted::{DraftedTables, Wanted, drafted_tables};
 
-/// The answer by tables, if such are found that are better than these potentials, by which a first search was stopped so.
+/// The answer by tables, if such are found that are better than the potentials by which a first search was stopped so.
 pub(crate) fn solve_by_tables(
     alloc: Global,
     ground: &Ground<'_>,
-    potentials: &Potentials,
-    dead_ends: &Potentials,
     stopped: &Stopped<'_>,
     limits: Limits,
 ) -> Result<Attempt<Answer>, NoMemory>
     requires typed { IsTrue (is_task (task_in ground.now)) }
     requires ground { IsGroundOf (task_in ground.now) [] limits.instances ground.now }
-    requires improved { AreSettledOrHigh (task_in ground.now) (atoms_in ground.now) (potentials_of potentials.now) }
-    requires dead_ends_improved { AreDeadSettledOrHigh (task_in ground.now) (atoms_in ground.now) (potentials_of dead_ends.now) }
+    requires width { length (potentials_of stopped.now.potentials.now).weights ≡ length (atoms_in ground.now) }
+    requires improved { AreSettledOrHigh (task_in ground.now) (atoms_in ground.now) (potentials_of stopped.now.potentials.now) }
+    requires dead_ends_improved { AreDeadSettledOrHigh (task_in ground.now) (atoms_in ground.now) (potentials_of stopped.now.dead_ends.now) }
     ensures { IfOk result (IfDone (IsTrueAnswer (task_in ground.now) limits.states limits.instances)) }
 {
-    let Some(draft) = drafted(alloc, ground, potentials, dead_ends, stopped)? else {
+    let Some(draft) = drafted(alloc, ground, stopped)? else {
         return Ok(Attempt::InVain);
     };
-    let values = values_with(alloc, potentials, draft.values)?;
-    let dead_ends = dead_ends.copied(alloc)?;
+    let values = values_with(alloc, stopped.potentials, draft.values)?;
+    let dead_ends = stopped.dead_ends.copied(alloc)?;
     let bounds = Bounds {
         values: written(alloc, &values)?,
         dead_ends: potential_of(alloc, &dead_ends)?,
@@ -69,18 +71,16 @@ pub(crate) fn solve_by_tables(
     answer_by_tables(alloc, ground, bounds, values, dead_ends, stopped, limits)
 }
 
-/// Tables that may be better than these potentials, by which a first search was stopped so.
+/// Tables that may be better than the potentials by which a first search was stopped so.
 fn drafted(
     alloc: Global,
     ground: &Ground<'_>,
-    potentials: &Potentials,
-    dead_ends: &Potentials,
     stopped: &Stopped<'_>,
 ) -> Result<Option<DraftedTables>, NoMemory> {
     let states = stopped.samples(alloc)?;
     let wanted = Wanted {
-        potentials,
-        dead_ends,
+        potentials: stopped.potentials,
+        dead_ends: stopped.dead_ends,
         states: &states,
         effort: stopped.effort,
     };
@@ -128,18 +128,22 @@ fn answer_by_tables(
     requires within_limits { IsTrue (are_bounds three (length (atoms_in ground.now)) (bounds_of bounds)) }
     requires values { map potentials_of values.items ≡ (bounds_of bounds).values }
     requires dead_ends { potentials_of dead_ends ≡ (bounds_of bounds).dead_ends }
-    requires improved { AreSettledOrHigh (task_in ground.now) (atoms_in ground.now) (first_value (by_tables (bounds_of bounds))) }
+    requires first { first_value (by_tables (bounds_of bounds)) ≡ potentials_of stopped.now.potentials.now }
+    requires width { length (potentials_of stopped.now.potentials.now).weights ≡ length (atoms_in ground.now) }
+    requires improved { AreSettledOrHigh (task_in ground.now) (atoms_in ground.now) (potentials_of stopped.now.potentials.now) }
     requires dead_ends_improved { AreDeadSettledOrHigh (task_in ground.now) (atoms_in ground.now) (bounds_of bounds).dead_ends }
-    ensures { IfOk result (λ o. IfSome o (IsTrueAnswer (task_in ground.now) limits.states limits.instances)) }
+    ensures { IfOk result (IfDone (IsTrueAnswer (task_in ground.now) limits.states limits.instances)) }
 {
-    let Some(searched) = search_by_tables(
-        alloc, ground, &bounds, values, dead_ends, stopped, limits,
-    )?
-    else {
-        return Ok(None);
-    };
-    let answer = answer_of(alloc, ground, Guidance::Tables(bounds), searched, limits)?;
-    Ok(Some(answer))
+    let attempt = search_by_tables(alloc, ground, &bounds, values, dead_ends, stopped, limits)?;
+    match attempt {
+        Attempt::Done(searched) => {
+            let guidance = Guidance::Tables(bounds);
+            let answer = answer_of(alloc, ground, guidance, searched, limits)?;
+            Ok(Attempt::Done(answer))
+        }
+        Attempt::Promising => Ok(Attempt::Promising),
+        Attempt::InVain => Ok(Attempt::InVain),
+    }
 }
 
 /// What a search by these values comes to, if they are fair, and better.
@@ -156,22 +160,45 @@ fn search_by_tables(
     requires within_limits { IsTrue (are_bounds three (length (atoms_in ground.now)) (bounds_of bounds.now)) }
     requires values { map potentials_of values.items ≡ (bounds_of bounds.now).values }
     requires dead_ends { potentials_of dead_ends ≡ (bounds_of bounds.now).dead_ends }
+    requires width { length (potentials_of stopped.now.potentials.now).weights ≡ length (atoms_in ground.now) }
     ensures fair { IfOk result (IfDone (λ _. AreFair (task_in ground.now) (atoms_in ground.now) (bounds_of bounds.now))) }
+    ensures no_lower { IfOk result (IfDone (λ _. initial_value (task_in ground.now) (atoms_in ground.now) (potentials_of stopped.now.potentials.now) ≤ estimate_by (by_tables (bounds_of bounds.now)) (ground_system (task_in ground.now) (atoms_in ground.now)).initial)) }
     ensures searched { IfOk result (IfDone (λ s. IsSearched ground.now (estimate_by (by_tables (bounds_of bounds.now))) (reports_dead (by_tables (bounds_of bounds.now))) limits.states s.outcome s.marks.items)) }
 {
     let Some(guide) = guide_of(alloc, ground, &bounds.tables, values, dead_ends)? else {
         return Ok(Attempt::InVain);
     };
-    let saving = stopped.saving_by(alloc, ground, &guide)?;
-    if !saving.is_worth(bounds.tables.len()) {
-        return Ok(if saving.is_promising() {
-            Attempt::Promising
-        } else {
-            Attempt::InVain
-        });
+    if !starts_no_lower(alloc, ground, &guide, stopped.potentials)? {
+        return Ok(Attempt::InVain);
     }
-    let searched = search_by(alloc, ground, &guide, limits)?;
-    Ok(Attempt::Done(searched))
+    let saving = stopped.saving_by(alloc, ground, &guide)?;
+    if saving.is_worth(bounds.tables.len()) {
+        let searched = search_by(alloc, ground, &guide, limits)?;
+        return Ok(Attempt::Done(searched));
+    }
+    Ok(if saving.is_promising() {
+        Attempt::Promising
+    } else {
+        Attempt::InVain
+    })
+}
+
+/// Whether the initial state's value by the guide is at least that by the potentials.
+fn starts_no_lower(
+    alloc: Global,
+    ground: &Ground<'_>,
+    guide: &FairTables<'_, '_, '_>,
+    potentials: &Potentials,
+) -> Result<bool, NoMemory>
+    requires ground { ground_in guide.now ≡ ground.now }
+    requires width { length (potentials_of potentials.now).weights ≡ length (atoms_in ground.now) }
+    ensures { IfOk result (λ is. IsTrue is → initial_value (task_in ground.now) (atoms_in ground.now) (potentials_of potentials.now) ≤ greatest_value (functions_of (functions_in guide.now)) (ground_system (task_in ground.now) (atoms_in ground.now)).initial) }
+{
+    let initial = ground.initial(alloc)?;
+    let functions = guide.functions();
+    let mut room = functions.room(alloc)?;
+    let value = functions.value(&initial, &mut room);
+    Ok(potentials.value(&initial) <= value)
 }
 
 /// These values over these tables as a guide, if they are fair.

@@ -6,6 +6,7 @@ use certificate::{Cert, Mark, StateLine};
 use faults::NoMemory;
 use grounding::Ground;
 use packed_state::{Packed, StateStore};
+use potentials::Potentials;
 use search::Guide;
 use std::alloc::Global;
 use tables_drafted::Effort;
@@ -21,6 +22,9 @@ const MAX_ASKED: usize = 1_000;
 pub(crate) struct Stopped<'a> {
     pub(crate) bound: u64,
     pub(crate) cert: &'a Cert,
+    /// The potentials that it went by, and those for dead ends.
+    pub(crate) potentials: &'a Potentials,
+    pub(crate) dead_ends: &'a Potentials,
     /// How much may be looked at for tables now.
     pub(crate) effort: Effort,
 }

@@ -88,7 +88,7 @@ returns-in_ok-cert-in-Found c =
       all_instances_of_plan task plan optimal.0,
       shown task (bound cost) most guidance states nodes atoms numbered reported.2 cert made most reported.2.within_limit c.requires.typed
           c.requires.guidance.written c.requires.guidance.fair c.in_ok-cert-in-Found.cert.within_limits,
-      settled_or_high task (bound cost) most guidance states nodes atoms numbered reported.2 cert made c.requires.guidance.improved c.requires.guidance.dead_ends_improved,
+      settled_or_high task (bound cost) most guidance states nodes atoms numbered reported.2 cert made c.requires.guidance.improved c.requires.guidance.dead_ends_improved c.requires.guidance.no_lower,
       opened_within task (bound cost) most guidance states nodes atoms numbered reported.2 cert made cost reported.4,
       c.requires.ground.within,
     )
@@ -126,7 +126,7 @@ returns-in_ok-cert-in-Exhausted c =
       task_unsolvable task atoms numbered reported.0,
       shown task none most guidance states nodes atoms numbered reported.1 cert made most reported.1.within_limit c.requires.typed
           c.requires.guidance.written c.requires.guidance.fair c.in_ok-cert-in-Exhausted.cert.within_limits,
-      settled_or_high task none most guidance states nodes atoms numbered reported.1 cert made c.requires.guidance.improved c.requires.guidance.dead_ends_improved,
+      settled_or_high task none most guidance states nodes atoms numbered reported.1 cert made c.requires.guidance.improved c.requires.guidance.dead_ends_improved c.requires.guidance.no_lower,
       c.requires.ground.within,
     )
 
@@ -176,6 +176,6 @@ returns-in_ok-cert-in-States c =
       task_costs_at_least task atoms numbered least reported.1.costs_at_least,
       shown task (bound least) most guidance states nodes atoms numbered reported.1.found cert made most reported.1.found.within_limit c.requires.typed
           c.requires.guidance.written c.requires.guidance.fair c.in_ok-cert-in-States.cert.within_limits,
-      settled_or_high task (bound least) most guidance states nodes atoms numbered reported.1.found cert made c.requires.guidance.improved c.requires.guidance.dead_ends_improved,
+      settled_or_high task (bound least) most guidance states nodes atoms numbered reported.1.found cert made c.requires.guidance.improved c.requires.guidance.dead_ends_improved c.requires.guidance.no_lower,
       at_limit_of task least most guidance states nodes atoms numbered reported.1 cert made most refl,
     )

@@ -50,6 +50,7 @@ answer_of-requires-clause-guidance c =
       );
       improved = c.requires.improved;
       dead_ends_improved = c.requires.dead_ends_improved;
+      no_lower = omega arith;
     } in
     let values : p ≡ parts.potential_of c.in_ok-potential_of.field-0 = sym (c.in_ok-potential_of.ensures ∙ c.potentials.ensures) in
     let dead_ends : q ≡ parts.potential_of c.in_ok-potential_of-2.field-0 = sym (c.in_ok-potential_of-2.ensures ∙ c.potentials-2.ensures) in
