@@ -37,7 +37,7 @@ pub(crate) struct Saving {
 }
 
 /// A state's value by so many tables takes about as much time again as all else that is done for a state.
-const TABLES_AT_A_TIME: usize = 6;
+const TABLES_AT_A_TIME: usize = 12;
 
 impl Stopped<'_> {
     /// The true atoms of some of the states, which are spread evenly over them all.
@@ -115,9 +115,9 @@ impl Saving {
             && left.saturating_mul(slower) <= self.expanded.saturating_mul(TABLES_AT_A_TIME)
     }
 
-    /// Whether more and other tables may save enough, as these would have saved a tenth.
+    /// Whether more and other tables may save enough, as these would have saved a quarter.
     pub(crate) fn is_promising(self) -> bool {
-        self.expanded > 0 && self.saved >= self.expanded / 10
+        self.expanded > 0 && self.saved >= self.expanded / 4
     }
 }
 
