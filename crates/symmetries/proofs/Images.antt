@@ -5,7 +5,7 @@ use Rattle.std.specs.Prelude.{nat_eq}
 use Rattle.std.specs.List.{list_all, list_any}
 use Rattle.std.specs.Ordering.{eq_by_cmp}
 use Rattle.std.specs.Cmp.{Equal-is, tied_itself}
-use Rattle.std.specs.FinSet.{contains, items, contains-from_list, contains-items}
+use Rattle.std.specs.FinSet.{contains, from_list, items, contains-from_list, contains-items}
 use Rattle.std.proofs.lemmas.Bool.{and_parts, eq-eqb, eqb-true, ltb-true}
 use Rattle.model.specs.Task.{Atom, LiftedAtom, Term, variable, object}
 use Rattle.model.specs.Meaning.{State, atom_cmp, object_of, ground_atom}
@@ -81,3 +81,12 @@ module _ (to : ℕ → ℕ) (both_ways : (o : ℕ) → to (to o) ≡ o) where
 
   pub state_twice : (s : State) → image_of_state to (image_of_state to s) ≡ s
   state_twice s = sym (is_image (image_of_state to s) s (λ a. sym (contains-back s a)))
+
+  -- the image of a list's atoms
+  pub image_of_list : (xs : List Atom) → image_of_state to (from_list xs) ≡ from_list (map (image_of_atom to) xs)
+  image_of_list xs =
+      sym (is_image (from_list xs) (from_list (map (image_of_atom to) xs)) (λ a.
+      contains-from_list atoms_total (map (image_of_atom to) xs) (image_of_atom to a)
+      ∙ any-map (eq_by_cmp atom_cmp (image_of_atom to a)) (image_of_atom to) xs
+      ∙ any-alike (λ x. eq_by_cmp atom_cmp (image_of_atom to a) (image_of_atom to x)) (eq_by_cmp atom_cmp a) (same_atoms a) xs
+      ∙ sym (contains-from_list atoms_total xs a)))

@@ -13,3 +13,4 @@ pub mod QuotientLemmas
 pub mod RepresentativeLemmas
 pub mod TaskQuotients
 pub mod PackedQuotients
+pub mod SymmetryExampleProofs

@@ -6,3 +6,4 @@ pub mod SameFormula
 pub mod Symmetries
 pub mod Quotients
 pub mod Laws
+pub mod SymmetryExamples

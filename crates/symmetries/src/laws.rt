@@ -1,5 +1,6 @@
 //! Laws of symmetries, over all tasks. They are proved; the calls do nothing.
 ghost use Rattle.symmetries.specs.Laws.{TestIsExact, SymmetriesKeepMeaning, SymmetriesAreAutomorphisms, RepresentativesAreLast, QuotientsTell, GroundQuotientsAreBisimilar};
+ghost use Rattle.symmetries.specs.SymmetryExamples.{AreExchangesJudged, AreTasksJudged, AreActionsJudged, AreGoalsJudged, AreRepresentativesJudged};
 
 /// An exchange passes the test exactly if its objects are all different and it is a symmetry of the task.
 pub fn test_is_exact()
@@ -31,4 +32,29 @@ pub fn quotients_tell()
 /// The quotient of the ground task does what the quotient of the task does.
 pub fn ground_quotients_are_bisimilar()
     ensures { GroundQuotientsAreBisimilar }
+{}
+
+/// The worked examples of exchanges: balls, grippers and rooms, and objects that are in two pairs.
+pub fn exchange_examples_are_judged()
+    ensures { AreExchangesJudged }
+{}
+
+/// The worked examples of parcels: where they have to go, and how they may differ.
+pub fn task_examples_are_judged()
+    ensures { AreTasksJudged }
+{}
+
+/// The worked examples of actions that name a parcel, at each place in which they may.
+pub fn action_examples_are_judged()
+    ensures { AreActionsJudged }
+{}
+
+/// The worked examples of goals: their conjuncts, and parts of other formulas.
+pub fn goal_examples_are_judged()
+    ensures { AreGoalsJudged }
+{}
+
+/// The worked examples of representatives of states.
+pub fn representative_examples_are_judged()
+    ensures { AreRepresentativesJudged }
 {}
