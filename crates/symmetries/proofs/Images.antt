@@ -7,12 +7,13 @@ use Rattle.std.specs.Ordering.{eq_by_cmp}
 use Rattle.std.specs.Cmp.{Equal-is, tied_itself}
 use Rattle.std.specs.FinSet.{contains, from_list, items, contains-from_list, contains-items}
 use Rattle.std.proofs.lemmas.Bool.{and_parts, eq-eqb, eqb-true, ltb-true}
-use Rattle.model.specs.Task.{Atom, LiftedAtom, Term, variable, object}
+use Rattle.model.specs.Task.{Atom, LiftedAtom, Term, variable, object, Instance}
 use Rattle.model.specs.Meaning.{State, atom_cmp, object_of, ground_atom}
 use Rattle.model.proofs.Atoms.{atoms_total, atoms_apart, same_state}
+use Rattle.model.proofs.StaticLemmas.{same_atom}
 use Rattle.model.proofs.EnumerationLemmas.{is_bound}
-use Rattle.symmetries.proofs.Lists.{tests_alike, any-map, any-alike}
-use Rattle.symmetries.specs.Exchanges.{image_of_atom, image_of_state, image_of_term, image_of_lifted}
+use Rattle.symmetries.proofs.Lists.{tests_alike, any-at, any-found, any-map, any-alike}
+use Rattle.symmetries.specs.Exchanges.{image_of_atom, image_of_state, image_of_instance, image_of_term, image_of_lifted}
 
 index-map : (to : ℕ → ℕ) (xs : List ℕ) (k : ℕ) → k < length xs → get_or (map to xs) k 0 ≡ to (get_or xs k 0)
 index-map to [] k below = absurd (omega arith)
@@ -34,6 +35,68 @@ objects-image to b (t ∷ ts) bound =
 pub atom-image : (to : ℕ → ℕ) (b : List ℕ) (a : LiftedAtom) → list_all (is_bound (length b)) a.terms ≡ true
     → ground_atom (map to b) (image_of_lifted to a) ≡ image_of_atom to (ground_atom b a)
 atom-image to b a bound = ap (λ os. record { predicate = a.predicate; objects = os }) (objects-image to b a.terms bound)
+
+-- ---- of any mapping of objects
+
+itself-tied : (a : Atom) → eq_by_cmp atom_cmp a a ≡ true
+itself-tied a = (Equal-is (atom_cmp a a)).1 (tied_itself atoms_total a)
+
+-- the items of a list's set are those of the list
+any-items : (p : Atom → Bool) (xs : List Atom) (s : State) → from_list xs ≡ s → list_any p (items s) ≡ list_any p xs
+any-items p xs s is = tests_alike (list_any p (items s)) (list_any p xs) forth back
+  where
+    members : (a : Atom) → list_any (eq_by_cmp atom_cmp a) (items s) ≡ list_any (eq_by_cmp atom_cmp a) xs
+    members a = sym (contains-items s a) ∙ ap (λ t. contains t a) (sym is) ∙ contains-from_list atoms_total xs a
+
+    forth : list_any p (items s) ≡ true → list_any p xs ≡ true
+    forth some =
+        let one = any-found p (items s) some in
+        let other = any-found (eq_by_cmp atom_cmp one.0) xs (sym (members one.0) ∙ any-at (eq_by_cmp atom_cmp one.0) (items s) one.0 one.1 (itself-tied one.0)) in
+        any-at p xs other.0 other.1 (ap p (sym (same_atom one.0 other.0 other.2)) ∙ one.2)
+
+    back : list_any p xs ≡ true → list_any p (items s) ≡ true
+    back some =
+        let one = any-found p xs some in
+        let other = any-found (eq_by_cmp atom_cmp one.0) (items s) (members one.0 ∙ any-at (eq_by_cmp atom_cmp one.0) xs one.0 one.1 (itself-tied one.0)) in
+        any-at p (items s) other.0 other.1 (ap p (sym (same_atom one.0 other.0 other.2)) ∙ one.2)
+
+contains-image_of : (to : ℕ → ℕ) (s : State) (a : Atom) → contains (image_of_state to s) a ≡ list_any (λ x. eq_by_cmp atom_cmp a (image_of_atom to x)) (items s)
+contains-image_of to s a =
+    contains-from_list atoms_total (map (image_of_atom to) (items s)) a ∙ any-map (eq_by_cmp atom_cmp a) (image_of_atom to) (items s)
+
+map_itself : (xs : List ℕ) → map (λ o. o) xs ≡ xs
+map_itself [] = refl
+map_itself (x ∷ xs) = ap (λ l. x ∷ l) (map_itself xs)
+
+map_after : (f g : ℕ → ℕ) (xs : List ℕ) → map f (map g xs) ≡ map (λ o. f (g o)) xs
+map_after f g [] = refl
+map_after f g (x ∷ xs) = ap (λ l. f (g x) ∷ l) (map_after f g xs)
+
+pub instance_itself : (i : Instance) → image_of_instance (λ o. o) i ≡ i
+instance_itself i = λ k. record { schema = i.schema; objects = map_itself i.objects k }
+
+pub instance_after : (f g : ℕ → ℕ) (i : Instance) → image_of_instance f (image_of_instance g i) ≡ image_of_instance (λ o. f (g o)) i
+instance_after f g i = λ k. record { schema = i.schema; objects = map_after f g i.objects k }
+
+pub state_itself : (s : State) → image_of_state (λ o. o) s ≡ s
+state_itself s =
+    same_state (image_of_state (λ o. o) s) s (λ a.
+    contains-image_of (λ o. o) s a
+    ∙ any-alike (λ x. eq_by_cmp atom_cmp a (image_of_atom (λ o. o) x)) (eq_by_cmp atom_cmp a)
+    (λ x. ap (λ os. eq_by_cmp atom_cmp a (record { predicate = x.predicate; objects = os })) (map_itself x.objects)) (items s)
+    ∙ sym (contains-items s a))
+
+pub state_after : (f g : ℕ → ℕ) (s : State) → image_of_state f (image_of_state g s) ≡ image_of_state (λ o. f (g o)) s
+state_after f g s =
+    same_state (image_of_state f (image_of_state g s)) (image_of_state (λ o. f (g o)) s) (λ a.
+    contains-image_of f (image_of_state g s) a
+    ∙ any-items (λ x. eq_by_cmp atom_cmp a (image_of_atom f x)) (map (image_of_atom g) (items s)) (image_of_state g s) refl
+    ∙ any-map (λ x. eq_by_cmp atom_cmp a (image_of_atom f x)) (image_of_atom g) (items s)
+    ∙ any-alike (λ x. eq_by_cmp atom_cmp a (image_of_atom f (image_of_atom g x))) (λ x. eq_by_cmp atom_cmp a (image_of_atom (λ o. f (g o)) x))
+    (λ x. ap (λ os. eq_by_cmp atom_cmp a (record { predicate = x.predicate; objects = os })) (map_after f g x.objects)) (items s)
+    ∙ sym (contains-image_of (λ o. f (g o)) s a))
+
+-- ---- of one that is its own inverse
 
 module _ (to : ℕ → ℕ) (both_ways : (o : ℕ) → to (to o) ≡ o) where
   pub same_objects : (m n : ℕ) → nat_eq (to m) (to n) ≡ nat_eq m n

@@ -15,8 +15,8 @@ use Rattle.model.proofs.StaticLemmas.{same_atom}
 use Rattle.model.proofs.GroundTaskLemmas.{packs_states, ground_task_is_bisimilar}
 use Rattle.symmetries.specs.Exchanges.{Exchange, image_of_object, image_of_atom, image_of_state}
 use Rattle.symmetries.specs.Symmetries.{is_symmetry}
-use Rattle.symmetries.specs.Quotients.{representative, packed_representative, quotient_of, ground_quotient_of}
-use Rattle.symmetries.specs.Laws.{keeps_atoms, GroundQuotientsAreBisimilar}
+use Rattle.symmetries.specs.Quotients.{representative, keeps_atoms, packed_representative, quotient_of, ground_quotient_of}
+use Rattle.symmetries.specs.Laws.{GroundQuotientsAreBisimilar}
 use Rattle.symmetries.proofs.Lists.{all-at, any-found}
 use Rattle.symmetries.proofs.Images.{atom_twice, contains-back}
 use Rattle.symmetries.proofs.QuotientLemmas.{map_some}

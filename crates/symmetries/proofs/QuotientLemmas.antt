@@ -29,33 +29,29 @@ one_after f g p q = (
 )
 
 module _ {S A : Type 0} (t : System S A) where
+  pub automorphism_itself : IsAutomorphism t (λ s. s) (λ a. a)
+  automorphism_itself = record {
+    permutes_states = (λ s. s, λ s. refl, λ s. refl);
+    permutes_actions = (λ a. a, λ a. refl, λ a. refl);
+    steps = λ s a. map_itself (t.step s a);
+    costs = λ s next a leads. refl;
+    goals = λ s. refl;
+  }
+
+  pub automorphism_after : (h k : S → S) (a b : A → A) → IsAutomorphism t h a → IsAutomorphism t k b → IsAutomorphism t (λ s. h (k s)) (λ x. a (b x))
+  automorphism_after h k a b second first = record {
+    permutes_states = one_after h k second.permutes_states first.permutes_states;
+    permutes_actions = one_after a b second.permutes_actions first.permutes_actions;
+    steps = λ s x. second.steps (k s) (b x) ∙ ap (option_map h) (first.steps s x) ∙ map_map h k (t.step s x);
+    costs = λ s next x leads. second.costs (k s) (k next) (b x) (first.steps s x ∙ ap (option_map k) leads) ∙ first.costs s next x leads;
+    goals = λ s. second.goals (k s) ∙ first.goals s;
+  }
+
   pub symmetric_itself : (s : S) → IsSymmetric t s s
-  symmetric_itself s = (
-    λ r. r,
-    λ a. a,
-    record {
-      permutes_states = (λ r. r, λ r. refl, λ r. refl);
-      permutes_actions = (λ a. a, λ a. refl, λ a. refl);
-      steps = λ r a. map_itself (t.step r a);
-      costs = λ r next a leads. refl;
-      goals = λ r. refl;
-    },
-    refl,
-  )
+  symmetric_itself s = (λ r. r, λ a. a, automorphism_itself, refl)
 
   pub symmetric_after : (s r q : S) → IsSymmetric t s r → IsSymmetric t r q → IsSymmetric t s q
-  symmetric_after s r q (k, b, first, to_r) (h, a, second, to_q) = (
-    λ x. h (k x),
-    λ x. a (b x),
-    record {
-      permutes_states = one_after h k second.permutes_states first.permutes_states;
-      permutes_actions = one_after a b second.permutes_actions first.permutes_actions;
-      steps = λ x y. second.steps (k x) (b y) ∙ ap (option_map h) (first.steps x y) ∙ map_map h k (t.step x y);
-      costs = λ x next y leads. second.costs (k x) (k next) (b y) (first.steps x y ∙ ap (option_map k) leads) ∙ first.costs x next y leads;
-      goals = λ x. second.goals (k x) ∙ first.goals x;
-    },
-    ap h to_r ∙ to_q,
-  )
+  symmetric_after s r q (k, b, first, to_r) (h, a, second, to_q) = (λ x. h (k x), λ x. a (b x), automorphism_after h k a b second first, ap h to_r ∙ to_q)
 
 -- ---- quotients
 

@@ -1,9 +1,10 @@
 -- What the quotient of a task by symmetries tells of the task.
-use Rattle.std.proofs.Common.{◌≡◌, ◌∙◌, ℕ, zero, suc, ◌≤◌, Bool, true, false, List, [], ◌∷◌, Option, None, Some, refl, sym, ap, subst}
+use Rattle.std.proofs.Common.{◌≡◌, ◌∙◌, ℕ, zero, suc, ◌≤◌, Bool, true, false, ◌&&◌, List, [], ◌∷◌, ◌++◌, Option, None, Some, refl, sym, ap, subst}
 use Rattle.std.specs.Prelude.{IsTrue, Contains}
 use Rattle.std.specs.List.{list_all}
 use Rattle.std.specs.Option.{option_map_or, option_and_then}
-use Rattle.std.specs.FinSet.{contains}
+use Rattle.std.proofs.lemmas.Bool.{and_parts}
+use Rattle.std.proofs.lemmas.List.Folds.{list_all-append}
 use Rattle.model.specs.Task.{Atom, Task, Instance}
 use Rattle.model.specs.Runs.{System, run, cost_of_all, Solves, IsReachable}
 use Rattle.model.specs.Claims.{Claim, Allows, ClaimHolds, IsLowerBound, AreDeadEnds}
@@ -15,13 +16,13 @@ use Rattle.model.proofs.GroundTaskLemmas.{step-HasInitialStatics}
 use Rattle.model.proofs.BisimulationLemmas.{flipped, run_forth, same_cost}
 use Rattle.symmetries.specs.Exchanges.{Exchange, image_of_object, image_of_atom, image_of_state, image_of_instance}
 use Rattle.symmetries.specs.Symmetries.{IsSymmetry, is_symmetry}
-use Rattle.symmetries.specs.Quotients.{IsSymmetric, quotient, image_before, with_images, representative, quotient_of}
-use Rattle.symmetries.specs.Laws.{SolveAtSameCost, IsBoundOfRest, HasNoRest, QuotientTells, QuotientsTell}
+use Rattle.symmetries.specs.Quotients.{IsAutomorphism, IsSymmetric, image_before, with_images, representative, quotient_of, undone}
+use Rattle.symmetries.specs.Laws.{SolveAtSameCost, IsBoundOfRest, HasNoRest, QuotientTells, QuotientsTell, ExchangesCanBeUndone}
 use Rattle.symmetries.proofs.Lists.{all-at}
-use Rattle.symmetries.proofs.Images.{contains-back}
+use Rattle.symmetries.proofs.Images.{instance_itself, instance_after, state_itself, state_after, contains-back, state_twice}
 use Rattle.symmetries.proofs.StepImages.{is_automorphism}
 use Rattle.symmetries.proofs.TestLemmas.{test_is_exact}
-use Rattle.symmetries.proofs.QuotientLemmas.{map_some, symmetric_itself, symmetric_after, CostSame, quotient_is_bisimilar, solve_at_same_cost}
+use Rattle.symmetries.proofs.QuotientLemmas.{map_some, automorphism_itself, automorphism_after, symmetric_itself, symmetric_after, CostSame, quotient_is_bisimilar, solve_at_same_cost}
 use Rattle.symmetries.proofs.RepresentativeLemmas.{image_is}
 
 -- ---- what representatives have
@@ -61,6 +62,58 @@ module _ (task : Task) (atoms : List Atom) (exchanges : List Exchange) (all : Is
         let to = image_of_object exchange in
         symmetric_after (system_of task) s r (image_of_state to r) same
         (image_of_state to, image_of_instance to, is_automorphism task well to (symmetry_of exchange at), refl)) s (symmetric_itself (system_of task) s)
+
+-- ---- exchanges undone
+
+-- the states and the instances of a task, where objects have changed places
+abbrev IsKept : Task → (ℕ → ℕ) → Type 0
+IsKept task to = IsAutomorphism (system_of task) (image_of_state to) (image_of_instance to)
+
+none_undone : (task : Task) → IsKept task (λ o. o)
+none_undone task =
+    let t = system_of task in
+    subst (λ h. IsAutomorphism t h (image_of_instance (λ o. o))) (λ k s. sym (state_itself s) k)
+    (subst (λ a. IsAutomorphism t (λ s. s) a) (λ k i. sym (instance_itself i) k) (automorphism_itself t))
+
+one_more_undone : (task : Task) (f g : ℕ → ℕ) → IsKept task f → IsKept task g → IsKept task (λ o. f (g o))
+one_more_undone task f g first later =
+    let t = system_of task in
+    subst (λ h. IsAutomorphism t h (image_of_instance (λ o. f (g o)))) (λ k s. state_after f g s k)
+    (subst (λ a. IsAutomorphism t (λ s. image_of_state f (image_of_state g s)) a) (λ k i. instance_after f g i k)
+    (automorphism_after t (image_of_state f) (image_of_state g) (image_of_instance f) (image_of_instance g) first later))
+
+undone-kept : (task : Task) → IsTrue (is_task task) → (made : List Exchange) → list_all (is_symmetry task) made ≡ true → IsKept task (undone made)
+undone-kept task well [] all = none_undone task
+undone-kept task well (exchange ∷ later) all =
+    let parts = and_parts (is_symmetry task exchange) (list_all (is_symmetry task) later) all in
+    one_more_undone task (image_of_object exchange) (undone later) (is_automorphism task well (image_of_object exchange) ((test_is_exact task exchange).0 parts.0).1)
+    (undone-kept task well later parts.1)
+
+undone-further : (made more : List Exchange) (s : State) → image_of_state (undone (made ++ more)) s ≡ image_of_state (undone made) (image_of_state (undone more) s)
+undone-further [] more s = sym (state_itself (image_of_state (undone more) s))
+undone-further (exchange ∷ later) more s =
+    sym (state_after (image_of_object exchange) (undone (later ++ more)) s)
+    ∙ ap (image_of_state (image_of_object exchange)) (undone-further later more s)
+    ∙ state_after (image_of_object exchange) (undone later) (image_of_state (undone more) s)
+
+pub exchanges_can_be_undone : ExchangesCanBeUndone
+exchanges_can_be_undone task made well all = record { automorphism = undone-kept task well made all; further = undone-further made }
+
+-- the exchanges that were made of a state, of which the last comes first while they are made
+abbrev IsUndoneFrom : Task → State → State → Type 0
+IsUndoneFrom task s r = (made : List Exchange) × IsTrue (list_all (is_symmetry task) made) × (image_of_state (undone made) r ≡ s)
+
+representative-undone : (task : Task) (atoms : List Atom) (exchanges : List Exchange) → IsTrue (list_all (is_symmetry task) exchanges) → (s : State)
+    → IsUndoneFrom task s (representative atoms exchanges s)
+representative-undone task atoms exchanges all s =
+    representative_keeps task atoms exchanges all (IsUndoneFrom task s) (λ exchange at r (made, passed, is).
+    let to = image_of_object exchange in (
+      made ++ exchange ∷ [],
+      list_all-append (is_symmetry task) made (exchange ∷ [])
+          ∙ (λ k. passed k && (all-at (is_symmetry task) exchanges exchange all at k && true)),
+      undone-further made (exchange ∷ []) (image_of_state to r)
+          ∙ ap (image_of_state (undone made)) (state_twice to (symmetry_of task atoms exchanges all exchange at).both_ways r) ∙ is,
+    )) s ([], refl, state_itself s)
 
 -- ---- claims
 
@@ -132,6 +185,7 @@ module _ (task : Task) (atoms : List Atom) (exchanges : List Exchange) (well : I
       let alike = solve_at_same_cost t (representative atoms exchanges) of_each in
       record {
         solves = alike;
+        states = representative-undone task atoms exchanges all;
         claims = claims_alike t q alike;
         claims_back = claims_alike q t (turned t q alike);
         bounds = bounds;

@@ -1,5 +1,5 @@
 -- What symmetries of a task keep, and what its quotient by them tells of it.
-use Rattle.std.specs.Prelude.{◌≡◌, ℕ, ◌≤◌, Bool, false, IsTrue, List, length, All, None, Some}
+use Rattle.std.specs.Prelude.{◌≡◌, ℕ, ◌≤◌, Bool, false, IsTrue, List, ◌++◌, length, All, None, Some}
 use Rattle.std.specs.Bool.{Decides}
 use Rattle.std.specs.List.{list_all}
 use Rattle.std.specs.Option.{option_map_or}
@@ -9,12 +9,12 @@ use Rattle.model.specs.Claims.{Claim, ClaimHolds, Line, IsLowerBound, AreDeadEnd
 use Rattle.model.specs.Meaning.{State, holds, changes_of, after_changes, meets_goal, system_of}
 use Rattle.model.specs.WellTyped.{is_formula, is_effect, is_task}
 use Rattle.model.specs.Fluents.{is_fluent, HasInitialStatics}
-use Rattle.model.specs.NumberedAtoms.{occurs_in, numbered_atoms}
+use Rattle.model.specs.NumberedAtoms.{numbered_atoms}
 use Rattle.model.specs.Grounding.{StandsFor, NamesKept}
 use Rattle.model.specs.Bisimulation.{IsBisimulation}
-use Rattle.symmetries.specs.Exchanges.{Exchange, image_of_object, objects_in, are_different, image_of_binding, image_of_atom, image_of_state, image_of_instance, image_of_formula, image_of_effect}
+use Rattle.symmetries.specs.Exchanges.{Exchange, image_of_object, objects_in, are_different, image_of_binding, image_of_state, image_of_instance, image_of_formula, image_of_effect}
 use Rattle.symmetries.specs.Symmetries.{IsSymmetry, is_symmetry}
-use Rattle.symmetries.specs.Quotients.{IsAutomorphism, image_before, representative, quotient_of, ground_quotient_of}
+use Rattle.symmetries.specs.Quotients.{IsAutomorphism, image_before, representative, quotient_of, undone, keeps_atoms, ground_quotient_of}
 
 -- ---- what the test says
 
@@ -71,6 +71,8 @@ HasNoRest task is_dead =
 -- What holds of the quotient holds of the task.
 pub record QuotientTells (task : Task) (atoms : List Atom) (exchanges : List Exchange) : Type 0 where
   pub solves : SolveAtSameCost (system_of task) (quotient_of task atoms exchanges)
+  -- a state is its representative, where the exchanges that were made are undone
+  pub states : (s : State) → (made : List Exchange) × IsTrue (list_all (is_symmetry task) made) × (image_of_state (undone made) (representative atoms exchanges s) ≡ s)
   pub claims : (claim : Claim) → ClaimHolds (quotient_of task atoms exchanges) claim → ClaimHolds (system_of task) claim
   pub claims_back : (claim : Claim) → ClaimHolds (system_of task) claim → ClaimHolds (quotient_of task atoms exchanges) claim
   -- what is a lower bound, or a dead end, of the task is one of the quotient
@@ -84,11 +86,16 @@ abbrev pub QuotientsTell : Type 0
 QuotientsTell =
     (task : Task) (atoms : List Atom) (exchanges : List Exchange) → IsTrue (is_task task) → IsTrue (list_all (is_symmetry task) exchanges) → QuotientTells task atoms exchanges
 
--- ---- packed states
+-- Where exchanges were made on the way, a list of the quotient is carried out in the task with the objects as they were: where
+-- the exchanges are undone, each step is a step, at the same cost, and goals are goals; and so it is after further exchanges.
+pub record UndoingKeepsSteps (task : Task) (made : List Exchange) : Type 0 where
+  pub automorphism : IsAutomorphism (system_of task) (image_of_state (undone made)) (image_of_instance (undone made))
+  pub further : (more : List Exchange) (s : State) → image_of_state (undone (made ++ more)) s ≡ image_of_state (undone made) (image_of_state (undone more) s)
 
--- the image of each of these atoms is one of them
-abbrev pub keeps_atoms : List Atom → Exchange → Bool
-keeps_atoms atoms exchange = list_all (λ (a : Atom). occurs_in atoms (image_of_atom (image_of_object exchange) a)) atoms
+abbrev pub ExchangesCanBeUndone : Type 0
+ExchangesCanBeUndone = (task : Task) (made : List Exchange) → IsTrue (is_task task) → IsTrue (list_all (is_symmetry task) made) → UndoingKeepsSteps task made
+
+-- ---- the ground task
 
 -- The quotient of the ground task does what the quotient of the task does, where images of numbered atoms have numbers.
 abbrev pub GroundQuotientsAreBisimilar : Type 0

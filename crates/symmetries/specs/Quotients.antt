@@ -2,14 +2,15 @@
 -- 1996), which a planner searches by representatives of states (orbit space search: Domshlak, Katz & Shleyfman 2015).
 use Rattle.std.specs.Prelude.{◌≡◌, ℕ, zero, suc, ◌^◌, Bool, true, false, List, [], ◌∷◌, length, map, if◌then◌else◌, Option, Some}
 use Rattle.std.specs.Bool.{beq}
-use Rattle.std.specs.List.{find}
+use Rattle.std.specs.List.{list_all, find}
 use Rattle.std.specs.Option.{option_map, option_map_or}
 use Rattle.std.specs.FinSet.{contains}
 use Rattle.model.specs.Task.{Atom, Task, Instance}
 use Rattle.model.specs.Runs.{System}
 use Rattle.model.specs.Meaning.{State, system_of}
+use Rattle.model.specs.NumberedAtoms.{occurs_in}
 use Rattle.model.specs.Grounding.{state_of_bits, bits_of_state, ground_system}
-use Rattle.symmetries.specs.Exchanges.{Exchange, image_of_object, image_of_state}
+use Rattle.symmetries.specs.Exchanges.{Exchange, image_of_object, image_of_atom, image_of_state}
 
 -- ---- of any transition system
 
@@ -65,7 +66,18 @@ representative atoms exchanges s = with_images atoms exchanges (2 ^ length atoms
 abbrev pub quotient_of : Task → List Atom → List Exchange → System State Instance
 quotient_of task atoms exchanges = quotient (system_of task) (representative atoms exchanges)
 
--- the same of packed states
+-- What comes into an object's place where these exchanges, which were made one after another, are undone.
+abbrev pub undone : List Exchange → ℕ → ℕ
+undone [] o = o
+undone (exchange ∷ later) o = image_of_object exchange (undone later o)
+
+-- ---- of a ground task
+
+-- the image of each of these atoms is one of them
+abbrev pub keeps_atoms : List Atom → Exchange → Bool
+keeps_atoms atoms exchange = list_all (λ (a : Atom). occurs_in atoms (image_of_atom (image_of_object exchange) a)) atoms
+
+-- the packed state of the representative
 abbrev pub packed_representative : Task → List Atom → List Exchange → List Bool → List Bool
 packed_representative task atoms exchanges bits = bits_of_state atoms (representative atoms exchanges (state_of_bits task atoms bits))
 

@@ -1,5 +1,5 @@
 //! Laws of symmetries, over all tasks. They are proved; the calls do nothing.
-ghost use Rattle.symmetries.specs.Laws.{TestIsExact, SymmetriesKeepMeaning, SymmetriesAreAutomorphisms, RepresentativesAreLast, QuotientsTell, GroundQuotientsAreBisimilar};
+ghost use Rattle.symmetries.specs.Laws.{TestIsExact, SymmetriesKeepMeaning, SymmetriesAreAutomorphisms, RepresentativesAreLast, QuotientsTell, ExchangesCanBeUndone, GroundQuotientsAreBisimilar};
 ghost use Rattle.symmetries.specs.SymmetryExamples.{AreExchangesJudged, AreTasksJudged, AreActionsJudged, AreGoalsJudged, AreRepresentativesJudged};
 
 /// An exchange passes the test exactly if its objects are all different and it is a symmetry of the task.
@@ -27,6 +27,12 @@ pub fn representatives_are_last()
 /// of every list of instances of the task, of whatever length.
 pub fn quotients_tell()
     ensures { QuotientsTell }
+{}
+
+/// Where the exchanges are undone that were made on the way, each step of the quotient is one of the task, of the same cost: so a
+/// list that solves the quotient is carried out in the task.
+pub fn exchanges_can_be_undone()
+    ensures { ExchangesCanBeUndone }
 {}
 
 /// The quotient of the ground task does what the quotient of the task does.
