@@ -1,7 +1,7 @@
 -- The image of an effect changes the image of a state to the image of what the effect changes the state to.
 use Rattle.std.proofs.Common.{◌≡◌, ◌∙◌, ℕ, Bool, true, false, not, ◌&&◌, ◌||◌, List, [], ◌∷◌, ◌++◌, map, length, refl, sym, ap}
 use Rattle.std.specs.Prelude.{nat_lt, cond, filter}
-use Rattle.std.specs.List.{list_all, list_any, flat_map}
+use Rattle.std.specs.List.{list_all, list_any}
 use Rattle.std.specs.Ordering.{eq_by_cmp}
 use Rattle.std.specs.FinSet.{contains, from_list, difference, contains-from_list, contains-union, contains-difference}
 use Rattle.std.proofs.lemmas.Bool.{and_parts}
@@ -12,7 +12,7 @@ use Rattle.model.specs.Meaning.{State, atom_cmp, holds, GroundLiteral, adds, del
 use Rattle.model.specs.WellTyped.{is_formula, is_effect_literal, is_effect, are_effects, max_variables}
 use Rattle.model.specs.NumberedAtoms.{occurs_in}
 use Rattle.model.proofs.Atoms.{atoms_total}
-use Rattle.symmetries.specs.Exchanges.{image_of_atom, image_of_state, image_of_formula, image_of_literal, image_of_effect, image_of_effects, }
+use Rattle.symmetries.specs.Exchanges.{image_of_atom, image_of_state, image_of_formula, image_of_literal, image_of_effect, image_of_effects}
 use Rattle.symmetries.specs.Symmetries.{IsSymmetry}
 use Rattle.symmetries.proofs.Lists.{any-flat_map}
 use Rattle.symmetries.proofs.Images.{atom-image, same_atoms, contains-image, is_image}

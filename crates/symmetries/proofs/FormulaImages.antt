@@ -13,7 +13,7 @@ use Rattle.model.specs.Task.{Union, Predicate, LiftedAtom, Term, variable, objec
 use Rattle.model.specs.Meaning.{State, is_below, object_of, ground_atom, holds, all_hold, some_holds}
 use Rattle.model.specs.WellTyped.{is_term, is_some_term, is_lifted_of, is_formula, are_formulas, max_variables}
 use Rattle.model.proofs.EnumerationLemmas.{is_bound}
-use Rattle.symmetries.specs.Exchanges.{image_of_state, image_of_formula, image_of_formulas, }
+use Rattle.symmetries.specs.Exchanges.{image_of_state, image_of_formula, image_of_formulas}
 use Rattle.symmetries.specs.Symmetries.{IsSymmetry}
 use Rattle.symmetries.proofs.Images.{object-image, atom-image, same_objects, contains-image}
 use Rattle.symmetries.proofs.ObjectImages.{some_object, each_object}

@@ -1,15 +1,10 @@
 -- The goal is met in a state exactly where it is met in its image, where its conjuncts are mapped onto its conjuncts.
 use Rattle.std.proofs.Common.{◌≡◌, ◌∙◌, ℕ, Bool, true, false, ◌&&◌, List, [], ◌∷◌, map, refl, sym, ap}
-use Rattle.std.specs.Prelude.{Contains}
 use Rattle.std.specs.List.{list_all}
-use Rattle.std.proofs.lemmas.Bool.{and_from}
 use Rattle.std.proofs.lemmas.List.Folds.{list_all-append}
 use Rattle.model.specs.Task.{Union, LiftedAtom, Term, variable, object, Formula, Formulas, atom, equal, and, or, not, imply, exists, forall, no_formula, more_formulas, Task}
 use Rattle.model.specs.Meaning.{State, holds, all_hold, meets_goal}
 use Rattle.model.specs.WellTyped.{is_formula, are_formulas}
-use Rattle.model.proofs.ListLemmas.{Contains-here, Contains-there}
-use Rattle.model.proofs.Tests.{passes_got}
-use Rattle.model.proofs.ListLemmas.{Contains-place}
 use Rattle.symmetries.specs.Exchanges.{image_of_state, image_of_term, image_of_lifted, image_of_formula, image_of_formulas}
 use Rattle.symmetries.specs.Symmetries.{conjuncts, conjuncts_of_all, IsSymmetry}
 use Rattle.symmetries.proofs.Lists.{tests_alike, all-at, all-from}

@@ -1,14 +1,12 @@
 -- An exchange permutes the objects of each type, so that a test of each, or of some, may be asked of the images.
-use Rattle.std.proofs.Common.{◌≡◌, ◌∙◌, ℕ, inl, inr, Bool, true, false, not, ◌&&◌, ◌||◌, List, [], ◌∷◌, length, Option, None, Some, refl, sym, ap, arith}
-use Rattle.std.specs.Prelude.{Contains, slice_get}
+use Rattle.std.proofs.Common.{◌≡◌, ◌∙◌, ℕ, Bool, true, false, not, length, Option, None, Some, refl, sym, ap, arith}
+use Rattle.std.specs.Prelude.{slice_get}
 use Rattle.std.specs.List.{list_all, list_any, range_with_len}
 use Rattle.std.specs.Option.{option_map, option_map_or}
-use Rattle.std.proofs.lemmas.Bool.{or_cases, or_left, or_right}
 use Rattle.model.specs.Task.{Object, Union, Task}
 use Rattle.model.specs.Meaning.{is_below, is_of, objects_of}
-use Rattle.model.proofs.ListLemmas.{Contains-here, Contains-there, Contains-cases, Contains-none, Contains-filter, filter-Contains, Contains-range}
+use Rattle.model.proofs.ListLemmas.{Contains-filter, filter-Contains, Contains-range}
 use Rattle.model.proofs.InstancesLemmas.{is_of-within}
-use Rattle.symmetries.specs.Exchanges.{}
 use Rattle.symmetries.specs.Symmetries.{IsSymmetry}
 use Rattle.symmetries.proofs.Lists.{tests_alike, any-at, any-found, all-none_fails}
 

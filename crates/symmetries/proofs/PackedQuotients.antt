@@ -1,15 +1,14 @@
 -- The quotient of the ground task is bisimilar to that of the task.
-use Rattle.std.proofs.Common.{◌≡◌, ◌∙◌, ℕ, Bool, true, List, Some, refl, sym, ap, subst}
+use Rattle.std.proofs.Common.{◌∙◌, Bool, List, sym, ap, subst}
 use Rattle.std.specs.Prelude.{IsTrue, All, Contains}
 use Rattle.std.specs.List.{list_all}
 use Rattle.std.specs.Option.{option_map}
 use Rattle.std.specs.Ordering.{eq_by_cmp}
-use Rattle.std.specs.FinSet.{contains}
-use Rattle.model.specs.Task.{Atom, Task, Instance}
-use Rattle.model.specs.Meaning.{State, atom_cmp, step, system_of}
-use Rattle.model.specs.Fluents.{is_fluent, HasInitialStatics}
+use Rattle.model.specs.Task.{Atom, Task}
+use Rattle.model.specs.Meaning.{State, atom_cmp, step}
+use Rattle.model.specs.Fluents.{is_fluent}
 use Rattle.model.specs.NumberedAtoms.{occurs_in, numbered_atoms, HasNumberedFluents}
-use Rattle.model.specs.Grounding.{state_of_bits, bits_of_state, ground_step, StandsFor, NamesKept}
+use Rattle.model.specs.Grounding.{state_of_bits, ground_step, StandsFor, NamesKept}
 use Rattle.model.specs.Bisimulation.{IsBisimulation}
 use Rattle.model.proofs.StaticLemmas.{same_atom}
 use Rattle.model.proofs.GroundTaskLemmas.{packs_states, ground_task_is_bisimilar}

@@ -1,10 +1,10 @@
 -- A system and its quotient by automorphisms are bisimilar.
-use Rattle.std.proofs.Common.{◌≡◌, ◌∙◌, List, Option, None, Some, refl, sym, ap}
+use Rattle.std.proofs.Common.{◌≡◌, ◌∙◌, Option, None, Some, refl, sym, ap}
 use Rattle.std.specs.Option.{option_map}
 use Rattle.model.specs.Runs.{System}
 use Rattle.model.specs.Bisimulation.{IsBisimulation}
 use Rattle.model.proofs.BisimulationLemmas.{same_cost, solves_forth, solves_back}
-use Rattle.symmetries.specs.Quotients.{IsPermutation, IsAutomorphism, IsSymmetric, quotient}
+use Rattle.symmetries.specs.Quotients.{IsBijection, IsAutomorphism, quotient}
 use Rattle.symmetries.specs.Laws.{SolveAtSameCost}
 
 map_map : {X : Type 0} (f g : X → X) (o : Option X) → option_map f (option_map g o) ≡ option_map (λ x. f (g x)) o
@@ -21,7 +21,11 @@ map_some f (Some x) y is = (x, refl, cc)
 
 -- ---- automorphisms
 
-one_after : {X : Type 0} (f g : X → X) → IsPermutation f → IsPermutation g → IsPermutation (λ x. f (g x))
+-- some automorphism takes the one state to the other: they are of one orbit
+abbrev pub IsSymmetric : {S A : Type 0} → System S A → S → S → Type 0
+IsSymmetric {S} {A} t s r = (states : S → S) × (actions : A → A) × IsAutomorphism t states actions × (states s ≡ r)
+
+one_after : {X : Type 0} (f g : X → X) → IsBijection f → IsBijection g → IsBijection (λ x. f (g x))
 one_after f g p q = (
   λ x. q.0 (p.0 x),
   λ x. ap q.0 (p.1 (g x)) ∙ q.1 x,

@@ -1,17 +1,17 @@
 -- What the definitions say of the worked examples. The tests compute; a state is a set, which is asked for its atoms.
-use Rattle.std.proofs.Common.{◌≡◌, ◌∙◌, ℕ, Bool, true, false, ◌||◌, List, [], ◌∷◌, map, Option, None, Some, refl, sym, ap}
+use Rattle.std.proofs.Common.{◌≡◌, ◌∙◌, ℕ, Bool, true, false, ◌||◌, List, [], ◌∷◌, map, None, Some, refl, sym, ap}
 use Rattle.std.specs.Prelude.{cond}
 use Rattle.std.specs.Bool.{beq}
 use Rattle.std.specs.Ordering.{eq_by_cmp}
 use Rattle.std.specs.Option.{option_map_or}
 use Rattle.std.specs.FinSet.{from_list, contains-from_list}
 use Rattle.model.specs.Task.{Atom}
-use Rattle.model.specs.Meaning.{State, atom_cmp}
+use Rattle.model.specs.Meaning.{atom_cmp}
 use Rattle.model.specs.NumberedAtoms.{occurs_in}
 use Rattle.model.proofs.Atoms.{atoms_total, same_state}
 use Rattle.symmetries.specs.Exchanges.{Exchange, image_of_object, objects_in, are_different, image_of_atom, image_of_state}
 use Rattle.symmetries.specs.Quotients.{comes_before, image_before, representative}
-use Rattle.symmetries.specs.SymmetryExamples.{swap, ball_atoms, balls_in, AreExchangesJudged, AreTasksJudged, AreActionsJudged, AreGoalsJudged, AreRepresentativesJudged}
+use Rattle.symmetries.specs.SymmetryExamples.{swapping, ball_atoms, balls_in, AreExchangesJudged, AreTasksJudged, AreActionsJudged, AreGoalsJudged, AreRepresentativesJudged}
 use Rattle.model.specs.Examples.{ground}
 use Rattle.symmetries.proofs.ExchangeLemmas.{own_inverse}
 use Rattle.symmetries.proofs.Images.{image_of_list}
@@ -96,10 +96,10 @@ in_rooms first second = ground 1 (2 ∷ first ∷ []) ∷ ground 1 (3 ∷ second
 
 pub representatives_are_judged : AreRepresentativesJudged
 representatives_are_judged = record {
-  exchanged = goes ball_atoms (swap 2 3) refl (in_rooms 1 0) refl ∙ ap (representative ball_atoms (swap 2 3 ∷ [])) (turned 1 0) ∙ stays ball_atoms (swap 2 3) refl (in_rooms 0 1) refl;
-  itself = stays ball_atoms (swap 2 3) refl (in_rooms 0 1) refl;
-  together = stays ball_atoms (swap 2 3) refl (in_rooms 1 1) refl;
-  other_order = goes other_atoms (swap 2 3) refl (in_rooms 0 1) refl ∙ ap (representative other_atoms (swap 2 3 ∷ [])) (turned 0 1) ∙ stays other_atoms (swap 2 3) refl (in_rooms 1 0) refl;
+  exchanged = goes ball_atoms (swapping 2 3) refl (in_rooms 1 0) refl ∙ ap (representative ball_atoms (swapping 2 3 ∷ [])) (turned 1 0) ∙ stays ball_atoms (swapping 2 3) refl (in_rooms 0 1) refl;
+  itself = stays ball_atoms (swapping 2 3) refl (in_rooms 0 1) refl;
+  together = stays ball_atoms (swapping 2 3) refl (in_rooms 1 1) refl;
+  other_order = goes other_atoms (swapping 2 3) refl (in_rooms 0 1) refl ∙ ap (representative other_atoms (swapping 2 3 ∷ [])) (turned 0 1) ∙ stays other_atoms (swapping 2 3) refl (in_rooms 1 0) refl;
   alone = (are_representatives ball_atoms []).of_image (balls_in 1 0);
 }
   where

@@ -1,28 +1,28 @@
 -- What the quotient of a task by symmetries tells of the task.
-use Rattle.std.proofs.Common.{◌≡◌, ◌∙◌, ℕ, zero, suc, ◌≤◌, Bool, true, false, ◌&&◌, List, [], ◌∷◌, ◌++◌, Option, None, Some, refl, sym, ap, subst}
+use Rattle.std.proofs.Common.{◌≡◌, ◌∙◌, ℕ, zero, suc, ◌≤◌, Bool, true, ◌&&◌, List, [], ◌∷◌, ◌++◌, Option, None, Some, refl, sym, ap, subst}
 use Rattle.std.specs.Prelude.{IsTrue, Contains}
 use Rattle.std.specs.List.{list_all}
 use Rattle.std.specs.Option.{option_map_or, option_and_then}
 use Rattle.std.proofs.lemmas.Bool.{and_parts}
 use Rattle.std.proofs.lemmas.List.Folds.{list_all-append}
 use Rattle.model.specs.Task.{Atom, Task, Instance}
-use Rattle.model.specs.Runs.{System, run, cost_of_all, Solves, IsReachable}
+use Rattle.model.specs.Runs.{System, run, cost_of_all, IsReachable}
 use Rattle.model.specs.Claims.{Claim, Allows, ClaimHolds, IsLowerBound, AreDeadEnds}
 use Rattle.model.specs.Meaning.{State, initial_state, step, meets_goal, system_of}
 use Rattle.model.specs.WellTyped.{is_task}
-use Rattle.model.specs.Fluents.{is_fluent, HasInitialStatics}
+use Rattle.model.specs.Fluents.{HasInitialStatics}
 use Rattle.model.proofs.ClaimsLemmas.{claim-of_closed}
 use Rattle.model.proofs.GroundTaskLemmas.{step-HasInitialStatics}
 use Rattle.model.proofs.BisimulationLemmas.{flipped, run_forth, same_cost}
 use Rattle.symmetries.specs.Exchanges.{Exchange, image_of_object, image_of_atom, image_of_state, image_of_instance}
 use Rattle.symmetries.specs.Symmetries.{IsSymmetry, is_symmetry}
-use Rattle.symmetries.specs.Quotients.{IsAutomorphism, IsSymmetric, image_before, with_images, representative, quotient_of, undone}
-use Rattle.symmetries.specs.Laws.{SolveAtSameCost, IsBoundOfRest, HasNoRest, QuotientTells, QuotientsTell, ExchangesCanBeUndone}
+use Rattle.symmetries.specs.Quotients.{IsAutomorphism, image_before, with_images, representative, quotient_of, undone}
+use Rattle.symmetries.specs.Laws.{SolveAtSameCost, IsLowerBoundOfAll, AreDeadEndsOfAll, QuotientTells, QuotientsTell, ExchangesCanBeUndone}
 use Rattle.symmetries.proofs.Lists.{all-at}
 use Rattle.symmetries.proofs.Images.{instance_itself, instance_after, state_itself, state_after, contains-back, state_twice}
 use Rattle.symmetries.proofs.StepImages.{is_automorphism}
 use Rattle.symmetries.proofs.TestLemmas.{test_is_exact}
-use Rattle.symmetries.proofs.QuotientLemmas.{map_some, automorphism_itself, automorphism_after, symmetric_itself, symmetric_after, CostSame, quotient_is_bisimilar, solve_at_same_cost}
+use Rattle.symmetries.proofs.QuotientLemmas.{map_some, automorphism_itself, automorphism_after, IsSymmetric, symmetric_itself, symmetric_after, CostSame, quotient_is_bisimilar, solve_at_same_cost}
 use Rattle.symmetries.proofs.RepresentativeLemmas.{image_is}
 
 -- ---- what representatives have
@@ -168,15 +168,15 @@ module _ (task : Task) (atoms : List Atom) (exchanges : List Exchange) (well : I
   reached_statics s (plan, runs) =
       statics_run plan (representative atoms exchanges (initial_state task)) s (representative-statics task atoms exchanges all (initial_state task) (λ a static. refl)) runs
 
-  bounds : (value : State → ℕ) → IsBoundOfRest task value → IsLowerBound (quotient_of task atoms exchanges) value
+  bounds : (value : State → ℕ) → IsLowerBoundOfAll task value → IsLowerBound (quotient_of task atoms exchanges) value
   bounds value least s end plan reached runs met =
       let real = real_run s end plan runs in
       subst (λ cost. value s ≤ cost) real.4 (least s real.1 real.0 (reached_statics s reached) real.2 (real.3 ∙ met))
 
-  dead_ends : (is_dead : State → Bool) → HasNoRest task is_dead → AreDeadEnds (quotient_of task atoms exchanges) is_dead
-  dead_ends is_dead no_rest s end plan reached dead runs =
+  dead_ends : (is_dead : State → Bool) → AreDeadEndsOfAll task is_dead → AreDeadEnds (quotient_of task atoms exchanges) is_dead
+  dead_ends is_dead all_dead s end plan reached dead runs =
       let real = real_run s end plan runs in
-      sym real.3 ∙ no_rest s real.1 real.0 (reached_statics s reached) dead real.2
+      sym real.3 ∙ all_dead s real.1 real.0 (reached_statics s reached) dead real.2
 
   pub quotient_tells : QuotientTells task atoms exchanges
   quotient_tells =
@@ -190,8 +190,8 @@ module _ (task : Task) (atoms : List Atom) (exchanges : List Exchange) (well : I
         claims_back = claims_alike q t (turned t q alike);
         bounds = bounds;
         dead_ends = dead_ends;
-        closed = λ value is_dead claim lines least no_rest closed.
-            claims_alike t q alike claim (claim-of_closed q value is_dead claim lines (bounds value least) (dead_ends is_dead no_rest) closed);
+        closed = λ value is_dead claim lines least all_dead closed.
+            claims_alike t q alike claim (claim-of_closed q value is_dead claim lines (bounds value least) (dead_ends is_dead all_dead) closed);
       }
 
 pub quotients_tell : QuotientsTell

@@ -1,8 +1,7 @@
 -- The test is passed exactly by the exchanges that are symmetries.
 use Rattle.std.proofs.Common.{◌≡◌, ◌∙◌, ℕ, Bool, true, false, not, List, [], ◌∷◌, Option, None, Some, refl, sym, ap, subst}
-use Rattle.std.specs.Prelude.{◌==◌, ◌&&◌, cond, nat_eq, IsTrue, Contains}
-use Rattle.std.specs.Bool.{Decides}
-use Rattle.std.specs.List.{list_all, list_any}
+use Rattle.std.specs.Prelude.{◌==◌, cond, nat_eq, IsTrue, Contains}
+use Rattle.std.specs.List.{list_any}
 use Rattle.std.specs.Option.{option_eq}
 use Rattle.std.specs.Ordering.{eq_by_cmp}
 use Rattle.std.specs.Cmp.{Equal-is, tied_itself}
@@ -146,15 +145,17 @@ module _ (task : Task) where
         let statics = and_parts _ (keeps_statics task to) goal.0 in
         let values = and_parts _ (keeps_values task to) statics.0 in
         let actions = and_parts _ (keeps_actions task to) values.0 in
-        let types = and_parts (are_different (objects_in exchange)) (keeps_types task exchange) actions.0 in
-        (types.0, record {
-          both_ways = own_inverse exchange types.0;
-          types = types_kept exchange types.1;
-          actions = λ o at. eqb-true (to o) o (all-at (λ n. to n == n) (named_in_actions task) o actions.1 at);
-          values = values_kept to (own_inverse exchange types.0) values.1;
-          statics = statics_kept to (own_inverse exchange types.0) statics.1;
-          goal = goal_kept to goal.1;
-        })
+        let types = and_parts (are_different (objects_in exchange)) (keeps_types task exchange) actions.0 in (
+          types.0,
+          record {
+            both_ways = own_inverse exchange types.0;
+            types = types_kept exchange types.1;
+            actions = λ o at. eqb-true (to o) o (all-at (λ n. to n == n) (named_in_actions task) o actions.1 at);
+            values = values_kept to (own_inverse exchange types.0) values.1;
+            statics = statics_kept to (own_inverse exchange types.0) statics.1;
+            goal = goal_kept to goal.1;
+          },
+        )
 
     is_passed : IsTrue (are_different (objects_in exchange)) × IsSymmetry task to → IsTrue (is_symmetry task exchange)
     is_passed (different, symmetry) =

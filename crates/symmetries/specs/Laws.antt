@@ -57,15 +57,15 @@ pub record SolveAtSameCost {S A T B : Type 0} (t : System S A) (u : System T B) 
   pub forth : (plan : List A) → Solves t plan → (other : List B) × Solves u other × (cost_of_all u other ≡ cost_of_all t plan)
   pub back : (other : List B) → Solves u other → (plan : List A) × Solves t plan × (cost_of_all t plan ≡ cost_of_all u other)
 
--- every list that runs from a state with the initial static atoms to the goal costs at least the state's value
-abbrev pub IsBoundOfRest : Task → (State → ℕ) → Type 0
-IsBoundOfRest task value =
+-- from each state with the initial static atoms, reachable or not, what is still to pay is at least its value
+abbrev pub IsLowerBoundOfAll : Task → (State → ℕ) → Type 0
+IsLowerBoundOfAll task value =
     (s end : State) (plan : List Instance) → HasInitialStatics task s → run (system_of task) s plan ≡ Some end → IsTrue (meets_goal task end)
     → value s ≤ cost_of_all (system_of task) plan
 
--- none runs from such a state that is dead to the goal
-abbrev pub HasNoRest : Task → (State → Bool) → Type 0
-HasNoRest task is_dead =
+-- and no list leads to the goal from such a state of which this is true
+abbrev pub AreDeadEndsOfAll : Task → (State → Bool) → Type 0
+AreDeadEndsOfAll task is_dead =
     (s end : State) (plan : List Instance) → HasInitialStatics task s → IsTrue (is_dead s) → run (system_of task) s plan ≡ Some end → meets_goal task end ≡ false
 
 -- What holds of the quotient holds of the task.
@@ -76,10 +76,10 @@ pub record QuotientTells (task : Task) (atoms : List Atom) (exchanges : List Exc
   pub claims : (claim : Claim) → ClaimHolds (quotient_of task atoms exchanges) claim → ClaimHolds (system_of task) claim
   pub claims_back : (claim : Claim) → ClaimHolds (system_of task) claim → ClaimHolds (quotient_of task atoms exchanges) claim
   -- what is a lower bound, or a dead end, of the task is one of the quotient
-  pub bounds : (value : State → ℕ) → IsBoundOfRest task value → IsLowerBound (quotient_of task atoms exchanges) value
-  pub dead_ends : (is_dead : State → Bool) → HasNoRest task is_dead → AreDeadEnds (quotient_of task atoms exchanges) is_dead
+  pub bounds : (value : State → ℕ) → IsLowerBoundOfAll task value → IsLowerBound (quotient_of task atoms exchanges) value
+  pub dead_ends : (is_dead : State → Bool) → AreDeadEndsOfAll task is_dead → AreDeadEnds (quotient_of task atoms exchanges) is_dead
   -- so what a listing claims that is closed for the quotient is true of every list of the task
-  pub closed : (value : State → ℕ) (is_dead : State → Bool) (claim : Claim) (lines : List (Line State)) → IsBoundOfRest task value → HasNoRest task is_dead
+  pub closed : (value : State → ℕ) (is_dead : State → Bool) (claim : Claim) (lines : List (Line State)) → IsLowerBoundOfAll task value → AreDeadEndsOfAll task is_dead
       → IsClosed (quotient_of task atoms exchanges) value is_dead claim lines → ClaimHolds (system_of task) claim
 
 abbrev pub QuotientsTell : Type 0
@@ -103,4 +103,4 @@ GroundQuotientsAreBisimilar =
     (task : Task) (more : List Atom) (exchanges : List Exchange) → All (λ (a : Atom). IsTrue (is_fluent task a.predicate)) more
     → IsTrue (list_all (is_symmetry task) exchanges) → IsTrue (list_all (keeps_atoms (numbered_atoms task more)) exchanges)
     → IsBisimulation (ground_quotient_of task (numbered_atoms task more) exchanges) (quotient_of task (numbered_atoms task more) exchanges)
-      (StandsFor task (numbered_atoms task more)) (NamesKept task)
+    (StandsFor task (numbered_atoms task more)) (NamesKept task)

@@ -1,6 +1,6 @@
 -- Systems in which one state stands for all that exchanges take into one another: quotients by symmetries (Emerson & Sistla
 -- 1996), which a planner searches by representatives of states (orbit space search: Domshlak, Katz & Shleyfman 2015).
-use Rattle.std.specs.Prelude.{◌≡◌, ℕ, zero, suc, ◌^◌, Bool, true, false, List, [], ◌∷◌, length, map, if◌then◌else◌, Option, Some}
+use Rattle.std.specs.Prelude.{◌≡◌, ℕ, zero, suc, ◌^◌, Bool, false, List, [], ◌∷◌, length, map, if◌then◌else◌, Option, Some}
 use Rattle.std.specs.Bool.{beq}
 use Rattle.std.specs.List.{list_all, find}
 use Rattle.std.specs.Option.{option_map, option_map_or}
@@ -14,22 +14,18 @@ use Rattle.symmetries.specs.Exchanges.{Exchange, image_of_object, image_of_atom,
 
 -- ---- of any transition system
 
--- each is taken to another, or to itself, and each is what one is taken to
-abbrev pub IsPermutation : {X : Type 0} → (X → X) → Type 0
-IsPermutation {X} to = (back : X → X) × ((x : X) → back (to x) ≡ x) × ((x : X) → to (back x) ≡ x)
+-- each is taken to one of its own, and is what one is taken to
+abbrev pub IsBijection : {X : Type 0} → (X → X) → Type 0
+IsBijection {X} to = (back : X → X) × ((x : X) → back (to x) ≡ x) × ((x : X) → to (back x) ≡ x)
 
--- An automorphism: permutations of the states and of the actions, under which each step is a step, at the same cost, and the
+-- An automorphism: bijections of the states and of the actions, under which each step is a step, at the same cost, and the
 -- same states meet the goal.
 pub record IsAutomorphism {S A : Type 0} (t : System S A) (states : S → S) (actions : A → A) : Type 0 where
-  pub permutes_states : IsPermutation states
-  pub permutes_actions : IsPermutation actions
+  pub permutes_states : IsBijection states
+  pub permutes_actions : IsBijection actions
   pub steps : (s : S) (a : A) → t.step (states s) (actions a) ≡ option_map states (t.step s a)
   pub costs : (s next : S) (a : A) → t.step s a ≡ Some next → t.cost (actions a) ≡ t.cost a
   pub goals : (s : S) → t.meets_goal (states s) ≡ t.meets_goal s
-
--- some automorphism takes the one state to the other: they are of one orbit
-abbrev pub IsSymmetric : {S A : Type 0} → System S A → S → S → Type 0
-IsSymmetric {S} {A} t s r = (states : S → S) × (actions : A → A) × IsAutomorphism t states actions × (states s ≡ r)
 
 -- The quotient by these representatives: it starts at that of the start, and each step goes on to that of the state which the
 -- action leads to.
@@ -43,7 +39,7 @@ quotient t represent = record {
 
 -- ---- of a task
 
--- At the first of these atoms in which the states differ, it is the first state in which it is true.
+-- The first of these atoms that is true in one of the states alone is true in the first state.
 abbrev pub comes_before : List Atom → State → State → Bool
 comes_before [] s t = false
 comes_before (a ∷ atoms) s t = if beq (contains s a) (contains t a) then comes_before atoms s t else contains s a
@@ -52,13 +48,13 @@ comes_before (a ∷ atoms) s t = if beq (contains s a) (contains t a) then comes
 abbrev pub image_before : List Atom → List Exchange → State → Option State
 image_before atoms exchanges s = find (λ image. comes_before atoms image s) (map (λ exchange. image_of_state (image_of_object exchange) s) exchanges)
 
--- such an image in the state's place, so often at most
+-- so many such images at most, each in the place of the one before
 abbrev pub with_images : List Atom → List Exchange → ℕ → State → State
 with_images atoms exchanges zero s = s
 with_images atoms exchanges (suc n) s = option_map_or (with_images atoms exchanges n) (image_before atoms exchanges s) s
 
--- The representative of a state: as long as an image comes before it, that in its place. Fewer images come before one another
--- than there are sets of these atoms.
+-- The representative of a state: as long as an image comes before it, the first such image in its place. Each has fewer sets of
+-- these atoms before it than the one that it takes the place of, so this ends.
 abbrev pub representative : List Atom → List Exchange → State → State
 representative atoms exchanges s = with_images atoms exchanges (2 ^ length atoms) s
 

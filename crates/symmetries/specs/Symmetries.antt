@@ -1,6 +1,6 @@
 -- Symmetries of a planning task: exchanges of objects that leave it as it is, but for where it starts (Pochter, Zohar &
 -- Rosenschein 2011; Domshlak, Katz & Shleyfman 2015). The task is looked at as it was read, not its instances.
-use Rattle.std.specs.Prelude.{◌≡◌, ℕ, Bool, true, false, ◌&&◌, ◌==◌, nat_eq, IsTrue, List, [], ◌∷◌, ◌++◌, slice_get, Contains, Option}
+use Rattle.std.specs.Prelude.{◌≡◌, ℕ, Bool, false, ◌&&◌, ◌==◌, nat_eq, List, [], ◌∷◌, ◌++◌, slice_get, Contains, Option}
 use Rattle.std.specs.List.{list_all, list_any}
 use Rattle.std.specs.Option.{option_map, option_eq}
 use Rattle.std.specs.FinSet.{contains}

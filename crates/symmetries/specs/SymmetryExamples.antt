@@ -2,7 +2,7 @@
 -- chosen so that a wrong reading says otherwise.
 use Rattle.std.specs.Prelude.{◌≡◌, ℕ, Bool, true, false, List, [], ◌∷◌, ◌++◌, codes}
 use Rattle.std.specs.FinSet.{from_list}
-use Rattle.model.specs.Task.{Predicate, Atom, LiftedAtom, Term, variable, object, Formula, atom, equal, and, or, not, imply, exists, forall, EffectLiteral, add, Effect, each, when, Increase, by_number, by_function, FunctionValue, Schema, Task}
+use Rattle.model.specs.Task.{Predicate, Atom, LiftedAtom, Term, variable, object, Formula, atom, equal, and, or, not, imply, exists, forall, add, Effect, each, when, Increase, by_number, by_function, FunctionValue, Schema, Task}
 use Rattle.model.specs.Meaning.{State}
 use Rattle.model.specs.WellTyped.{is_task}
 use Rattle.model.specs.Examples.{formulas, lifted, ground, root, typed, object_type, adds, deletes, all}
@@ -11,8 +11,8 @@ use Rattle.symmetries.specs.Symmetries.{is_symmetry}
 use Rattle.symmetries.specs.Quotients.{representative}
 
 -- these two change places
-abbrev pub swap : ℕ → ℕ → Exchange
-swap first second = (first, second) ∷ []
+abbrev pub swapping : ℕ → ℕ → Exchange
+swapping first second = (first, second) ∷ []
 
 abbrev pub predicate : List ℕ → List (List ℕ) → Predicate
 predicate name arguments = record { name = name; arguments = arguments }
@@ -59,8 +59,8 @@ move = record {
   increase = by_number 0;
 }
 
-abbrev pub pick : Schema
-pick = record {
+abbrev pub pick_ball : Schema
+pick_ball = record {
   name = codes "pick";
   parameters = (2 ∷ []) ∷ (1 ∷ []) ∷ (3 ∷ []) ∷ [];
   precondition = and (formulas (atom (ball_at x y) ∷ atom (robby_at y) ∷ atom (free z) ∷ []));
@@ -68,8 +68,8 @@ pick = record {
   increase = by_number 0;
 }
 
-abbrev pub drop : Schema
-drop = record {
+abbrev pub drop_ball : Schema
+drop_ball = record {
   name = codes "drop";
   parameters = (2 ∷ []) ∷ (1 ∷ []) ∷ (3 ∷ []) ∷ [];
   precondition = and (formulas (atom (carried x z) ∷ atom (robby_at y) ∷ []));
@@ -85,7 +85,7 @@ gripper = record {
   predicates = predicate (codes "at-robby") ((1 ∷ []) ∷ []) ∷ predicate (codes "at") ((2 ∷ []) ∷ (1 ∷ []) ∷ [])
       ∷ predicate (codes "free") ((3 ∷ []) ∷ []) ∷ predicate (codes "carry") ((2 ∷ []) ∷ (3 ∷ []) ∷ []) ∷ [];
   functions = [];
-  schemas = move ∷ pick ∷ drop ∷ [];
+  schemas = move ∷ pick_ball ∷ drop_ball ∷ [];
   init = ground 0 (0 ∷ []) ∷ ground 1 (2 ∷ 0 ∷ []) ∷ ground 1 (3 ∷ 1 ∷ []) ∷ ground 2 (4 ∷ []) ∷ ground 2 (5 ∷ []) ∷ [];
   values = [];
   goal = and (formulas (atom (ball_at (object 2) (object 1)) ∷ atom (ball_at (object 3) (object 1)) ∷ []));
@@ -183,23 +183,23 @@ doing effect = acting (and (formulas [])) effect (by_number 0)
 
 -- whether the parcels p and q are alike
 abbrev pub are_alike : Task → Bool
-are_alike task = is_symmetry task (swap 2 3)
+are_alike task = is_symmetry task (swapping 2 3)
 
 -- ---- what is said of them
 
 pub record AreExchangesJudged : Type 0 where
   pub gripper_typed : is_task gripper ≡ true
   -- Two balls are alike though they start in different rooms, and two grippers are; also both pairs at once.
-  pub balls : is_symmetry gripper (swap 2 3) ≡ true
-  pub grippers : is_symmetry gripper (swap 4 5) ≡ true
+  pub balls : is_symmetry gripper (swapping 2 3) ≡ true
+  pub grippers : is_symmetry gripper (swapping 4 5) ≡ true
   pub balls_and_grippers : is_symmetry gripper ((2, 3) ∷ (4, 5) ∷ []) ≡ true
   pub nothing : is_symmetry gripper [] ≡ true
   -- A ball and a gripper are of two types, and the goal wants the balls in one of the rooms.
-  pub two_types : is_symmetry gripper (swap 2 4) ≡ false
-  pub rooms : is_symmetry gripper (swap 0 1) ≡ false
+  pub two_types : is_symmetry gripper (swapping 2 4) ≡ false
+  pub rooms : is_symmetry gripper (swapping 0 1) ≡ false
   -- An object is in one place of one pair.
   pub twice : is_symmetry gripper ((2, 3) ∷ (3, 2) ∷ []) ≡ false
-  pub with_itself : is_symmetry gripper (swap 2 2) ≡ false
+  pub with_itself : is_symmetry gripper (swapping 2 2) ≡ false
 
 pub record AreTasksJudged : Type 0 where
   pub delivery_typed : is_task delivery ≡ true
@@ -210,7 +210,7 @@ pub record AreTasksJudged : Type 0 where
   pub with_destinations : is_symmetry (with_goal (and (formulas (atom (parcel_at p a) ∷ atom (parcel_at q b) ∷ [])))) ((2, 3) ∷ (0, 1) ∷ []) ≡ true
   pub one_way : is_symmetry (record (with_goal (and (formulas (atom (parcel_at p a) ∷ atom (parcel_at q b) ∷ [])))) { init = start }) ((2, 3) ∷ (0, 1) ∷ []) ≡ false
   -- A crate is a parcel, and declared with another type.
-  pub below : is_symmetry delivery (swap 3 4) ≡ false
+  pub below : is_symmetry delivery (swapping 3 4) ≡ false
   -- Static atoms and values may not differ.
   pub one_fragile : are_alike (with_fragile (2 ∷ [])) ≡ false
   pub other_fragile : are_alike (with_fragile (3 ∷ [])) ≡ false
@@ -258,7 +258,7 @@ abbrev pub balls_in : ℕ → ℕ → State
 balls_in first second = from_list (ground 1 (2 ∷ first ∷ []) ∷ ground 1 (3 ∷ second ∷ []) ∷ [])
 
 abbrev pub ball_representative : State → State
-ball_representative = representative ball_atoms (swap 2 3 ∷ [])
+ball_representative = representative ball_atoms (swapping 2 3 ∷ [])
 
 pub record AreRepresentativesJudged : Type 0 where
   -- Where one ball is in each room it is the first that is in the first room, and then nothing comes before.
@@ -267,5 +267,5 @@ pub record AreRepresentativesJudged : Type 0 where
   -- Two balls in one room stay where they are.
   pub together : ball_representative (balls_in 1 1) ≡ balls_in 1 1
   -- In another order of atoms the other one comes before, and without an exchange each state stands for itself.
-  pub other_order : representative (ground 1 (3 ∷ 0 ∷ []) ∷ ground 1 (2 ∷ 0 ∷ []) ∷ []) (swap 2 3 ∷ []) (balls_in 0 1) ≡ balls_in 1 0
+  pub other_order : representative (ground 1 (3 ∷ 0 ∷ []) ∷ ground 1 (2 ∷ 0 ∷ []) ∷ []) (swapping 2 3 ∷ []) (balls_in 0 1) ≡ balls_in 1 0
   pub alone : representative ball_atoms [] (balls_in 1 0) ≡ balls_in 1 0
