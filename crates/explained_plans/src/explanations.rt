@@ -73,7 +73,9 @@ pub fn explain_plan<'t>(
     let Run { verdict, state } = run_plan(alloc, task, plan)?;
     match verdict {
         Verdict::Valid { cost } => why_valid(alloc, task, names, plan, cost),
-        Verdict::NotApplicable { step } => why_not_applicable(alloc, task, names, plan, step, &state),
+        Verdict::NotApplicable { step } => why_not_applicable(
+            alloc, task, names, plan, step, &state,
+        ),
         Verdict::GoalMissed => why_missed(alloc, task, names, plan, &state),
     }
 }

@@ -86,7 +86,9 @@ fn find<'t>(
                 Ok(())
             }
         }
-        Formula::Forall(types, part) => find_for_each(task, types, part, objects, names, state, found),
+        Formula::Forall(types, part) => find_for_each(
+            task, types, part, objects, names, state, found,
+        ),
         _ => found.add_if_false(task, formula, objects, names, state),
     }
 }
@@ -128,7 +130,14 @@ fn find_for_each<'t>(
 {
     let inner = without_first(names);
     for object in objects_of(task, types) {
-        find(task, part, &with_object(objects, object), inner, state, found)?;
+        find(
+            task,
+            part,
+            &with_object(objects, object),
+            inner,
+            state,
+            found,
+        )?;
     }
     Ok(())
 }

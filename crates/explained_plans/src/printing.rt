@@ -228,7 +228,13 @@ fn add_reason(
     ensures { OnOk result (text.new.items ≡ text.old.items ++ reason_line (task_of task.now) (plan_of plan.now) (part_of part.now) (history_of history)) }
 {
     let objects = part.objects.as_slice();
-    add_formula(alloc, task, part.formula, Scope::of(objects, part.names), text)?;
+    add_formula(
+        alloc,
+        task,
+        part.formula,
+        Scope::of(objects, part.names),
+        text,
+    )?;
     text.extend_from_slice(b" is false")?;
     add_why(alloc, task, plan, part.formula, objects, history, text)?;
     text.extend_from_slice(b".\n")?;
