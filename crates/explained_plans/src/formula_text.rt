@@ -43,7 +43,7 @@ impl<'a> Scope<'a> {
 
     /// The scope behind the formula, whose variables got their names.
     fn behind(self, formula: &Formula) -> Scope<'a>
-        ensures { scope_of result ≡ scope_behind (scope_of self) (formula_of formula.now) }
+        ensures { scope_of result ≡ scope_behind (scope_of self.entry) (formula_of formula.now) }
     {
         Scope {
             objects: self.objects,

@@ -20,7 +20,8 @@ pub(crate) fn variable_names<'a>(
 {
     let mut actions = Vec::with_capacity(alloc, domain.actions.len())?;
     for action in &domain.actions {
-        actions.push(quantified_names(alloc, &action.precondition)?)?;
+        let names = quantified_names(alloc, &action.precondition)?;
+        actions.push(names)?;
     }
     let goal = quantified_names(alloc, &problem.goal)?;
     Ok(VariableNames { actions, goal })

@@ -79,15 +79,15 @@ find_in_each-loop-part-preserved t c =
     let task = task_of c.args.task.now in
     let state = state_of c.args.state.now in
     λ last later. c.loop-part.invariant last
-    (finds_next_part task state (map object_of c.args.objects.now.items) (names_in c.loop-part.left) c.args.parts.now c.loop-part.part-index c.part-item.result
-    c.loop-part-test.true c.part-item.is (names_in c.names_behind.result.now) c.names_behind.ensures c.loop-part.found c.find.new.found last c.in_ok-find.ensures later)
+    (finds_next_part task state (map object_of c.args.objects.now.items) (names_in c.loop-part.left.now) c.args.parts.now c.loop-part.part-index c.part-item.result
+    c.loop-part-test.true c.part-item.is (names_in c.names_behind-left.result.now) c.names_behind-left.ensures c.loop-part.found c.find.new.found last c.in_ok-find.ensures later)
 
 pub find_in_each-returns : goal.find_in_each-returns
 find_in_each-returns t c =
     let task = task_of c.args.task.now in
     let state = state_of c.args.state.now in
     c.loop-part.invariant c.loop-part.found
-    (finds_last_part task state (map object_of c.args.objects.now.items) (names_in c.loop-part.left) c.args.parts.now c.loop-part.part-index c.loop-part-test.false c.loop-part.found)
+    (finds_last_part task state (map object_of c.args.objects.now.items) (names_in c.loop-part.left.now) c.args.parts.now c.loop-part.part-index c.loop-part-test.false c.loop-part.found)
 
 -- ---- their objects
 

@@ -20,5 +20,5 @@ add_formula-returns-in-Or t c =
 pub add_parts-loop-part-preserved : goal.add_parts-loop-part-preserved
 add_parts-loop-part-preserved t c =
     part_added (task_of c.args.task.now) (scope_of c.loop-part.current) c.args.parts.now c.loop-part.part-index c.loop-part.text.items _ c.loop-part.invariant
-    c.part-item.result c.loop-part-test.true c.part-item.is c.extend_from_slice-2.new.self.items c.add_formula.new.text.items
-    c.in_ok-extend_from_slice-2.ensures.items c.in_ok-add_formula.ensures (scope_of c.behind.result) c.behind.ensures
+    c.part-item.result c.loop-part-test.true c.part-item.is c.extend_from_slice-in-loop-part.new.self.items c.add_formula.new.text.items
+    c.in_ok-extend_from_slice-2.ensures.items c.in_ok-add_formula.ensures (scope_of c.behind-current.result) c.behind-current.ensures

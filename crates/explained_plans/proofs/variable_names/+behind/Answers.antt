@@ -20,11 +20,11 @@ pub names_behind_each-loop-part-preserved : goal.names_behind_each-loop-part-pre
 names_behind_each-loop-part-preserved t c =
     let parts = c.args.parts.now in
     let index = c.loop-part.part-index in
-    ap (behind_all (formulas (map formula_of (drop (index + 1) parts)))) c.names_behind.ensures
-    ∙ sym (next_left (λ xs. behind_all (formulas (map formula_of xs)) (names_in c.loop-part.left)) parts index c.part-item.result c.loop-part-test.true c.part-item.is)
+    ap (behind_all (formulas (map formula_of (drop (index + 1) parts)))) c.names_behind-left.ensures
+    ∙ sym (next_left (λ xs. behind_all (formulas (map formula_of xs)) (names_in c.loop-part.left.now)) parts index c.part-item.result c.loop-part-test.true c.part-item.is)
     ∙ c.loop-part.invariant
 
 pub names_behind_each-returns : goal.names_behind_each-returns
 names_behind_each-returns t c =
-    sym (at_drop_all (λ xs. behind_all (formulas (map formula_of xs)) (names_in c.loop-part.left)) c.args.parts.now c.loop-part.part-index c.loop-part-test.false)
+    sym (at_drop_all (λ xs. behind_all (formulas (map formula_of xs)) (names_in c.loop-part.left.now)) c.args.parts.now c.loop-part.part-index c.loop-part-test.false)
     ∙ c.loop-part.invariant
