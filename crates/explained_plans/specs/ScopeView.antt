@@ -1,6 +1,5 @@
 -- A scope of the code, in the definitions' terms.
-use Rattle.std.specs.Prelude.{ℕ, List, map}
-use Rattle.std.specs.Borrow.{Bor}
+use Rattle.std.specs.Prelude.{map}
 use Rattle.explained_plans.specs.FormulaText.{Scope}
 use Rattle.explained_plans.specs.NamesView.{names_in}
 use Rattle.explained_plans.specs.declared.formula_text.Scope as code

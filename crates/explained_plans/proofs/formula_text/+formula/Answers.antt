@@ -2,7 +2,7 @@ use Rattle.std.proofs.Common.{◌≡◌, ◌++◌, subst, sym}
 use Rattle.std.specs.Prelude.{OnOk}
 use Rattle.task.specs.Task.{task_of}
 use Rattle.explained_plans.specs.ScopeView.{scope_of}
-use Rattle.explained_plans.proofs.PlanLinesLemmas.{and_text, or_text, part_added, parts_added}
+use Rattle.explained_plans.proofs.PlanLinesLemmas.{and_text, or_text, part_added}
 use Rattle.explained_plans.proofs.formula_text.+formula.Goals as goal
 
 pub add_formula-returns-in-And : goal.add_formula-returns-in-And

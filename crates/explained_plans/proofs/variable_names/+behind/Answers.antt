@@ -1,4 +1,4 @@
-use Rattle.std.proofs.Common.{◌≡◌, ◌∙◌, ◌+◌, ap, drop, map, sym}
+use Rattle.std.proofs.Common.{◌∙◌, ◌+◌, ap, drop, map, sym}
 use Rattle.std.proofs.lemmas.List.{at_drop_all}
 use Rattle.task.specs.TaskParts.{formula_of}
 use Rattle.explained_plans.specs.NamesView.{names_in}
