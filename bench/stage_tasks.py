@@ -150,7 +150,7 @@ GRID = """(define (domain keys-on-grid) (:requirements :typing)
 def woodworking(parts, seed):
     """Parts of two lengths, to be sawn from a board of oak and one of pine; each fourth is there already, in a wrong state."""
     draw = random.Random(seed)
-    pieces, colours, woods, lengths = names("p", parts), ["red", "blue"], ["oak", "pine"], names("l", parts + 1)
+    pieces, colours, woods, lengths = names("p", parts), ["red", "blue"], ["oak", "pine"], names("l", 2 * parts + 1)
     init = ["(is-smooth smooth) (is-smooth very-smooth)", "(grinds varnished fragments) (grinds glazed untreated) (grinds untreated untreated)",
             "(grinds fragments untreated)", "(empty fast)"]
     init += [f"(offers {machine} {colour})" for machine in ("dip", "gun") for colour in colours] + ["(offers brush natural) (offers brush red)"]
@@ -158,7 +158,7 @@ def woodworking(parts, seed):
     for k, part in enumerate(pieces):
         size, wood = draw.randint(1, 2), draw.choice(woods)
         init += [f"(= ({cost} {part}) {size * each})" for cost, each in (("sprays", 5), ("glazes", 10), ("grind-cost", 15), ("planes", 10))]
-        init += [f"(cuts {part} {lengths[at - size]} {lengths[at]})" for at in range(size, parts + 1)]
+        init += [f"(cuts {part} {lengths[at - size]} {lengths[at]})" for at in range(size, len(lengths))]
         colour, treatment = draw.choice([("red", "varnished"), ("blue", "varnished"), ("red", "glazed"), ("natural", "glazed")])
         goal += [f"(available {part})", f"(has {part} {colour})", f"(treated {part} {treatment})", f"(is-of {part} {wood})"]
         if k % 4 == 3:
@@ -171,7 +171,7 @@ def woodworking(parts, seed):
     boards = {wood: f"b-{wood}" for wood in woods if need[wood]}
     for wood, board in boards.items():
         surface = draw.choice(["rough", "smooth"])
-        init += [f"(available {board}) (is-of {board} {wood}) (feels {board} {surface}) (long {board} {lengths[min(parts, need[wood])]})"]
+        init += [f"(available {board}) (is-of {board} {wood}) (feels {board} {surface}) (long {board} {lengths[need[wood]]})"]
     machines = {"saw": ["slow"], "fast-saw": ["fast"], "varnisher": ["dip"], "sprayer": ["gun"], "glazer": ["brush"], "grinder": ["belt"],
                 "planer": ["knife"]}
     objects = typed(part=pieces, board=boards.values(), colour=colours, wood=woods, length=lengths, **machines)

@@ -40,7 +40,7 @@ TASKS = [
     ("barman, 2 cocktails, 3 shots", *barman(2, 3, 3)),
     ("barman, 3 cocktails, 3 shots", *barman(3, 3, 3)),
     ("woodworking, 5 parts", *woodworking(5, 1)),
-    ("woodworking, 6 parts", *woodworking(6, 2)),
+    ("woodworking, 6 parts", *woodworking(6, 4)),
     ("floortile, 3x3", *floortile(3, 3, 1)),
     ("floortile, 4x2", *floortile(4, 2, 2)),
     ("parking, 10 cars", *parking(10, 6, 4)),
