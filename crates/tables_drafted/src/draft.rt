@@ -1,4 +1,8 @@
 //! Drafts of values over tables, from the ground task to tables in memory.
+ghost use Rattle.std.specs.Prelude.{◌≡◌, IfOk, IfSome, Some, map, slice_get};
+ghost use Rattle.potentials.specs.Potentials.{potentials_of};
+ghost use Rattle.tables_drafted.specs.ValuePotentials.{potentials_in_value};
+
 use crate::chosen::{Choosing, Value, copied};
 use crate::collected::{Collected, Collecting, costs_of};
 use crate::states::{rows_of_all, samples, values_of_all};
@@ -87,7 +91,10 @@ pub fn drafted_tables(
     alloc: Global,
     ground: &Ground<'_>,
     wanted: &Wanted<'_>,
-) -> Result<Option<DraftedTables>, NoMemory> {
+) -> Result<Option<DraftedTables>, NoMemory>
+    ensures first { IfOk result (λ o. IfSome o (λ draft. slice_get (map potentials_of draft.values.items) 0 ≡ Some (potentials_of wanted.now.potentials.now))) }
+    ensures dead_ends { IfOk result (λ o. IfSome o (λ draft. potentials_of draft.dead_ends ≡ potentials_of wanted.now.dead_ends.now)) }
+{
     if ground.width() > MAX_ATOMS || ground.instances().len() > MAX_INSTANCES {
         return Ok(None);
     }
@@ -108,7 +115,10 @@ fn draft_over(
     variables: &Variables,
     tables: &mut Tables,
     wanted: &Wanted<'_>,
-) -> Result<Option<DraftedTables>, NoMemory> {
+) -> Result<Option<DraftedTables>, NoMemory>
+    ensures first { IfOk result (λ o. IfSome o (λ draft. slice_get (map potentials_of draft.values.items) 0 ≡ Some (potentials_of wanted.now.potentials.now))) }
+    ensures dead_ends { IfOk result (λ o. IfSome o (λ draft. potentials_of draft.dead_ends ≡ potentials_of wanted.now.dead_ends.now)) }
+{
     let atoms = samples(alloc, tables.states(), wanted.states)?;
     let states = values_of_all(alloc, variables, &atoms)?;
     let Some(steps) = Steps::new(alloc, ground, variables)? else {
@@ -182,7 +192,10 @@ fn draft_by<'a>(
     states: &[Vec<u32>],
     tables: &mut Tables,
     wanted: &Wanted<'a>,
-) -> Result<Option<DraftedTables>, NoMemory> {
+) -> Result<Option<DraftedTables>, NoMemory>
+    ensures first { IfOk result (λ o. IfSome o (λ draft. slice_get (map potentials_of draft.values.items) 0 ≡ Some (potentials_of wanted.now.potentials.now))) }
+    ensures dead_ends { IfOk result (λ o. IfSome o (λ draft. potentials_of draft.dead_ends ≡ potentials_of wanted.now.dead_ends.now)) }
+{
     let graphs = known.collected.graphs.as_slice();
     let rows = rows_of_all(alloc, graphs, states)?;
     let choosing = Choosing {
@@ -199,7 +212,7 @@ fn draft_by<'a>(
     };
     Ok(Some(DraftedTables {
         tables: written,
-        values: potentials_of(alloc, values)?,
+        values: potentials_in(alloc, &values)?,
         dead_ends: copied(alloc, wanted.dead_ends)?,
     }))
 }
@@ -249,10 +262,12 @@ impl Known {
 }
 
 /// The potentials of the values.
-fn potentials_of(alloc: Global, values: Vec<Value>) -> Result<Vec<Potentials>, NoMemory> {
+fn potentials_in(alloc: Global, values: &[Value]) -> Result<Vec<Potentials>, NoMemory>
+    ensures { IfOk result (λ potentials. map potentials_of potentials.items ≡ map potentials_in_value values.now) }
+{
     let mut potentials = Vec::new(alloc);
     for value in values {
-        potentials.push(value.potentials)?;
+        potentials.push(copied(alloc, &value.potentials)?)?;
     }
     Ok(potentials)
 }
