@@ -1,10 +1,11 @@
 //! Answers by a search that goes by values over tables.
 //!
-//! Nothing is known of the values but that a certificate can have them: whether they are fair is tested. They are with the tables
-//! as the certificate has them, and go into it, so that the tables are in memory once.
-ghost use Rattle.std.specs.Prelude.{◌≡◌, ◌==◌, [], IfOk, IfSome, IsTrue, length, map};
+//! Tables are drafted, of which nothing is known. They are taken if a certificate can have them, they are tested to be fair, give
+//! the initial state no lower value than the potentials, and would have saved a first search by these at least half of what it
+//! expanded. Of the values over tables the first one is that of the potentials.
+ghost use Rattle.std.specs.Prelude.{◌≡◌, ◌==◌, ◌∷◌, [], IfOk, IfSome, IsTrue, length, map};
 ghost use Rattle.std.specs.List.{list_all};
-ghost use Rattle.certificate.specs.CertificateParts.{are_bounds, bounds_of};
+ghost use Rattle.certificate.specs.CertificateParts.{are_bounds, bounds_of, potential_of};
 ghost use Rattle.certificate_definitions.specs.Certificates.{three};
 ghost use Rattle.grounding.specs.Ground.{task_in, atoms_in, IsGroundOf};
 ghost use Rattle.model.specs.NumberedAtoms.{numbered_atoms};
@@ -21,10 +22,11 @@ ghost use Rattle.table_rows.specs.Tables.{weight_count_of};
 ghost use Rattle.table_rows.specs.declared.table.Table as in_memory;
 
 use crate::answer::{Answer, answer_of};
-use crate::guidance::Guidance;
+use crate::guidance::{Guidance, potential_of};
 use crate::limits::Limits;
 use crate::searched::{Searched, search_by};
-use certificate::Bounds;
+use crate::stopped::Stopped;
+use certificate::{Bounds, Potential, Version};
 use faults::NoMemory;
 use grounding::Ground;
 use potentials::Potentials;
@@ -32,14 +34,98 @@ use std::alloc::Global;
 use table_guides::FairTables;
 use table_rows::Table;
 use tables::{IndexedTables, TableFunctions, ValuesFairness};
+use tables_drafted::{DraftedTables, Wanted, drafted_tables};
 
-/// The answer by these values, which are given as potentials too, over their tables; none where they are not fair.
-pub(crate) fn answer_by_tables(
+/// The answer by tables; none where none are found that are better than these potentials, by which a first search was stopped so.
+pub(crate) fn solve_by_tables(
+    alloc: Global,
+    ground: &Ground<'_>,
+    potentials: &Potentials,
+    dead_ends: &Potentials,
+    stopped: &Stopped<'_>,
+    limits: Limits,
+) -> Result<Option<Answer>, NoMemory>
+    requires typed { IsTrue (is_task (task_in ground.now)) }
+    requires ground { IsGroundOf (task_in ground.now) [] limits.instances ground.now }
+    requires improved { AreSettledOrHigh (task_in ground.now) (atoms_in ground.now) (potentials_of potentials.now) }
+    requires dead_ends_improved { AreDeadSettledOrHigh (task_in ground.now) (atoms_in ground.now) (potentials_of dead_ends.now) }
+    ensures { IfOk result (λ o. IfSome o (IsTrueAnswer (task_in ground.now) limits.states limits.instances)) }
+{
+    let Some(draft) = drafted(alloc, ground, potentials, dead_ends, stopped)? else {
+        return Ok(None);
+    };
+    let values = values_with(alloc, potentials, draft.values)?;
+    let dead_ends = copied(alloc, dead_ends)?;
+    let bounds = Bounds {
+        values: written(alloc, &values)?,
+        dead_ends: potential_of(alloc, &dead_ends)?,
+        tables: draft.tables,
+    };
+    if !bounds.keep_limits(Version::Three, ground.width() as usize) {
+        return Ok(None);
+    }
+    answer_by_tables(alloc, ground, bounds, values, dead_ends, stopped, limits)
+}
+
+/// Tables that may be better than these potentials, by which a first search was stopped so.
+fn drafted(
+    alloc: Global,
+    ground: &Ground<'_>,
+    potentials: &Potentials,
+    dead_ends: &Potentials,
+    stopped: &Stopped<'_>,
+) -> Result<Option<DraftedTables>, NoMemory> {
+    let states = stopped.samples(alloc)?;
+    let wanted = Wanted {
+        potentials,
+        dead_ends,
+        states: &states,
+        effort: stopped.effort,
+    };
+    let draft = drafted_tables(alloc, ground, &wanted)?;
+    Ok(draft)
+}
+
+/// The potentials, and the others after them.
+fn values_with(
+    alloc: Global,
+    potentials: &Potentials,
+    others: Vec<Potentials>,
+) -> Result<Vec<Potentials>, NoMemory>
+    ensures { IfOk result (λ values. map potentials_of values.items ≡ potentials_of potentials.now ∷ map potentials_of others.items) }
+{
+    let mut values = others;
+    values.insert(0, copied(alloc, potentials)?)?;
+    Ok(values)
+}
+
+/// The same potentials once more.
+fn copied(alloc: Global, potentials: &Potentials) -> Result<Potentials, NoMemory>
+    ensures { IfOk result (λ copy. potentials_of copy ≡ potentials_of potentials.now) }
+{
+    potentials.copied(alloc)
+}
+
+/// The same constants and weights of all values, as a certificate has them.
+fn written(alloc: Global, values: &[Potentials]) -> Result<Vec<Potential>, NoMemory>
+    ensures { IfOk result (λ written. map potential_of written.items ≡ map potentials_of values.now) }
+{
+    let mut written = Vec::with_capacity(alloc, values.len())?;
+    for value in values {
+        written.push(potential_of(alloc, value)?)?;
+    }
+    Ok(written)
+}
+
+/// The answer by these values, which are given as potentials too, over their tables; none where they are not fair, or not better
+/// than what the first search was guided by.
+fn answer_by_tables(
     alloc: Global,
     ground: &Ground<'_>,
     bounds: Bounds,
     values: Vec<Potentials>,
     dead_ends: Potentials,
+    stopped: &Stopped<'_>,
     limits: Limits,
 ) -> Result<Option<Answer>, NoMemory>
     requires typed { IsTrue (is_task (task_in ground.now)) }
@@ -51,20 +137,21 @@ pub(crate) fn answer_by_tables(
     requires dead_ends_improved { AreDeadSettledOrHigh (task_in ground.now) (atoms_in ground.now) (bounds_of bounds).dead_ends }
     ensures { IfOk result (λ o. IfSome o (IsTrueAnswer (task_in ground.now) limits.states limits.instances)) }
 {
-    let Some(searched) = search_by_tables(alloc, ground, &bounds, values, dead_ends, limits)? else {
+    let Some(searched) = search_by_tables(alloc, ground, &bounds, values, dead_ends, stopped, limits)? else {
         return Ok(None);
     };
     let answer = answer_of(alloc, ground, Guidance::Tables(bounds), searched, limits)?;
     Ok(Some(answer))
 }
 
-/// What a search by these values comes to; none where they are not fair.
+/// What a search by these values comes to; none where they are not fair, or not better.
 fn search_by_tables(
     alloc: Global,
     ground: &Ground<'_>,
     bounds: &Bounds,
     values: Vec<Potentials>,
     dead_ends: Potentials,
+    stopped: &Stopped<'_>,
     limits: Limits,
 ) -> Result<Option<Searched>, NoMemory>
     requires atoms { atoms_in ground.now ≡ numbered_atoms (task_in ground.now) [] }
@@ -77,6 +164,9 @@ fn search_by_tables(
     let Some(guide) = guide_of(alloc, ground, &bounds.tables, values, dead_ends)? else {
         return Ok(None);
     };
+    if !stopped.is_outdone_by(alloc, ground, &guide)? {
+        return Ok(None);
+    }
     let searched = search_by(alloc, ground, &guide, limits)?;
     Ok(Some(searched))
 }
