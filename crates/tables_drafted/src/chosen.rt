@@ -175,7 +175,7 @@ impl Choosing<'_> {
         let mut values = Vec::new(alloc);
         let alone = Value {
             division: None,
-            potentials: copied(alloc, self.potentials)?,
+            potentials: self.potentials.copied(alloc)?,
         };
         let mut most = self.given(alloc, &alone)?;
         values.push(alone)?;
@@ -234,15 +234,4 @@ fn gain(given: &[i64], most: &[i64]) -> (i64, i64) {
         all = all.saturating_add(more);
     }
     (first.unwrap_or(0), all)
-}
-
-/// The same potentials once more.
-pub(crate) fn copied(alloc: Global, potentials: &Potentials) -> Result<Potentials, NoMemory>
-    ensures { IfOk result (λ copy. potentials_of copy ≡ potentials_of potentials.now) }
-{
-    let weights = Vec::from_slice(alloc, potentials.weights())?;
-    match Potentials::new(potentials.constant(), weights) {
-        Some(copy) => Ok(copy),
-        None => Err(NoMemory),
-    }
 }

@@ -3,7 +3,7 @@ ghost use Rattle.std.specs.Prelude.{◌≡◌, IfOk, IfSome, Some, map, slice_ge
 ghost use Rattle.potentials.specs.Potentials.{potentials_of};
 ghost use Rattle.tables_drafted.specs.ValuePotentials.{potentials_in_value};
 
-use crate::chosen::{Choosing, Value, copied};
+use crate::chosen::{Choosing, Value};
 use crate::collected::{Collected, Collecting, costs_of};
 use crate::states::{rows_of_all, samples, values_of_all};
 use crate::written::{Writing, part_of, weight_of_dead};
@@ -213,7 +213,7 @@ fn draft_by<'a>(
     Ok(Some(DraftedTables {
         tables: written,
         values: potentials_in(alloc, &values)?,
-        dead_ends: copied(alloc, wanted.dead_ends)?,
+        dead_ends: wanted.dead_ends.copied(alloc)?,
     }))
 }
 
@@ -267,7 +267,7 @@ fn potentials_in(alloc: Global, values: &[Value]) -> Result<Vec<Potentials>, NoM
 {
     let mut potentials = Vec::new(alloc);
     for value in values {
-        potentials.push(copied(alloc, &value.potentials)?)?;
+        potentials.push(value.potentials.copied(alloc)?)?;
     }
     Ok(potentials)
 }
