@@ -1,4 +1,8 @@
 //! Several values, of which the greatest counts: those are chosen by which some states have greater values than by the others.
+ghost use Rattle.std.specs.Prelude.{◌≡◌, IfOk, Some, map, slice_get};
+ghost use Rattle.potentials.specs.Potentials.{potentials_of};
+ghost use Rattle.tables_drafted.specs.ValuePotentials.{potentials_in_value};
+
 use crate::draft::Effort;
 use crate::rests::{left_by, potentials_of_rest, score};
 use costs_divided::{Costs, Divider, Division, Order, StateRows};
@@ -63,11 +67,9 @@ pub(crate) struct Choosing<'a> {
 
 impl Choosing<'_> {
     /// The values: the potentials alone, and others by which some state's value is greater.
-    pub(crate) fn values(
-        &self,
-        alloc: Global,
-        tables: &mut Tables,
-    ) -> Result<Vec<Value>, NoMemory> {
+    pub(crate) fn values(&self, alloc: Global, tables: &mut Tables) -> Result<Vec<Value>, NoMemory>
+        ensures { IfOk result (λ values. slice_get (map potentials_in_value values.items) 0 ≡ Some (potentials_of self.now.potentials.now)) }
+    {
         let mut divider = Divider::new(alloc, self.graphs, self.costs, self.rows)?;
         divider.allow(self.effort.part_of(MAX_WORK));
         let mut candidates = Candidates {
@@ -166,11 +168,10 @@ impl Choosing<'_> {
 
     /// The potentials alone, and then again and again the candidate by which the initial state and all states gain most, as
     /// long as some do.
-    fn chosen(
-        &self,
-        alloc: Global,
-        mut candidates: Vec<Candidate>,
-    ) -> Result<Vec<Value>, NoMemory> {
+    #[tactic(auto, using(crate::proofs::ValueLemmas::first_kept))]
+    fn chosen(&self, alloc: Global, mut candidates: Vec<Candidate>) -> Result<Vec<Value>, NoMemory>
+        ensures { IfOk result (λ values. slice_get (map potentials_in_value values.items) 0 ≡ Some (potentials_of self.now.potentials.now)) }
+    {
         let mut values = Vec::new(alloc);
         let alone = Value {
             division: None,

@@ -1,4 +1,11 @@
 //! Drafts of values over tables, from the ground task to tables in memory.
+<<<<<<< HEAD
+=======
+ghost use Rattle.std.specs.Prelude.{◌≡◌, IfOk, IfSome, Some, map, slice_get};
+ghost use Rattle.potentials.specs.Potentials.{potentials_of};
+ghost use Rattle.tables_drafted.specs.ValuePotentials.{potentials_in_value};
+
+>>>>>>> h2
 use crate::chosen::{Choosing, Value};
 use crate::collected::{Collected, Collecting, costs_of};
 use crate::states::{rows_of_all, samples, values_of_all};
@@ -85,7 +92,10 @@ pub fn drafted_tables(
     alloc: Global,
     ground: &Ground<'_>,
     wanted: &Wanted<'_>,
-) -> Result<Option<DraftedTables>, NoMemory> {
+) -> Result<Option<DraftedTables>, NoMemory>
+    ensures first { IfOk result (λ o. IfSome o (λ draft. slice_get (map potentials_of draft.values.items) 0 ≡ Some (potentials_of wanted.now.potentials.now))) }
+    ensures dead_ends { IfOk result (λ o. IfSome o (λ draft. potentials_of draft.dead_ends ≡ potentials_of wanted.now.dead_ends.now)) }
+{
     if ground.width() > MAX_ATOMS || ground.instances().len() > MAX_INSTANCES {
         return Ok(None);
     }
@@ -106,7 +116,10 @@ fn draft_over(
     variables: &Variables,
     tables: &mut Tables,
     wanted: &Wanted<'_>,
-) -> Result<Option<DraftedTables>, NoMemory> {
+) -> Result<Option<DraftedTables>, NoMemory>
+    ensures first { IfOk result (λ o. IfSome o (λ draft. slice_get (map potentials_of draft.values.items) 0 ≡ Some (potentials_of wanted.now.potentials.now))) }
+    ensures dead_ends { IfOk result (λ o. IfSome o (λ draft. potentials_of draft.dead_ends ≡ potentials_of wanted.now.dead_ends.now)) }
+{
     let atoms = samples(alloc, tables.states(), wanted.states)?;
     let states = values_of_all(alloc, variables, &atoms)?;
     let Some(steps) = Steps::new(alloc, ground, variables)? else {
@@ -180,7 +193,10 @@ fn draft_by<'a>(
     states: &[Vec<u32>],
     tables: &mut Tables,
     wanted: &Wanted<'a>,
-) -> Result<Option<DraftedTables>, NoMemory> {
+) -> Result<Option<DraftedTables>, NoMemory>
+    ensures first { IfOk result (λ o. IfSome o (λ draft. slice_get (map potentials_of draft.values.items) 0 ≡ Some (potentials_of wanted.now.potentials.now))) }
+    ensures dead_ends { IfOk result (λ o. IfSome o (λ draft. potentials_of draft.dead_ends ≡ potentials_of wanted.now.dead_ends.now)) }
+{
     let graphs = known.collected.graphs.as_slice();
     let rows = rows_of_all(alloc, graphs, states)?;
     let choosing = Choosing {
@@ -197,7 +213,12 @@ fn draft_by<'a>(
     };
     Ok(Some(DraftedTables {
         tables: written,
+<<<<<<< HEAD
         values: potentials_of(alloc, values)?,
+=======
+        values: potentials_in(alloc, &values)?,
+        dead_ends: wanted.dead_ends.copied(alloc)?,
+>>>>>>> h2
     }))
 }
 
@@ -245,11 +266,21 @@ impl Known {
     }
 }
 
+<<<<<<< HEAD
 /// The potentials of the values behind the first.
 fn potentials_of(alloc: Global, values: Vec<Value>) -> Result<Vec<Potentials>, NoMemory> {
     let mut potentials = Vec::new(alloc);
     for value in values.into_iter().skip(1) {
         potentials.push(value.potentials)?;
+=======
+/// The potentials of the values.
+fn potentials_in(alloc: Global, values: &[Value]) -> Result<Vec<Potentials>, NoMemory>
+    ensures { IfOk result (λ potentials. map potentials_of potentials.items ≡ map potentials_in_value values.now) }
+{
+    let mut potentials = Vec::new(alloc);
+    for value in values {
+        potentials.push(value.potentials.copied(alloc)?)?;
+>>>>>>> h2
     }
     Ok(potentials)
 }

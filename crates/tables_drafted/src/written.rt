@@ -124,13 +124,18 @@ fn add(alloc: Global, table: &mut Table, atoms: &[u32], weights: &[i64]) -> Resu
 }
 
 /// Whether each number is above the one before it.
+#[tactic(auto, using(crate::proofs::RisingLemmas::rising_on, crate::proofs::RisingLemmas::rising_not))]
 fn is_rising(numbers: &[u32]) -> bool
     ensures { result ≡ rows.are_rising numbers.now }
 {
-    match numbers {
-        [first, others @ ..] => is_below(*first, others) && is_rising(others),
-        [] => true,
+    let mut left = numbers;
+    while let [first, others @ ..] = left {
+        if !is_below(*first, others) {
+            return false;
+        }
+        left = others;
     }
+    true
 }
 
 /// Whether the number is below the first of the others, if there are some.
