@@ -3,7 +3,7 @@
 //! Tables are drafted, of which nothing is known. They are taken if a certificate can have them, they are tested to be fair, and
 //! they would have saved a first search by potentials enough of the states that it expanded. Of the values over tables the first
 //! one is that of the potentials.
-ghost use Rattle.std.specs.Prelude.{◌≡◌, ◌==◌, ◌≤◌, ◌∷◌, [], IfOk, IfSome, IsTrue, length, map};
+ghost use Rattle.std.specs.Prelude.{◌≡◌, ◌==◌, ◌≤◌, [], IfOk, IfSome, IsTrue, Some, length, map, slice_get};
 ghost use Rattle.std.specs.List.{list_all};
 ghost use Rattle.certificate.specs.CertificateParts.{are_bounds, bounds_of, potential_of};
 ghost use Rattle.certificate_definitions.specs.Certificates.{three};
@@ -58,12 +58,15 @@ pub(crate) fn solve_by_tables(
     let Some(draft) = drafted(alloc, ground, stopped)? else {
         return Ok(Attempt::InVain);
     };
-    let values = values_with(alloc, stopped.potentials, draft.values)?;
-    let dead_ends = stopped.dead_ends.copied(alloc)?;
+    let DraftedTables {
+        tables,
+        values,
+        dead_ends,
+    } = draft;
     let bounds = Bounds {
         values: written(alloc, &values)?,
         dead_ends: potential_of(alloc, &dead_ends)?,
-        tables: draft.tables,
+        tables,
     };
     if !bounds.keep_limits(Version::Three, ground.width() as usize) {
         return Ok(Attempt::InVain);
@@ -76,7 +79,10 @@ fn drafted(
     alloc: Global,
     ground: &Ground<'_>,
     stopped: &Stopped<'_>,
-) -> Result<Option<DraftedTables>, NoMemory> {
+) -> Result<Option<DraftedTables>, NoMemory>
+    ensures first { IfOk result (λ o. IfSome o (λ draft. slice_get (map potentials_of draft.values.items) 0 ≡ Some (potentials_of stopped.now.potentials.now))) }
+    ensures dead_ends { IfOk result (λ o. IfSome o (λ draft. potentials_of draft.dead_ends ≡ potentials_of stopped.now.dead_ends.now)) }
+{
     let states = stopped.samples(alloc)?;
     let wanted = Wanted {
         potentials: stopped.potentials,
@@ -86,19 +92,6 @@ fn drafted(
     };
     let draft = drafted_tables(alloc, ground, &wanted)?;
     Ok(draft)
-}
-
-/// The potentials, and the others after them.
-fn values_with(
-    alloc: Global,
-    potentials: &Potentials,
-    others: Vec<Potentials>,
-) -> Result<Vec<Potentials>, NoMemory>
-    ensures { IfOk result (λ values. map potentials_of values.items ≡ potentials_of potentials.now ∷ map potentials_of others.items) }
-{
-    let mut values = others;
-    values.insert(0, potentials.copied(alloc)?)?;
-    Ok(values)
 }
 
 /// The same constants and weights of all values, as a certificate has them.

@@ -1,11 +1,8 @@
 //! Drafts of values over tables, from the ground task to tables in memory.
-<<<<<<< HEAD
-=======
 ghost use Rattle.std.specs.Prelude.{◌≡◌, IfOk, IfSome, Some, map, slice_get};
 ghost use Rattle.potentials.specs.Potentials.{potentials_of};
 ghost use Rattle.tables_drafted.specs.ValuePotentials.{potentials_in_value};
 
->>>>>>> h2
 use crate::chosen::{Choosing, Value};
 use crate::collected::{Collected, Collecting, costs_of};
 use crate::states::{rows_of_all, samples, values_of_all};
@@ -34,14 +31,16 @@ const MAX_INSTANCES: usize = 200_000;
 /// How many rows are looked at of tables that may be of use for dead ends alone.
 const MAX_ROWS_FOR_DEAD_ENDS: usize = 50_000;
 
-/// Values over tables, beside those of given potentials: of all these the greatest counts. Of each row the first weight is for
-/// the potentials, and 0; then come those of the values, in their order, and last that for dead ends.
+/// Several values over tables, of which the greatest counts, and one for dead ends. Of each row the weights are theirs in this
+/// order, that for dead ends last.
 #[derive(Drop)]
 pub struct DraftedTables {
     /// The tables.
     pub tables: Vec<Table>,
-    /// Of each value the constant and the weights of atoms.
+    /// Of each value the constant and the weights of atoms, the first one that of the given potentials.
     pub values: Vec<Potentials>,
+    /// Those for dead ends.
+    pub dead_ends: Potentials,
 }
 
 /// Tables, and what instances cost that they do not shut out.
@@ -213,12 +212,8 @@ fn draft_by<'a>(
     };
     Ok(Some(DraftedTables {
         tables: written,
-<<<<<<< HEAD
-        values: potentials_of(alloc, values)?,
-=======
         values: potentials_in(alloc, &values)?,
         dead_ends: wanted.dead_ends.copied(alloc)?,
->>>>>>> h2
     }))
 }
 
@@ -266,13 +261,6 @@ impl Known {
     }
 }
 
-<<<<<<< HEAD
-/// The potentials of the values behind the first.
-fn potentials_of(alloc: Global, values: Vec<Value>) -> Result<Vec<Potentials>, NoMemory> {
-    let mut potentials = Vec::new(alloc);
-    for value in values.into_iter().skip(1) {
-        potentials.push(value.potentials)?;
-=======
 /// The potentials of the values.
 fn potentials_in(alloc: Global, values: &[Value]) -> Result<Vec<Potentials>, NoMemory>
     ensures { IfOk result (λ potentials. map potentials_of potentials.items ≡ map potentials_in_value values.now) }
@@ -280,7 +268,6 @@ fn potentials_in(alloc: Global, values: &[Value]) -> Result<Vec<Potentials>, NoM
     let mut potentials = Vec::new(alloc);
     for value in values {
         potentials.push(value.potentials.copied(alloc)?)?;
->>>>>>> h2
     }
     Ok(potentials)
 }
