@@ -165,15 +165,14 @@ fn search_by_tables(
         return Ok(Attempt::InVain);
     }
     let saving = stopped.saving_by(alloc, ground, &guide)?;
-    if saving.is_worth(bounds.tables.len()) {
-        let searched = search_by(alloc, ground, &guide, limits)?;
-        return Ok(Attempt::Done(searched));
+    if !saving.is_worth(bounds.tables.len()) {
+        if saving.is_promising() {
+            return Ok(Attempt::Promising);
+        }
+        return Ok(Attempt::InVain);
     }
-    Ok(if saving.is_promising() {
-        Attempt::Promising
-    } else {
-        Attempt::InVain
-    })
+    let searched = search_by(alloc, ground, &guide, limits)?;
+    Ok(Attempt::Done(searched))
 }
 
 /// Whether the initial state's value by the guide is at least that by the potentials.

@@ -1,10 +1,12 @@
-use Rattle.std.proofs.Common.{◌≡◌, ◌∙◌, length, map, Option, sym, ap, subst}
+use Rattle.std.proofs.Common.{◌≡◌, ◌∙◌, ◌≤◌, length, map, Option, sym, ap, subst}
 use Rattle.std.specs.Prelude.{IfSome, IsTrue}
 use Rattle.certificate.specs.CertificateParts.{are_bounds, bounds_of}
 use Rattle.certificate_definitions.specs.Certificates.{three}
 use Rattle.grounding.specs.declared.ground.Ground.{Ground}
 use Rattle.grounding.specs.Ground.{task_in, atoms_in}
 use Rattle.model.specs.Grounding.{ground_system}
+use Rattle.potential_functions.specs.Settled.{initial_value}
+use Rattle.potentials.specs.Potentials.{potentials_of}
 use Rattle.table_functions.specs.FairTables.{AreFair}
 use Rattle.table_functions.specs.TableFunctions.{SeveralValues}
 use Rattle.table_guides.specs.declared.fair_tables.FairTables.{FairTables}
@@ -37,6 +39,19 @@ search_by-requires-clause-system c = ap (λ (g : Ground). ground_system (task_in
 
 pub search_by-requires-clause-width : goal.search_by-requires-clause-width
 search_by-requires-clause-width c = ap (λ (g : Ground). length (atoms_in g)) (guide_ground (goal.at.search_by-requires-clause-width c).In-Some)
+
+pub starts_no_lower-requires-clause-ground : goal.starts_no_lower-requires-clause-ground
+starts_no_lower-requires-clause-ground c = guide_ground (goal.at.starts_no_lower-requires-clause-ground c).In-Some
+
+pub saving_by-requires : goal.saving_by-requires
+saving_by-requires c = record { width = ap (λ (g : Ground). length (atoms_in g)) (guide_ground (goal.at.saving_by-requires c).In-Some) }
+
+pub returns-clause-no_lower : goal.returns-clause-no_lower
+returns-clause-no_lower c =
+    let known = c.args.ground.now in
+    let start = (ground_system (task_in known) (atoms_in known)).initial in
+    subst (λ (s : SeveralValues). initial_value (task_in known) (atoms_in known) (potentials_of c.args.stopped.now.potentials.now) ≤ estimate_by (by_tables s) start)
+    (guide_values (goal.at.returns-clause-no_lower c).In-Some ∙ same (goal.at.returns-clause-no_lower c).After-deref) (c.in_ok-starts_no_lower.ensures c.if-not-branch.false)
 
 pub returns-clause-fair : goal.returns-clause-fair
 returns-clause-fair c =
