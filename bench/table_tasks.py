@@ -1,5 +1,5 @@
 """Tasks of twenty domains of planning competitions, most of them two of each, for which `solve` looks for values over tables: by
-potentials alone it expands more than 50,000 states of each, in at most some twenty seconds."""
+potentials alone it expands more than 50,000 states of each, in some ten seconds at most."""
 
 from more_potential_tasks import barman, depots, rovers, satellite, storage, termes, tpp
 from potential_tasks import miconic
