@@ -1,4 +1,3 @@
-pub mod FormulaLists
 pub mod Running
 pub mod HistoryLemmas
 pub mod FoundLemmas

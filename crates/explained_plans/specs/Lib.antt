@@ -1,5 +1,3 @@
-pub mod VariableNames
-pub mod NamesView
 pub mod FalseParts
 pub mod Histories
 pub mod Forms

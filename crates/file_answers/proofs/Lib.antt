@@ -1,4 +1,3 @@
 pub mod CheckedLemmas
 mod ExplanationLemmas
 pub mod FilesRead
-mod QuantifiedLemmas

@@ -3,4 +3,3 @@ pub mod ExplanationLines
 pub mod Explanations
 pub mod Files
 pub mod Inputs
-pub mod QuantifiedNames
