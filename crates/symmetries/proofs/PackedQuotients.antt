@@ -35,7 +35,7 @@ module _ (task : Task) (more : List Atom) (exchanges : List Exchange) (fluent : 
       ∙ all-at (λ (b : Atom). occurs_in atoms (image_of_atom to b)) atoms found.0 (all-at (keeps_atoms atoms) exchanges exchange numbered at) found.1
 
   -- the packed representative stands for the representative
-  stands : (bits : List Bool) (s : State) → StandsFor task atoms bits s → StandsFor task atoms (packed_representative task atoms exchanges bits) (representative atoms exchanges s)
+  pub stands : (bits : List Bool) (s : State) → StandsFor task atoms bits s → StandsFor task atoms (packed_representative task atoms exchanges bits) (representative atoms exchanges s)
   stands bits s is =
       let packs = packs_states task more fluent in
       let here = state_of_bits task atoms bits in

@@ -194,8 +194,8 @@ pub record AreExchangesJudged : Type 0 where
   pub grippers : is_symmetry gripper (swapping 4 5) ≡ true
   pub balls_and_grippers : is_symmetry gripper ((2, 3) ∷ (4, 5) ∷ []) ≡ true
   pub nothing : is_symmetry gripper [] ≡ true
-  -- A ball and a gripper are of two types, and the goal wants the balls in one of the rooms.
-  pub two_types : is_symmetry gripper (swapping 2 4) ≡ false
+  -- A room and a gripper are of two types, and the goal wants the balls in one of the rooms.
+  pub two_types : is_symmetry gripper (swapping 0 4) ≡ false
   pub rooms : is_symmetry gripper (swapping 0 1) ≡ false
   -- An object is in one place of one pair.
   pub twice : is_symmetry gripper ((2, 3) ∷ (3, 2) ∷ []) ≡ false
@@ -209,8 +209,8 @@ pub record AreTasksJudged : Type 0 where
   pub two_destinations : are_alike (with_goal (and (formulas (atom (parcel_at p a) ∷ atom (parcel_at q b) ∷ [])))) ≡ false
   pub with_destinations : is_symmetry (with_goal (and (formulas (atom (parcel_at p a) ∷ atom (parcel_at q b) ∷ [])))) ((2, 3) ∷ (0, 1) ∷ []) ≡ true
   pub one_way : is_symmetry (record (with_goal (and (formulas (atom (parcel_at p a) ∷ atom (parcel_at q b) ∷ [])))) { init = start }) ((2, 3) ∷ (0, 1) ∷ []) ≡ false
-  -- A crate is a parcel, and declared with another type.
-  pub below : is_symmetry delivery (swapping 3 4) ≡ false
+  -- A crate is a parcel, and declared with another type. Nothing else of it differs here from a parcel.
+  pub below : is_symmetry (record (with_values []) { goal = forall (2 ∷ []) (atom (parcel_at x b)) }) (swapping 3 4) ≡ false
   -- Static atoms and values may not differ.
   pub one_fragile : are_alike (with_fragile (2 ∷ [])) ≡ false
   pub other_fragile : are_alike (with_fragile (3 ∷ [])) ≡ false
