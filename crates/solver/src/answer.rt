@@ -7,7 +7,7 @@ ghost use Rattle.solver.specs.Attempts.{IfDone};
 ghost use Rattle.solver.specs.Guidance.{estimate_by, reports_dead};
 ghost use Rattle.solver.specs.Guided.{IsGuidanceFor, IsSearched};
 ghost use Rattle.solver.specs.Improved.{AreSettledOrHigh, AreDeadSettledOrHigh};
-ghost use Rattle.solver.specs.Solver.{IsTrueAnswer};
+ghost use Rattle.solver.specs.Solver.{IsTrueAnswer, is_stopped};
 ghost use Rattle.solver.specs.Written.{guidance_of};
 ghost use Rattle.model.specs.WellTyped.{is_task};
 
@@ -84,6 +84,21 @@ pub enum Exceeded {
         /// It shows that no plan costs less.
         cert: Cert,
     },
+}
+
+impl Answer {
+    /// Whether the limit of the listed states is exceeded.
+    fn is_stopped(&self) -> bool
+        ensures { result ≡ is_stopped self.now }
+    {
+        match self {
+            Answer::Plan { .. } => false,
+            Answer::Unsolvable { .. } => false,
+            Answer::Unknown(Exceeded::Instances) => false,
+            Answer::Unknown(Exceeded::Atoms) => false,
+            Answer::Unknown(Exceeded::States { .. }) => true,
+        }
+    }
 }
 
 /// A cheapest plan of the task, or that it has none, with the certificate that shows it.
@@ -164,19 +179,42 @@ fn try_few(
     let Some(few) = limits.with_fewer_states(trial.states) else {
         return Ok(Attempt::InVain);
     };
-    match solve_by_potentials(alloc, ground, estimate, dead_ends, few)? {
-        Answer::Unknown(Exceeded::States { bound, cert }) => {
-            let stopped = Stopped {
-                bound,
-                cert: &cert,
-                potentials: estimate.potentials(),
-                dead_ends: dead_ends.potentials(),
-                effort: trial.effort,
-            };
-            solve_by_tables(alloc, ground, &stopped, limits)
-        }
-        answer => Ok(Attempt::Done(answer)),
+    let first = solve_by_potentials(alloc, ground, estimate, dead_ends, few)?;
+    if first.is_stopped() {
+        return try_tables(alloc, ground, estimate, dead_ends, trial, &first, limits);
     }
+    Ok(Attempt::Done(first))
+}
+
+/// The answer by tables, if such are found that are better than these potentials, by which the first search was stopped so.
+fn try_tables(
+    alloc: Global,
+    ground: &Ground<'_>,
+    estimate: &Fair<'_, '_>,
+    dead_ends: &DeadFair<'_, '_>,
+    trial: Trial,
+    first: &Answer,
+    limits: Limits,
+) -> Result<Attempt<Answer>, NoMemory>
+    requires typed { IsTrue (is_task (task_in ground.now)) }
+    requires ground { IsGroundOf (task_in ground.now) [] limits.instances ground.now }
+    requires estimate { ground_in estimate.now ≡ ground.now }
+    requires improved { AreSettledOrHigh (task_in ground.now) (atoms_in ground.now) (potentials_in estimate.now) }
+    requires dead_ends { ground_in dead_ends.now ≡ ground.now }
+    requires dead_ends_improved { AreDeadSettledOrHigh (task_in ground.now) (atoms_in ground.now) (potentials_in dead_ends.now) }
+    ensures { IfOk result (IfDone (IsTrueAnswer (task_in ground.now) limits.states limits.instances)) }
+{
+    let Answer::Unknown(Exceeded::States { bound, cert }) = first else {
+        return Ok(Attempt::InVain);
+    };
+    let stopped = Stopped {
+        bound: *bound,
+        cert,
+        potentials: estimate.potentials(),
+        dead_ends: dead_ends.potentials(),
+        effort: trial.effort,
+    };
+    solve_by_tables(alloc, ground, &stopped, limits)
 }
 
 /// The same by these potentials.
