@@ -1,13 +1,9 @@
-//! Tests of packed states and both stores of them, of the search over a system that is here alone, of potentials, of
-//! the certificates of answers over either store, and of what tables are drafted by.
+//! Tests of packed states and both stores of them, of the search over a system that is here alone, of potentials, and of
+//! the certificates of answers over either store.
 #![tactic(auto)]
 
 #[cfg(test)]
-mod atom_groups_found;
-#[cfg(test)]
 mod blind_rooms;
-#[cfg(test)]
-mod costs_taken;
 #[cfg(test)]
 mod dear_doors;
 #[cfg(test)]
@@ -24,8 +20,6 @@ mod plain_tasks;
 mod refused_inserts;
 #[cfg(test)]
 mod rooms;
-#[cfg(test)]
-mod rows_reached;
 #[cfg(test)]
 mod scores;
 #[cfg(test)]
