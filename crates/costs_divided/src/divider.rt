@@ -1,8 +1,8 @@
 //! Which orders give states great values.
 use crate::costs::Costs;
 use crate::division::Division;
-use crate::goal_distances::{NO_WAY, distance_of, distances, taken};
 use crate::orders::{Order, Worth};
+use crate::takings::{StateTable, Takings, or_nothing};
 use faults::NoMemory;
 use potentials_drafted::Chance;
 use reached_rows::RowGraph;
@@ -18,10 +18,8 @@ pub struct Divider<'a> {
     costs: &'a Costs,
     /// The first one is the initial state.
     states: &'a [StateRows],
-    /// What each table gives each state where it takes first.
-    alone: Vec<Vec<i64>>,
-    /// And what it takes then.
-    taken: Vec<i64>,
+    /// What is known of what each table takes and gives.
+    takings: Vec<Takings>,
     chance: Chance,
     /// About how many arcs, rows and instances were looked at, and may be before an order is moved no further.
     work: u64,
@@ -47,32 +45,26 @@ impl<'a> Divider<'a> {
             graphs,
             costs,
             states,
-            alone: Vec::new(alloc),
-            taken: Vec::new(alloc),
+            takings: Vec::new(alloc),
             chance: Chance::new(),
             work: 0,
             max_work: 0,
         };
-        for (table, graph) in graphs.iter().enumerate() {
-            divider.add(alloc, table, graph)?;
+        for (place, graph) in graphs.iter().enumerate() {
+            divider.add(alloc, place, graph)?;
         }
         Ok(divider)
     }
 
-    /// Notes what the table gives and takes where it takes first.
-    fn add(&mut self, alloc: Global, table: usize, graph: &RowGraph) -> Result<(), NoMemory> {
-        let distances = distances(alloc, graph, self.costs)?;
-        let mut given = Vec::with_capacity(alloc, self.states.len())?;
-        for rows in self.states {
-            given.push(match rows.get(table) {
-                Some(row) => or_nothing(distance_of(&distances, *row)),
-                None => 0,
-            })?;
-        }
-        self.taken
-            .push(taken(alloc, graph, &distances, self.costs)?)?;
-        self.alone.push(given)?;
-        self.count(graph);
+    /// Notes what the table at this place gives and takes where it takes first.
+    fn add(&mut self, alloc: Global, place: usize, graph: &RowGraph) -> Result<(), NoMemory> {
+        let table = StateTable {
+            graph,
+            place,
+            states: self.states,
+        };
+        self.takings.push(Takings::new(alloc, table, self.costs)?)?;
+        self.count(looks_at(graph));
         Ok(())
     }
 
@@ -86,27 +78,20 @@ impl<'a> Divider<'a> {
         self.work > self.max_work
     }
 
-    /// Counts the arcs, rows and instances of the table as looked at.
-    fn count(&mut self, graph: &RowGraph) {
-        let looks = graph
-            .arc_count()
-            .saturating_add(graph.row_count())
-            .saturating_add(graph.instance_count());
+    /// So many arcs, rows and instances more were looked at.
+    fn count(&mut self, looks: usize) {
         self.work = self.work.saturating_add(looks as u64);
     }
 
     /// How good each table is for the state at this place, of those that give some state something.
     fn worths(&self, alloc: Global, state: usize) -> Result<Vec<Worth>, NoMemory> {
         let mut worths = Vec::new(alloc);
-        for (table, (given, taken)) in self.alone.iter().zip(&self.taken).enumerate() {
-            if given.iter().any(|value| *value > 0) {
+        for (table, takings) in self.takings.iter().enumerate() {
+            if takings.gives() {
                 worths.push(Worth {
                     table,
-                    given: match given.get(state) {
-                        Some(value) => *value,
-                        None => 0,
-                    },
-                    taken: *taken,
+                    given: takings.given_alone(state),
+                    taken: takings.taken_alone(),
                 })?;
             }
         }
@@ -122,7 +107,7 @@ impl<'a> Divider<'a> {
     pub fn divide(&mut self, alloc: Global, order: &Order) -> Result<Division, NoMemory> {
         for table in order.tables() {
             if let Some(graph) = self.graphs.get(*table) {
-                self.count(graph);
+                self.count(looks_at(graph));
             }
         }
         Division::new(alloc, self.graphs, order, self.costs)
@@ -192,20 +177,61 @@ impl<'a> Divider<'a> {
 
     /// How good the order is for the state at this place, and for all.
     fn merit(&mut self, alloc: Global, order: &Order, state: usize) -> Result<Merit, NoMemory> {
-        let division = self.divide(alloc, order)?;
+        let mut left = self.costs.copied(alloc)?;
+        let mut values = vec![in alloc; 0; self.states.len()]?;
+        for place in order.tables() {
+            self.take(alloc, *place, &mut left, &mut values)?;
+        }
+        Ok(Merit::new(&values, state))
+    }
+
+    /// Takes from what is left what the table at this place needs, and adds to the value of each state what it is given.
+    fn take(
+        &mut self,
+        alloc: Global,
+        place: usize,
+        left: &mut Costs,
+        values: &mut [i64],
+    ) -> Result<(), NoMemory> {
+        let Some(graph) = self.graphs.get(place) else {
+            return Ok(());
+        };
+        let table = StateTable {
+            graph,
+            place,
+            states: self.states,
+        };
+        if let Some(takings) = self.takings.get_mut(place) {
+            let is_new = takings.take(alloc, table, left, values)?;
+            self.count(if is_new {
+                looks_at(graph)
+            } else {
+                graph.instance_count()
+            });
+        }
+        Ok(())
+    }
+}
+
+impl Merit {
+    /// That of an order by which states have these values, for the one at this place.
+    fn new(values: &[i64], state: usize) -> Merit {
         let mut merit = Merit { first: 0, all: 0 };
-        for (place, rows) in self.states.iter().enumerate() {
-            let value = division.value(rows).unwrap_or(0);
+        for (place, value) in values.iter().enumerate() {
+            let value = or_nothing(*value);
             merit.all = merit.all.saturating_add(value);
             if place == state {
                 merit.first = value;
             }
         }
-        Ok(merit)
+        merit
     }
 }
 
-/// The distance, and 0 where there is no way.
-fn or_nothing(distance: i64) -> i64 {
-    if distance == NO_WAY { 0 } else { distance }
+/// How many arcs, rows and instances are looked at for what the table gives and takes.
+fn looks_at(graph: &RowGraph) -> usize {
+    graph
+        .arc_count()
+        .saturating_add(graph.row_count())
+        .saturating_add(graph.instance_count())
 }

@@ -1,37 +1,42 @@
 //! How far rows are from the goal, and what of the costs that needs.
 use crate::costs::Costs;
+use crate::waiting::Waiting;
 use atom_groups::place_of;
 use faults::NoMemory;
 use reached_rows::RowGraph;
 use std::alloc::Global;
-use std::cmp::Reverse;
-use std::collections::BinaryHeap;
 
 /// The distance of a row from which no way leads to the goal.
 pub const NO_WAY: i64 = i64::MAX;
 
-/// Rows that wait, the nearest to the goal first.
-type Waiting = BinaryHeap<Reverse<(i64, u32)>>;
-
-/// What the ways of each row to the goal cost at least, by what is left of costs: by Dijkstra's algorithm, from the goal backwards.
+/// What the ways of each row to the goal cost at least, by what is left of costs.
 pub fn distances(alloc: Global, graph: &RowGraph, costs: &Costs) -> Result<Vec<i64>, NoMemory> {
     let costs = class_costs(alloc, graph, costs)?;
+    distances_by(alloc, graph, &costs)
+}
+
+/// The same by what is left of the cost of each class: by Dijkstra's algorithm, from the goal backwards.
+pub(crate) fn distances_by(
+    alloc: Global,
+    graph: &RowGraph,
+    costs: &[Option<i64>],
+) -> Result<Vec<i64>, NoMemory> {
     let mut distances = vec![in alloc; NO_WAY; graph.row_count()]?;
-    let mut waiting: Waiting = BinaryHeap::new(alloc);
+    let mut waiting = Waiting::new(alloc);
     for (place, distance) in distances.iter_mut().enumerate() {
         if let Ok(row) = u32::try_from(place) {
             if graph.is_goal(row) {
                 *distance = 0;
-                waiting.push(Reverse((0, row)))?;
+                waiting.push(0, row)?;
             }
         }
     }
     for _ in 0..u64::MAX {
-        let Some(Reverse((distance, row))) = waiting.pop() else {
+        let Some((distance, row)) = waiting.pop() else {
             break;
         };
         if distance_of(&distances, row) == distance {
-            relax(graph, &costs, row, distance, &mut distances, &mut waiting)?;
+            relax(graph, costs, row, distance, &mut distances, &mut waiting)?;
         }
     }
     Ok(distances)
@@ -52,7 +57,7 @@ fn relax(
             if let Some(before) = distances.get_mut(place_of(arc.from)) {
                 if next < *before {
                     *before = next;
-                    waiting.push(Reverse((next, arc.from)))?;
+                    waiting.push(next, arc.from)?;
                 }
             }
         }
@@ -69,7 +74,7 @@ pub(crate) fn distance_of(distances: &[i64], row: u32) -> i64 {
 }
 
 /// What is left of the cost of each class, none where nothing is asked of its instances.
-fn class_costs(
+pub(crate) fn class_costs(
     alloc: Global,
     graph: &RowGraph,
     costs: &Costs,
@@ -90,7 +95,13 @@ pub(crate) fn take(
     costs: &mut Costs,
 ) -> Result<(), NoMemory> {
     let shares = shares(alloc, graph, distances)?;
-    for (class, share) in graph.classes().iter().zip(&shares) {
+    take_shares(graph, &shares, costs);
+    Ok(())
+}
+
+/// Takes these shares of the costs of classes.
+pub(crate) fn take_shares(graph: &RowGraph, shares: &[Option<i64>], costs: &mut Costs) {
+    for (class, share) in graph.classes().iter().zip(shares) {
         if let Some(share) = share {
             if *share != 0 {
                 for instance in graph.instances_of(class) {
@@ -99,7 +110,6 @@ pub(crate) fn take(
             }
         }
     }
-    Ok(())
 }
 
 /// How much the distances need of all costs, those of instances of which nothing is asked left out.
@@ -110,8 +120,13 @@ pub fn taken(
     costs: &Costs,
 ) -> Result<i64, NoMemory> {
     let shares = shares(alloc, graph, distances)?;
+    Ok(taken_by(graph, &shares, costs))
+}
+
+/// The same of these shares.
+pub(crate) fn taken_by(graph: &RowGraph, shares: &[Option<i64>], costs: &Costs) -> i64 {
     let mut sum = 0i64;
-    for (class, share) in graph.classes().iter().zip(&shares) {
+    for (class, share) in graph.classes().iter().zip(shares) {
         let share = share.unwrap_or(0).max(0);
         for instance in graph.instances_of(class) {
             if costs.of(*instance).is_some() {
@@ -119,7 +134,7 @@ pub fn taken(
             }
         }
     }
-    Ok(sum)
+    sum
 }
 
 /// What is taken of the cost of each class, none where it makes no difference.

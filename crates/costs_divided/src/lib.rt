@@ -9,6 +9,8 @@ mod divider;
 mod division;
 mod goal_distances;
 mod orders;
+mod takings;
+mod waiting;
 
 pub use costs::Costs;
 pub use divider::{Divider, StateRows};
