@@ -1,4 +1,9 @@
 //! What a certificate says before its states.
+ghost use Rattle.std.specs.Prelude.{◌≡◌};
+ghost use Rattle.certificate.specs.CertificateParts.{are_bounds, bounds_of};
+ghost use Rattle.certificate_reader.specs.Lines.{version_of};
+
+use crate::limits::are_bounds;
 use certificate_reader::{Claim, Version};
 use indexmap::IndexSet;
 use table_rows::Table;
@@ -23,6 +28,16 @@ pub struct Bounds {
     pub dead_ends: Potential,
     /// The tables, of whose rows each has a weight for each value and, last, one for dead ends. Versions 1 and 2 have none.
     pub tables: Vec<Table>,
+}
+
+impl Bounds {
+    /// Whether a certificate of this version and of so many atoms may have them: as many values and tables as it may, each with
+    /// a weight for each atom or for each value, and all within their limits.
+    pub fn keep_limits(&self, version: Version, atom_count: usize) -> bool
+        ensures { result ≡ are_bounds (version_of version) atom_count (bounds_of self.now) }
+    {
+        are_bounds(version, self, atom_count)
+    }
 }
 
 /// What a certificate says before its states: the version, the claim, the atoms, and what bounds the costs of plans.

@@ -28,7 +28,7 @@ pub(crate) fn keeps_limits(header: &Header, lines: &[StateLine]) -> bool
 }
 
 /// Whether a certificate of this version and of this many atoms may have these bounds.
-fn are_bounds(version: Version, bounds: &Bounds, atom_count: usize) -> bool
+pub(crate) fn are_bounds(version: Version, bounds: &Bounds, atom_count: usize) -> bool
     ensures { result ≡ are_bounds (version_of version) atom_count (bounds_of bounds.now) }
 {
     is_value_count(version, bounds.values.len())

@@ -344,4 +344,6 @@ are_judged = record {
   version_2_has_dead_ends = refl;
   version_1_has_none = refl;
   dead_in_version_1 = refl;
+  state_behind_tables = refl;
+  tables_within_limits = refl;
 }

@@ -7,8 +7,9 @@ use Rattle.model.specs.Claims.{Claim, bound, none, opened, cut, dead}
 use Rattle.model.specs.Fluents.{is_fluent, static_atoms}
 use Rattle.potential_functions.specs.PotentialFunctions.{PotentialFunction}
 use Rattle.potential_functions.specs.FairExamples.{token_task, token_atoms, potentials, minus}
-use Rattle.certificate_definitions.specs.Certificates.{Version, one, two, StateLine, Certificate, keeps_limits, IsClosedFor}
-use Rattle.certificate_definitions.specs.CertificateRefusals.{IsWrongAt, IsWrong, not_fluent, repeated, no_initial, unfair, unfair_goal, dead_unfair, dead_unfair_goal, goal_open, successor_missing, cut_weak, cut_not_allowed, not_dead}
+use Rattle.table_functions.specs.TableFunctions.{Table}
+use Rattle.certificate_definitions.specs.Certificates.{Version, one, two, three, StateLine, Certificate, keeps_limits, IsClosedFor}
+use Rattle.certificate_definitions.specs.CertificateRefusals.{IsWrongAt, IsWrong, not_fluent, repeated, no_initial, unfair, unfair_goal, dead_unfair, dead_unfair_goal, goal_open, successor_missing, cut_weak, cut_not_allowed, not_dead, state_line}
 
 abbrev pub open_at : ℕ → List ℕ → StateLine
 open_at cost atoms = record { cost = cost; mark = opened; atoms = atoms }
@@ -61,6 +62,25 @@ token_reported version claim constant of_y = record {
   lines = dead_at 0 (0 ∷ []) ∷ [];
 }
 
+-- a table over this atom, with a row where it is false and one where it is true
+abbrev pub table_over : ℕ → Table
+table_over atom = record {
+  scope = atom ∷ [];
+  rows = record { atoms = []; weights = pos 0 ∷ pos 0 ∷ [] } ∷ record { atoms = atom ∷ []; weights = pos 0 ∷ pos 0 ∷ [] } ∷ [];
+}
+
+-- In version 3: for the task `token` a table over each of its two atoms, and one state.
+abbrev pub token_tables : Certificate
+token_tables = record {
+  version = three;
+  claim = bound 0;
+  atoms = token_atoms;
+  values = zeros token_atoms ∷ [];
+  dead_ends = zeros token_atoms;
+  tables = table_over 0 ∷ table_over 1 ∷ [];
+  lines = open_at 0 (0 ∷ []) ∷ [];
+}
+
 pub record AreJudged : Type 0 where
   -- Static atoms are in no line, and are true in each listed state.
   pub link_is_static : is_fluent tie_task 0 ≡ false
@@ -105,3 +125,6 @@ pub record AreJudged : Type 0 where
   pub version_2_has_dead_ends : keeps_limits (token_reported two none (pos 2) (minus 1)) ≡ true
   pub version_1_has_none : keeps_limits (token_reported one none (pos 2) (minus 1)) ≡ false
   pub dead_in_version_1 : keeps_limits (first_version none token_atoms (zeros token_atoms) (dead_at 0 (0 ∷ []) ∷ [])) ≡ false
+  -- The first state's line is behind the version, the claim, the constants, two atoms, and two tables with two rows each.
+  pub state_behind_tables : state_line token_tables 0 ≡ 12
+  pub tables_within_limits : keeps_limits token_tables ≡ true

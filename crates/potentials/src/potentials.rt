@@ -55,6 +55,20 @@ impl Potentials {
         })
     }
 
+    /// The same constant and weights.
+    ///
+    /// # Errors
+    /// Where memory is refused.
+    pub fn copied(&self, alloc: Global) -> Result<Potentials, NoMemory>
+        ensures { IfOk result (λ p. potentials_of p ≡ potentials_of self.now) }
+    {
+        let weights = Vec::from_slice(alloc, &self.weights)?;
+        Ok(Potentials {
+            constant: self.constant,
+            weights,
+        })
+    }
+
     /// The constant.
     pub fn constant(&self) -> i64
         ensures { result ≡ (potentials_of self.now).constant }

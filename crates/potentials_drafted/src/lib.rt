@@ -17,4 +17,5 @@ mod tables;
 pub use dead_drafts::DeadDrafts;
 pub use drafts::drafted_weights;
 pub use incidence::{Incidence, IncidenceEntry};
+pub use samples::Chance;
 pub use tables::Tables;

@@ -17,7 +17,7 @@ const PARTS: usize = 65_536;
 
 /// Numbers by chance, the same ones each time.
 #[derive(Drop)]
-pub(crate) struct Chance {
+pub struct Chance {
     state: u64,
 }
 
@@ -69,7 +69,7 @@ fn most_steps(instances: u32) -> u32 {
 
 impl Chance {
     /// The numbers from the first one on.
-    pub(crate) fn new() -> Chance {
+    pub fn new() -> Chance {
         Chance { state: 1 }
     }
 
@@ -79,7 +79,7 @@ impl Chance {
     }
 
     /// The next number below this one, and 0 where that is 0: by the linear congruential generator of Knuth's MMIX.
-    fn below(&mut self, bound: usize) -> usize {
+    pub fn below(&mut self, bound: usize) -> usize {
         self.state = self
             .state
             .wrapping_mul(6_364_136_223_846_793_005)

@@ -70,7 +70,7 @@ impl Tables {
     }
 
     /// How many atoms there are.
-    pub(crate) fn width(&self) -> u32 {
+    pub fn width(&self) -> u32 {
         self.width
     }
 
@@ -83,17 +83,33 @@ impl Tables {
     }
 
     /// What each instance costs.
-    pub(crate) fn costs(&self) -> &[i64] {
+    pub fn costs(&self) -> &[i64] {
         &self.costs
     }
 
+    /// Lets each instance cost what these say, in the order of instances, in the place of what it costs in the task.
+    pub fn set_costs(&mut self, costs: Vec<i64>) {
+        self.costs = costs;
+    }
+
+    /// The most that the instance of this number loses by these weights.
+    pub fn loss(&self, number: u32, weights: &[i64]) -> i64 {
+        let mut total = 0i64;
+        for entry in self.atoms_of(number) {
+            if let Some(weight) = weights.get(entry.number as usize) {
+                total = total.saturating_add(entry.loss(*weight));
+            }
+        }
+        total
+    }
+
     /// The true atoms of the initial state, and then of those that were sampled on the way from it.
-    pub(crate) fn states(&self) -> &[Vec<u32>] {
+    pub fn states(&self) -> &[Vec<u32>] {
         &self.states
     }
 
     /// The greatest constant by which these weights give at most 0 at a goal.
-    pub(crate) fn constant(&self, weights: &[i64]) -> i64 {
+    pub fn constant(&self, weights: &[i64]) -> i64 {
         let mut constant = 0i64;
         let mut atom = 0u32;
         for weight in weights {

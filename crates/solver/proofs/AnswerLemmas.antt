@@ -1,25 +1,29 @@
 -- What the answer to the ground task says of its task, and what a list of instances that solves says of them.
-use Rattle.std.proofs.Common.{◌≡◌, ℕ, ◌+◌, ◌<◌, ◌≤◌, ◌*◌, Bool, true, false, List, [], ◌∷◌, length, map, ◌∙◌, None, Some, refl, sym, ap, subst, arith, ℤ}
+use Rattle.std.proofs.Common.{◌≡◌, ℕ, ◌+◌, ◌<◌, ◌≤◌, ◌*◌, Bool, true, false, List, [], ◌∷◌, length, map, get_or, ◌∙◌, None, Some, refl, sym, ap, subst, arith, ℤ}
 use Rattle.std.specs.Prelude.{nat_le, slice_get, Contains, All, IsTrue}
 use Rattle.std.specs.Option.{option_and_then}
 use Rattle.std.specs.List.{list_all, AllZip}
 use Rattle.std.proofs.lemmas.Bool.{and_parts, and_from, lt-ltb, leb-true}
 use Rattle.std.proofs.lemmas.Bool.Decides.{nat_tests}
 use Rattle.std.proofs.lemmas.List.{length-map}
-use Rattle.std.proofs.lemmas.Option.{slice_get_within}
+use Rattle.std.proofs.lemmas.Option.{slice_get-get_or, slice_get_within}
 use Rattle.std.proofs.lemmas.Slice.Zip.{AllZip-long}
 use Rattle.formulas.specs.declared.instance.Instance as code
 use Rattle.formulas.specs.State.{instance_of}
+use Rattle.packed_state.specs.PooledView.{pooled_states}
+use Rattle.packed_state.specs.declared.pooled.PooledStore.{PooledStore}
 use Rattle.search.specs.declared.nodes.Node.{Node}
 use Rattle.search.specs.Outcome as search
 use Rattle.search.specs.declared.best.Outcome.{Outcome}
-use Rattle.search.specs.Estimates.{value_by}
+use Rattle.search.specs.declared.best.Outcome.TheVariants.{Found, Exhausted, States}
 use Rattle.search.specs.Outcome.{lines_of, AreFound, IsTrueOutcome}
 use Rattle.solver.specs.Reachable.{AreMoreReachable}
 use Rattle.solver.specs.Limit.{is_limit}
 use Rattle.solver.proofs.ByCost.{more_by_cost}
 use Rattle.solver.proofs.GroundLemmas.{length-reachable, more_reachable, numbers_named, one_named}
-use Rattle.solver.proofs.PotentialLemmas.{value_by-value, most_value, value-most}
+use Rattle.solver.specs.Guidance.{Guidance, estimate_by, reports_dead, CanBeWritten}
+use Rattle.solver.specs.Guided.{found_in}
+use Rattle.solver.proofs.GuidanceLemmas.{most_value, estimate-most}
 use Rattle.solver.proofs.FoundLines.{found_line, node_at}
 use Rattle.solver.proofs.LimitLemmas.{limit_claim}
 use Rattle.model.specs.Task.{Task, Atom, Instance}
@@ -27,7 +31,6 @@ use Rattle.model.specs.Runs.{System, run, cost_of_all, Solves, CostsAtLeast, IsO
 use Rattle.model.specs.Claims.{Claim, bound, none, Line, IsClosed, IsLowerBound, AreDeadEnds}
 use Rattle.model.specs.Meaning.{State, step, is_instance, system_of}
 use Rattle.certificate_definitions.specs.Certificates.{is_claim}
-use Rattle.potential_functions.specs.PotentialFunctions.{PotentialFunction, score, value, is_dead_by, AreInRange}
 use Rattle.model.specs.Fluents.{is_fluent}
 use Rattle.model.specs.StaticallyFalse.{kept_instances}
 use Rattle.model.specs.NumberedAtoms.{numbered_atoms}
@@ -55,13 +58,20 @@ most_of_limit limit within = leb-true limit 16777216 (and_parts (nat_le 1 limit)
 
 -- ---- an outcome
 
--- what is found by an estimate and a test that are those of potentials is found by these
-pub outcome_by : {Store : Type 0} (t : System (List Bool) ℕ) (by : List Bool → ℤ) (p : PotentialFunction) (is_dead : List Bool → Bool) (q : PotentialFunction) (states_of : Store → List (List Bool)) (max_states : ℕ)
-    (outcome reported : Outcome Store) → by ≡ score p → is_dead ≡ is_dead_by q → outcome ≡ reported → IsTrueOutcome t (value_by by) is_dead states_of max_states outcome → IsTrueOutcome t (value p) (is_dead_by q) states_of max_states reported
-outcome_by t by p is_dead q states_of max_states outcome reported same_score same_dead is true_outcome =
-    subst (IsTrueOutcome t (value p) (is_dead_by q) states_of max_states) is
-    (subst (λ (d : List Bool → Bool). IsTrueOutcome t (value p) d states_of max_states outcome) same_dead
-    (subst (λ (v : List Bool → ℕ). IsTrueOutcome t v is_dead states_of max_states outcome) (value_by-value by p same_score) true_outcome))
+-- what the states that a search found show
+pub found_of : (t : System (List Bool) ℕ) (estimate : List Bool → ℕ) (is_dead : List Bool → Bool) (max_states : ℕ) (outcome : Outcome PooledStore)
+    → IsTrueOutcome t estimate is_dead pooled_states max_states outcome → (claim : Claim) × AreFound t estimate is_dead claim max_states (pooled_states (found_in outcome).store) (found_in outcome).nodes.items
+found_of t estimate is_dead max_states (Found steps cost found) told = (bound cost, told.2)
+found_of t estimate is_dead max_states (Exhausted found) told = (none, told.1)
+found_of t estimate is_dead max_states (States least found) told = (bound least, told.1.found)
+
+-- they are as wide as the atoms are many
+pub found_widths : (task : Task) (atoms : List Atom) {estimate : List Bool → ℕ} {is_dead : List Bool → Bool} {claim : Claim} {most : ℕ} (states : List (List Bool)) (nodes : List Node)
+    → AreFound (ground_system task atoms) estimate is_dead claim most states nodes → All (λ (bits : List Bool). length bits ≡ length atoms) states
+found_widths task atoms states nodes found k d below =
+    let (node, there) = node_at nodes k (omega (arith, below, found.one_for_each)) in
+    let reached = found.reachable k (get_or states k d) node (slice_get-get_or states k d below) there in
+    length-reachable task atoms (get_or states k d) (reached.0, reached.1)
 
 pub found_among_more : {S A : Type 0} {t : System S A} {value : S → ℕ} {is_dead : S → Bool} {claim : Claim} {count most : ℕ} {states : List S} {nodes : List Node} → AreFound t value is_dead claim count states nodes
     → count ≤ most → AreFound t value is_dead claim most states nodes
@@ -156,29 +166,30 @@ module _ (task : Task) (atoms : List Atom) (numbered : atoms ≡ numbered_atoms 
   task_unsolvable unsolvable = (ground_task_solves_alike task [] none_more).unsolvable (subst (λ (l : List Atom). IsUnsolvable (ground_system task l)) numbered unsolvable)
 
   -- the values of found states are small, where so few atoms have numbers
-  found_values : (p : PotentialFunction) (is_dead : List Bool → Bool) (claim : Claim) (max_states : ℕ) (states : List (List Bool)) (nodes : List Node)
-      → AreFound (ground_system task atoms) (value p) is_dead claim max_states states nodes → AreInRange p → length atoms ≤ 1048576
-      → (k : ℕ) (bits : List Bool) → slice_get states k ≡ Some bits → value p bits ≤ most_value
-  found_values p is_dead claim max_states states nodes found range few_atoms k bits at =
+  found_values : (guidance : Guidance) (claim : Claim) (max_states : ℕ) (states : List (List Bool)) (nodes : List Node)
+      → AreFound (ground_system task atoms) (estimate_by guidance) (reports_dead guidance) claim max_states states nodes → CanBeWritten (length atoms) guidance → length atoms ≤ 1048576
+      → (k : ℕ) (bits : List Bool) → slice_get states k ≡ Some bits → estimate_by guidance bits ≤ most_value
+  found_values guidance claim max_states states nodes found written few_atoms k bits at =
       let (node, there) = node_at nodes k (omega (arith, slice_get_within states k bits at, found.one_for_each)) in
       let reached = found.reachable k bits node at there in
       let wide = length-reachable task atoms bits (reached.0, reached.1) in
-      value-most p bits range (omega (arith, few_atoms, wide))
+      estimate-most (length atoms) guidance written.within_limits bits (omega (arith, few_atoms, wide))
 
-  -- a claim that is shown by potentials of so few atoms is a certificate's: that of a plan, and that of a search that stops at the limit
-  pub claim_allowed : (p q : PotentialFunction) (cost max_states : ℕ) (states : List (List Bool)) (nodes : List Node) (plan : List ℕ) → Solves (ground_system task atoms) plan
-      → AreFound (ground_system task atoms) (value p) (is_dead_by q) (bound cost) max_states states nodes → AreInRange p → IsLowerBound (ground_system task atoms) (value p)
-      → AreDeadEnds (ground_system task atoms) (is_dead_by q)
+  -- a claim that is shown by values of so few atoms is a certificate's: that of a plan, and that of a search that stops at the limit
+  pub claim_allowed : (guidance : Guidance) (cost max_states : ℕ) (states : List (List Bool)) (nodes : List Node) (plan : List ℕ) → Solves (ground_system task atoms) plan
+      → AreFound (ground_system task atoms) (estimate_by guidance) (reports_dead guidance) (bound cost) max_states states nodes → CanBeWritten (length atoms) guidance
+      → IsLowerBound (ground_system task atoms) (estimate_by guidance) → AreDeadEnds (ground_system task atoms) (reports_dead guidance)
       → length atoms ≤ 1048576 → max_states ≤ 16777216 → is_claim (bound cost) ≡ true
-  claim_allowed p q cost max_states states nodes plan solves found range lower dead_ends few_atoms few =
-      cheap_plan (ground_system task atoms) (value p) (is_dead_by q) cost max_states states nodes plan solves found
-      (found_values p (is_dead_by q) (bound cost) max_states states nodes found range few_atoms) lower dead_ends few
+  claim_allowed guidance cost max_states states nodes plan solves found written lower dead_ends few_atoms few =
+      cheap_plan (ground_system task atoms) (estimate_by guidance) (reports_dead guidance) cost max_states states nodes plan solves found
+      (found_values guidance (bound cost) max_states states nodes found written few_atoms) lower dead_ends few
 
-  pub limit_allowed : (p q : PotentialFunction) (least max_states : ℕ) (states : List (List Bool)) (nodes : List Node)
-      → search.IsAtLimit (ground_system task atoms) (value p) (is_dead_by q) max_states least states nodes → AreInRange p → length atoms ≤ 1048576 → max_states ≤ 16777216 → is_claim (bound least) ≡ true
-  limit_allowed p q least max_states states nodes limit range few_atoms few =
-      limit_claim (ground_system task atoms) (value p) (is_dead_by q) max_states least states nodes limit
-      (found_values p (is_dead_by q) (bound least) max_states states nodes limit.found range few_atoms) few
+  pub limit_allowed : (guidance : Guidance) (least max_states : ℕ) (states : List (List Bool)) (nodes : List Node)
+      → search.IsAtLimit (ground_system task atoms) (estimate_by guidance) (reports_dead guidance) max_states least states nodes → CanBeWritten (length atoms) guidance
+      → length atoms ≤ 1048576 → max_states ≤ 16777216 → is_claim (bound least) ≡ true
+  limit_allowed guidance least max_states states nodes limit written few_atoms few =
+      limit_claim (ground_system task atoms) (estimate_by guidance) (reports_dead guidance) max_states least states nodes limit
+      (found_values guidance (bound least) max_states states nodes limit.found written few_atoms) few
 
   -- what each list costs at least that solves the ground task, each that solves the task costs too
   pub task_costs_at_least : (least : ℕ) → CostsAtLeast (ground_system task atoms) least → CostsAtLeast (system_of task) least

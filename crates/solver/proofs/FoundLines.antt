@@ -1,13 +1,16 @@
 -- The lines of the found states, and what they say of each.
-use Rattle.std.proofs.Common.{◌≡◌, ◌∙◌, ℕ, zero, suc, ◌+◌, ◌<◌, Bool, true, false, List, [], ◌∷◌, ◌++◌, length, map, take, Some, inl, inr, refl, sym, ap, arith}
+use Rattle.std.proofs.Common.{◌≡◌, ◌∙◌, ℕ, zero, suc, ◌+◌, ◌<◌, Bool, true, false, List, [], ◌∷◌, ◌++◌, length, map, take, Option, None, Some, inl, inr, refl, sym, ap, arith}
 use Rattle.std.specs.Prelude.{slice_get, Contains, if◌then◌else◌}
 use Rattle.std.proofs.lemmas.Bool.{true≢false}
 use Rattle.std.proofs.lemmas.List.{length-map, map-append}
 use Rattle.search.specs.declared.nodes.Node.{Node}
-use Rattle.search.specs.Outcome.{is_expanded, is_marked_dead, AreMarked, line_of, lines_of, IsCut}
+use Rattle.search.specs.declared.nodes.NodeStatus.{NodeStatus}
+use Rattle.search.specs.declared.nodes.NodeStatus.TheVariants.{Open, Expanded, Dead}
+use Rattle.search.specs.DeadEnds.{IsValueUnlessDead}
+use Rattle.search.specs.Outcome.{is_expanded, is_expanded_status, is_dead_status, is_marked_dead, line_of, lines_of, IsCut}
 use Rattle.search.specs.Outcome as search
 use Rattle.certificate.specs.declared.states.Listed.{Listed}
-use Rattle.certificate.specs.ListedSets.{lines_with}
+use Rattle.certificate.specs.ListedSets.{Marked, lines_with}
 use Rattle.certificate.specs.CertificateParts.{listed_of}
 use Rattle.solver.specs.Listing.{mark_of_line, state_line}
 use Rattle.model.specs.Claims.{Mark, opened, cut, dead, Line}
@@ -51,9 +54,30 @@ module _ {S : Type 0} (value : S → ℕ) (is_dead : S → Bool) where
   pub dead_of_reported : (s : S) (node : Node) → (is_expanded node ≡ true → is_dead s ≡ false) → is_dead s ≡ true → search.mark_of value is_dead s node ≡ dead
   dead_of_reported s node alive reported = dead_by (is_expanded node) (is_dead s) (value s) alive reported
 
-  -- the mark of a node whose state is marked dead where it is reported dead
-  marked_line : (s : S) (node : Node) → is_marked_dead node ≡ is_dead s → mark_of_line (line_of value (λ _. is_marked_dead node) s node) ≡ mark_of_line (line_of value is_dead s node)
-  marked_line s node marked = ap (λ b. record { cost = node.cost; mark = mark_by (is_expanded node) b (value s) }) marked
+  -- what is said of an expanded state, of one that is marked dead, and of one that waits
+  abbrev line_by : Node → Bool → Bool → ℕ → Marked
+  line_by node is_expanded reported estimate = record { cost = node.cost; mark = mark_by is_expanded reported estimate }
+
+  pub expanded_listed : (s : S) (node : Node) → node.status ≡ Expanded → record { cost = node.cost; mark = opened } ≡ mark_of_line (line_of value is_dead s node)
+  expanded_listed s node is = sym (ap (λ (status : NodeStatus). line_by node (is_expanded_status status) (is_dead s) (value s)) is)
+
+  pub dead_listed : (s : S) (node : Node) → node.status ≡ Dead → is_marked_dead node ≡ is_dead s → record { cost = node.cost; mark = dead } ≡ mark_of_line (line_of value is_dead s node)
+  dead_listed s node is marked =
+      let reported : is_dead s ≡ true = sym marked ∙ ap is_dead_status is in
+      sym (λ i. line_by node (is_expanded_status (is i)) (reported i) (value s))
+
+  pub waiting_listed : (s : S) (node : Node) (mark : Mark) → node.status ≡ Open → mark ≡ (if is_dead s then dead else cut (value s)) → record { cost = node.cost; mark = mark } ≡ mark_of_line (line_of value is_dead s node)
+  waiting_listed s node mark is said =
+      ap (λ (m : Mark). record { cost = node.cost; mark = m }) said ∙ sym (ap (λ (status : NodeStatus). line_by node (is_expanded_status status) (is_dead s) (value s)) is)
+
+  -- a guide's answer says it of one that waits
+  abbrev pub said_by : Option ℕ → Mark
+  said_by None = dead
+  said_by (Some estimate) = cut estimate
+
+  pub said_is : (s : S) (answer : Option ℕ) → IsValueUnlessDead value is_dead s answer → said_by answer ≡ (if is_dead s then dead else cut (value s))
+  said_is s None reported = sym (ap (λ b. if b then dead else cut (value s)) reported)
+  said_is s (Some estimate) (alive, same, small) = ap (λ n. cut n) same ∙ sym (ap (λ b. if b then dead else cut (value s)) alive)
 
   -- ---- the lines
 
@@ -123,12 +147,12 @@ module _ (value : List Bool → ℕ) (is_dead : List Bool → Bool) where
   plus_one k = omega arith
 
   -- one mark more
-  pub marks_next : (marks new : List Listed) (mark : Listed) (states : List (List Bool)) (nodes : List Node) (i : ℕ) (s : List Bool) (node : Node) → AreMarked is_dead states nodes
-      → map listed_of marks ≡ map mark_of_line (lines_of value is_dead (take i states) (take i nodes)) → new ≡ marks ++ mark ∷ [] → listed_of mark ≡ mark_of_line (line_of value (λ _. is_marked_dead node) s node)
+  pub marks_next : (marks new : List Listed) (mark : Listed) (states : List (List Bool)) (nodes : List Node) (i : ℕ) (s : List Bool) (node : Node)
+      → map listed_of marks ≡ map mark_of_line (lines_of value is_dead (take i states) (take i nodes)) → new ≡ marks ++ mark ∷ [] → listed_of mark ≡ mark_of_line (line_of value is_dead s node)
       → slice_get states i ≡ Some s → slice_get nodes i ≡ Some node → map listed_of new ≡ map mark_of_line (lines_of value is_dead (take (i + 1) states) (take (i + 1) nodes))
-  marks_next marks new mark states nodes i s node marked so_far pushed is at_s at_n =
+  marks_next marks new mark states nodes i s node so_far pushed is at_s at_n =
       ap (map listed_of) pushed ∙ map-append listed_of marks (mark ∷ [])
-      ∙ (λ j. so_far j ++ (is ∙ marked_line value is_dead s node (marked i s node at_s at_n)) j ∷ [])
+      ∙ (λ j. so_far j ++ is j ∷ [])
       ∙ sym (ap (λ k. map mark_of_line (lines_of value is_dead (take k states) (take k nodes))) (plus_one i)
       ∙ ap (map mark_of_line) (lines_more value is_dead states nodes i s node at_s at_n)
       ∙ map-append mark_of_line (lines_of value is_dead (take i states) (take i nodes)) (line_of value is_dead s node ∷ []))

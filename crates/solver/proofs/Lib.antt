@@ -1,9 +1,12 @@
 pub mod TypedLemmas
 pub mod GroundLemmas
 pub mod PotentialLemmas
+pub mod GuidanceLemmas
+pub mod TablesLemmas
 pub mod FoundLines
 pub mod ListingLemmas
 pub mod LimitLemmas
 pub mod AnswerLemmas
+pub mod MoreStates
 pub mod ByCost
 pub mod LoopLemmas

@@ -1,6 +1,6 @@
 -- The lines of the found states make a closed certificate.
-use Rattle.std.proofs.Common.{◌≡◌, ◌∙◌, ◌≢◌, ℕ, zero, suc, ◌+◌, ◌<◌, ◌≤◌, Bool, true, false, not, ◌&&◌, List, [], ◌∷◌, ◌++◌, length, map, get_or, cond, Some, refl, sym, ap, subst, arith}
-use Rattle.std.specs.Prelude.{nat_le, nat_lt, slice_get, Contains, All, AllPairs, IsTrue, filter, if◌then◌else◌}
+use Rattle.std.proofs.Common.{◌≡◌, ◌∙◌, ◌≢◌, ℕ, zero, suc, ◌+◌, ◌<◌, ◌≤◌, Bool, true, false, not, ◌&&◌, List, [], ◌∷◌, ◌++◌, length, map, get_or, cond, Some, inl, inr, refl, sym, ap, subst, arith}
+use Rattle.std.specs.Prelude.{nat_le, nat_lt, slice_get, Contains, All, AllPairs, ◌⊎◌, IsTrue, filter, if◌then◌else◌}
 use Rattle.std.specs.List.{list_all, filter_map, range_with_len, cons_option}
 use Rattle.std.specs.Option.{option_map}
 use Rattle.std.specs.FinSet.{from_list}
@@ -13,25 +13,24 @@ use Rattle.packed_state.specs.Store.{AreDistinct}
 use Rattle.search.specs.declared.nodes.Node.{Node}
 use Rattle.search.specs.Outcome as search
 use Rattle.search.specs.Outcome.{AreFound, AreExpandedWithin}
+use Rattle.potential_functions.specs.Settled.{initial_value}
 use Rattle.solver.specs.Improved.{AreSettledOrHigh, AreDeadSettledOrHigh, HasSettledOrHigh}
 use Rattle.solver.specs.Listing.{numbers_in, state_line, found_certificate, IsShownBy, AreOpenWithin}
 use Rattle.solver.proofs.TypedLemmas.{numbered_typed}
 use Rattle.solver.proofs.GroundLemmas.{length-reachable, distinct_states}
-use Rattle.solver.proofs.PotentialLemmas.{most_value, value-most, potentials-pass, value-packed}
+use Rattle.solver.specs.Guidance.{Guidance, by_potentials, by_tables, CanBeWritten, AreFairBy, estimate_by, reports_dead, version_by, values_by, first_value}
+use Rattle.solver.proofs.GuidanceLemmas.{AreLimits, limits_of, one_weight_each, weights_of_each, most_value, estimate-most, mark-passes, value-found, value-at-start, dead-found, fair-found}
 use Rattle.solver.proofs.FoundLines.{expanded_of_open, dead_of_reported, found_line, length-lines, node_at}
 use Rattle.model.specs.Task.{Task, Atom}
 use Rattle.model.specs.WellTyped.{is_task, is_atom}
 use Rattle.model.specs.Runs.{System}
 use Rattle.model.specs.Claims.{Claim, opened, cut, dead, Line, IsClosed}
-use Rattle.model.specs.Meaning.{State, system_of}
+use Rattle.model.specs.Meaning.{State, system_of, initial_state}
 use Rattle.model.specs.Fluents.{is_fluent, static_atoms}
 use Rattle.model.specs.NumberedAtoms.{occurs_in, are_distinct, numbered_atoms}
 use Rattle.model.specs.Grounding.{chosen, state_of_bits, ground_system, NamesKept}
-use Rattle.certificate_definitions.specs.Certificates.{two, Certificate, StateLine, is_number, is_claim, is_weight, is_mark, is_state_line, are_potentials, keeps_limits, rise, state_of_line, lines_of, value_of, is_dead_end_of}
-use Rattle.std.proofs.lemmas.List.Elements.{All-cons, All-nil}
-use Rattle.table_functions.specs.TableFunctions.{Row, Table}
-use Rattle.potential_functions.specs.PotentialFunctions.{PotentialFunction, value, is_dead_by, AreInRange}
-use Rattle.potential_functions.specs.Fair.{AreFair, AreDeadFair}
+use Rattle.certificate_definitions.specs.Certificates.{two, three, Certificate, StateLine, is_number, is_claim, is_mark, is_dead_end_weight, is_state_line, keeps_limits, rise, state_of_line, lines_of, value_of, is_dead_end_of}
+use Rattle.table_functions.specs.TableFunctions.{SeveralValues}
 use Rattle.model.proofs.ListLemmas.{map-Contains}
 use Rattle.model.proofs.LimitsLemmas.{numbered_again}
 use Rattle.model.proofs.NumberingLemmas.{occurs_in-got}
@@ -140,8 +139,11 @@ pairs_apart (a ∷ atoms) distinct (suc i) (suc j) d before within =
 
 -- ---- the certificate
 
--- p gives the values, and q reports the dead ends
-module _ (task : Task) (claim : Claim) (most : ℕ) (p q : PotentialFunction) (states : List (List Bool)) (nodes : List Node) where
+known_version : (guidance : Guidance) → (version_by guidance ≡ two) ⊎ (version_by guidance ≡ three)
+known_version (by_potentials p dead_ends) = inl refl
+known_version (by_tables s) = inr refl
+
+module _ (task : Task) (claim : Claim) (most : ℕ) (guidance : Guidance) (states : List (List Bool)) (nodes : List Node) where
   abbrev atoms : List Atom
   atoms = numbered_atoms task []
 
@@ -152,10 +154,10 @@ module _ (task : Task) (claim : Claim) (most : ℕ) (p q : PotentialFunction) (s
   view line = record { state = state_of_bits task atoms line.state; cost = line.cost; mark = line.mark }
 
   abbrev lines : List (Line (List Bool))
-  lines = search.lines_of (value p) (is_dead_by q) states nodes
+  lines = search.lines_of (estimate_by guidance) (reports_dead guidance) states nodes
 
   abbrev pub made : Certificate
-  made = found_certificate claim atoms p q states nodes
+  made = found_certificate claim atoms guidance states nodes
 
   abbrev entry : StateLine → Line State
   entry l = record { state = state_of_line task made l; cost = l.cost; mark = l.mark }
@@ -169,23 +171,23 @@ module _ (task : Task) (claim : Claim) (most : ℕ) (p q : PotentialFunction) (s
 
   -- the states of the listing, in their order
   listed_states : (ss : List (List Bool)) (ns : List Node) → length ns ≡ length ss
-      → map (λ (l : Line State). l.state) (map view (search.lines_of (value p) (is_dead_by q) ss ns)) ≡ map (state_of_bits task atoms) ss
+      → map (λ (l : Line State). l.state) (map view (search.lines_of (estimate_by guidance) (reports_dead guidance) ss ns)) ≡ map (state_of_bits task atoms) ss
   listed_states [] ns one = refl
   listed_states (s ∷ ss) [] one = absurd (omega (arith, one))
   listed_states (s ∷ ss) (n ∷ ns) one = ap (λ later. state_of_bits task atoms s ∷ later) (listed_states ss ns (omega (arith, one)))
 
   pub length-made : length nodes ≡ length states → length made.lines ≡ length states
-  length-made one = length-map lines state_line ∙ length-lines (value p) (is_dead_by q) states nodes one
+  length-made one = length-map lines state_line ∙ length-lines (estimate_by guidance) (reports_dead guidance) states nodes one
 
   -- a line of the listing is that of a found state
   pub line_found : (line : Line State) → Contains (lines_of task made) line
-      → (k : ℕ) × (s : List Bool) × (n : Node) × (slice_get states k ≡ Some s) × (slice_get nodes k ≡ Some n) × (line ≡ view (search.line_of (value p) (is_dead_by q) s n))
+      → (k : ℕ) × (s : List Bool) × (n : Node) × (slice_get states k ≡ Some s) × (slice_get nodes k ≡ Some n) × (line ≡ view (search.line_of (estimate_by guidance) (reports_dead guidance) s n))
   line_found line' among' =
       let (line, among, is) = map-Contains view lines line' (subst (λ (ls : List (Line State)). Contains ls line') listing among') in
-      let (k, s, n, there, here, from) = found_line (value p) (is_dead_by q) states nodes line among in
+      let (k, s, n, there, here, from) = found_line (estimate_by guidance) (reports_dead guidance) states nodes line among in
       (k, s, n, there, here, sym is ∙ ap view from)
 
-  module _ (found : AreFound (ground_system task atoms) (value p) (is_dead_by q) claim most states nodes) where
+  module _ (found : AreFound (ground_system task atoms) (estimate_by guidance) (reports_dead guidance) claim most states nodes) where
     pub found_width : (k : ℕ) (bits : List Bool) → slice_get states k ≡ Some bits → length bits ≡ length atoms
     found_width k bits at =
         let (node, there) = node_at nodes k (omega (arith, slice_get_within states k bits at, found.one_for_each)) in
@@ -193,40 +195,36 @@ module _ (task : Task) (claim : Claim) (most : ℕ) (p q : PotentialFunction) (s
         length-reachable task atoms bits (reached.0, reached.1)
 
     -- the certificate gives a listed state the value by which it was found
-    pub same_value : (k : ℕ) (bits : List Bool) → slice_get states k ≡ Some bits → value_of task made (state_of_bits task atoms bits) ≡ value p bits
-    same_value k bits at = value-packed task p bits (found_width k bits at)
+    pub same_value : (k : ℕ) (bits : List Bool) → slice_get states k ≡ Some bits → value_of task made (state_of_bits task atoms bits) ≡ estimate_by guidance bits
+    same_value k bits at = value-found task claim states nodes bits (found_width k bits at) guidance
 
     -- and reports it a dead end where it was found so
-    same_dead : (k : ℕ) (bits : List Bool) → slice_get states k ≡ Some bits → is_dead_end_of task made (state_of_bits task atoms bits) ≡ is_dead_by q bits
-    same_dead k bits at = ap (nat_le 1) (value-packed task q bits (found_width k bits at))
+    same_dead : (k : ℕ) (bits : List Bool) → slice_get states k ≡ Some bits → is_dead_end_of task made (state_of_bits task atoms bits) ≡ reports_dead guidance bits
+    same_dead k bits at = dead-found task claim states nodes bits (found_width k bits at) guidance
 
     same_listing : (line : Line (List Bool)) → Contains lines line
-        → (value p line.state ≤ value_of task made (state_of_bits task atoms line.state)) × (is_dead_by q line.state ≡ true → is_dead_end_of task made (state_of_bits task atoms line.state) ≡ true)
+        → (estimate_by guidance line.state ≤ value_of task made (state_of_bits task atoms line.state)) × (reports_dead guidance line.state ≡ true → is_dead_end_of task made (state_of_bits task atoms line.state) ≡ true)
     same_listing line among =
-        let (k, s, n, there, here, is) = found_line (value p) (is_dead_by q) states nodes line among in
+        let (k, s, n, there, here, is) = found_line (estimate_by guidance) (reports_dead guidance) states nodes line among in
         let at : slice_get states k ≡ Some line.state = there ∙ ap (λ (l : Line (List Bool)). Some l.state) (sym is) in
         (omega (arith, same_value k line.state at), λ reported. same_dead k line.state at ∙ reported)
 
     reported_dead : (line : Line State) → Contains (lines_of task made) line → is_dead_end_of task made line.state ≡ true → line.mark ≡ dead
     reported_dead line among reported =
         let (k, s, n, there, here, is) = line_found line among in
-        let dead_found : is_dead_by q s ≡ true = sym (same_dead k s there) ∙ ap (λ (l : Line State). is_dead_end_of task made l.state) (sym is) ∙ reported in
-        ap (λ (l : Line State). l.mark) is ∙ dead_of_reported (value p) (is_dead_by q) s n (found.expanded_alive k s n there here) dead_found
+        let dead_found : reports_dead guidance s ≡ true = sym (same_dead k s there) ∙ ap (λ (l : Line State). is_dead_end_of task made l.state) (sym is) ∙ reported in
+        ap (λ (l : Line State). l.mark) is ∙ dead_of_reported (estimate_by guidance) (reports_dead guidance) s n (found.expanded_alive k s n there here) dead_found
 
-    pub shown_by : is_task task ≡ true → length p.weights ≡ length atoms → length q.weights ≡ length atoms → AreFair task atoms p → AreDeadFair task atoms q → keeps_limits made ≡ true
-        → IsShownBy task claim (length states) made
-    shown_by well many dead_many fair dead_fair kept = record {
+    pub shown_by : is_task task ≡ true → CanBeWritten (length atoms) guidance → AreFairBy task atoms guidance → keeps_limits made ≡ true → IsShownBy task claim (length states) made
+    shown_by well written fair kept = record {
       claims = refl;
       closed = record {
-        as_many_values = refl;
-        one_weight_an_atom = All-cons (λ (h : PotentialFunction). length h.weights ≡ length atoms) p [] many (All-nil (λ (h : PotentialFunction). length h.weights ≡ length atoms));
-        one_dead_end_weight_an_atom = dead_many;
-        tables_are_over_atoms = refl;
-        are_fair = record {
-          values = subst (λ (l : List Atom). AreFair task l p) (sym (numbered_again task)) fair;
-          dead_ends = subst (λ (l : List Atom). AreDeadFair task l q) (sym (numbered_again task)) dead_fair;
-        };
-        rows_are_distinct = All-nil (λ (t : Table). AllPairs (λ (r s : Row). r.atoms ≢ s.atoms) t.rows);
+        as_many_values = limits.value_count;
+        one_weight_an_atom = weights_of_each (length atoms) values.values limits.values;
+        one_dead_end_weight_an_atom = one_weight_each (is_dead_end_weight (version_by guidance)) (length atoms) values.dead_ends limits.dead_ends;
+        tables_are_over_atoms = limits.tables;
+        are_fair = fair-found task claim states nodes guidance fair;
+        rows_are_distinct = written.rows_are_distinct;
         atoms_are_fluent = λ k d below.
             let a = get_or atoms k d in
             let there = occurs_in-got atoms k a (slice_get-get_or atoms k d below) in
@@ -238,69 +236,65 @@ module _ (task : Task) (claim : Claim) (most : ℕ) (p q : PotentialFunction) (s
             (closed_forth (ground_system task atoms) (system_of task) (state_of_bits task atoms) (NamesKept task) (ground_task_is_bisimilar task [] none_more)
             (λ bits. value_of task made (state_of_bits task atoms bits)) (value_of task made) (λ s. omega arith)
             (λ bits. is_dead_end_of task made (state_of_bits task atoms bits)) (is_dead_end_of task made) (λ s reported. reported) claim lines
-            (closed_higher (ground_system task atoms) (value p) (λ bits. value_of task made (state_of_bits task atoms bits)) (is_dead_by q) (λ bits. is_dead_end_of task made (state_of_bits task atoms bits)) claim lines
+            (closed_higher (ground_system task atoms) (estimate_by guidance) (λ bits. value_of task made (state_of_bits task atoms bits)) (reports_dead guidance) (λ bits. is_dead_end_of task made (state_of_bits task atoms bits)) claim lines
             same_listing found.closed));
       };
       within_limit = omega (arith, length-made found.one_for_each);
       atoms = refl;
       within_limits = kept;
-      version = refl;
+      version = known_version guidance;
       dead_ends_are_reported = reported_dead;
     }
+      where
+        values : SeveralValues
+        values = values_by guidance
 
-    pub open_within : (cost : ℕ) → AreExpandedWithin (value p) cost states nodes → AreOpenWithin task cost made
+        limits : AreLimits (version_by guidance) (length atoms) values
+        limits = limits_of (version_by guidance) (length atoms) values written.within_limits
+
+    pub open_within : (cost : ℕ) → AreExpandedWithin (estimate_by guidance) cost states nodes → AreOpenWithin task cost made
     open_within cost within line among is_open =
         let (k, s, n, there, here, is) = line_found line among in
-        let marked : search.mark_of (value p) (is_dead_by q) s n ≡ opened = ap (λ (l : Line State). l.mark) (sym is) ∙ is_open in
-        let cheap = within k s n there here (expanded_of_open (value p) (is_dead_by q) s n marked) in
+        let marked : search.mark_of (estimate_by guidance) (reports_dead guidance) s n ≡ opened = ap (λ (l : Line State). l.mark) (sym is) ∙ is_open in
+        let cheap = within k s n there here (expanded_of_open (estimate_by guidance) (reports_dead guidance) s n marked) in
         let same = same_value k s there in
         let value_same : value_of task made line.state ≡ value_of task made (state_of_bits task atoms s) = ap (λ (l : Line State). value_of task made l.state) is in
         let cost_same : line.cost ≡ n.cost = ap (λ (l : Line State). l.cost) is in
         omega (arith, cheap, same, value_same, cost_same)
 
-    module _ (range : AreInRange p) (dead_range : AreInRange q) (few_atoms : length atoms ≤ 1048576) where
-      small_value : (k : ℕ) (bits : List Bool) → slice_get states k ≡ Some bits → value p bits ≤ most_value
-      small_value k bits at = value-most p bits range (omega (arith, few_atoms, found_width k bits at))
+    module _ (written : CanBeWritten (length atoms) guidance) (few_atoms : length atoms ≤ 1048576) where
+      small_value : (k : ℕ) (bits : List Bool) → slice_get states k ≡ Some bits → estimate_by guidance bits ≤ most_value
+      small_value k bits at = estimate-most (length atoms) guidance written.within_limits bits (omega (arith, few_atoms, found_width k bits at))
 
-      pub keeps : is_claim claim ≡ true → length p.weights ≡ length atoms → length q.weights ≡ length atoms → most ≤ 16777216 → keeps_limits made ≡ true
-      keeps small width dead_width few =
+      pub keeps : is_claim claim ≡ true → most ≤ 16777216 → keeps_limits made ≡ true
+      keeps small few =
           let counted = and_from (is_claim claim && nat_le (length atoms) 1048576) (nat_le (length made.lines) 16777216)
           (and_from (is_claim claim) (nat_le (length atoms) 1048576) small (le-leb (length atoms) 1048576 few_atoms))
           (le-leb (length made.lines) 16777216 (omega (arith, length-made found.one_for_each, found.within_limit, few))) in
-          let listed = and_from (is_claim claim && nat_le (length atoms) 1048576 && nat_le (length made.lines) 16777216) (list_all (is_state_line two (length atoms)) made.lines) counted
+          let listed = and_from (is_claim claim && nat_le (length atoms) 1048576 && nat_le (length made.lines) 16777216) (list_all (is_state_line (version_by guidance) (length atoms)) made.lines) counted
           (all_pass states nodes found_width small_value (λ k node at. omega (arith, found.cheap k node at, found.within_limit, few))) in
-          let value_passes = potentials-pass p (length atoms) range width in
-          let dead_ends_pass = potentials-pass q (length atoms) dead_range dead_width in
-          λ i. (((((listed i && true) && (value_passes i && true)) && dead_ends_pass i) && true) && true) && true
+          let limits = limits_of (version_by guidance) (length atoms) (values_by guidance) written.within_limits in
+          λ i. (((((listed i && limits.value_count i) && limits.values i) && limits.dead_ends i) && limits.tables i) && limits.few_tables i) && limits.few_rows i
         where
-          small_mark : (expanded is_dead : Bool) (rest : ℕ) → rest ≤ most_value → is_mark two (if expanded then opened else (if is_dead then dead else cut rest)) ≡ true
-          small_mark true is_dead rest most = refl
-          small_mark false true rest most = refl
-          small_mark false false rest most = lt-ltb rest 1152921504606846976 (omega (arith, most))
-
           all_pass : (ss : List (List Bool)) (ns : List Node) → ((k : ℕ) (bits : List Bool) → slice_get ss k ≡ Some bits → length bits ≡ length atoms)
-              → ((k : ℕ) (bits : List Bool) → slice_get ss k ≡ Some bits → value p bits ≤ most_value)
+              → ((k : ℕ) (bits : List Bool) → slice_get ss k ≡ Some bits → estimate_by guidance bits ≤ most_value)
               → ((k : ℕ) (node : Node) → slice_get ns k ≡ Some node → node.cost < 1152921504606846976)
-              → list_all (is_state_line two (length atoms)) (map state_line (search.lines_of (value p) (is_dead_by q) ss ns)) ≡ true
+              → list_all (is_state_line (version_by guidance) (length atoms)) (map state_line (search.lines_of (estimate_by guidance) (reports_dead guidance) ss ns)) ≡ true
           all_pass [] ns long low cheap = refl
           all_pass (s ∷ ss) [] long low cheap = refl
           all_pass (s ∷ ss) (n ∷ ns) long low cheap =
-              and_from (is_state_line two (length atoms) (state_line (search.line_of (value p) (is_dead_by q) s n))) (list_all (is_state_line two (length atoms)) (map state_line (search.lines_of (value p) (is_dead_by q) ss ns)))
-              (and_from (is_number n.cost && is_mark two (search.mark_of (value p) (is_dead_by q) s n)) (rise (length atoms) 0 (numbers_in s))
-              (and_from (is_number n.cost) (is_mark two (search.mark_of (value p) (is_dead_by q) s n)) (lt-ltb n.cost 1152921504606846976 (cheap 0 n refl)) (small_mark (search.is_expanded n) (is_dead_by q s) (value p s) (low 0 s refl)))
+              let mark = search.mark_of (estimate_by guidance) (reports_dead guidance) s n in
+              and_from (is_state_line (version_by guidance) (length atoms) (state_line (search.line_of (estimate_by guidance) (reports_dead guidance) s n)))
+              (list_all (is_state_line (version_by guidance) (length atoms)) (map state_line (search.lines_of (estimate_by guidance) (reports_dead guidance) ss ns)))
+              (and_from (is_number n.cost && is_mark (version_by guidance) mark) (rise (length atoms) 0 (numbers_in s))
+              (and_from (is_number n.cost) (is_mark (version_by guidance) mark) (lt-ltb n.cost 1152921504606846976 (cheap 0 n refl)) (mark-passes guidance (search.is_expanded n) (reports_dead guidance s) (estimate_by guidance s) (low 0 s refl)))
               (ap (λ width. rise width 0 (numbers_in s)) (sym (long 0 s refl)) ∙ numbers_rise s))
               (all_pass ss ns (λ k. long (suc k)) (λ k. low (suc k)) (λ k. cheap (suc k)))
-
-pub found_widths : (task : Task) (claim : Claim) (most : ℕ) (p q : PotentialFunction) (states : List (List Bool)) (nodes : List Node) (known : List Atom) → known ≡ numbered_atoms task []
-    → AreFound (ground_system task known) (value p) (is_dead_by q) claim most states nodes → All (λ (bits : List Bool). length bits ≡ length known) states
-found_widths task claim most p q states nodes known numbered found k d below =
-    found_width task claim most p q states nodes (subst (λ (l : List Atom). AreFound (ground_system task l) (value p) (is_dead_by q) claim most states nodes) numbered found) k (get_or states k d) (slice_get-get_or states k d below)
-    ∙ ap length (sym numbered)
 
 -- ---- for a certificate of these parts
 
 -- what is shown with so many states is shown with more
-more_allowed : {task : Task} {claim : Claim} {count most : ℕ} {certificate : Certificate} → IsShownBy task claim count certificate → count ≤ most → IsShownBy task claim most certificate
+pub more_allowed : {task : Task} {claim : Claim} {count most : ℕ} {certificate : Certificate} → IsShownBy task claim count certificate → count ≤ most → IsShownBy task claim most certificate
 more_allowed given le = record {
   claims = given.claims;
   closed = given.closed;
@@ -311,29 +305,38 @@ more_allowed given le = record {
   dead_ends_are_reported = given.dead_ends_are_reported;
 }
 
-module _ (task : Task) (claim : Claim) (most : ℕ) (p q : PotentialFunction) (states : List (List Bool)) (nodes : List Node) (known : List Atom) (numbered : known ≡ numbered_atoms task [])
-    (found : AreFound (ground_system task known) (value p) (is_dead_by q) claim most states nodes) (certificate : Certificate) (is : certificate ≡ found_certificate claim known p q states nodes) where
-  pub same_found : AreFound (ground_system task (numbered_atoms task [])) (value p) (is_dead_by q) claim most states nodes
-  same_found = subst (λ (l : List Atom). AreFound (ground_system task l) (value p) (is_dead_by q) claim most states nodes) numbered found
+module _ (task : Task) (claim : Claim) (most : ℕ) (guidance : Guidance) (states : List (List Bool)) (nodes : List Node) (known : List Atom) (numbered : known ≡ numbered_atoms task [])
+    (found : AreFound (ground_system task known) (estimate_by guidance) (reports_dead guidance) claim most states nodes) (certificate : Certificate) (is : certificate ≡ found_certificate claim known guidance states nodes) where
+  pub same_found : AreFound (ground_system task (numbered_atoms task [])) (estimate_by guidance) (reports_dead guidance) claim most states nodes
+  same_found = subst (λ (l : List Atom). AreFound (ground_system task l) (estimate_by guidance) (reports_dead guidance) claim most states nodes) numbered found
 
-  pub is_made : made task claim most p q states nodes ≡ certificate
-  is_made = sym (is ∙ ap (λ (l : List Atom). found_certificate claim l p q states nodes) numbered)
+  pub is_made : made task claim most guidance states nodes ≡ certificate
+  is_made = sym (is ∙ ap (λ (l : List Atom). found_certificate claim l guidance states nodes) numbered)
 
-  pub shown : (max_states : ℕ) → length states ≤ max_states → is_task task ≡ true → length p.weights ≡ length known → length q.weights ≡ length known → AreFair task known p → AreDeadFair task known q
-      → keeps_limits certificate ≡ true → IsShownBy task claim max_states certificate
-  shown max_states le well many dead_many fair dead_fair kept =
+  pub shown : (max_states : ℕ) → length states ≤ max_states → is_task task ≡ true → CanBeWritten (length known) guidance → AreFairBy task known guidance → keeps_limits certificate ≡ true
+      → IsShownBy task claim max_states certificate
+  shown max_states le well written fair kept =
       more_allowed (subst (IsShownBy task claim (length states)) is_made
-      (shown_by task claim most p q states nodes same_found well (many ∙ ap length numbered) (dead_many ∙ ap length numbered)
-      (subst (λ (l : List Atom). AreFair task l p) numbered fair) (subst (λ (l : List Atom). AreDeadFair task l q) numbered dead_fair) (ap keeps_limits is_made ∙ kept))) le
+      (shown_by task claim most guidance states nodes same_found well (subst (λ (l : List Atom). CanBeWritten (length l) guidance) numbered written)
+      (subst (λ (l : List Atom). AreFairBy task l guidance) numbered fair) (ap keeps_limits is_made ∙ kept))) le
 
-  pub opened_within : (cost : ℕ) → AreExpandedWithin (value p) cost states nodes → AreOpenWithin task cost certificate
-  opened_within cost within = subst (AreOpenWithin task cost) is_made (open_within task claim most p q states nodes same_found cost within)
+  pub opened_within : (cost : ℕ) → AreExpandedWithin (estimate_by guidance) cost states nodes → AreOpenWithin task cost certificate
+  opened_within cost within = subst (AreOpenWithin task cost) is_made (open_within task claim most guidance states nodes same_found cost within)
 
-  pub settled_or_high : AreSettledOrHigh task known p → AreDeadSettledOrHigh task known q → HasSettledOrHigh task certificate
-  settled_or_high given dead_given = subst (HasSettledOrHigh task) (sym is) (record { potentials = given; dead_ends = dead_given })
+  pub settled_or_high : AreSettledOrHigh task known (first_value guidance) → AreDeadSettledOrHigh task known (values_by guidance).dead_ends
+      → initial_value task known (first_value guidance) ≤ estimate_by guidance (ground_system task known).initial → HasSettledOrHigh task certificate
+  settled_or_high given dead_given start =
+      subst (HasSettledOrHigh task) (sym is) (record {
+        potentials = given;
+        dead_ends = dead_given;
+        no_lower = subst (λ (n : ℕ). initial_value task known (first_value guidance) ≤ n) (sym at_start) start;
+      })
+    where
+      at_start : value_of task (found_certificate claim known guidance states nodes) (initial_state task) ≡ estimate_by guidance (ground_system task known).initial
+      at_start = subst (λ (l : List Atom). value_of task (found_certificate claim l guidance states nodes) (initial_state task) ≡ estimate_by guidance (ground_system task l).initial) (sym numbered)
+          (value-at-start task claim states nodes guidance)
 
-  pub within_limits : AreInRange p → AreInRange q → length p.weights ≡ length known → length q.weights ≡ length known → is_claim claim ≡ true → length known ≤ 1048576 → most ≤ 16777216
-      → keeps_limits certificate ≡ true
-  within_limits range dead_range width dead_width small few_atoms few =
+  pub within_limits : CanBeWritten (length known) guidance → is_claim claim ≡ true → length known ≤ 1048576 → most ≤ 16777216 → keeps_limits certificate ≡ true
+  within_limits written small few_atoms few =
       ap keeps_limits (sym is_made)
-      ∙ keeps task claim most p q states nodes same_found range dead_range (subst (λ (l : List Atom). length l ≤ 1048576) numbered few_atoms) small (width ∙ ap length numbered) (dead_width ∙ ap length numbered) few
+      ∙ keeps task claim most guidance states nodes same_found (subst (λ (l : List Atom). CanBeWritten (length l) guidance) numbered written) (subst (λ (l : List Atom). length l ≤ 1048576) numbered few_atoms) small few

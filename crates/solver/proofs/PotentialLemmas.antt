@@ -6,22 +6,14 @@ use Rattle.std.proofs.lemmas.Bool.{and_from, lt-ltb, le-leb, eq-eqb}
 use Rattle.std.proofs.lemmas.Int.{ints}
 use Rattle.std.proofs.lemmas.List.{length-replicate}
 use Rattle.model.specs.Task.{Task, Atom, Instance}
-use Rattle.model.specs.Runs.{System}
 use Rattle.model.specs.Fluents.{is_fluent}
 use Rattle.model.specs.NumberedAtoms.{numbered_atoms}
 use Rattle.model.specs.Grounding.{state_of_bits, bits_of_state}
-use Rattle.model.specs.Claims.{IsLowerBound, AreDeadEnds}
 use Rattle.model.proofs.GroundTaskLemmas.{packs_states}
-use Rattle.potential_functions.specs.PotentialFunctions.{PotentialFunction, score, or_zero, value, is_dead_by, given, IsInRange, AreInRange}
+use Rattle.potential_functions.specs.PotentialFunctions.{PotentialFunction, score, or_zero, value, IsInRange, AreInRange}
 use Rattle.potential_functions.specs.Settled.{IsImprovedAt}
 use Rattle.potential_functions.proofs.Zero.{zero_potentials}
-use Rattle.potential_functions.proofs.Falls.{or_zero-most}
-use Rattle.potential_functions.proofs.Sums.{sum-range}
-use Rattle.potential_functions.proofs.Ranges.{given-range}
-use Rattle.search.specs.Estimates.{IsConsistent, above_zero, value_by}
-use Rattle.search.specs.DeadEnds.{DetectsDeadEnds}
-use Rattle.search.proofs.Consistent.{lower_bound as consistent_below}
-use Rattle.search.proofs.DeadEnds.{are_dead_ends}
+use Rattle.search.specs.Estimates.{above_zero, value_by}
 use Rattle.certificate_definitions.specs.Certificates.{is_weight, are_potentials}
 use Rattle.solver.specs.Improved.{AreSettledOrHighAt}
 
@@ -54,16 +46,6 @@ zero-width p count is = ap (λ (q : PotentialFunction). length q.weights) is ∙
 
 -- ---- range
 
--- the most that potentials of as many atoms as a certificate may have give
-abbrev pub most_value : ℕ
-most_value = 4503599627370496
-
-pub value-most : (p : PotentialFunction) (bits : List Bool) → AreInRange p → length bits ≤ 1048576 → value p bits ≤ most_value
-value-most p bits range few =
-    let sum = (sum-range (length bits) (given p.weights bits) (λ k below. given-range p.weights bits k range.weights)).1 in
-    let most = range.constant.most in
-    or_zero-most (score p bits) most_value (omega (arith, ints))
-
 weight-passes : (w : ℤ) → IsInRange w → is_weight w ≡ true
 weight-passes (pos n) range = let most = range.most in le-leb n 2147483647 (omega (arith, ints))
 weight-passes (negsuc n) range = let least = range.least in lt-ltb n 2147483647 (omega (arith, ints))
@@ -92,15 +74,3 @@ module _ (task : Task) (p : PotentialFunction) where
   -- a packed state has the value of the state that it stands for
   pub value-packed : (bits : List Bool) → length bits ≡ length atoms → value p (bits_of_state atoms (state_of_bits task atoms bits)) ≡ value p bits
   value-packed bits long = ap (value p) ((packs_states task [] none_more).one_packed bits long)
-
--- so a consistent estimate gives a lower bound
-pub lower_bound : (t u : System (List Bool) ℕ) (by : List Bool → ℤ) (p : PotentialFunction) → IsConsistent t (value_by by) → t ≡ u → by ≡ score p → IsLowerBound u (value p)
-lower_bound t u by p consistent same is =
-    subst (λ (x : System (List Bool) ℕ). IsLowerBound x (value p)) same
-    (subst (λ (v : List Bool → ℕ). IsLowerBound t v) (value_by-value by p is) (consistent_below t (value_by by) consistent))
-
--- and what a test reports are dead ends
-pub dead_ends : (t u : System (List Bool) ℕ) (is_dead : List Bool → Bool) (q : PotentialFunction) → DetectsDeadEnds t is_dead → t ≡ u → is_dead ≡ is_dead_by q → AreDeadEnds u (is_dead_by q)
-dead_ends t u is_dead q reports same is =
-    subst (λ (x : System (List Bool) ℕ). AreDeadEnds x (is_dead_by q)) same
-    (subst (λ (d : List Bool → Bool). AreDeadEnds t d) is (are_dead_ends t is_dead reports))

@@ -1,25 +1,45 @@
--- What a search may go by, if its certificate is to have it: an estimate and a test for dead ends that are potentials.
-use Rattle.std.specs.Prelude.{◌≡◌, ℕ, ℤ, Bool, List, length}
+-- What a search may go by, if its certificate is to have it, and what it came to.
+use Rattle.std.specs.Prelude.{◌≡◌, ℕ, ◌≤◌, Bool, List, length, map}
+use Rattle.packed_state.specs.PooledView.{pooled_states}
+use Rattle.packed_state.specs.declared.pooled.PooledStore.{PooledStore}
 use Rattle.grounding.specs.declared.ground.Ground.{Ground}
 use Rattle.grounding.specs.Ground.{task_in, atoms_in}
-use Rattle.model.specs.Runs.{System}
+use Rattle.certificate.specs.CertificateParts.{listed_of}
+use Rattle.certificate.specs.declared.states.Listed.{Listed}
 use Rattle.model.specs.Grounding.{ground_system}
-use Rattle.potential_functions.specs.PotentialFunctions as potential
-use Rattle.potential_functions.specs.PotentialFunctions.{PotentialFunction, is_dead_by}
-use Rattle.potential_functions.specs.Fair.{AreFair, AreDeadFair}
+use Rattle.model.specs.Claims.{IsLowerBound, AreDeadEnds}
+use Rattle.potential_functions.specs.Settled.{initial_value}
+use Rattle.search.specs.Outcome as search
+use Rattle.search.specs.Outcome.{IsTrueOutcome}
+use Rattle.search.specs.declared.best.Outcome.{Outcome}
+use Rattle.search.specs.declared.best.Outcome.TheVariants.{Found, Exhausted, States}
+use Rattle.search.specs.declared.nodes.FoundStates.{FoundStates}
+use Rattle.solver.specs.Guidance.{Guidance, CanBeWritten, AreFairBy, estimate_by, first_value, values_by}
+use Rattle.solver.specs.Improved.{AreSettledOrHigh, AreDeadSettledOrHigh}
+use Rattle.solver.specs.Listing.{mark_of_line}
 
--- an estimate for packed states of this width, by this score, is that of potentials that are fair for the ground task
-pub record IsEstimateBy (g : Ground) (p : PotentialFunction) (t : System (List Bool) ℕ) (count : ℕ) (by : List Bool → ℤ) : Type 0 where
-  pub system : t ≡ ground_system (task_in g) (atoms_in g)
-  pub width : count ≡ length (atoms_in g)
-  pub score : by ≡ potential.score p
-  pub one_each : length p.weights ≡ length (atoms_in g)
-  pub fair : AreFair (task_in g) (atoms_in g) p
+-- A certificate of the ground task can have the guidance, its values are fair, the first and that of dead ends are settled or
+-- high, and the initial state's lower bound is at least its first value.
+pub record IsGuidanceFor (g : Ground) (guidance : Guidance) : Type 0 where
+  pub written : CanBeWritten (length (atoms_in g)) guidance
+  pub fair : AreFairBy (task_in g) (atoms_in g) guidance
+  pub improved : AreSettledOrHigh (task_in g) (atoms_in g) (first_value guidance)
+  pub dead_ends_improved : AreDeadSettledOrHigh (task_in g) (atoms_in g) (values_by guidance).dead_ends
+  pub no_lower : initial_value (task_in g) (atoms_in g) (first_value guidance) ≤ estimate_by guidance (ground_system (task_in g) (atoms_in g)).initial
 
--- and a test for dead ends that of potentials that are dead-fair for it
-pub record IsTestBy (g : Ground) (q : PotentialFunction) (t : System (List Bool) ℕ) (count : ℕ) (by : List Bool → Bool) : Type 0 where
-  pub system : t ≡ ground_system (task_in g) (atoms_in g)
-  pub width : count ≡ length (atoms_in g)
-  pub is_dead : by ≡ is_dead_by q
-  pub one_each : length q.weights ≡ length (atoms_in g)
-  pub dead_fair : AreDeadFair (task_in g) (atoms_in g) q
+-- the states that a search found
+abbrev pub found_in : Outcome PooledStore → FoundStates PooledStore
+found_in (Found steps cost found) = found
+found_in (Exhausted found) = found
+found_in (States least found) = found
+
+-- these marks say of each found state, in order, what its line does
+abbrev pub AreMarksOf : (List Bool → ℕ) → (List Bool → Bool) → FoundStates PooledStore → List Listed → Type 0
+AreMarksOf estimate is_dead found marks = map listed_of marks ≡ map mark_of_line (search.lines_of estimate is_dead (pooled_states found.store) found.nodes.items)
+
+-- A search of the ground task by an estimate and a test for dead ends came to this outcome, with these marks.
+pub record IsSearched (g : Ground) (estimate : List Bool → ℕ) (is_dead : List Bool → Bool) (max_states : ℕ) (outcome : Outcome PooledStore) (marks : List Listed) : Type 0 where
+  pub outcome_is : IsTrueOutcome (ground_system (task_in g) (atoms_in g)) estimate is_dead pooled_states max_states outcome
+  pub marked : AreMarksOf estimate is_dead (found_in outcome) marks
+  pub lower_bound : IsLowerBound (ground_system (task_in g) (atoms_in g)) estimate
+  pub dead_ends : AreDeadEnds (ground_system (task_in g) (atoms_in g)) is_dead

@@ -1,11 +1,11 @@
 -- How good the potentials are by which a task is solved.
 use Rattle.std.specs.Prelude.{ℕ, ◌≤◌, ◌⊎◌, List}
 use Rattle.model.specs.Task.{Task, Atom, Instance}
-use Rattle.model.specs.Meaning.{cost_of}
+use Rattle.model.specs.Meaning.{cost_of, initial_state}
 use Rattle.potential_functions.specs.PotentialFunctions.{PotentialFunction}
 use Rattle.potential_functions.specs.Fair.{nothing}
 use Rattle.potential_functions.specs.Settled.{initial_value, IsSettledAt}
-use Rattle.certificate_definitions.specs.Certificates.{Certificate, potentials_of}
+use Rattle.certificate_definitions.specs.Certificates.{Certificate, potentials_of, value_of}
 
 -- Of those near them that are fair at this allowance none gives the initial state a greater value, or they give it at least 8.
 abbrev pub AreSettledOrHighAt : (Instance → ℕ) → Task → List Atom → PotentialFunction → Type 0
@@ -18,7 +18,8 @@ AreSettledOrHigh task = AreSettledOrHighAt (cost_of task) task
 abbrev pub AreDeadSettledOrHigh : Task → List Atom → PotentialFunction → Type 0
 AreDeadSettledOrHigh = AreSettledOrHighAt nothing
 
--- those of the certificate
+-- The certificate's first value and that of dead ends do, and it gives the initial state no lower value than the first alone.
 pub record HasSettledOrHigh (task : Task) (certificate : Certificate) : Type 0 where
   pub potentials : AreSettledOrHigh task certificate.atoms (potentials_of certificate)
   pub dead_ends : AreDeadSettledOrHigh task certificate.atoms certificate.dead_ends
+  pub no_lower : initial_value task certificate.atoms (potentials_of certificate) ≤ value_of task certificate (initial_state task)

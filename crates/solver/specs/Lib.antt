@@ -1,7 +1,11 @@
 pub mod Limit
 pub mod Improved
+pub mod Guidance
+pub mod Written
+pub mod SeveralOver
 pub mod Guided
 pub mod Listing
 pub mod AtLimit
+pub mod Attempts
 pub mod Reachable
 pub mod Solver

@@ -1,5 +1,5 @@
 -- What the certificate of a search's found states is made of.
-use Rattle.std.specs.Prelude.{◌≡◌, ℕ, ◌+◌, ◌≤◌, Bool, IsTrue, List, [], ◌∷◌, length, map, Contains}
+use Rattle.std.specs.Prelude.{◌≡◌, ℕ, ◌+◌, ◌≤◌, ◌⊎◌, Bool, IsTrue, List, [], length, map, Contains}
 use Rattle.std.specs.List.{filter, range_with_len}
 use Rattle.packed_state.specs.Sets.{has}
 use Rattle.search.specs.declared.nodes.Node.{Node}
@@ -7,10 +7,10 @@ use Rattle.search.specs.Outcome as search
 use Rattle.model.specs.Task.{Task, Atom}
 use Rattle.model.specs.Meaning.{State}
 use Rattle.model.specs.Claims.{Claim, opened, dead, Line}
-use Rattle.potential_functions.specs.PotentialFunctions.{PotentialFunction, value, is_dead_by}
-use Rattle.certificate_definitions.specs.Certificates.{two, Certificate, StateLine, IsClosedFor, keeps_limits, lines_of, value_of, is_dead_end_of}
+use Rattle.certificate_definitions.specs.Certificates.{two, three, Certificate, StateLine, IsClosedFor, keeps_limits, lines_of, value_of, is_dead_end_of}
 use Rattle.certificate.specs.ListedSets.{Marked}
 use Rattle.model.specs.NumberedAtoms.{numbered_atoms}
+use Rattle.solver.specs.Guidance.{Guidance, version_by, values_by, estimate_by, reports_dead}
 
 -- the numbers of the atoms that are true in the packed state, rising
 abbrev pub numbers_in : List Bool → List ℕ
@@ -24,29 +24,29 @@ state_line line = record { cost = line.cost; mark = line.mark; atoms = numbers_i
 abbrev pub mark_of_line : {S : Type 0} → Line S → Marked
 mark_of_line line = record { cost = line.cost; mark = line.mark }
 
--- the certificate that lists these found states, each expanded one as open, each other as a dead end where the potentials
--- `dead_ends` report it one, and else as a cut with its value by `p`
-abbrev pub found_certificate : Claim → List Atom → (p dead_ends : PotentialFunction) → List (List Bool) → List Node → Certificate
-found_certificate claim atoms p dead_ends states nodes = record {
-  version = two;
+-- the certificate that lists these states, which were found by this guidance, each expanded one as open, each other as a dead
+-- end where it is reported one, and else as a cut with its estimate
+abbrev pub found_certificate : Claim → List Atom → Guidance → List (List Bool) → List Node → Certificate
+found_certificate claim atoms guidance states nodes = record {
+  version = version_by guidance;
   claim = claim;
   atoms = atoms;
-  values = p ∷ [];
-  dead_ends = dead_ends;
-  tables = [];
-  lines = map state_line (search.lines_of (value p) (is_dead_by dead_ends) states nodes);
+  values = (values_by guidance).values;
+  dead_ends = (values_by guidance).dead_ends;
+  tables = (values_by guidance).tables;
+  lines = map state_line (search.lines_of (estimate_by guidance) (reports_dead guidance) states nodes);
 }
 
 -- The certificate is closed for the task, claims this, keeps the limits of a certificate's text, and lists at most
--- `max_states` states by the numbered atoms, each at the place that is its number. It is of version 2, and each listed state
--- that its potentials report a dead end is listed as one.
+-- `max_states` states by the numbered atoms, each at the place that is its number. It is of version 2, or of version 3 where
+-- the search went by tables, and each listed state that its values report a dead end is listed as one.
 pub record IsShownBy (task : Task) (claim : Claim) (max_states : ℕ) (certificate : Certificate) : Type 0 where
   pub claims : certificate.claim ≡ claim
   pub closed : IsClosedFor task certificate
   pub within_limit : length certificate.lines ≤ max_states
   pub atoms : certificate.atoms ≡ numbered_atoms task []
   pub within_limits : IsTrue (keeps_limits certificate)
-  pub version : certificate.version ≡ two
+  pub version : (certificate.version ≡ two) ⊎ (certificate.version ≡ three)
   pub dead_ends_are_reported : (line : Line State) → Contains (lines_of task certificate) line → IsTrue (is_dead_end_of task certificate line.state) → line.mark ≡ dead
 
 -- each open state of the certificate costs, with its value, at most this

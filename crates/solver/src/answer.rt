@@ -1,27 +1,53 @@
 //! The answer to a task.
-ghost use Rattle.std.specs.Prelude.{[], IfOk, IsTrue};
+ghost use Rattle.std.specs.Prelude.{◌≡◌, [], IfOk, IsTrue};
 ghost use Rattle.task.specs.Task.{task_of};
 ghost use Rattle.grounding.specs.Ground.{task_in, atoms_in, IsGroundOf};
-ghost use Rattle.solver.specs.Guided.{IsEstimateBy, IsTestBy};
+ghost use Rattle.potentials_improved.specs.FairPotentials.{potentials_in, ground_in};
+ghost use Rattle.solver.specs.Attempts.{IfDone};
+ghost use Rattle.solver.specs.Guidance.{estimate_by, reports_dead};
+ghost use Rattle.solver.specs.Guided.{IsGuidanceFor, IsSearched};
 ghost use Rattle.solver.specs.Improved.{AreSettledOrHigh, AreDeadSettledOrHigh};
-ghost use Rattle.solver.specs.Solver.{IsTrueAnswer};
+ghost use Rattle.solver.specs.Solver.{IsTrueAnswer, is_stopped};
+ghost use Rattle.solver.specs.Written.{guidance_of};
 ghost use Rattle.model.specs.WellTyped.{is_task};
 
+use crate::attempt::Attempt;
+use crate::by_tables::solve_by_tables;
+use crate::guidance::{Guidance, potential_of};
 use crate::improved::improved;
 use crate::limits::Limits;
 use crate::listing::cert_of;
+use crate::searched::{Searched, search_by};
 use crate::steps::plan_of;
-use crate::system::GroundSystem;
-use crate::written::Written;
+use crate::stopped::Stopped;
 use certificate::{Cert, Claim};
 use faults::{NoMemory, Refused};
 use formulas::Plan;
 use grounding::{Ground, GroundLimit};
-use packed_state::PooledStore;
 use potentials_improved::{DeadFair, Fair, Groundwork};
-use search::{DeadEnd, Estimate, EstimateWithDeadEnds, Outcome, best_first};
+use search::{EstimateWithDeadEnds, Outcome};
 use std::alloc::Global;
+use tables_drafted::Effort;
 use task::Task;
+
+/// A search by potentials alone, which is stopped at so many states, and how much is looked at for tables then.
+#[derive(Clone, Copy)]
+struct Trial {
+    states: u32,
+    effort: Effort,
+}
+
+/// What is tried first. So a task that is solved by fewer states is solved without tables.
+const QUICK: Trial = Trial {
+    states: 100_000,
+    effort: Effort::Quick,
+};
+
+/// What is tried where tables that were found quickly are of some use, but not of enough.
+const THOROUGH: Trial = Trial {
+    states: 500_000,
+    effort: Effort::Thorough,
+};
 
 /// What is found out of a task.
 #[derive(Drop)]
@@ -58,6 +84,21 @@ pub enum Exceeded {
         /// It shows that no plan costs less.
         cert: Cert,
     },
+}
+
+impl Answer {
+    /// Whether the limit of the listed states is exceeded.
+    fn is_stopped(&self) -> bool
+        ensures { result ≡ is_stopped self.now }
+    {
+        match self {
+            Answer::Plan { .. } => false,
+            Answer::Unsolvable { .. } => false,
+            Answer::Unknown(Exceeded::Instances) => false,
+            Answer::Unknown(Exceeded::Atoms) => false,
+            Answer::Unknown(Exceeded::States { .. }) => true,
+        }
+    }
 }
 
 /// A cheapest plan of the task, or that it has none, with the certificate that shows it.
@@ -104,29 +145,118 @@ fn solve_ground(alloc: Global, ground: &Ground<'_>, limits: Limits) -> Result<An
     let estimate: Fair<'_, '_> = improved(alloc, ground, &groundwork)?;
     let dead_ends: DeadFair<'_, '_> = improved(alloc, ground, &groundwork)?;
     drop(groundwork);
-    solve_by(alloc, ground, &estimate, &dead_ends, limits)
+    match try_few(alloc, ground, &estimate, &dead_ends, QUICK, limits)? {
+        Attempt::Done(answer) => return Ok(answer),
+        Attempt::Promising => {
+            let next = try_few(alloc, ground, &estimate, &dead_ends, THOROUGH, limits)?;
+            if let Attempt::Done(answer) = next {
+                return Ok(answer);
+            }
+        }
+        Attempt::InVain => {}
+    }
+    solve_by_potentials(alloc, ground, &estimate, &dead_ends, limits)
 }
 
-/// The same by this estimate and this test for dead ends.
-fn solve_by<E: Estimate + Written, D: DeadEnd + Written>(
+/// The answer by these potentials, where few states are listed, and else that by tables, if such are found that are better. In
+/// vain too where no more states may be listed.
+fn try_few(
     alloc: Global,
     ground: &Ground<'_>,
-    estimate: &E,
-    dead_ends: &D,
+    estimate: &Fair<'_, '_>,
+    dead_ends: &DeadFair<'_, '_>,
+    trial: Trial,
+    limits: Limits,
+) -> Result<Attempt<Answer>, NoMemory>
+    requires typed { IsTrue (is_task (task_in ground.now)) }
+    requires ground { IsGroundOf (task_in ground.now) [] limits.instances ground.now }
+    requires estimate { ground_in estimate.now ≡ ground.now }
+    requires improved { AreSettledOrHigh (task_in ground.now) (atoms_in ground.now) (potentials_in estimate.now) }
+    requires dead_ends { ground_in dead_ends.now ≡ ground.now }
+    requires dead_ends_improved { AreDeadSettledOrHigh (task_in ground.now) (atoms_in ground.now) (potentials_in dead_ends.now) }
+    ensures { IfOk result (IfDone (IsTrueAnswer (task_in ground.now) limits.states limits.instances)) }
+{
+    let Some(few) = limits.with_fewer_states(trial.states) else {
+        return Ok(Attempt::InVain);
+    };
+    let first = solve_by_potentials(alloc, ground, estimate, dead_ends, few)?;
+    if first.is_stopped() {
+        return try_tables(alloc, ground, estimate, dead_ends, trial, &first, limits);
+    }
+    Ok(Attempt::Done(first))
+}
+
+/// The answer by tables, if such are found that are better than these potentials, by which the first search was stopped so.
+fn try_tables(
+    alloc: Global,
+    ground: &Ground<'_>,
+    estimate: &Fair<'_, '_>,
+    dead_ends: &DeadFair<'_, '_>,
+    trial: Trial,
+    first: &Answer,
+    limits: Limits,
+) -> Result<Attempt<Answer>, NoMemory>
+    requires typed { IsTrue (is_task (task_in ground.now)) }
+    requires ground { IsGroundOf (task_in ground.now) [] limits.instances ground.now }
+    requires estimate { ground_in estimate.now ≡ ground.now }
+    requires improved { AreSettledOrHigh (task_in ground.now) (atoms_in ground.now) (potentials_in estimate.now) }
+    requires dead_ends { ground_in dead_ends.now ≡ ground.now }
+    requires dead_ends_improved { AreDeadSettledOrHigh (task_in ground.now) (atoms_in ground.now) (potentials_in dead_ends.now) }
+    ensures { IfOk result (IfDone (IsTrueAnswer (task_in ground.now) limits.states limits.instances)) }
+{
+    let Answer::Unknown(Exceeded::States { bound, cert }) = first else {
+        return Ok(Attempt::InVain);
+    };
+    let stopped = Stopped {
+        bound: *bound,
+        cert,
+        potentials: estimate.potentials(),
+        dead_ends: dead_ends.potentials(),
+        effort: trial.effort,
+    };
+    solve_by_tables(alloc, ground, &stopped, limits)
+}
+
+/// The same by these potentials.
+fn solve_by_potentials(
+    alloc: Global,
+    ground: &Ground<'_>,
+    estimate: &Fair<'_, '_>,
+    dead_ends: &DeadFair<'_, '_>,
     limits: Limits,
 ) -> Result<Answer, NoMemory>
     requires typed { IsTrue (is_task (task_in ground.now)) }
     requires ground { IsGroundOf (task_in ground.now) [] limits.instances ground.now }
-    requires estimate { IsEstimateBy ground.now (E.written estimate.now) (E.system_of estimate.now) (E.width_of estimate.now) (E.score_of estimate.now) }
-    requires improved { AreSettledOrHigh (task_in ground.now) (atoms_in ground.now) (E.written estimate.now) }
-    requires dead_ends_improved { AreDeadSettledOrHigh (task_in ground.now) (atoms_in ground.now) (D.written dead_ends.now) }
-    requires dead_ends { IsTestBy ground.now (D.written dead_ends.now) (D.system_of dead_ends.now) (D.width_of dead_ends.now) (D.is_dead dead_ends.now) }
+    requires estimate { ground_in estimate.now ≡ ground.now }
+    requires improved { AreSettledOrHigh (task_in ground.now) (atoms_in ground.now) (potentials_in estimate.now) }
+    requires dead_ends { ground_in dead_ends.now ≡ ground.now }
+    requires dead_ends_improved { AreDeadSettledOrHigh (task_in ground.now) (atoms_in ground.now) (potentials_in dead_ends.now) }
     ensures { IfOk result (IsTrueAnswer (task_in ground.now) limits.states limits.instances) }
 {
-    let system = GroundSystem(ground);
     let guide = EstimateWithDeadEnds::new(estimate, dead_ends);
-    let store = PooledStore::new(alloc, ground.width())?;
-    let outcome = best_first(alloc, &system, &guide, store, limits.states())?;
+    let searched = search_by(alloc, ground, &guide, limits)?;
+    let guidance = Guidance::Potentials {
+        value: potential_of(alloc, estimate.potentials())?,
+        dead_ends: potential_of(alloc, dead_ends.potentials())?,
+    };
+    answer_of(alloc, ground, guidance, searched, limits)
+}
+
+/// The answer that a search by the guidance came to, with its certificate.
+pub(crate) fn answer_of(
+    alloc: Global,
+    ground: &Ground<'_>,
+    guidance: Guidance,
+    searched: Searched,
+    limits: Limits,
+) -> Result<Answer, NoMemory>
+    requires typed { IsTrue (is_task (task_in ground.now)) }
+    requires ground { IsGroundOf (task_in ground.now) [] limits.instances ground.now }
+    requires guidance { IsGuidanceFor ground.now (guidance_of guidance) }
+    requires searched { IsSearched ground.now (estimate_by (guidance_of guidance)) (reports_dead (guidance_of guidance)) limits.states searched.outcome searched.marks.items }
+    ensures { IfOk result (IsTrueAnswer (task_in ground.now) limits.states limits.instances) }
+{
+    let Searched { outcome, marks } = searched;
     match outcome {
         Outcome::Found {
             steps,
@@ -135,17 +265,17 @@ fn solve_by<E: Estimate + Written, D: DeadEnd + Written>(
         } => {
             let steps = plan_of(alloc, ground, &steps)?;
             let claim = Claim::Bound(cost);
-            let cert = cert_of(alloc, ground, estimate, dead_ends, claim, states)?;
+            let cert = cert_of(alloc, ground, guidance, claim, marks, states)?;
             Ok(Answer::Plan { steps, cost, cert })
         }
         Outcome::Exhausted { states } => {
             let claim = Claim::Unsolvable;
-            let cert = cert_of(alloc, ground, estimate, dead_ends, claim, states)?;
+            let cert = cert_of(alloc, ground, guidance, claim, marks, states)?;
             Ok(Answer::Unsolvable { cert })
         }
         Outcome::States { bound, states } => {
             let claim = Claim::Bound(bound);
-            let cert = cert_of(alloc, ground, estimate, dead_ends, claim, states)?;
+            let cert = cert_of(alloc, ground, guidance, claim, marks, states)?;
             Ok(Answer::Unknown(Exceeded::States { bound, cert }))
         }
     }

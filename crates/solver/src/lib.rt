@@ -2,12 +2,16 @@
 #![tactic(auto)]
 
 mod answer;
+mod attempt;
+mod by_tables;
+mod guidance;
 mod improved;
 mod limits;
 mod listing;
+mod searched;
 mod steps;
+mod stopped;
 mod system;
-mod written;
 
 pub use answer::{Answer, Exceeded, solve};
 pub use limits::{Limits, MAX_LIMIT};

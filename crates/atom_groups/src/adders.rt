@@ -1,0 +1,109 @@
+//! Which instances add an atom, and whether they keep a set of atoms at one.
+use crate::numbers::place_of;
+use faults::NoMemory;
+use grounding::{CountingChange, Ground};
+use potentials::instance_count;
+use std::alloc::Global;
+
+/// For each atom the instances that may add it, rising.
+#[derive(Drop)]
+pub(crate) struct Adders {
+    of_atom: Vec<Vec<u32>>,
+}
+
+/// What an instance does to the count of a set's true atoms, where one is true before.
+#[derive(Clone, Copy, Debug, PartialEq, Eq)]
+pub(crate) enum Balance {
+    /// It takes away as many as it adds.
+    Keeps,
+    /// It may add one more than it takes away.
+    Raises,
+    /// It may add several, or adds one under a `when`.
+    Unclear,
+}
+
+impl Adders {
+    /// Those of the ground task.
+    pub(crate) fn new(alloc: Global, ground: &Ground<'_>) -> Result<Adders, NoMemory> {
+        let mut of_atom: Vec<Vec<u32>> = Vec::new(alloc);
+        for _ in 0..ground.width() {
+            of_atom.push(Vec::new(alloc))?;
+        }
+        let mut adders = Adders { of_atom };
+        for number in 0..instance_count(ground) {
+            adders.file(number, ground.counting(number))?;
+        }
+        Ok(adders)
+    }
+
+    /// Files the instance under the atoms that it may add.
+    fn file(&mut self, number: u32, changes: &[CountingChange<'_>]) -> Result<(), NoMemory> {
+        for change in changes {
+            if change.value {
+                self.push(change.atom, number)?;
+            }
+        }
+        Ok(())
+    }
+
+    /// The instance adds the atom. It may have been said before.
+    fn push(&mut self, atom: u32, number: u32) -> Result<(), NoMemory> {
+        if let Some(instances) = self.of_atom.get_mut(place_of(atom)) {
+            if instances.last() != Some(&number) {
+                instances.push(number)?;
+            }
+        }
+        Ok(())
+    }
+
+    /// The instances that may add the atom, rising.
+    pub(crate) fn of(&self, atom: u32) -> &[u32] {
+        match self.of_atom.get(place_of(atom)) {
+            Some(instances) => instances,
+            None => &[],
+        }
+    }
+}
+
+/// Whether the change takes the atom away under no condition.
+pub(crate) fn surely_deletes(changes: &[CountingChange<'_>], atom: u32) -> bool {
+    changes.iter().any(|change| change.atom == atom && !change.value && change.is_unconditional())
+}
+
+/// What the instance of this number does to the marked atoms.
+pub(crate) fn balance_of(ground: &Ground<'_>, number: u32, marked: &[bool]) -> Balance {
+    if number >= instance_count(ground) {
+        return Balance::Unclear;
+    }
+    let changes = ground.counting(number);
+    let mut added = None;
+    for change in changes {
+        if change.value && is_marked(marked, change.atom) {
+            if !change.is_unconditional() {
+                return Balance::Unclear;
+            }
+            if added.is_some() && added != Some(change.atom) {
+                return Balance::Unclear;
+            }
+            added = Some(change.atom);
+        }
+    }
+    let takes_one = ground.literals(number).iter().any(|literal| {
+        literal.value
+            && is_marked(marked, literal.atom)
+            && (added == Some(literal.atom) || surely_deletes(changes, literal.atom))
+    });
+    if takes_one || added.is_none() {
+        Balance::Keeps
+    } else {
+        Balance::Raises
+    }
+}
+
+/// Whether the atom is marked.
+pub(crate) fn is_marked(marked: &[bool], atom: u32) -> bool {
+    match marked.get(place_of(atom)) {
+        Some(is_marked) => *is_marked,
+        None => false,
+    }
+}

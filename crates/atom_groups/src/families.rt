@@ -1,0 +1,141 @@
+//! Families of atoms: those of a predicate, all of them or those with an object at a place.
+use crate::numbers::number_of;
+use faults::NoMemory;
+use grounding::Ground;
+use std::alloc::Global;
+use task::{ObjectId, PredicateId};
+
+/// An object at a place, from 0, among an atom's objects.
+#[derive(Clone, Copy, Debug, PartialEq, Eq, PartialOrd, Ord)]
+pub(crate) struct Argument {
+    place: u32,
+    object: ObjectId,
+}
+
+/// Those atoms of the predicate that have this argument, or all of them.
+#[derive(Clone, Copy, Debug, PartialEq, Eq, PartialOrd, Ord)]
+pub(crate) struct Family {
+    pub(crate) predicate: PredicateId,
+    pub(crate) argument: Option<Argument>,
+}
+
+/// All families of a ground task's atoms.
+#[derive(Drop)]
+pub(crate) struct Families {
+    /// Rising, each once.
+    families: Vec<Family>,
+    /// For each of them its atoms, rising.
+    atoms: Vec<Vec<u32>>,
+    /// For each atom its families, the one of all the predicate's atoms first.
+    of_atom: Vec<Vec<Family>>,
+}
+
+impl Families {
+    /// Those of the ground task.
+    pub(crate) fn new(alloc: Global, ground: &Ground<'_>) -> Result<Families, NoMemory> {
+        let of_atom = families_of_atoms(alloc, ground)?;
+        let mut all = Families {
+            families: Vec::new(alloc),
+            atoms: Vec::new(alloc),
+            of_atom,
+        };
+        all.file(alloc)?;
+        Ok(all)
+    }
+
+    /// Files each atom under its families.
+    fn file(&mut self, alloc: Global) -> Result<(), NoMemory> {
+        let mut entries: Vec<(Family, u32)> = Vec::new(alloc);
+        for (atom, families) in self.of_atom.iter().enumerate() {
+            for family in families {
+                entries.push((*family, number_of(atom)))?;
+            }
+        }
+        entries.sort_unstable();
+        for (family, atom) in &entries {
+            self.file_one(alloc, *family, *atom)?;
+        }
+        Ok(())
+    }
+
+    /// Files the atom under the family, which is the last one or comes after it.
+    fn file_one(&mut self, alloc: Global, family: Family, atom: u32) -> Result<(), NoMemory> {
+        if self.families.last() != Some(&family) {
+            self.families.push(family)?;
+            self.atoms.push(Vec::new(alloc))?;
+        }
+        if let Some(atoms) = self.atoms.last_mut() {
+            atoms.push(atom)?;
+        }
+        Ok(())
+    }
+
+    /// The families, rising.
+    pub(crate) fn all(&self) -> &[Family] {
+        &self.families
+    }
+
+    /// The atoms of the family, rising.
+    pub(crate) fn atoms(&self, family: &Family) -> &[u32] {
+        match self.families.binary_search(family) {
+            Ok(place) => match self.atoms.get(place) {
+                Some(atoms) => atoms,
+                None => &[],
+            },
+            Err(_) => &[],
+        }
+    }
+
+    /// The families of the atom.
+    pub(crate) fn of_atom(&self, atom: u32) -> &[Family] {
+        match self.of_atom.get(atom as usize) {
+            Some(families) => families,
+            None => &[],
+        }
+    }
+}
+
+impl Family {
+    /// Whether it may join a group that begins with `first`: both are of one object, or both of all a predicate's atoms, or it
+    /// is of a predicate without arguments.
+    pub(crate) fn goes_with(&self, first: &Family, has_arguments: bool) -> bool {
+        match (self.argument, first.argument) {
+            (Some(own), Some(other)) => own.object == other.object,
+            (None, None) => true,
+            (None, Some(_)) => !has_arguments,
+            (Some(_), None) => false,
+        }
+    }
+}
+
+/// For each atom its families.
+fn families_of_atoms(alloc: Global, ground: &Ground<'_>) -> Result<Vec<Vec<Family>>, NoMemory> {
+    let mut of_atom = Vec::new(alloc);
+    for atom in ground.atoms().as_slice() {
+        of_atom.push(families_of(alloc, atom.predicate, atom.objects.as_slice())?)?;
+    }
+    Ok(of_atom)
+}
+
+/// The families of an atom of this predicate and these objects.
+fn families_of(
+    alloc: Global,
+    predicate: PredicateId,
+    objects: &[ObjectId],
+) -> Result<Vec<Family>, NoMemory> {
+    let mut families = Vec::new(alloc);
+    families.push(Family {
+        predicate,
+        argument: None,
+    })?;
+    for (place, object) in objects.iter().enumerate() {
+        families.push(Family {
+            predicate,
+            argument: Some(Argument {
+                place: number_of(place),
+                object: *object,
+            }),
+        })?;
+    }
+    Ok(families)
+}

@@ -1,0 +1,223 @@
+//! Groups of atoms of which one at a time seems to be true: the atoms of some predicates with one object in one place.
+//!
+//! A group begins with one family, and where an instance adds one of its atoms and takes none away, it grows by a family of an
+//! atom that the instance takes away (Edelkamp & Helmert 1999, "Exhibiting Knowledge in Planning Problems to Minimize State
+//! Encoding Length").
+use crate::adders::{Adders, Balance, balance_of, is_marked, surely_deletes};
+use crate::families::{Families, Family};
+use crate::numbers::place_of;
+use faults::NoMemory;
+use grounding::Ground;
+use packed_state::Packed;
+use potentials::instance_count;
+use std::alloc::Global;
+
+/// The most families of a group.
+const MAX_FAMILIES: usize = 5;
+
+/// How many sets are tried from one family on, at most.
+const MAX_TRIED: usize = 60;
+
+/// How many instances are looked at in all, at most.
+const MAX_LOOKS: u64 = 4_000_000;
+
+/// The numbers of a group's atoms, rising.
+pub type AtomGroup = Vec<u32>;
+
+/// What the groups are found by.
+#[derive(Drop)]
+struct Finder<'g, 't> {
+    ground: &'g Ground<'t>,
+    families: Families,
+    adders: Adders,
+    /// The atoms of the set that is tried.
+    marked: Vec<bool>,
+    looks: u64,
+    found: Vec<AtomGroup>,
+}
+
+/// What came of a set of atoms.
+#[derive(Clone, Copy)]
+enum Trial {
+    /// No instance raises the count of its true atoms.
+    Group,
+    /// This one may.
+    RaisedBy(u32),
+    /// It is not worth more time.
+    GivenUp,
+}
+
+/// Groups of the ground task's atoms, the largest first, each once: at the start one atom of each is true.
+pub fn found_groups(
+    alloc: Global,
+    ground: &Ground<'_>,
+    initial: &Packed,
+) -> Result<Vec<AtomGroup>, NoMemory> {
+    let mut finder = Finder {
+        ground,
+        families: Families::new(alloc, ground)?,
+        adders: Adders::new(alloc, ground)?,
+        marked: vec![in alloc; false; place_of(ground.width())]?,
+        looks: 0,
+        found: Vec::new(alloc),
+    };
+    finder.find_all(alloc, initial)?;
+    let Finder { mut found, .. } = finder;
+    found.sort_unstable_by(|one, other| {
+        other
+            .len()
+            .cmp(&one.len())
+            .then_with(|| one.as_slice().cmp(other.as_slice()))
+    });
+    found.dedup();
+    Ok(found)
+}
+
+impl Finder<'_, '_> {
+    /// Begins with each family.
+    fn find_all(&mut self, alloc: Global, initial: &Packed) -> Result<(), NoMemory> {
+        for place in 0..self.families.all().len() {
+            let Some(first) = self.families.all().get(place) else {
+                return Ok(());
+            };
+            let first = *first;
+            self.find_from(alloc, first, initial)?;
+        }
+        Ok(())
+    }
+
+    /// Tries the family alone, and then with others that instances ask for.
+    fn find_from(
+        &mut self,
+        alloc: Global,
+        first: Family,
+        initial: &Packed,
+    ) -> Result<(), NoMemory> {
+        let mut waiting: Vec<Vec<Family>> = Vec::new(alloc);
+        waiting.push(vec![in alloc; first]?)?;
+        for _ in 0..MAX_TRIED {
+            let Some(families) = waiting.pop() else {
+                return Ok(());
+            };
+            let atoms = self.atoms_of(alloc, &families)?;
+            match self.tried(&atoms, initial) {
+                Trial::Group => self.keep(atoms, initial)?,
+                Trial::RaisedBy(number) => {
+                    self.grow(alloc, &families, number, &mut waiting)?;
+                }
+                Trial::GivenUp => {}
+            }
+        }
+        Ok(())
+    }
+
+    /// The atoms of the families, rising.
+    fn atoms_of(&self, alloc: Global, families: &[Family]) -> Result<AtomGroup, NoMemory> {
+        let mut atoms = Vec::new(alloc);
+        for family in families {
+            atoms.extend_from_slice(self.families.atoms(family))?;
+        }
+        atoms.sort_unstable();
+        atoms.dedup();
+        Ok(atoms)
+    }
+
+    /// Whether the atoms seem to be a group.
+    fn tried(&mut self, atoms: &[u32], initial: &Packed) -> Trial {
+        if self.looks > MAX_LOOKS || true_among(atoms, initial) > 1 {
+            return Trial::GivenUp;
+        }
+        self.mark(atoms, true);
+        let trial = self.tried_marked(atoms);
+        self.mark(atoms, false);
+        trial
+    }
+
+    /// The same of the marked atoms.
+    fn tried_marked(&mut self, atoms: &[u32]) -> Trial {
+        for atom in atoms {
+            for number in self.adders.of(*atom) {
+                self.looks = self.looks.saturating_add(1);
+                match balance_of(self.ground, *number, &self.marked) {
+                    Balance::Keeps => {}
+                    Balance::Raises => return Trial::RaisedBy(*number),
+                    Balance::Unclear => return Trial::GivenUp,
+                }
+            }
+        }
+        Trial::Group
+    }
+
+    /// Marks the atoms, or takes their marks away.
+    fn mark(&mut self, atoms: &[u32], is_marked: bool) {
+        for atom in atoms {
+            if let Some(mark) = self.marked.get_mut(place_of(*atom)) {
+                *mark = is_marked;
+            }
+        }
+    }
+
+    /// Keeps the group, if it has several atoms and one of them is true at the start.
+    fn keep(&mut self, atoms: AtomGroup, initial: &Packed) -> Result<(), NoMemory> {
+        if atoms.len() > 1 && true_among(&atoms, initial) == 1 {
+            self.found.push(atoms)?;
+        }
+        Ok(())
+    }
+
+    /// Puts the families, with one more of an atom that the instance wants and takes away, among those that wait.
+    fn grow(
+        &self,
+        alloc: Global,
+        families: &[Family],
+        number: u32,
+        waiting: &mut Vec<Vec<Family>>,
+    ) -> Result<(), NoMemory> {
+        if families.len() >= MAX_FAMILIES || number >= instance_count(self.ground) {
+            return Ok(());
+        }
+        let changes = self.ground.counting(number);
+        for literal in self.ground.literals(number) {
+            if literal.value && surely_deletes(changes, literal.atom) {
+                self.grow_by(alloc, families, literal.atom, waiting)?;
+            }
+        }
+        Ok(())
+    }
+
+    /// The same for one atom.
+    fn grow_by(
+        &self,
+        alloc: Global,
+        families: &[Family],
+        atom: u32,
+        waiting: &mut Vec<Vec<Family>>,
+    ) -> Result<(), NoMemory> {
+        let Some(first) = families.first() else {
+            return Ok(());
+        };
+        let of_atom = self.families.of_atom(atom);
+        let has_arguments = of_atom.len() > 1;
+        for more in of_atom {
+            let is_new = families
+                .iter()
+                .all(|family| family.predicate != more.predicate);
+            if is_new && more.goes_with(first, has_arguments) {
+                let mut grown = Vec::from_slice(alloc, families)?;
+                grown.push(*more)?;
+                waiting.push(grown)?;
+            }
+        }
+        Ok(())
+    }
+}
+
+/// How many of the atoms are true in the state.
+fn true_among(atoms: &[u32], state: &Packed) -> usize {
+    atoms.iter().filter(|atom| is_true(**atom, state)).count()
+}
+
+/// Whether the atom is true in the state.
+fn is_true(atom: u32, state: &Packed) -> bool {
+    atom < state.width() && state.has(atom)
+}

@@ -1,0 +1,82 @@
+//! Orders in which tables take what they need.
+use faults::NoMemory;
+use std::alloc::Global;
+
+/// An order of tables, by their places.
+#[derive(Drop)]
+pub struct Order {
+    tables: Vec<usize>,
+}
+
+/// How good a table is for a state: what it gives, and what it takes for that.
+#[derive(Clone, Copy, Debug)]
+pub(crate) struct Worth {
+    pub(crate) table: usize,
+    pub(crate) given: i64,
+    pub(crate) taken: i64,
+}
+
+impl Order {
+    /// These, one after another.
+    pub fn new(tables: Vec<usize>) -> Order {
+        Order { tables }
+    }
+
+    /// The tables, one after another.
+    pub fn tables(&self) -> &[usize] {
+        &self.tables
+    }
+
+    /// The tables by what they give for what they take, the best ones first; of equal ones those that give more.
+    pub(crate) fn by_worth(alloc: Global, mut worths: Vec<Worth>) -> Result<Order, NoMemory> {
+        worths.sort_unstable_by(|one, other| {
+            other
+                .ratio()
+                .cmp(&one.ratio())
+                .then_with(|| other.given.cmp(&one.given))
+                .then_with(|| one.table.cmp(&other.table))
+        });
+        Order::of(alloc, &worths)
+    }
+
+    /// The tables by what they give, the best ones first.
+    pub(crate) fn by_given(alloc: Global, mut worths: Vec<Worth>) -> Result<Order, NoMemory> {
+        worths.sort_unstable_by(|one, other| {
+            other
+                .given
+                .cmp(&one.given)
+                .then_with(|| one.table.cmp(&other.table))
+        });
+        Order::of(alloc, &worths)
+    }
+
+    /// The tables in this order.
+    fn of(alloc: Global, worths: &[Worth]) -> Result<Order, NoMemory> {
+        let mut tables = Vec::with_capacity(alloc, worths.len())?;
+        for worth in worths {
+            tables.push(worth.table)?;
+        }
+        Ok(Order { tables })
+    }
+
+    /// The order with the table at one place moved to another.
+    pub(crate) fn moved(&self, alloc: Global, from: usize, to: usize) -> Result<Order, NoMemory> {
+        let mut tables = Vec::from_slice(alloc, &self.tables)?;
+        if from < tables.len() {
+            let table = tables.remove(from);
+            if to <= tables.len() {
+                tables.insert(to, table)?;
+            } else {
+                tables.push(table)?;
+            }
+        }
+        Ok(Order { tables })
+    }
+}
+
+impl Worth {
+    /// A thousand times what it gives, by one more than what it takes.
+    fn ratio(self) -> i64 {
+        self.given.saturating_mul(1000).saturating_add(1) / self.taken.max(0).saturating_add(1)
+    }
+}

@@ -1,0 +1,37 @@
+use Rattle.std.proofs.Common.{◌≤◌, length, sym, subst}
+use Rattle.certificate.specs.CertificateParts.{bounds_of}
+use Rattle.grounding.specs.Ground.{task_in, atoms_in}
+use Rattle.model.specs.Grounding.{ground_system}
+use Rattle.potential_functions.specs.PotentialFunctions.{PotentialFunction}
+use Rattle.potential_functions.specs.Settled.{initial_value}
+use Rattle.potentials.specs.Potentials.{potentials_of}
+use Rattle.table_functions.specs.FairTables.{AreFair}
+use Rattle.solver.specs.declared.attempt.Attempt.{Attempt}
+use Rattle.solver.specs.declared.searched.Searched.{Searched}
+use Rattle.solver.specs.Attempts.{IfDone}
+use Rattle.solver.specs.Guidance.{by_tables, estimate_by, reports_dead}
+use Rattle.solver.specs.Guided.{IsSearched}
+use Rattle.solver.specs.Improved.{AreSettledOrHigh}
+use Rattle.solver.proofs.TablesLemmas.{tables-written}
+use Rattle.solver.proofs.by_tables.answer_by_tables.Goals as goal
+
+pub answer_of-requires-clause-guidance : goal.answer_of-requires-clause-guidance
+answer_of-requires-clause-guidance c =
+    let known = c.args.ground.now in
+    let task = task_in known in
+    let atoms = atoms_in known in
+    let values = bounds_of c.args.bounds in
+    let start = estimate_by (by_tables values) (ground_system task atoms).initial in
+    record {
+      written = tables-written (length atoms) c.args.bounds c.requires.within_limits;
+      fair = subst (IfDone (λ (s : Searched). AreFair task atoms values)) c.in-Done.is c.in_ok-attempt.ensures.fair;
+      improved = subst (AreSettledOrHigh task atoms) (sym c.requires.first) c.requires.improved;
+      dead_ends_improved = c.requires.dead_ends_improved;
+      no_lower = subst (λ (p : PotentialFunction). initial_value task atoms p ≤ start) (sym c.requires.first)
+          (subst (IfDone (λ (s : Searched). initial_value task atoms (potentials_of c.args.stopped.now.potentials.now) ≤ start)) c.in-Done.is c.in_ok-attempt.ensures.no_lower);
+    }
+
+pub answer_of-requires-clause-searched : goal.answer_of-requires-clause-searched
+answer_of-requires-clause-searched c =
+    let guidance = by_tables (bounds_of c.args.bounds) in
+    subst (IfDone (λ (s : Searched). IsSearched c.args.ground.now (estimate_by guidance) (reports_dead guidance) c.args.limits.states s.outcome s.marks.items)) c.in-Done.is c.in_ok-attempt.ensures.searched

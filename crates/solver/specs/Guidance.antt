@@ -1,0 +1,53 @@
+-- What a search goes by, as a certificate has it.
+use Rattle.std.specs.Prelude.{ℕ, Bool, IsTrue, List, [], ◌∷◌, All, AllPairs, ◌≢◌, ℤ, pos, get_or}
+use Rattle.model.specs.Task.{Task, Atom}
+use Rattle.certificate.specs.CertificateParts.{are_bounds}
+use Rattle.certificate_definitions.specs.Certificates.{Version, two, three}
+use Rattle.potential_functions.specs.PotentialFunctions as potential
+use Rattle.potential_functions.specs.PotentialFunctions.{PotentialFunction}
+use Rattle.potential_functions.specs.Fair as potentials
+use Rattle.table_functions.specs.TableFunctions as tables
+use Rattle.table_functions.specs.TableFunctions.{Row, Table, SeveralValues, functions_of, dead_ends_of, greatest_value}
+use Rattle.table_functions.specs.FairTables as fair_tables
+
+-- Values by which states have lower bounds of what is still to pay from them, and one by which they are reported as dead ends:
+-- a potential function each, or several values over tables.
+pub data Guidance : Type 0 where
+  by_potentials : (p dead_ends : PotentialFunction) → Guidance
+  by_tables : SeveralValues → Guidance
+
+-- ---- of packed states
+
+-- the lower bound, which is the greatest of several
+abbrev pub estimate_by : Guidance → List Bool → ℕ
+estimate_by (by_potentials p dead_ends) = potential.value p
+estimate_by (by_tables s) = greatest_value (functions_of s)
+
+abbrev pub reports_dead : Guidance → List Bool → Bool
+reports_dead (by_potentials p dead_ends) = potential.is_dead_by dead_ends
+reports_dead (by_tables s) = tables.is_dead_by (dead_ends_of s)
+
+-- ---- in a certificate
+
+-- the version of a certificate that has them
+abbrev pub version_by : Guidance → Version
+version_by (by_potentials p dead_ends) = two
+version_by (by_tables s) = three
+
+abbrev pub values_by : Guidance → SeveralValues
+values_by (by_potentials p dead_ends) = record { values = p ∷ []; dead_ends = dead_ends; tables = [] }
+values_by (by_tables s) = s
+
+-- the first value, 0 where there is none
+abbrev pub first_value : Guidance → PotentialFunction
+first_value guidance = get_or (values_by guidance).values 0 (record { constant = pos 0; weights = [] })
+
+-- A certificate of so many atoms can have them.
+pub record CanBeWritten (atom_count : ℕ) (guidance : Guidance) : Type 0 where
+  pub within_limits : IsTrue (are_bounds (version_by guidance) atom_count (values_by guidance))
+  pub rows_are_distinct : All (λ (t : Table). AllPairs (λ (q r : Row). q.atoms ≢ r.atoms) t.rows) (values_by guidance).tables
+
+-- The values are fair for the ground task of these atoms, and that of dead ends is dead-fair.
+abbrev pub AreFairBy : Task → List Atom → Guidance → Type 0
+AreFairBy task atoms (by_potentials p dead_ends) = potentials.AreFair task atoms p × potentials.AreDeadFair task atoms dead_ends
+AreFairBy task atoms (by_tables s) = fair_tables.AreFair task atoms s

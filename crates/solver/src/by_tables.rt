@@ -1,0 +1,241 @@
+//! Answers by a search that goes by values over tables.
+//!
+//! Tables are drafted, of which nothing is known. They are taken if a certificate can have them, they are tested to be fair, and
+//! they would have saved a first search by potentials enough of the states that it expanded. Of the values over tables the first
+//! one is that of the potentials.
+ghost use Rattle.std.specs.Prelude.{◌≡◌, ◌==◌, ◌≤◌, [], IfOk, IfSome, IsTrue, Some, length, map, slice_get};
+ghost use Rattle.std.specs.List.{list_all};
+ghost use Rattle.certificate.specs.CertificateParts.{are_bounds, bounds_of, potential_of};
+ghost use Rattle.certificate_definitions.specs.Certificates.{three};
+ghost use Rattle.grounding.specs.Ground.{task_in, atoms_in, IsGroundOf};
+ghost use Rattle.model.specs.Grounding.{ground_system};
+ghost use Rattle.model.specs.NumberedAtoms.{numbered_atoms};
+ghost use Rattle.model.specs.WellTyped.{is_task};
+ghost use Rattle.potential_functions.specs.Settled.{initial_value};
+ghost use Rattle.potentials.specs.Potentials.{potentials_of};
+ghost use Rattle.solver.specs.Attempts.{IfDone};
+ghost use Rattle.solver.specs.Guidance.{by_tables, estimate_by, first_value, reports_dead};
+ghost use Rattle.solver.specs.Guided.{IsSearched};
+ghost use Rattle.solver.specs.Improved.{AreSettledOrHigh, AreDeadSettledOrHigh};
+ghost use Rattle.solver.specs.SeveralOver.{several_over};
+ghost use Rattle.solver.specs.Solver.{IsTrueAnswer};
+ghost use Rattle.table_functions.specs.FairTables.{AreFair};
+ghost use Rattle.table_functions.specs.TableFunctions.{functions_of, greatest_value};
+ghost use Rattle.table_guides.specs.FairTables.{functions_in, ground_in};
+ghost use Rattle.table_rows.specs.Tables.{weight_count_of};
+ghost use Rattle.table_rows.specs.declared.table.Table as in_memory;
+
+use crate::answer::{Answer, answer_of};
+use crate::attempt::Attempt;
+use crate::guidance::{Guidance, potential_of};
+use crate::limits::Limits;
+use crate::searched::{Searched, search_by};
+use crate::stopped::Stopped;
+use certificate::{Bounds, Potential, Version};
+use faults::NoMemory;
+use grounding::Ground;
+use potentials::Potentials;
+use std::alloc::Global;
+use table_guides::FairTables;
+use table_rows::Table;
+use tables::{IndexedTables, TableFunctions, ValuesFairness};
+use tables_drafted::{DraftedTables, Wanted, drafted_tables};
+
+/// The answer by tables, if such are found that are better than the potentials by which a first search was stopped so.
+pub(crate) fn solve_by_tables(
+    alloc: Global,
+    ground: &Ground<'_>,
+    stopped: &Stopped<'_>,
+    limits: Limits,
+) -> Result<Attempt<Answer>, NoMemory>
+    requires typed { IsTrue (is_task (task_in ground.now)) }
+    requires ground { IsGroundOf (task_in ground.now) [] limits.instances ground.now }
+    requires width { length (potentials_of stopped.now.potentials.now).weights ≡ length (atoms_in ground.now) }
+    requires improved { AreSettledOrHigh (task_in ground.now) (atoms_in ground.now) (potentials_of stopped.now.potentials.now) }
+    requires dead_ends_improved { AreDeadSettledOrHigh (task_in ground.now) (atoms_in ground.now) (potentials_of stopped.now.dead_ends.now) }
+    ensures { IfOk result (IfDone (IsTrueAnswer (task_in ground.now) limits.states limits.instances)) }
+{
+    let Some(draft) = drafted(alloc, ground, stopped)? else {
+        return Ok(Attempt::InVain);
+    };
+    let DraftedTables {
+        tables,
+        values,
+        dead_ends,
+    } = draft;
+    let bounds = Bounds {
+        values: written(alloc, &values)?,
+        dead_ends: potential_of(alloc, &dead_ends)?,
+        tables,
+    };
+    if !bounds.keep_limits(Version::Three, ground.width() as usize) {
+        return Ok(Attempt::InVain);
+    }
+    answer_by_tables(alloc, ground, bounds, values, dead_ends, stopped, limits)
+}
+
+/// Tables that may be better than the potentials by which a first search was stopped so.
+fn drafted(
+    alloc: Global,
+    ground: &Ground<'_>,
+    stopped: &Stopped<'_>,
+) -> Result<Option<DraftedTables>, NoMemory>
+    ensures first { IfOk result (λ o. IfSome o (λ draft. slice_get (map potentials_of draft.values.items) 0 ≡ Some (potentials_of stopped.now.potentials.now))) }
+    ensures dead_ends { IfOk result (λ o. IfSome o (λ draft. potentials_of draft.dead_ends ≡ potentials_of stopped.now.dead_ends.now)) }
+{
+    let states = stopped.samples(alloc)?;
+    let wanted = Wanted {
+        potentials: stopped.potentials,
+        dead_ends: stopped.dead_ends,
+        states: &states,
+        effort: stopped.effort,
+    };
+    let draft = drafted_tables(alloc, ground, &wanted)?;
+    Ok(draft)
+}
+
+/// The same constants and weights of all values, as a certificate has them.
+fn written(alloc: Global, values: &[Potentials]) -> Result<Vec<Potential>, NoMemory>
+    ensures { IfOk result (λ written. map potential_of written.items ≡ map potentials_of values.now) }
+{
+    let mut written = Vec::with_capacity(alloc, values.len())?;
+    for value in values {
+        written.push(potential_of(alloc, value)?)?;
+    }
+    Ok(written)
+}
+
+/// The answer by these values, which are given as potentials too, over their tables, if they are fair, and better than what the
+/// first search was guided by.
+fn answer_by_tables(
+    alloc: Global,
+    ground: &Ground<'_>,
+    bounds: Bounds,
+    values: Vec<Potentials>,
+    dead_ends: Potentials,
+    stopped: &Stopped<'_>,
+    limits: Limits,
+) -> Result<Attempt<Answer>, NoMemory>
+    requires typed { IsTrue (is_task (task_in ground.now)) }
+    requires ground { IsGroundOf (task_in ground.now) [] limits.instances ground.now }
+    requires within_limits { IsTrue (are_bounds three (length (atoms_in ground.now)) (bounds_of bounds)) }
+    requires values { map potentials_of values.items ≡ (bounds_of bounds).values }
+    requires dead_ends { potentials_of dead_ends ≡ (bounds_of bounds).dead_ends }
+    requires first { first_value (by_tables (bounds_of bounds)) ≡ potentials_of stopped.now.potentials.now }
+    requires width { length (potentials_of stopped.now.potentials.now).weights ≡ length (atoms_in ground.now) }
+    requires improved { AreSettledOrHigh (task_in ground.now) (atoms_in ground.now) (potentials_of stopped.now.potentials.now) }
+    requires dead_ends_improved { AreDeadSettledOrHigh (task_in ground.now) (atoms_in ground.now) (bounds_of bounds).dead_ends }
+    ensures { IfOk result (IfDone (IsTrueAnswer (task_in ground.now) limits.states limits.instances)) }
+{
+    let attempt = search_by_tables(alloc, ground, &bounds, values, dead_ends, stopped, limits)?;
+    match attempt {
+        Attempt::Done(searched) => {
+            let guidance = Guidance::Tables(bounds);
+            let answer = answer_of(alloc, ground, guidance, searched, limits)?;
+            Ok(Attempt::Done(answer))
+        }
+        Attempt::Promising => Ok(Attempt::Promising),
+        Attempt::InVain => Ok(Attempt::InVain),
+    }
+}
+
+/// What a search by these values comes to, if they are fair, and better.
+fn search_by_tables(
+    alloc: Global,
+    ground: &Ground<'_>,
+    bounds: &Bounds,
+    values: Vec<Potentials>,
+    dead_ends: Potentials,
+    stopped: &Stopped<'_>,
+    limits: Limits,
+) -> Result<Attempt<Searched>, NoMemory>
+    requires atoms { atoms_in ground.now ≡ numbered_atoms (task_in ground.now) [] }
+    requires within_limits { IsTrue (are_bounds three (length (atoms_in ground.now)) (bounds_of bounds.now)) }
+    requires values { map potentials_of values.items ≡ (bounds_of bounds.now).values }
+    requires dead_ends { potentials_of dead_ends ≡ (bounds_of bounds.now).dead_ends }
+    requires width { length (potentials_of stopped.now.potentials.now).weights ≡ length (atoms_in ground.now) }
+    ensures fair { IfOk result (IfDone (λ _. AreFair (task_in ground.now) (atoms_in ground.now) (bounds_of bounds.now))) }
+    ensures no_lower { IfOk result (IfDone (λ _. initial_value (task_in ground.now) (atoms_in ground.now) (potentials_of stopped.now.potentials.now) ≤ estimate_by (by_tables (bounds_of bounds.now)) (ground_system (task_in ground.now) (atoms_in ground.now)).initial)) }
+    ensures searched { IfOk result (IfDone (λ s. IsSearched ground.now (estimate_by (by_tables (bounds_of bounds.now))) (reports_dead (by_tables (bounds_of bounds.now))) limits.states s.outcome s.marks.items)) }
+{
+    let Some(guide) = guide_of(alloc, ground, &bounds.tables, values, dead_ends)? else {
+        return Ok(Attempt::InVain);
+    };
+    if !starts_no_lower(alloc, ground, &guide, stopped.potentials)? {
+        return Ok(Attempt::InVain);
+    }
+    let saving = stopped.saving_by(alloc, ground, &guide)?;
+    if !saving.is_worth(bounds.tables.len()) {
+        if saving.is_promising() {
+            return Ok(Attempt::Promising);
+        }
+        return Ok(Attempt::InVain);
+    }
+    let searched = search_by(alloc, ground, &guide, limits)?;
+    Ok(Attempt::Done(searched))
+}
+
+/// Whether the initial state's value by the guide is at least that by the potentials.
+fn starts_no_lower(
+    alloc: Global,
+    ground: &Ground<'_>,
+    guide: &FairTables<'_, '_, '_>,
+    potentials: &Potentials,
+) -> Result<bool, NoMemory>
+    requires ground { ground_in guide.now ≡ ground.now }
+    requires width { length (potentials_of potentials.now).weights ≡ length (atoms_in ground.now) }
+    ensures { IfOk result (λ is. IsTrue is → initial_value (task_in ground.now) (atoms_in ground.now) (potentials_of potentials.now) ≤ greatest_value (functions_of (functions_in guide.now)) (ground_system (task_in ground.now) (atoms_in ground.now)).initial) }
+{
+    let initial = ground.initial(alloc)?;
+    let functions = guide.functions();
+    let mut room = functions.room(alloc)?;
+    let value = functions.value(&initial, &mut room);
+    Ok(potentials.value(&initial) <= value)
+}
+
+/// These values over these tables as a guide, if they are fair.
+fn guide_of<'g, 't, 'a>(
+    alloc: Global,
+    ground: &'g Ground<'t>,
+    tables: &'a [Table],
+    values: Vec<Potentials>,
+    dead_ends: Potentials,
+) -> Result<Option<FairTables<'g, 't, 'a>>, NoMemory>
+    requires atoms { atoms_in ground.now ≡ numbered_atoms (task_in ground.now) [] }
+    requires within_limits { IsTrue (are_bounds three (length (atoms_in ground.now)) (several_over values.items dead_ends tables.now)) }
+    ensures functions { IfOk result (λ o. IfSome o (λ f. functions_in f ≡ several_over values.items dead_ends tables.now)) }
+    ensures ground { IfOk result (λ o. IfSome o (λ f. ground_in f ≡ ground.now)) }
+{
+    let count = values.len() as u32 + 1;
+    if !have_weights(tables, count) {
+        return Ok(None);
+    }
+    let indexed = IndexedTables::index(alloc, ground.width(), count, tables)?;
+    let functions = TableFunctions::new(values, dead_ends, indexed);
+    match functions.fairness(alloc, ground)? {
+        ValuesFairness::Fair => {
+            let guide = FairTables::new(alloc, functions, ground)?;
+            Ok(Some(guide))
+        }
+        _ => Ok(None),
+    }
+}
+
+/// Whether the rows of each table have so many weights; so they would in one that has no row.
+fn have_weights(tables: &[Table], count: u32) -> bool
+    ensures { result ≡ list_all (λ (t : in_memory.Table). weight_count_of t == count) tables.now }
+{
+    for table in tables {
+        if !has_weights(table, count) {
+            return false;
+        }
+    }
+    true
+}
+
+/// Whether the table's rows do.
+fn has_weights(table: &Table, count: u32) -> bool
+    ensures { result ≡ (weight_count_of table.now == count) }
+{
+    table.weight_count() == count
+}

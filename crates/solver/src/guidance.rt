@@ -1,0 +1,72 @@
+//! What a search goes by, as its certificate has it.
+ghost use Rattle.std.specs.Prelude.{◌≡◌, IfOk};
+ghost use Rattle.certificate.specs.CertificateParts as parts;
+ghost use Rattle.certificate_reader.specs.Lines.{version_of};
+ghost use Rattle.potentials_improved.specs.Potentials.{potentials_of};
+ghost use Rattle.solver.specs.Guidance as guidance;
+ghost use Rattle.solver.specs.Written.{guidance_of};
+
+use certificate::{Bounds, Potential, Version};
+use faults::NoMemory;
+use potentials_improved::Potentials;
+use std::alloc::Global;
+
+/// Values by which states have lower bounds of what is still to pay from them, and one by which they are reported as dead ends.
+#[derive(Drop)]
+pub(crate) enum Guidance {
+    /// A potential function for each.
+    Potentials {
+        /// That of the lower bounds.
+        value: Potential,
+        /// That of dead ends.
+        dead_ends: Potential,
+    },
+    /// Several values over tables, of which the greatest counts, and one for dead ends.
+    Tables(Bounds),
+}
+
+impl Guidance {
+    /// The version of a certificate that has it.
+    pub(crate) fn version(&self) -> Version
+        ensures { version_of result ≡ guidance.version_by (guidance_of self.now) }
+    {
+        match self {
+            Guidance::Potentials { .. } => Version::Two,
+            Guidance::Tables(_) => Version::Three,
+        }
+    }
+
+    /// What the certificate says that bounds the costs of plans.
+    pub(crate) fn into_bounds(self, alloc: Global) -> Result<Bounds, NoMemory>
+        ensures { IfOk result (λ bounds. parts.bounds_of bounds ≡ guidance.values_by (guidance_of self)) }
+    {
+        match self {
+            Guidance::Potentials { value, dead_ends } => bounds_of(alloc, value, dead_ends),
+            Guidance::Tables(bounds) => Ok(bounds),
+        }
+    }
+}
+
+/// One value, that of dead ends, and no tables.
+fn bounds_of(alloc: Global, value: Potential, dead_ends: Potential) -> Result<Bounds, NoMemory>
+    ensures { IfOk result (λ bounds. parts.bounds_of bounds ≡ guidance.values_by (guidance.by_potentials (parts.potential_of value) (parts.potential_of dead_ends))) }
+{
+    let mut values = Vec::new(alloc);
+    values.push(value)?;
+    Ok(Bounds {
+        values,
+        dead_ends,
+        tables: Vec::new(alloc),
+    })
+}
+
+/// The same constant and weights.
+pub(crate) fn potential_of(alloc: Global, potentials: &Potentials) -> Result<Potential, NoMemory>
+    ensures { IfOk result (λ p. parts.potential_of p ≡ potentials_of potentials.now) }
+{
+    let weights = Vec::from_slice(alloc, potentials.weights())?;
+    Ok(Potential {
+        constant: potentials.constant(),
+        weights,
+    })
+}

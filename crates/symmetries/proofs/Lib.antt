@@ -1,0 +1,16 @@
+pub mod Lists
+pub mod ExchangeLemmas
+pub mod NamedLemmas
+pub mod SameFormulaLemmas
+pub mod Images
+pub mod ObjectImages
+pub mod FormulaImages
+pub mod EffectImages
+pub mod GoalImages
+pub mod StepImages
+pub mod TestLemmas
+pub mod QuotientLemmas
+pub mod RepresentativeLemmas
+pub mod TaskQuotients
+pub mod PackedQuotients
+pub mod SymmetryExampleProofs

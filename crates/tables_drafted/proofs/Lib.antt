@@ -1,0 +1,2 @@
+mod RisingLemmas
+mod ValueLemmas

@@ -1,0 +1,273 @@
+//! Drafts of values over tables, from the ground task to tables in memory.
+ghost use Rattle.std.specs.Prelude.{◌≡◌, IfOk, IfSome, Some, map, slice_get};
+ghost use Rattle.potentials.specs.Potentials.{potentials_of};
+ghost use Rattle.tables_drafted.specs.ValuePotentials.{potentials_in_value};
+
+use crate::chosen::{Choosing, Value};
+use crate::collected::{Collected, Collecting, costs_of};
+use crate::states::{rows_of_all, samples, values_of_all};
+use crate::written::{Writing, part_of, weight_of_dead};
+use atom_groups::{Variables, found_groups};
+use costs_divided::{Costs, NO_WAY, distances};
+use faults::NoMemory;
+use grounding::Ground;
+use potentials::Potentials;
+use potentials_drafted::Tables;
+use reached_rows::{GoalValues, Reaching, RowLimits, Shutters, Steps};
+use std::alloc::Global;
+use table_rows::Table;
+
+/// How large one table may be.
+const LIMITS: RowLimits = RowLimits {
+    combinations: 262_144,
+    arcs: 3_000_000,
+};
+
+/// The most atoms and the most instances of a task for which tables are drafted.
+const MAX_ATOMS: u32 = 20_000;
+
+const MAX_INSTANCES: usize = 200_000;
+
+/// How many rows are looked at of tables that may be of use for dead ends alone.
+const MAX_ROWS_FOR_DEAD_ENDS: usize = 50_000;
+
+/// Several values over tables, of which the greatest counts, and one for dead ends. Of each row the weights are theirs in this
+/// order, that for dead ends last.
+#[derive(Drop)]
+pub struct DraftedTables {
+    /// The tables.
+    pub tables: Vec<Table>,
+    /// Of each value the constant and the weights of atoms, the first one that of the given potentials.
+    pub values: Vec<Potentials>,
+    /// Those for dead ends.
+    pub dead_ends: Potentials,
+}
+
+/// Tables, and what instances cost that they do not shut out.
+#[derive(Drop)]
+struct Known {
+    collected: Collected,
+    costs: Costs,
+}
+
+/// How much is looked at for a draft.
+#[derive(Clone, Copy, Debug, PartialEq, Eq)]
+pub enum Effort {
+    /// A tenth of the other.
+    Quick,
+    /// As much as there may be.
+    Thorough,
+}
+
+impl Effort {
+    /// The part of this count that may be looked at.
+    pub(crate) fn part_of(self, count: u64) -> u64 {
+        match self {
+            Effort::Quick => count / 10,
+            Effort::Thorough => count,
+        }
+    }
+}
+
+/// What a draft is made for: potentials, whose values those over tables are to exceed, and such for dead ends; and states, by
+/// their true atoms, in which they are to.
+#[derive(Clone, Copy)]
+pub struct Wanted<'a> {
+    /// The potentials.
+    pub potentials: &'a Potentials,
+    /// Those for dead ends.
+    pub dead_ends: &'a Potentials,
+    /// The states. The initial one counts too, and some on random walks from it.
+    pub states: &'a [Vec<u32>],
+    /// How much is looked at.
+    pub effort: Effort,
+}
+
+/// Values over tables that may be greater than those of potentials. None where no table is of use, or the task is too large.
+///
+/// # Errors
+/// Where memory is refused.
+pub fn drafted_tables(
+    alloc: Global,
+    ground: &Ground<'_>,
+    wanted: &Wanted<'_>,
+) -> Result<Option<DraftedTables>, NoMemory>
+    ensures first { IfOk result (λ o. IfSome o (λ draft. slice_get (map potentials_of draft.values.items) 0 ≡ Some (potentials_of wanted.now.potentials.now))) }
+    ensures dead_ends { IfOk result (λ o. IfSome o (λ draft. potentials_of draft.dead_ends ≡ potentials_of wanted.now.dead_ends.now)) }
+{
+    if ground.width() > MAX_ATOMS || ground.instances().len() > MAX_INSTANCES {
+        return Ok(None);
+    }
+    let initial = ground.initial(alloc)?;
+    let groups = found_groups(alloc, ground, &initial)?;
+    let variables = Variables::new(alloc, ground.width(), &groups)?;
+    drop(groups);
+    let mut tables = Tables::new(alloc, ground, &initial)?;
+    drop(initial);
+    let draft = draft_over(alloc, ground, &variables, &mut tables, wanted)?;
+    Ok(draft)
+}
+
+/// The same over these variables.
+fn draft_over(
+    alloc: Global,
+    ground: &Ground<'_>,
+    variables: &Variables,
+    tables: &mut Tables,
+    wanted: &Wanted<'_>,
+) -> Result<Option<DraftedTables>, NoMemory>
+    ensures first { IfOk result (λ o. IfSome o (λ draft. slice_get (map potentials_of draft.values.items) 0 ≡ Some (potentials_of wanted.now.potentials.now))) }
+    ensures dead_ends { IfOk result (λ o. IfSome o (λ draft. potentials_of draft.dead_ends ≡ potentials_of wanted.now.dead_ends.now)) }
+{
+    let atoms = samples(alloc, tables.states(), wanted.states)?;
+    let states = values_of_all(alloc, variables, &atoms)?;
+    let Some(steps) = Steps::new(alloc, ground, variables)? else {
+        return Ok(None);
+    };
+    let known = known_over(alloc, ground, variables, &steps, &states, wanted.effort)?;
+    drop(steps);
+    let draft = draft_by(alloc, variables, &known, &atoms, &states, tables, wanted)?;
+    Ok(draft)
+}
+
+/// What is known of tables over these variables.
+fn known_over<'a, 't>(
+    alloc: Global,
+    ground: &'a Ground<'t>,
+    variables: &'a Variables,
+    steps: &'a Steps,
+    states: &'a [Vec<u32>],
+    effort: Effort,
+) -> Result<Known, NoMemory> {
+    let goals = GoalValues::new(alloc, variables, ground.goal_literals())?;
+    let known = collected(alloc, ground, variables, steps, &goals, states, effort)?;
+    Ok(known)
+}
+
+/// Tables over these variables, and what instances cost that they do not shut out.
+fn collected<'a, 't>(
+    alloc: Global,
+    ground: &'a Ground<'t>,
+    variables: &'a Variables,
+    steps: &'a Steps,
+    goals: &'a GoalValues,
+    states: &'a [Vec<u32>],
+    effort: Effort,
+) -> Result<Known, NoMemory> {
+    let initial: &[u32] = match states.first() {
+        Some(values) => values,
+        None => &[],
+    };
+    let shutters = Shutters::new(alloc, ground)?;
+    let costs = costs_of(alloc, ground, &shutters)?;
+    let reaching = Reaching::new(alloc, variables, steps, goals, initial, LIMITS)?;
+    let mut collecting = Collecting {
+        ground,
+        variables,
+        goals,
+        reaching,
+        costs,
+        shutters,
+        states,
+        effort,
+        collected: Collected::new(alloc),
+        tests: 0,
+        room: 0,
+    };
+    collecting.collect(alloc)?;
+    let Collecting {
+        collected,
+        costs,
+        ..
+    } = collecting;
+    Ok(Known { collected, costs })
+}
+
+/// The draft by what is known of tables, for states of these true atoms and these values of variables.
+fn draft_by<'a>(
+    alloc: Global,
+    variables: &Variables,
+    known: &'a Known,
+    atoms: &'a [Vec<u32>],
+    states: &[Vec<u32>],
+    tables: &mut Tables,
+    wanted: &Wanted<'a>,
+) -> Result<Option<DraftedTables>, NoMemory>
+    ensures first { IfOk result (λ o. IfSome o (λ draft. slice_get (map potentials_of draft.values.items) 0 ≡ Some (potentials_of wanted.now.potentials.now))) }
+    ensures dead_ends { IfOk result (λ o. IfSome o (λ draft. potentials_of draft.dead_ends ≡ potentials_of wanted.now.dead_ends.now)) }
+{
+    let graphs = known.collected.graphs.as_slice();
+    let rows = rows_of_all(alloc, graphs, states)?;
+    let choosing = Choosing {
+        graphs,
+        costs: &known.costs,
+        rows: &rows,
+        atoms,
+        potentials: wanted.potentials,
+        effort: wanted.effort,
+    };
+    let values = choosing.values(alloc, tables)?;
+    let Some(written) = tables_of_use(alloc, variables, known, &values, wanted.dead_ends)? else {
+        return Ok(None);
+    };
+    Ok(Some(DraftedTables {
+        tables: written,
+        values: potentials_in(alloc, &values)?,
+        dead_ends: wanted.dead_ends.copied(alloc)?,
+    }))
+}
+
+/// The tables that are of use, with the weights of these values; none where none is.
+fn tables_of_use<'a>(
+    alloc: Global,
+    variables: &'a Variables,
+    known: &Known,
+    values: &'a [Value],
+    dead_ends: &Potentials,
+) -> Result<Option<Vec<Table>>, NoMemory> {
+    let writing = Writing {
+        variables,
+        values,
+        weight_of_dead: weight_of_dead(dead_ends),
+    };
+    let mut tables = Vec::new(alloc);
+    let mut rows_for_dead_ends = 0usize;
+    for (place, graph) in known.collected.graphs.iter().enumerate() {
+        let reach = distances(alloc, graph, &known.costs)?;
+        let mut is_of_use = known.is_used(place, values);
+        if !is_of_use && rows_for_dead_ends < MAX_ROWS_FOR_DEAD_ENDS {
+            is_of_use = reach.iter().any(|distance| *distance == NO_WAY);
+            rows_for_dead_ends = rows_for_dead_ends.saturating_add(reach.len());
+        }
+        if is_of_use {
+            let Some(table) = writing.table(alloc, place, graph, &reach)? else {
+                return Ok(None);
+            };
+            tables.push(table)?;
+        }
+    }
+    Ok(if tables.is_empty() {
+        None
+    } else {
+        Some(tables)
+    })
+}
+
+impl Known {
+    /// Whether the table at this place shuts instances out, or takes a part of the costs in one of these values.
+    fn is_used(&self, place: usize, values: &[Value]) -> bool {
+        self.collected.is_shutting(place)
+            || values.iter().any(|value| part_of(value, place).is_some())
+    }
+}
+
+/// The potentials of the values.
+fn potentials_in(alloc: Global, values: &[Value]) -> Result<Vec<Potentials>, NoMemory>
+    ensures { IfOk result (λ potentials. map potentials_of potentials.items ≡ map potentials_in_value values.now) }
+{
+    let mut potentials = Vec::new(alloc);
+    for value in values {
+        potentials.push(value.potentials.copied(alloc)?)?;
+    }
+    Ok(potentials)
+}
