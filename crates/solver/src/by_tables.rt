@@ -1,8 +1,8 @@
 //! Answers by a search that goes by values over tables.
 //!
-//! Tables are drafted, of which nothing is known. They are taken if a certificate can have them, they are tested to be fair, and
-//! they would have saved a first search by potentials enough of the states that it expanded. Of the values over tables the first
-//! one is that of the potentials.
+//! Tables are drafted, of which nothing is known. They are taken if a certificate can have them, they would have saved a first
+//! search by potentials enough of the states that it expanded, and a test says that they are fair. Of the values over tables the
+//! first one is that of the potentials.
 ghost use Rattle.std.specs.Prelude.{◌≡◌, ◌==◌, ◌≤◌, [], IfOk, IfSome, IsTrue, Some, length, map, slice_get};
 ghost use Rattle.std.specs.List.{list_all};
 ghost use Rattle.certificate.specs.CertificateParts.{are_bounds, bounds_of, potential_of};
@@ -21,9 +21,9 @@ ghost use Rattle.solver.specs.SeveralOver.{several_over};
 ghost use Rattle.solver.specs.Solver.{IsTrueAnswer};
 ghost use Rattle.table_functions.specs.FairTables.{AreFair};
 ghost use Rattle.table_functions.specs.TableFunctions.{functions_of, greatest_value};
-ghost use Rattle.table_guides.specs.FairTables.{functions_in, ground_in};
 ghost use Rattle.table_rows.specs.Tables.{weight_count_of};
 ghost use Rattle.table_rows.specs.declared.table.Table as in_memory;
+ghost use Rattle.tables.specs.Several.{several_of, width_of};
 
 use crate::answer::{Answer, answer_of};
 use crate::attempt::Attempt;
@@ -139,7 +139,8 @@ fn answer_by_tables(
     }
 }
 
-/// What a search by these values comes to, if they are fair, and better.
+/// What a search by these values comes to, if they are fair, and better. Whether they are better is asked first, as it takes less
+/// time than the test of fairness.
 fn search_by_tables(
     alloc: Global,
     ground: &Ground<'_>,
@@ -158,67 +159,78 @@ fn search_by_tables(
     ensures no_lower { IfOk result (IfDone (λ _. initial_value (task_in ground.now) (atoms_in ground.now) (potentials_of stopped.now.potentials.now) ≤ estimate_by (by_tables (bounds_of bounds.now)) (ground_system (task_in ground.now) (atoms_in ground.now)).initial)) }
     ensures searched { IfOk result (IfDone (λ s. IsSearched ground.now (estimate_by (by_tables (bounds_of bounds.now))) (reports_dead (by_tables (bounds_of bounds.now))) limits.states s.outcome s.marks.items)) }
 {
-    let Some(guide) = guide_of(alloc, ground, &bounds.tables, values, dead_ends)? else {
+    let Some(functions) = functions_over(alloc, ground, &bounds.tables, values, dead_ends)? else {
         return Ok(Attempt::InVain);
     };
-    if !starts_no_lower(alloc, ground, &guide, stopped.potentials)? {
+    if !starts_no_lower(alloc, ground, &functions, stopped.potentials)? {
         return Ok(Attempt::InVain);
     }
-    let saving = stopped.saving_by(alloc, ground, &guide)?;
-    if !saving.is_worth(bounds.tables.len()) {
-        if saving.is_promising() {
-            return Ok(Attempt::Promising);
-        }
-        return Ok(Attempt::InVain);
+    let saving = stopped.saving_by(alloc, ground, &functions)?;
+    if saving.is_worth(bounds.tables.len()) {
+        return search_if_fair(alloc, ground, functions, limits);
     }
-    let searched = search_by(alloc, ground, &guide, limits)?;
-    Ok(Attempt::Done(searched))
+    if saving.is_promising() {
+        return Ok(Attempt::Promising);
+    }
+    Ok(Attempt::InVain)
 }
 
-/// Whether the initial state's value by the guide is at least that by the potentials.
+/// Whether the initial state's value by these is at least that by the potentials.
 fn starts_no_lower(
     alloc: Global,
     ground: &Ground<'_>,
-    guide: &FairTables<'_, '_, '_>,
+    functions: &TableFunctions<'_>,
     potentials: &Potentials,
 ) -> Result<bool, NoMemory>
-    requires ground { ground_in guide.now ≡ ground.now }
+    requires functions { width_of functions.now ≡ length (atoms_in ground.now) }
     requires width { length (potentials_of potentials.now).weights ≡ length (atoms_in ground.now) }
-    ensures { IfOk result (λ is. IsTrue is → initial_value (task_in ground.now) (atoms_in ground.now) (potentials_of potentials.now) ≤ greatest_value (functions_of (functions_in guide.now)) (ground_system (task_in ground.now) (atoms_in ground.now)).initial) }
+    ensures { IfOk result (λ is. IsTrue is → initial_value (task_in ground.now) (atoms_in ground.now) (potentials_of potentials.now) ≤ greatest_value (functions_of (several_of functions.now)) (ground_system (task_in ground.now) (atoms_in ground.now)).initial) }
 {
     let initial = ground.initial(alloc)?;
-    let functions = guide.functions();
     let mut room = functions.room(alloc)?;
     let value = functions.value(&initial, &mut room);
     Ok(potentials.value(&initial) <= value)
 }
 
-/// These values over these tables as a guide, if they are fair.
-fn guide_of<'g, 't, 'a>(
+/// What a search by these values comes to, if they are fair.
+fn search_if_fair(
     alloc: Global,
-    ground: &'g Ground<'t>,
+    ground: &Ground<'_>,
+    functions: TableFunctions<'_>,
+    limits: Limits,
+) -> Result<Attempt<Searched>, NoMemory>
+    requires atoms { atoms_in ground.now ≡ numbered_atoms (task_in ground.now) [] }
+    requires width { width_of functions ≡ length (atoms_in ground.now) }
+    ensures fair { IfOk result (IfDone (λ _. AreFair (task_in ground.now) (atoms_in ground.now) (several_of functions.entry))) }
+    ensures searched { IfOk result (IfDone (λ s. IsSearched ground.now (estimate_by (by_tables (several_of functions.entry))) (reports_dead (by_tables (several_of functions.entry))) limits.states s.outcome s.marks.items)) }
+{
+    match functions.fairness(alloc, ground)? {
+        ValuesFairness::Fair => {
+            let guide = FairTables::new(alloc, functions, ground)?;
+            let searched = search_by(alloc, ground, &guide, limits)?;
+            Ok(Attempt::Done(searched))
+        }
+        _ => Ok(Attempt::InVain),
+    }
+}
+
+/// These values over these tables, if their rows have a weight for each.
+fn functions_over<'a>(
+    alloc: Global,
+    ground: &Ground<'_>,
     tables: &'a [Table],
     values: Vec<Potentials>,
     dead_ends: Potentials,
-) -> Result<Option<FairTables<'g, 't, 'a>>, NoMemory>
-    requires atoms { atoms_in ground.now ≡ numbered_atoms (task_in ground.now) [] }
+) -> Result<Option<TableFunctions<'a>>, NoMemory>
     requires within_limits { IsTrue (are_bounds three (length (atoms_in ground.now)) (several_over values.items dead_ends tables.now)) }
-    ensures functions { IfOk result (λ o. IfSome o (λ f. functions_in f ≡ several_over values.items dead_ends tables.now)) }
-    ensures ground { IfOk result (λ o. IfSome o (λ f. ground_in f ≡ ground.now)) }
+    ensures { IfOk result (λ o. IfSome o (λ f. several_of f ≡ several_over values.items dead_ends tables.now)) }
 {
     let count = values.len() as u32 + 1;
     if !have_weights(tables, count) {
         return Ok(None);
     }
     let indexed = IndexedTables::index(alloc, ground.width(), count, tables)?;
-    let functions = TableFunctions::new(values, dead_ends, indexed);
-    match functions.fairness(alloc, ground)? {
-        ValuesFairness::Fair => {
-            let guide = FairTables::new(alloc, functions, ground)?;
-            Ok(Some(guide))
-        }
-        _ => Ok(None),
-    }
+    Ok(Some(TableFunctions::new(values, dead_ends, indexed)))
 }
 
 /// Whether the rows of each table have so many weights; so they would in one that has no row.

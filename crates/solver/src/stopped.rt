@@ -1,14 +1,15 @@
 //! What a first search found that was stopped.
 ghost use Rattle.std.specs.Prelude.{◌≡◌, length};
 ghost use Rattle.grounding.specs.Ground.{atoms_in};
+ghost use Rattle.tables.specs.Several.{width_of};
 
 use certificate::{Cert, Mark, StateLine};
 use faults::NoMemory;
 use grounding::Ground;
 use packed_state::{Packed, StateStore};
 use potentials::Potentials;
-use search::Guide;
 use std::alloc::Global;
+use tables::TableFunctions;
 use tables_drafted::Effort;
 
 /// How many of the states that were found are samples, at most.
@@ -55,15 +56,15 @@ impl Stopped<'_> {
         Ok(samples)
     }
 
-    /// What a search by the guide would have saved, before it came to the same bound: states that are dead by it, or cost, with its
-    /// estimate, more. Some are asked, which are spread evenly.
-    pub(crate) fn saving_by<G: Guide>(
+    /// What a search by these values would have saved, before it came to the same bound: states that are dead by them, or cost,
+    /// with the greatest value, more. Some are asked, which are spread evenly. The values need not be fair.
+    pub(crate) fn saving_by(
         &self,
         alloc: Global,
         ground: &Ground<'_>,
-        guide: &G,
+        functions: &TableFunctions<'_>,
     ) -> Result<Saving, NoMemory>
-        requires width { G.width_of guide.now ≡ length (atoms_in ground.now) }
+        requires width { width_of functions.now ≡ length (atoms_in ground.now) }
     {
         let mut saving = Saving {
             expanded: 0,
@@ -72,7 +73,7 @@ impl Stopped<'_> {
         if self.cert.sets().width() != ground.width() {
             return Ok(saving);
         }
-        let mut room = guide.room(alloc)?;
+        let mut room = functions.room(alloc)?;
         let mut set = Packed::empty(alloc, ground.width())?;
         let mut line = no_line(alloc);
         let step = self.cert.line_count() / MAX_ASKED + 1;
@@ -80,7 +81,7 @@ impl Stopped<'_> {
             if place % step == 0 {
                 self.cert.read_line(place, &mut set, &mut line)?;
                 if line.mark == Mark::Open {
-                    let estimate = guide.value_in(&set, &mut room);
+                    let estimate = functions.value_unless_dead(&set, &mut room);
                     saving.count(self.is_saved(line.cost, estimate));
                 }
             }

@@ -1,22 +1,20 @@
-use Rattle.std.proofs.Common.{◌≡◌, ◌∙◌, ◌+◌, ◌≤◌, [], length, map, sym, ap, subst, arith}
+use Rattle.std.proofs.Common.{◌≡◌, ◌∙◌, ◌+◌, ◌≤◌, length, map, sym, subst, arith}
 use Rattle.std.specs.Prelude.{All, IsTrue}
 use Rattle.std.proofs.lemmas.Bool.{leb-true}
 use Rattle.std.proofs.lemmas.List.{length-map}
 use Rattle.task.specs.TaskParts.{atom_of}
-use Rattle.grounding.specs.Ground.{task_in, atoms_in}
-use Rattle.certificate_definitions.specs.Certificates.{three, is_dead_end_weight}
+use Rattle.grounding.specs.Ground.{atoms_in}
+use Rattle.certificate_definitions.specs.Certificates.{three}
 use Rattle.potentials.specs.Potentials.{potentials_of}
 use Rattle.table_functions.specs.Laws.{are_over}
 use Rattle.table_functions.specs.TableFunctions.{SeveralValues}
-use Rattle.table_guides.proofs.GuideLemmas.{all_numbered}
 use Rattle.table_rows.specs.Tables.{table_of}
 use Rattle.tables.specs.AllTables.{tables_of}
-use Rattle.tables.specs.Several.{several_of, ReportsValues}
 use Rattle.solver.specs.SeveralOver.{several_over}
-use Rattle.solver.proofs.GuidanceLemmas.{AreLimits, limits_of, one_weight_each}
-use Rattle.solver.proofs.TablesLemmas.{all_counted, few_values, scopes_within, tables_in_range, values_weighed}
-use Rattle.solver.proofs.by_tables.guide_of.Goals as goal
-use Rattle.solver.proofs.by_tables.guide_of.Goals.{After-len}
+use Rattle.solver.proofs.GuidanceLemmas.{AreLimits, limits_of}
+use Rattle.solver.proofs.TablesLemmas.{all_counted, dead_ends_weighed, few_values, scopes_within, tables_in_range, values_weighed}
+use Rattle.solver.proofs.by_tables.functions_over.Goals as goal
+use Rattle.solver.proofs.by_tables.functions_over.Goals.{After-len}
 
 abbrev values_in : After-len → SeveralValues
 values_in c = several_over c.args.values.items c.args.dead_ends c.args.tables.now
@@ -53,14 +51,11 @@ scopes c = scopes_within (length (atoms_in c.args.ground.now)) (length (values_i
 pub index-requires-clause-scopes : goal.index-requires-clause-scopes
 index-requires-clause-scopes c = subst (λ n. IsTrue (are_over n (map table_of c.args.tables.now))) (sym c.width.ensures) (scopes (goal.at.index-requires-clause-scopes c).After-len)
 
-dead_ends_weighed : (c : After-len) → length (potentials_of c.args.dead_ends).weights ≡ length (atoms_in c.args.ground.now)
-dead_ends_weighed c = one_weight_each (is_dead_end_weight three) (length (atoms_in c.args.ground.now)) (potentials_of c.args.dead_ends) (limits c).dead_ends
-
-pub new-functions-requires : goal.new-functions-requires
-new-functions-requires c =
-    let after = (goal.at.new-functions-requires c).After-len in
+pub new-requires : goal.new-requires
+new-requires c =
+    let after = (goal.at.new-requires c).After-len in
     let many = few after in
-    let weighed = dead_ends_weighed after in
+    let weighed = dead_ends_weighed (length (atoms_in c.args.ground.now)) (values_in after) c.requires.within_limits in
     let atoms = c.args.ground.now.numbering.few_atoms in
     let numbered = length-map c.args.ground.now.numbering.atoms.keys atom_of in
     record {
@@ -72,19 +67,6 @@ new-functions-requires c =
           (subst (λ those. IsTrue (are_over (length (atoms_in c.args.ground.now)) those)) (sym c.in_ok-indexed.ensures.tables) (scopes after));
     }
 
-pub fairness-requires : goal.fairness-requires
-fairness-requires c = ap (λ (s : SeveralValues). length s.dead_ends.weights) c.new-functions.ensures ∙ dead_ends_weighed (goal.at.fairness-requires c).After-len
-
-pub new-requires-clause-width : goal.new-requires-clause-width
-new-requires-clause-width c = ap (λ (s : SeveralValues). length s.dead_ends.weights) c.new-functions.ensures ∙ dead_ends_weighed (goal.at.new-requires-clause-width c).After-len
-
-pub new-requires-clause-numbered : goal.new-requires-clause-numbered
-new-requires-clause-numbered c = all_numbered c.args.ground.now [] c.requires.atoms
-
-pub new-requires-clause-fair : goal.new-requires-clause-fair
-new-requires-clause-fair c = subst (ReportsValues (task_in c.args.ground.now) (atoms_in c.args.ground.now) (several_of c.new-functions.result)) c.in-Fair.is c.in_ok-fairness.ensures
-
-pub returns-in-Fair-clause-functions : goal.returns-in-Fair-clause-functions
-returns-in-Fair-clause-functions c =
-    c.in_ok-guide-in-Fair.ensures.functions ∙ c.new-functions.ensures
-    ∙ (λ i. record { values = map potentials_of c.args.values.items; dead_ends = potentials_of c.args.dead_ends; tables = c.in_ok-indexed.ensures.tables i })
+pub returns-clause-0 : goal.returns-clause-0
+returns-clause-0 c =
+    c.new.ensures ∙ (λ i. record { values = map potentials_of c.args.values.items; dead_ends = potentials_of c.args.dead_ends; tables = c.in_ok-indexed.ensures.tables i })
