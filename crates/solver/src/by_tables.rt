@@ -1,7 +1,7 @@
 //! Answers by a search that goes by values over tables.
 //!
-//! Tables are drafted, of which nothing is known. They are taken if a certificate can have them, they would have saved a first
-//! search by potentials enough of the states that it expanded, and a test says that they are fair. Of the values over tables the
+//! Tables are drafted, of which nothing is known. They are taken if a certificate can have them, they would have saved the
+//! search by potentials enough of the states that it expanded so far, and a test says that they are fair. Of the values over tables the
 //! first one is that of the potentials.
 ghost use Rattle.std.specs.Prelude.{◌≡◌, ◌==◌, ◌≤◌, [], IfOk, IfSome, IsTrue, Some, length, map, slice_get};
 ghost use Rattle.std.specs.List.{list_all};
@@ -11,6 +11,7 @@ ghost use Rattle.grounding.specs.Ground.{task_in, atoms_in, IsGroundOf};
 ghost use Rattle.model.specs.Grounding.{ground_system};
 ghost use Rattle.model.specs.NumberedAtoms.{numbered_atoms};
 ghost use Rattle.model.specs.WellTyped.{is_task};
+ghost use Rattle.packed_state.specs.PooledView.{pooled_width};
 ghost use Rattle.potential_functions.specs.Settled.{initial_value};
 ghost use Rattle.potentials.specs.Potentials.{potentials_of};
 ghost use Rattle.solver.specs.Attempts.{IfDone};
@@ -19,6 +20,7 @@ ghost use Rattle.solver.specs.Guided.{IsSearched};
 ghost use Rattle.solver.specs.Improved.{AreSettledOrHigh, AreDeadSettledOrHigh};
 ghost use Rattle.solver.specs.SeveralOver.{several_over};
 ghost use Rattle.solver.specs.Solver.{IsTrueAnswer};
+ghost use Rattle.solver.specs.Stopped.{IsStopped};
 ghost use Rattle.table_functions.specs.FairTables.{AreFair};
 ghost use Rattle.table_functions.specs.TableFunctions.{functions_of, greatest_value};
 ghost use Rattle.table_rows.specs.Tables.{weight_count_of};
@@ -41,7 +43,7 @@ use table_rows::Table;
 use tables::{IndexedTables, TableFunctions, ValuesFairness};
 use tables_drafted::{DraftedTables, Wanted, drafted_tables};
 
-/// The answer by tables, if such are found that are better than the potentials by which a first search was stopped so.
+/// The answer by tables, if such are found that are better than the potentials of a search that pauses so.
 pub(crate) fn solve_by_tables(
     alloc: Global,
     ground: &Ground<'_>,
@@ -50,6 +52,8 @@ pub(crate) fn solve_by_tables(
 ) -> Result<Attempt<Answer>, NoMemory>
     requires typed { IsTrue (is_task (task_in ground.now)) }
     requires ground { IsGroundOf (task_in ground.now) [] limits.instances ground.now }
+    requires stopped { IsStopped stopped.now.store.now stopped.now.nodes.now }
+    requires store_width { pooled_width stopped.now.store.now ≡ length (atoms_in ground.now) }
     requires width { length (potentials_of stopped.now.potentials.now).weights ≡ length (atoms_in ground.now) }
     requires improved { AreSettledOrHigh (task_in ground.now) (atoms_in ground.now) (potentials_of stopped.now.potentials.now) }
     requires dead_ends_improved { AreDeadSettledOrHigh (task_in ground.now) (atoms_in ground.now) (potentials_of stopped.now.dead_ends.now) }
@@ -74,12 +78,13 @@ pub(crate) fn solve_by_tables(
     answer_by_tables(alloc, ground, bounds, values, dead_ends, stopped, limits)
 }
 
-/// Tables that may be better than the potentials by which a first search was stopped so.
+/// Tables that may be better than the potentials of a search that pauses so.
 fn drafted(
     alloc: Global,
     ground: &Ground<'_>,
     stopped: &Stopped<'_>,
 ) -> Result<Option<DraftedTables>, NoMemory>
+    requires stopped { IsStopped stopped.now.store.now stopped.now.nodes.now }
     ensures first { IfOk result (λ o. IfSome o (λ draft. slice_get (map potentials_of draft.values.items) 0 ≡ Some (potentials_of stopped.now.potentials.now))) }
     ensures dead_ends { IfOk result (λ o. IfSome o (λ draft. potentials_of draft.dead_ends ≡ potentials_of stopped.now.dead_ends.now)) }
 {
@@ -106,7 +111,7 @@ fn written(alloc: Global, values: &[Potentials]) -> Result<Vec<Potential>, NoMem
 }
 
 /// The answer by these values, which are given as potentials too, over their tables, if they are fair, and better than what the
-/// first search was guided by.
+/// search that pauses goes by.
 fn answer_by_tables(
     alloc: Global,
     ground: &Ground<'_>,
@@ -122,6 +127,8 @@ fn answer_by_tables(
     requires values { map potentials_of values.items ≡ (bounds_of bounds).values }
     requires dead_ends { potentials_of dead_ends ≡ (bounds_of bounds).dead_ends }
     requires first { first_value (by_tables (bounds_of bounds)) ≡ potentials_of stopped.now.potentials.now }
+    requires stopped { IsStopped stopped.now.store.now stopped.now.nodes.now }
+    requires store_width { pooled_width stopped.now.store.now ≡ length (atoms_in ground.now) }
     requires width { length (potentials_of stopped.now.potentials.now).weights ≡ length (atoms_in ground.now) }
     requires improved { AreSettledOrHigh (task_in ground.now) (atoms_in ground.now) (potentials_of stopped.now.potentials.now) }
     requires dead_ends_improved { AreDeadSettledOrHigh (task_in ground.now) (atoms_in ground.now) (bounds_of bounds).dead_ends }
@@ -154,6 +161,8 @@ fn search_by_tables(
     requires within_limits { IsTrue (are_bounds three (length (atoms_in ground.now)) (bounds_of bounds.now)) }
     requires values { map potentials_of values.items ≡ (bounds_of bounds.now).values }
     requires dead_ends { potentials_of dead_ends ≡ (bounds_of bounds.now).dead_ends }
+    requires stopped { IsStopped stopped.now.store.now stopped.now.nodes.now }
+    requires store_width { pooled_width stopped.now.store.now ≡ length (atoms_in ground.now) }
     requires width { length (potentials_of stopped.now.potentials.now).weights ≡ length (atoms_in ground.now) }
     ensures fair { IfOk result (IfDone (λ _. AreFair (task_in ground.now) (atoms_in ground.now) (bounds_of bounds.now))) }
     ensures no_lower { IfOk result (IfDone (λ _. initial_value (task_in ground.now) (atoms_in ground.now) (potentials_of stopped.now.potentials.now) ≤ estimate_by (by_tables (bounds_of bounds.now)) (ground_system (task_in ground.now) (atoms_in ground.now)).initial)) }
@@ -165,7 +174,7 @@ fn search_by_tables(
     if !starts_no_lower(alloc, ground, &functions, stopped.potentials)? {
         return Ok(Attempt::InVain);
     }
-    let saving = stopped.saving_by(alloc, ground, &functions)?;
+    let saving = stopped.saving_by(alloc, &functions)?;
     if saving.is_worth(bounds.tables.len()) {
         return search_if_fair(alloc, ground, functions, limits);
     }
