@@ -2,10 +2,10 @@
 //!
 //! Most sums are small. Where one is below 2^20, an entry's sum, estimate and place are in one word, whose order is theirs, so
 //! that it takes 8 bytes and is compared at once. Such entries are in a heap of their own, and the others come after them.
-ghost use Rattle.std.specs.Prelude.{◌≡◌, ◌+◌, ◌*◌, ◌≤◌, ◌<◌, [], ◌∷◌, length, All, IsPermutation, IfNone, IfSome, OnOk, false};
+ghost use Rattle.std.specs.Prelude.{◌≡◌, ◌+◌, ◌*◌, ◌≤◌, ◌<◌, [], ◌∷◌, length, All, IsPermutation, IfNone, IfSome, OnOk, option_map, false};
 ghost use Rattle.std.specs.Ordering.{is_lt};
 ghost use Rattle.search.specs.Nodes.{sum_of, estimate_of, place_of, entry_at};
-ghost use Rattle.search.specs.OpenList.{by_sum, entry_of, waiting_in, IsOpenList, Joins};
+ghost use Rattle.search.specs.OpenList.{by_sum, entry_of, waiting_in, IsLeastSum, IsOpenList, Joins};
 
 use crate::best::MAX_STATES;
 use crate::nodes::StateId;
@@ -71,6 +71,26 @@ impl OpenList {
             Some(Reverse(word)) => Some(entry_in(word)),
             None => self.far.pop(),
         }
+    }
+
+    /// The sum of the entry that comes next.
+    pub(crate) fn least_sum(&self) -> Option<u64>
+        ensures { IsLeastSum self.now result }
+    {
+        match self.near.peek() {
+            Some(Reverse(word)) => Some(entry_in(*word).0.0),
+            None => sum_in(self.far.peek()),
+        }
+    }
+}
+
+/// The sum of the entry, if there is one.
+fn sum_in(entry: Option<&OpenListEntry>) -> Option<u64>
+    ensures { result ≡ option_map (λ e. sum_of e.now) entry.entry }
+{
+    match entry {
+        Some(Reverse((sum, _, _))) => Some(*sum),
+        None => None,
     }
 }
 
