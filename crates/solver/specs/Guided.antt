@@ -39,10 +39,10 @@ abbrev pub AreMarksOf : (List Bool → ℕ) → (List Bool → Bool) → FoundSt
 AreMarksOf estimate is_dead found marks = map listed_of marks ≡ map mark_of_line (search.lines_of estimate is_dead (pooled_states found.store) found.nodes.items)
 
 -- what is known of the found states where their marks are made
-pub record CanBeMarked (width : ℕ) (is_dead : List Bool → Bool) (found : FoundStates PooledStore) : Type 0 where
+pub record CanBeMarked (atom_count : ℕ) (is_dead : List Bool → Bool) (found : FoundStates PooledStore) : Type 0 where
   pub one_for_each : length found.nodes.items ≡ length (pooled_states found.store)
   pub few : length (pooled_states found.store) ≤ MAX_STATE_LINES
-  pub width : All (λ (bits : List Bool). length bits ≡ width) (pooled_states found.store)
+  pub width : All (λ (bits : List Bool). length bits ≡ atom_count) (pooled_states found.store)
   pub marked : AreMarked is_dead (pooled_states found.store) found.nodes.items
 
 -- A search of the ground task by an estimate and a test for dead ends came to this outcome, with these marks.

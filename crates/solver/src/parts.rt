@@ -93,7 +93,7 @@ pub(crate) fn search_in_parts<G: Guide>(
     ensures { IfOk result (IsTrueEnd ground.now (G.estimate_of guide.now) (G.is_dead guide.now) limits) }
 {
     let search = begin_by(alloc, ground, guide, limits)?;
-    match part(alloc, ground, guide, search, given, QUICK, limits)? {
+    match search_to_pause(alloc, ground, guide, search, given, QUICK, limits)? {
         Part::Ended(parts) => Ok(parts),
         Part::Promising(search) => search_on(alloc, ground, guide, search, given, limits),
         Part::InVain(search) => search_to_end(alloc, ground, guide, search, limits),
@@ -119,7 +119,7 @@ fn search_on<G: Guide>(
     requires dead_ends_improved { AreDeadSettledOrHigh (task_in ground.now) (atoms_in ground.now) (potentials_of given.dead_ends.now) }
     ensures { IfOk result (IsTrueEnd ground.now (G.estimate_of guide.now) (G.is_dead guide.now) limits) }
 {
-    match part(alloc, ground, guide, search, given, THOROUGH, limits)? {
+    match search_to_pause(alloc, ground, guide, search, given, THOROUGH, limits)? {
         Part::Ended(parts) => Ok(parts),
         Part::Promising(search) => search_to_end(alloc, ground, guide, search, limits),
         Part::InVain(search) => search_to_end(alloc, ground, guide, search, limits),
@@ -144,7 +144,7 @@ fn search_to_end<G: Guide>(
 }
 
 /// The search up to a pause, and a look for tables there. There is no pause where no more states may be listed.
-fn part<G: Guide>(
+fn search_to_pause<G: Guide>(
     alloc: Global,
     ground: &Ground<'_>,
     guide: &G,

@@ -67,6 +67,6 @@ new-requires c =
           (subst (λ those. IsTrue (are_over (length (atoms_in c.args.ground.now)) those)) (sym c.in_ok-indexed.ensures.tables) (scopes after));
     }
 
-pub returns-clause-0 : goal.returns-clause-0
-returns-clause-0 c =
+pub returns : goal.returns
+returns c =
     c.new.ensures ∙ (λ i. record { values = map potentials_of c.args.values.items; dead_ends = potentials_of c.args.dead_ends; tables = c.in_ok-indexed.ensures.tables i })

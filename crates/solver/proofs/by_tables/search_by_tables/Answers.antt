@@ -1,5 +1,5 @@
-use Rattle.std.proofs.Common.{◌≡◌, ◌∙◌, ◌≤◌, length, map, Option, Result, ok, err, sym, ap, subst}
-use Rattle.std.specs.Prelude.{IfOk, IfSome, IsTrue, tt}
+use Rattle.std.proofs.Common.{◌≡◌, ◌∙◌, ◌≤◌, length, map, Option, Result, Ok, Err, sym, ap, subst}
+use Rattle.std.specs.Prelude.{IfOk, IfSome, IsTrue}
 use Rattle.certificate.specs.CertificateParts.{are_bounds, bounds_of}
 use Rattle.certificate_definitions.specs.Certificates.{three}
 use Rattle.faults.specs.declared.refused.NoMemory.{NoMemory}
@@ -36,7 +36,7 @@ functions_over-requires c = record {
 in_memory : (c : In-Some) → several_of c.in-Some.functions ≡ bounds_of c.args.bounds.now
 in_memory c =
     subst (λ (o : Option TableFunctions). IfSome o (λ (f : TableFunctions). several_of f ≡ several_over c.args.values.items c.args.dead_ends c.deref.result.now)) c.in-Some.is c.in_ok-functions.ensures
-    ∙ same c.After-deref
+    ∙ (λ i. record { values = c.requires.values i; dead_ends = c.requires.dead_ends i; tables = map table_of (c.deref.ensures.value i) })
 
 width : (c : In-Some) → width_of c.in-Some.functions ≡ length (atoms_in c.args.ground.now)
 width c = ap (λ (s : SeveralValues). length s.dead_ends.weights) (in_memory c) ∙ dead_ends_weighed (length (atoms_in c.args.ground.now)) (bounds_of c.args.bounds.now) c.requires.within_limits
@@ -44,33 +44,33 @@ width c = ap (λ (s : SeveralValues). length s.dead_ends.weights) (in_memory c) 
 pub starts_no_lower-requires-clause-functions : goal.starts_no_lower-requires-clause-functions
 starts_no_lower-requires-clause-functions c = width (goal.at.starts_no_lower-requires-clause-functions c).In-Some
 
-pub saving_by-requires : goal.saving_by-requires
-saving_by-requires c = record { width = width (goal.at.saving_by-requires c).In-Some }
+pub saving_by-requires-clause-width : goal.saving_by-requires-clause-width
+saving_by-requires-clause-width c = width (goal.at.saving_by-requires-clause-width c).In-Some ∙ sym c.requires.store_width
 
 pub search_if_fair-requires-clause-width : goal.search_if_fair-requires-clause-width
 search_if_fair-requires-clause-width c = width (goal.at.search_if_fair-requires-clause-width c).In-Some
 
 -- what is so is so of whatever is done
 whatever : {P : Type 0} (result : Result (Attempt Searched) NoMemory) → P → IfOk result (IfDone (λ (s : Searched). P))
-whatever (ok (Done s)) is = is
-whatever (ok Promising) is = tt
-whatever (ok InVain) is = tt
-whatever (err e) is = tt
+whatever (Ok (Done s)) is = is
+whatever (Ok Promising) is = tt
+whatever (Ok InVain) is = tt
+whatever (Err e) is = tt
 
-pub returns-clause-no_lower : goal.returns-clause-no_lower
-returns-clause-no_lower c =
+pub returns-then-is_worth-clause-no_lower : goal.returns-then-is_worth-clause-no_lower
+returns-then-is_worth-clause-no_lower c =
     let known = c.args.ground.now in
     let start = (ground_system (task_in known) (atoms_in known)).initial in
     whatever c.search_if_fair.result
     (subst (λ (s : SeveralValues). initial_value (task_in known) (atoms_in known) (potentials_of c.args.stopped.now.potentials.now) ≤ estimate_by (by_tables s) start)
-    (in_memory (goal.at.returns-clause-no_lower c).In-Some) (c.in_ok-branch.ensures c.if-not-branch.false))
+    (in_memory (goal.at.returns-then-is_worth-clause-no_lower c).In-Some) (c.in_ok-starts_no_lower.ensures c.if-not-branch.false))
 
-pub returns-clause-fair : goal.returns-clause-fair
-returns-clause-fair c =
+pub returns-then-is_worth-clause-fair : goal.returns-then-is_worth-clause-fair
+returns-then-is_worth-clause-fair c =
     subst (λ (s : SeveralValues). IfOk c.search_if_fair.result (IfDone (λ (_ : Searched). AreFair (task_in c.args.ground.now) (atoms_in c.args.ground.now) s)))
-    (in_memory (goal.at.returns-clause-fair c).In-Some) c.search_if_fair.ensures.fair
+    (in_memory (goal.at.returns-then-is_worth-clause-fair c).In-Some) c.search_if_fair.ensures.fair
 
-pub returns-clause-searched : goal.returns-clause-searched
-returns-clause-searched c =
+pub returns-then-is_worth-clause-searched : goal.returns-then-is_worth-clause-searched
+returns-then-is_worth-clause-searched c =
     subst (λ (s : SeveralValues). IfOk c.search_if_fair.result (IfDone (λ (f : Searched). IsSearched c.args.ground.now (estimate_by (by_tables s)) (reports_dead (by_tables s)) c.args.limits.states f.outcome f.marks.items)))
-    (in_memory (goal.at.returns-clause-searched c).In-Some) c.search_if_fair.ensures.searched
+    (in_memory (goal.at.returns-then-is_worth-clause-searched c).In-Some) c.search_if_fair.ensures.searched
