@@ -1,4 +1,4 @@
-//! A search that pauses twice: where it pauses, and that it then comes to the answer to which it comes with no pause.
+//! A search that pauses twice: where it pauses, and that it comes to the answer to which one comes that does not pause.
 ghost use Rattle.std.specs.Prelude.{◌≡◌, []};
 
 use crate::blind_rooms::Blind;
@@ -7,7 +7,9 @@ use crate::searches::{Row, is_reported};
 use crate::signs::Signs;
 use faults::NoMemory;
 use packed_state::{PlainStore, StateStore};
-use search::{EstimateWithDeadEnds, Guide, Halt, Outcome, Search, begin, finish, go_on};
+use search::{
+    EstimateWithDeadEnds, Guide, Halt, Outcome, Search, TransitionSystem, begin, finish, go_on,
+};
 use std::alloc::Global;
 use std::test::Fail;
 
@@ -18,30 +20,58 @@ static CLIMB: Row = Row {
     signs: &[], most: 100, plan: Some((&[1, 1, 1], 3)), limit: None, found: &[0, 1, 2, 3, 4], costs: &[0, 1, 2, 3, 7],
 };
 
-/// Of a search: how many states are listed, how many nodes there are, and the least sum of one that waits.
+/// How many states a search has listed, how many nodes it has, and the least sum of one that waits.
 type Seen = (usize, usize, Option<u64>);
 
-/// What is seen of the search.
 fn seen<S: StateStore, R>(search: &Search<S, R>) -> Seen {
     (search.store().len(), search.nodes().len(), search.bound())
 }
 
-/// What is seen of the search of the rooms where it pauses at two and at four states, and its outcome after that.
-fn in_parts<G: Guide, S: StateStore>(
+/// What is seen of a search that pauses at two states and at four, and what it comes to.
+type InParts<S> = Option<([Seen; 2], Outcome<S>)>;
+
+fn in_parts<T: TransitionSystem, G: Guide, S: StateStore>(
     alloc: Global,
-    rooms: &Rooms,
+    system: &T,
     guide: &G,
     store: S,
-) -> Result<Option<([Seen; 2], Outcome<S>)>, NoMemory>
+) -> Result<InParts<S>, NoMemory>
+    requires made_for { G.system_of guide.now ≡ T.means system.now }
+    requires guide_width { G.width_of guide.now ≡ T.width_of system.now }
+    requires empty { S.states store ≡ [] }
+    requires width { S.width_of store ≡ T.width_of system.now }
 {
-    let search = begin(alloc, rooms, guide, store)?;
-    let Halt::Paused(search) = go_on(alloc, rooms, guide, search, 2, 100)? else {
+    let search = begin(alloc, system, guide, store)?;
+    let Halt::Paused(search) = go_on(alloc, system, guide, search, 2, 100)? else {
         return Ok(None);
     };
     let first = seen(&search);
-    let Halt::Paused(search) = go_on(alloc, rooms, guide, search, 4, 100)? else {
+    let Halt::Paused(search) = go_on(alloc, system, guide, search, 4, 100)? else {
         return Ok(None);
     };
     let second = seen(&search);
-    Ok(Some(([first, second], finish(alloc, rooms, guide, search, 100)?)))
+    let outcome = finish(alloc, system, guide, search, 100)?;
+    Ok(Some(([first, second], outcome)))
+}
+
+/// The same of the row's rooms, and whether the search comes to what the row says.
+fn climbs(alloc: Global, row: &Row) -> Result<Option<([Seen; 2], bool)>, NoMemory> {
+    let signs = Signs {
+        rooms: row.rooms,
+        signs: row.signs,
+    };
+    let blind = Blind(row.rooms);
+    let guide = EstimateWithDeadEnds::new(&signs, &blind);
+    let store = PlainStore::new(alloc, row.rooms.width)?;
+    match in_parts(alloc, &row.rooms, &guide, store)? {
+        Some((seen, outcome)) => Ok(Some((seen, is_reported(alloc, &outcome, row)?))),
+        None => Ok(None),
+    }
+}
+
+#[test]
+fn goes_on_where_it_paused(rt: HostRuntime) -> Result<(), Fail> {
+    let seen = [(3, 3, Some(1)), (4, 4, Some(2))];
+    assert_eq!(rt; climbs(rt.alloc(), &CLIMB)?, Some((seen, true)));
+    Ok(())
 }

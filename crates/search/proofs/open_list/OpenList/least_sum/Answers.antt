@@ -1,12 +1,11 @@
-use Rattle.std.proofs.Common.{◌≡◌, ℕ, ◌<◌, ◌≤◌, List, [], ◌∷◌, ◌++◌, length, map, ap, sym, subst, ◌∙◌, arith, refl}
-use Rattle.std.specs.Prelude.{All, Contains}
+use Rattle.std.proofs.Common.{◌≡◌, ◌<◌, [], ◌++◌, map, sym, arith, refl}
+use Rattle.std.specs.Prelude.{Contains}
 use Rattle.std.specs.BinaryHeap.{heap_items, heap_len}
 use Rattle.std.proofs.lemmas.Bool.{false≢true}
 use Rattle.std.proofs.lemmas.List.{nil_from_length}
 use Rattle.std.proofs.lemmas.List.Elements.{All-contains, Contains-append_left, Contains-append_right}
-use Rattle.std.specs.declared.cmp.Reverse.{Reverse}
 use Rattle.model.proofs.ListLemmas.{Contains-map}
-use Rattle.search.specs.Nodes.{Waiting, sum_of}
+use Rattle.search.specs.Nodes.{sum_of}
 use Rattle.search.specs.OpenList.{entry_of}
 use Rattle.search.proofs.OpenListLemmas.{first_near, first_far, least_first}
 use Rattle.search.proofs.open_list.OpenList.least_sum.Goals.{In-None}
