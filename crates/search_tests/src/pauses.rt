@@ -28,7 +28,7 @@ fn seen<S: StateStore, R>(search: &Search<S, R>) -> Seen {
 }
 
 /// What is seen of a search that pauses at two states and at four, and what it comes to.
-type InParts<S> = Option<([Seen; 2], Outcome<S>)>;
+type InParts<S> = Option<(Seen, Seen, Outcome<S>)>;
 
 fn in_parts<T: TransitionSystem, G: Guide, S: StateStore>(
     alloc: Global,
@@ -51,11 +51,11 @@ fn in_parts<T: TransitionSystem, G: Guide, S: StateStore>(
     };
     let second = seen(&search);
     let outcome = finish(alloc, system, guide, search, 100)?;
-    Ok(Some(([first, second], outcome)))
+    Ok(Some((first, second, outcome)))
 }
 
 /// The same of the row's rooms, and whether the search comes to what the row says.
-fn climbs(alloc: Global, row: &Row) -> Result<Option<([Seen; 2], bool)>, NoMemory> {
+fn climbs(alloc: Global, row: &Row) -> Result<Option<(Seen, Seen, bool)>, NoMemory> {
     let signs = Signs {
         rooms: row.rooms,
         signs: row.signs,
@@ -64,14 +64,16 @@ fn climbs(alloc: Global, row: &Row) -> Result<Option<([Seen; 2], bool)>, NoMemor
     let guide = EstimateWithDeadEnds::new(&signs, &blind);
     let store = PlainStore::new(alloc, row.rooms.width)?;
     match in_parts(alloc, &row.rooms, &guide, store)? {
-        Some((seen, outcome)) => Ok(Some((seen, is_reported(alloc, &outcome, row)?))),
+        Some((first, second, outcome)) => {
+            Ok(Some((first, second, is_reported(alloc, &outcome, row)?)))
+        }
         None => Ok(None),
     }
 }
 
 #[test]
 fn goes_on_where_it_paused(rt: HostRuntime) -> Result<(), Fail> {
-    let seen = [(3, 3, Some(1)), (4, 4, Some(2))];
-    assert_eq!(rt; climbs(rt.alloc(), &CLIMB)?, Some((seen, true)));
+    let wanted = ((3, 3, Some(1)), (4, 4, Some(2)), true);
+    assert_eq!(rt; climbs(rt.alloc(), &CLIMB)?, Some(wanted));
     Ok(())
 }
