@@ -48,6 +48,8 @@ pub enum Outcome<S> {
 ///
 /// A state that the guide reports dead is listed as a dead end, and never expanded; with `NoDeadEnd` there is none.
 ///
+/// `begin`, `go_on` and `finish` are the same search in parts, which may pause.
+///
 /// What differs from these: the states are in a store, in the order in which they were found, and are named by
 /// their places there; actions are the system's numbers. Where a cheaper way to a waiting state is found, the old entry
 /// stays in the open list beside the new one, and is passed over when it comes up (lazy deletion). To an expanded state there

@@ -2,7 +2,7 @@
 //!
 //! Most sums are small. Where one is below 2^20, an entry's sum, estimate and place are in one word, whose order is theirs, so
 //! that it takes 8 bytes and is compared at once. Such entries are in a heap of their own, and the others come after them.
-ghost use Rattle.std.specs.Prelude.{◌≡◌, ◌+◌, ◌*◌, ◌≤◌, ◌<◌, [], ◌∷◌, length, All, IsPermutation, IfNone, IfSome, OnOk, option_map, false};
+ghost use Rattle.std.specs.Prelude.{◌≡◌, ◌+◌, ◌*◌, ◌≤◌, ◌<◌, [], ◌∷◌, length, All, IsPermutation, IfNone, IfSome, OnOk, false};
 ghost use Rattle.std.specs.Ordering.{is_lt};
 ghost use Rattle.search.specs.Nodes.{sum_of, estimate_of, place_of, entry_at};
 ghost use Rattle.search.specs.OpenList.{by_sum, entry_of, waiting_in, IsLeastSum, IsOpenList, Joins};
@@ -79,18 +79,11 @@ impl OpenList {
     {
         match self.near.peek() {
             Some(Reverse(word)) => Some(entry_in(*word).0.0),
-            None => sum_in(self.far.peek()),
+            None => match self.far.peek() {
+                Some(Reverse((sum, _, _))) => Some(*sum),
+                None => None,
+            },
         }
-    }
-}
-
-/// The sum of the entry, if there is one.
-fn sum_in(entry: Option<&OpenListEntry>) -> Option<u64>
-    ensures { result ≡ option_map (λ e. sum_of e.now) entry.entry }
-{
-    match entry {
-        Some(Reverse((sum, _, _))) => Some(*sum),
-        None => None,
     }
 }
 

@@ -45,8 +45,8 @@ impl<S: StateStore, R> Search<S, R> {
         &self.progress.nodes
     }
 
-    /// The least sum of cost and estimate of a state that waits, or of one that waited at a greater cost than it was expanded
-    /// at; `None` if no state waits.
+    /// The least sum of cost and estimate in the open list, if anything is in it. Nothing else is claimed of it: an entry may
+    /// be stale, as where a cheaper way to its state was found.
     pub fn bound(&self) -> Option<u64>
         ensures { IsLeastSum self.now.progress.open_list result }
     {
@@ -54,7 +54,7 @@ impl<S: StateStore, R> Search<S, R> {
     }
 }
 
-/// The search has found the initial state alone.
+/// Begins a search, which has found the initial state alone.
 pub fn begin<T: TransitionSystem, G: Guide, S: StateStore>(
     alloc: Global,
     system: &T,

@@ -4,7 +4,6 @@ use Rattle.search.specs.OpenList.{waiting_in}
 use Rattle.std.proofs.lemmas.List.Sums.{count_by-le-length}
 use Rattle.std.proofs.lemmas.Option.{same_Some, get_or_from_slice_get, slice_get_within}
 use Rattle.packed_state.specs.Packed.{bits_of}
-use Rattle.search.specs.Progress.{AreWide}
 use Rattle.model.specs.Claims.{bound}
 use Rattle.model.specs.Runs.{System}
 use Rattle.search.specs.Estimates.{IsConsistent}

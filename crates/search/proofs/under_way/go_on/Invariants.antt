@@ -1,4 +1,4 @@
-use Rattle.std.proofs.Common.{◌≡◌, ◌≤◌, ◌-◌, length}
+use Rattle.std.proofs.Common.{◌-◌}
 use Rattle.search.specs.Nodes.{expanded_count}
 use Rattle.search.specs.Progress.{nodes_in}
 use Rattle.search.specs.UnderWay.{IsUnderWay}
