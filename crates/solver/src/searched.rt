@@ -21,9 +21,7 @@ use certificate::{Listed, Mark};
 use faults::NoMemory;
 use grounding::Ground;
 use packed_state::{Packed, PooledStore, StateStore};
-use search::{
-    FoundStates, Guide, Halt, Node, NodeStatus, Outcome, Search, begin, finish, go_on,
-};
+use search::{FoundStates, Guide, Halt, Node, NodeStatus, Outcome, Search, begin, finish, go_on};
 use std::alloc::Global;
 
 /// What a search came to, and what its certificate says of each state that it found, in order.
