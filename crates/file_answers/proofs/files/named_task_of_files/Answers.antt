@@ -12,7 +12,7 @@ returns-in_err-domain-clause-refused c =
 
 pub returns-in_err-task-clause-refused : goal.returns-in_err-task-clause-refused
 returns-in_err-task-clause-refused c =
-    let p = err_from_is_err_and c.from_residual-3.result c.from_residual-3.ensures.1 in
+    let p = err_from_is_err_and c.from_residual-in_err-task.result c.from_residual-in_err-task.ensures.1 in
     rw p.1
     (subst (λ o. IfSome o (IsTaskFault c.args.domain.now c.args.problem.now)) (sym p.2)
     (pair_reported c.args.domain.now c.args.problem.now (domain_of c.in_ok-domain.field-0.domain) (problem_of c.in_ok-domain.field-0.problem)

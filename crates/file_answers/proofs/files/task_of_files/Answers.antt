@@ -12,7 +12,7 @@ returns-in_err-domain-clause-refused c =
 
 pub returns-in_err-new-clause-refused : goal.returns-in_err-new-clause-refused
 returns-in_err-new-clause-refused c =
-    let p = err_from_is_err_and c.from_residual-2.result c.from_residual-2.ensures.1 in
+    let p = err_from_is_err_and c.from_residual-in_err-new.result c.from_residual-in_err-new.ensures.1 in
     rw p.1
     (subst (λ o. IfSome o (IsTaskFault c.args.domain.now c.args.problem.now)) (sym p.2)
     (pair_reported c.args.domain.now c.args.problem.now (domain_of c.in_ok-domain.field-0.domain) (problem_of c.in_ok-domain.field-0.problem)
