@@ -1,0 +1,5 @@
+pub mod Pairs
+pub mod Exchange
+pub mod Named
+pub mod Lent
+--pub mod SymmetryTest

@@ -1,0 +1,12 @@
+//! Which exchanges of objects are symmetries of a task: the test that the definitions of `symmetries` ask for, on the task as it was
+//! read.
+#![tactic(auto)]
+
+mod conjuncts;
+mod exchange;
+mod images;
+mod named;
+//mod symmetry_test;
+
+pub use exchange::Exchange;
+//pub use symmetry_test::SymmetryTest;
