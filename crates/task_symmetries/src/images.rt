@@ -1,8 +1,11 @@
 //! What becomes of atoms, and whether a formula is the image of another.
 ghost use Rattle.std.specs.Prelude.{◌≡◌, map, nat_eq};
 ghost use Rattle.std.specs.Cmp.Lexicographic.{pointwise};
+ghost use Rattle.std.specs.Option.{option_map};
 ghost use Rattle.task.specs.TaskParts.{atom_of, formula_of, lifted_atom_of, term_of, union_of};
 ghost use Rattle.task_symmetries.specs.Exchange.{image};
+ghost use Rattle.task_symmetries.specs.Lent.{slice_formulas};
+ghost use Rattle.task_symmetries.specs.Lent as defined;
 ghost use Rattle.model.specs.Task as model_task;
 ghost use Rattle.symmetries.specs.Exchanges as exchanges;
 ghost use Rattle.symmetries.specs.Exchanges.{image_of_formula, image_of_lifted, image_of_term};
@@ -34,13 +37,13 @@ pub(crate) fn is_image(exchange: &Exchange, formula: &Formula, other: &Formula) 
     match formula {
         Formula::Atom(atom) => is_image_of_atom(exchange, atom, other),
         Formula::Equal(left, right) => is_image_of_equal(exchange, left, right, other),
-        Formula::And(parts) => match other {
-            Formula::And(others) => are_images(exchange, parts, others),
-            _ => false,
+        Formula::And(parts) => match and_parts(other) {
+            Some(others) => are_images(exchange, parts, others),
+            None => false,
         },
-        Formula::Or(parts) => match other {
-            Formula::Or(others) => are_images(exchange, parts, others),
-            _ => false,
+        Formula::Or(parts) => match or_parts(other) {
+            Some(others) => are_images(exchange, parts, others),
+            None => false,
         },
         Formula::Not(part) => match other {
             Formula::Not(image) => is_image(exchange, part, image),
@@ -81,6 +84,26 @@ fn are_images(exchange: &Exchange, formulas: &[Formula], others: &[Formula]) -> 
         }
     }
     true
+}
+
+/// The parts of the formula, if it is an `and`.
+fn and_parts(formula: &Formula) -> Option<&[Formula]>
+    ensures { option_map slice_formulas result ≡ defined.and_parts (formula_of formula.now) }
+{
+    match formula {
+        Formula::And(parts) => Some(parts.as_slice()),
+        _ => None,
+    }
+}
+
+/// The parts of the formula, if it is an `or`.
+fn or_parts(formula: &Formula) -> Option<&[Formula]>
+    ensures { option_map slice_formulas result ≡ defined.or_parts (formula_of formula.now) }
+{
+    match formula {
+        Formula::Or(parts) => Some(parts.as_slice()),
+        _ => None,
+    }
 }
 
 /// Whether the formula is the atom's image.
