@@ -1,2 +1,5 @@
 pub mod PairLemmas
 pub mod ImageLemmas
+pub mod NamedMarks
+pub mod ConjunctLemmas
+pub mod TestSteps

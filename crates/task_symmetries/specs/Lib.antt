@@ -2,4 +2,5 @@ pub mod Pairs
 pub mod Exchange
 pub mod Named
 pub mod Lent
---pub mod SymmetryTest
+pub mod Kept
+pub mod SymmetryTest

@@ -6,7 +6,7 @@ mod conjuncts;
 mod exchange;
 mod images;
 mod named;
-//mod symmetry_test;
+mod symmetry_test;
 
 pub use exchange::Exchange;
-//pub use symmetry_test::SymmetryTest;
+pub use symmetry_test::SymmetryTest;
