@@ -2,4 +2,5 @@ pub mod PairLemmas
 pub mod ImageLemmas
 pub mod NamedMarks
 pub mod ConjunctLemmas
+pub mod PlaceLemmas
 pub mod TestSteps

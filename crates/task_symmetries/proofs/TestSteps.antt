@@ -4,27 +4,32 @@ use Rattle.std.specs.Prelude.{◌==◌, cond, nat_eq, slice_get, filter, Contain
 use Rattle.std.specs.List.{list_all, list_any}
 use Rattle.std.specs.Option.{option_eq, option_map, option_map_or}
 use Rattle.std.specs.FinSet.{contains, contains-from_list}
-use Rattle.std.proofs.lemmas.Bool.{and_parts, or_parts, not-true, not_from_false, eqb-true, eq-eqb, cond-false, true≢false}
+use Rattle.std.proofs.lemmas.Bool.{and_cases, and_from, and_parts, or_cases, or_parts, or_right, not-false, not-true, eqb-true, eq-eqb, cond-false, true≢false}
 use Rattle.std.proofs.lemmas.Option.{slice_get_cases, slice_get-map}
+use Rattle.std.specs.Borrow.{Bor}
+use Rattle.std.specs.Cmp.{Equal-is, tied_itself}
 use Rattle.std.specs.Ordering.{eq_by_cmp}
 use Rattle.task.specs.declared.atoms.Atom.{Atom}
 use Rattle.task.specs.declared.atoms.TypeId.{TypeId}
+use Rattle.task.specs.declared.schemas.Formula.{Formula}
 use Rattle.task.specs.contracts.atoms.TypeIdPartialEq.TheImpl as type_impl
 use Rattle.task.specs.TaskParts.{type_of, value_of}
 use Rattle.model.specs.Task as task
 use Rattle.model.specs.Task.{Task, FunctionValue}
-use Rattle.model.specs.Meaning.{atom_cmp, initial_state}
+use Rattle.model.specs.Meaning.{atom_cmp, initial_state, value_in}
 use Rattle.model.specs.Fluents.{is_fluent}
 use Rattle.model.specs.NumberedAtoms.{occurs_in}
 use Rattle.model.proofs.Atoms.{atoms_total}
-use Rattle.model.proofs.ListLemmas.{Contains-cases, Contains-got, Contains-none}
+use Rattle.model.proofs.ListLemmas.{Contains-cases, Contains-got, Contains-here, Contains-map, Contains-none, Contains-place, Contains-there}
 use Rattle.model.proofs.Tests.{passes_more_index}
 use Rattle.symmetries.specs.Exchanges.{Exchange, image_of_object, image_of_atom, objects_in, are_different}
 use Rattle.symmetries.specs.NamedObjects.{named_in_actions}
 use Rattle.symmetries.specs.Symmetries.{keeps_types, keeps_actions, keeps_values, keeps_statics, keeps_goal, is_symmetry}
 use Rattle.symmetries.proofs.Lists.{tests_alike, all-at, all-from, any-at, any-found}
 use Rattle.symmetries.proofs.ExchangeLemmas.{image_of_first, own_inverse}
-use Rattle.task_symmetries.specs.Kept.{keeps_atom}
+use Rattle.task_symmetries.specs.Kept.{keeps_at, keeps_atom, keeps_value}
+use Rattle.task_symmetries.specs.Lent.{formulas_lent, lent_formula}
+use Rattle.task_symmetries.specs.Places.{functions_of}
 use Rattle.task_symmetries.specs.Named.{is_among}
 use Rattle.task_symmetries.proofs.PairLemmas.{flip}
 
@@ -161,6 +166,97 @@ statics_by_atoms t to = filter_all (λ (a : task.Atom). is_fluent t a.predicate)
 -- the image is true at the start
 pub true_at_start : (t : Task) (a : task.Atom) (b : Bool) → b ≡ contains (initial_state t) a → b ≡ list_any (eq_by_cmp atom_cmp a) t.init
 true_at_start t a b is = is ∙ contains-from_list atoms_total t.init a
+
+-- ---- what names no object that is exchanged
+
+all-fails : {X : Type 0} (p : X → Bool) (xs : List X) → list_all p xs ≡ false → (x : X) × Contains xs x × (p x ≡ false)
+all-fails p [] none = absurd (cc)
+all-fails p (x ∷ xs) none =
+    elim (and_cases (p x) (list_all p xs) none) [
+      | inl here ↦ (x, Contains-here x xs, here)
+      | inr later ↦ let rest = all-fails p xs later in (rest.0, Contains-there x xs rest.0 rest.1, rest.2)
+    ]
+
+-- what is at the places of both objects passes
+abbrev pub pair_keeps : {X : Type 0} → (X → Bool) → List X → (ℕ → List ℕ) → ℕ × ℕ → Bool
+pair_keeps test xs rows pair = keeps_at test xs rows pair.0 && keeps_at test xs rows pair.1
+
+-- Where the places of each object are in its row, and what names no object that is exchanged passes, the places of the objects
+-- that are exchanged decide.
+module _ {X : Type 0} (test : X → Bool) (xs : List X) (named_by : X → List ℕ) (rows : ℕ → List ℕ) (exchange : Exchange)
+    (covers : (place : ℕ) (x : X) → slice_get xs place ≡ Some x → (o : ℕ) → is_among (named_by x) o ≡ true → is_among (rows o) place ≡ true)
+    (still : (x : X) → Contains xs x → ((o : ℕ) → Contains (named_by x) o → image_of_object exchange o ≡ o) → test x ≡ true) where
+  all_keep : list_all test xs ≡ true → (o : ℕ) → keeps_at test xs rows o ≡ true
+  all_keep all o = all-from (λ place. option_map_or test (slice_get xs place) true) (rows o) (λ place _. by_place place (slice_get xs place) refl)
+    where
+      by_place : (place : ℕ) (found : Option X) → slice_get xs place ≡ found → option_map_or test found true ≡ true
+      by_place place None _ = refl
+      by_place place (Some x) at = all-at test xs x all (Contains-got xs place x at)
+
+  at_row : (place : ℕ) (x : X) → slice_get xs place ≡ Some x → (o : ℕ) → is_among (named_by x) o ≡ true → keeps_at test xs rows o ≡ true → test x ≡ true
+  at_row place x at o names keeps =
+      let found = any-found (λ other. other == place) (rows o) (covers place x at o names) in
+      sym (ap (λ r. option_map_or test r true) at)
+      ∙ ap (λ n. option_map_or test (slice_get xs n) true) (sym (eqb-true found.0 place found.2))
+      ∙ all-at (λ n. option_map_or test (slice_get xs n) true) (rows o) found.0 keeps found.1
+
+  one_keeps : list_all (pair_keeps test xs rows) exchange ≡ true → (x : X) → Contains xs x → test x ≡ true
+  one_keeps all x there = by_spared (list_all (spares (named_by x)) exchange) refl
+    where
+      by_spared : (b : Bool) → list_all (spares (named_by x)) exchange ≡ b → test x ≡ true
+      by_spared true spared = still x there (named_stays (named_by x) exchange spared)
+      by_spared false touched =
+          let place = Contains-place xs x there in
+          let pair = all-fails (spares (named_by x)) exchange touched in
+          let keeps = and_parts (keeps_at test xs rows pair.0.0) (keeps_at test xs rows pair.0.1) (all-at (pair_keeps test xs rows) exchange pair.0 all pair.1) in
+          elim (or_cases (is_among (named_by x) pair.0.0) (is_among (named_by x) pair.0.1) (not-false _ pair.2)) [
+            | inl first ↦ at_row place.0 x place.1 pair.0.0 first keeps.0
+            | inr second ↦ at_row place.0 x place.1 pair.0.1 second keeps.1
+          ]
+
+  pub covered : list_all (pair_keeps test xs rows) exchange ≡ list_all test xs
+  covered =
+      tests_alike (list_all (pair_keeps test xs rows) exchange) (list_all test xs)
+      (λ all. all-from test xs (one_keeps all))
+      (λ all. all-from (pair_keeps test xs rows) exchange (λ pair _. and_from (keeps_at test xs rows pair.0) (keeps_at test xs rows pair.1) (all_keep all pair.0) (all_keep all pair.1)))
+
+-- an atom whose objects stay is its own image
+still_atom : (to : ℕ → ℕ) (a : task.Atom) → ((o : ℕ) → Contains a.objects o → to o ≡ o) → image_of_atom to a ≡ a
+still_atom to a stay = λ i. record { predicate = a.predicate; objects = each a.objects stay i }
+  where
+    each : (objects : List ℕ) → ((o : ℕ) → Contains objects o → to o ≡ o) → map to objects ≡ objects
+    each [] stays = refl
+    each (o ∷ objects) stays = λ i. stays o (Contains-here o objects) i ∷ each objects (λ other at. stays other (Contains-there o objects other at)) i
+
+option_itself : (o : Option ℕ) → option_eq nat_eq o o ≡ true
+option_itself None = refl
+option_itself (Some n) = eq-eqb n n refl
+
+module _ (t : Task) (exchange : Exchange) (rows : ℕ → List ℕ) where
+  pub values_covered : ((place : ℕ) (a : task.Atom) → slice_get (functions_of t.values) place ≡ Some a → (o : ℕ) → is_among a.objects o ≡ true → is_among (rows o) place ≡ true)
+      → list_all (pair_keeps (keeps_value t (image_of_object exchange)) t.values rows) exchange ≡ keeps_values t (image_of_object exchange)
+  values_covered covers =
+      covered (keeps_value t (image_of_object exchange)) t.values (λ (v : FunctionValue). v.function.objects) rows exchange
+      (λ place v at. covers place v.function (slice_get-map (λ (v : FunctionValue). v.function) t.values place ∙ ap (option_map (λ (v : FunctionValue). v.function)) at))
+      (λ v there stay.
+      ap (λ f. option_eq nat_eq (value_in t.values f) (value_in t.values v.function)) (still_atom (image_of_object exchange) v.function stay) ∙ option_itself (value_in t.values v.function))
+
+  pub atoms_covered : ((place : ℕ) (a : task.Atom) → slice_get t.init place ≡ Some a → (o : ℕ) → is_among a.objects o ≡ true → is_among (rows o) place ≡ true)
+      → list_all (pair_keeps (keeps_atom t (image_of_object exchange)) t.init rows) exchange ≡ list_all (keeps_atom t (image_of_object exchange)) t.init
+  atoms_covered covers =
+      covered (keeps_atom t (image_of_object exchange)) t.init (λ (a : task.Atom). a.objects) rows exchange covers
+      (λ a there stay.
+      or_right (is_fluent t a.predicate) (occurs_in t.init (image_of_atom (image_of_object exchange) a))
+      (ap (occurs_in t.init) (still_atom (image_of_object exchange) a stay)
+      ∙ any-at (eq_by_cmp atom_cmp a) t.init a there ((Equal-is (atom_cmp a a)).1 (tied_itself atoms_total a))))
+
+-- ---- conjuncts of the goal
+
+-- a formula of the list that passes
+pub passes_itself : (p : task.Formula → Bool) (items : List (Bor Formula)) (place : ℕ) (f : Bor Formula) → Some f ≡ slice_get items place → p (lent_formula f) ≡ true
+    → true ≡ list_any p (formulas_lent items)
+passes_itself p items place f at passes =
+    sym (any-at p (formulas_lent items) (lent_formula f) (Contains-map lent_formula items f (Contains-got items place f (sym at))) passes)
 
 -- ---- the whole
 

@@ -2,5 +2,6 @@ pub mod Pairs
 pub mod Exchange
 pub mod Named
 pub mod Lent
+pub mod Places
 pub mod Kept
 pub mod SymmetryTest

@@ -6,6 +6,7 @@ mod conjuncts;
 mod exchange;
 mod images;
 mod named;
+mod places;
 mod symmetry_test;
 
 pub use exchange::Exchange;
