@@ -1,5 +1,5 @@
 -- The parts of the test, step by step.
-use Rattle.std.proofs.Common.{◌≡◌, ◌∙◌, ℕ, inl, inr, ◌+◌, ◌<◌, ◌≤◌, Bool, true, false, not, ◌&&◌, ◌||◌, List, [], ◌∷◌, length, map, take, get_or, Option, None, Some, refl, sym, ap, subst, arith}
+use Rattle.std.proofs.Common.{◌≡◌, ◌∙◌, ℕ, inl, inr, ◌+◌, ◌<◌, Bool, true, false, not, ◌&&◌, ◌||◌, List, [], ◌∷◌, length, map, take, Option, None, Some, refl, sym, ap, arith}
 use Rattle.std.specs.Prelude.{◌==◌, cond, nat_eq, slice_get, filter, Contains}
 use Rattle.std.specs.List.{list_all, list_any}
 use Rattle.std.specs.Option.{option_eq, option_map, option_map_or}
@@ -23,7 +23,6 @@ use Rattle.model.proofs.Atoms.{atoms_total}
 use Rattle.model.proofs.ListLemmas.{Contains-cases, Contains-got, Contains-here, Contains-map, Contains-none, Contains-place, Contains-there}
 use Rattle.model.proofs.Tests.{passes_more_index}
 use Rattle.symmetries.specs.Exchanges.{Exchange, image_of_object, image_of_atom, objects_in, are_different}
-use Rattle.symmetries.specs.NamedObjects.{named_in_actions}
 use Rattle.symmetries.specs.Symmetries.{keeps_types, keeps_actions, keeps_values, keeps_statics, keeps_goal, is_symmetry}
 use Rattle.symmetries.proofs.Lists.{tests_alike, all-at, all-from, any-at, any-found}
 use Rattle.symmetries.proofs.ExchangeLemmas.{image_of_first, own_inverse}

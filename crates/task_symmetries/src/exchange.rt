@@ -5,7 +5,7 @@ ghost use Rattle.std.specs.Option.{option_map};
 ghost use Rattle.std.proofs.Props.{props};
 ghost use Rattle.task.specs.Task.{task_of};
 ghost use Rattle.task.specs.TaskParts.{object_of};
-ghost use Rattle.task_symmetries.specs.Pairs.{image_in, pair_of, pairs_in, two_by_two};
+ghost use Rattle.task_symmetries.specs.Pairs.{image_in, pairs_in, two_by_two};
 ghost use Rattle.task_symmetries.specs.Pairs as defined;
 ghost use Rattle.symmetries.specs.Exchanges as exchanges;
 ghost use Rattle.symmetries.specs.Exchanges.{image_of_object, objects_in};

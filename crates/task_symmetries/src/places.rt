@@ -1,5 +1,5 @@
 //! Which places of a list name an object.
-ghost use Rattle.std.specs.Prelude.{◌≡◌, ℕ, ◌<◌, ◌≤◌, ◌++◌, ◌∷◌, [], ◌==◌, if◌then◌else◌, length, map, slice_get, IfOk, OnOk};
+ghost use Rattle.std.specs.Prelude.{◌≡◌, ℕ, ◌<◌, ◌++◌, ◌∷◌, [], ◌==◌, if◌then◌else◌, length, map, slice_get, IfOk, OnOk};
 ghost use Rattle.std.specs.Option.{option_map};
 ghost use Rattle.task.specs.TaskParts.{atom_of, object_of, value_of};
 ghost use Rattle.task_symmetries.specs.Places.{Covers, IsAdded, IsAddedAt, functions_of, row_of};

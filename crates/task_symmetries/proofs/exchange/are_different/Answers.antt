@@ -1,4 +1,4 @@
-use Rattle.std.proofs.Common.{◌∙◌, map, ap, refl, sym}
+use Rattle.std.proofs.Common.{◌∙◌, map, ap, sym}
 use Rattle.std.proofs.lemmas.List.{take_all}
 use Rattle.task.specs.TaskParts.{object_of}
 use Rattle.symmetries.specs.Exchanges.{are_different}

@@ -2,7 +2,7 @@ use Rattle.std.proofs.Common.{ap}
 use Rattle.std.specs.Prelude.{slice_get}
 use Rattle.task.specs.Task.{task_of}
 use Rattle.task.specs.TaskParts.{shape_of}
-use Rattle.task.proofs.Shapes.{Shape, found as schema_found}
+use Rattle.task.proofs.Shapes.{found as schema_found}
 use Rattle.task_symmetries.specs.Named.{named_in_shape}
 use Rattle.task_symmetries.proofs.NamedMarks.{lacks_fewer, marks_same}
 use Rattle.task_symmetries.proofs.named.NamedObjects.new.Goals as goal

@@ -1,4 +1,4 @@
-use Rattle.std.proofs.Common.{◌∙◌, map, ap}
+use Rattle.std.proofs.Common.{map, ap}
 use Rattle.faults.proofs.Results.{if_ok}
 use Rattle.task.specs.TaskParts.{object_of, value_of}
 use Rattle.task_symmetries.specs.Places.{functions_of}

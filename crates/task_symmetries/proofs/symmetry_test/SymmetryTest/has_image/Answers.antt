@@ -1,4 +1,4 @@
-use Rattle.std.proofs.Common.{◌≡◌, ◌∙◌, ◌<◌, ◌≤◌, Bool, length, sym, arith}
+use Rattle.std.proofs.Common.{◌∙◌, ◌<◌, ◌≤◌, Bool, length, sym, arith}
 use Rattle.task.specs.TaskParts.{formula_of}
 use Rattle.formulas.proofs.FluentTests.{any_here, any_nowhere}
 use Rattle.formulas.proofs.Trees.{list_any_map}

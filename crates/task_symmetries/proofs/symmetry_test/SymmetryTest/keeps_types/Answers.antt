@@ -1,4 +1,4 @@
-use Rattle.std.proofs.Common.{◌≡◌, ◌∙◌, ℕ, Bool, nat_eq, ap, sym}
+use Rattle.std.proofs.Common.{◌∙◌, ℕ, Bool, nat_eq, ap, sym}
 use Rattle.std.specs.List.{list_all}
 use Rattle.std.specs.Option.{option_eq}
 use Rattle.task.specs.declared.atoms.ObjectId.{ObjectId}

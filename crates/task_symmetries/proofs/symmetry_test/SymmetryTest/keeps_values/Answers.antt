@@ -2,7 +2,6 @@ use Rattle.std.proofs.Common.{◌∙◌, ap, sym}
 use Rattle.std.specs.List.{list_all}
 use Rattle.task.specs.declared.atoms.ObjectId.{ObjectId}
 use Rattle.model.proofs.Tests.{passes_map, passes_more_index, passes_not_index, passes_whole}
-use Rattle.symmetries.specs.Exchanges.{image_of_object}
 use Rattle.task_symmetries.specs.Exchange.{exchange_of, image}
 use Rattle.task_symmetries.specs.Kept.{keeps_value}
 use Rattle.task_symmetries.specs.Pairs.{pair_of}
