@@ -4,3 +4,4 @@ pub mod NamedMarks
 pub mod ConjunctLemmas
 pub mod PlaceLemmas
 pub mod TestSteps
+pub mod NumberLemmas

@@ -4,4 +4,5 @@ pub mod Named
 pub mod Lent
 pub mod Places
 pub mod Kept
+pub mod Numbers
 pub mod SymmetryTest
