@@ -1,11 +1,12 @@
-"""Tasks of twenty domains of planning competitions, most of them two of each, for which `solve` looks for values over tables: by
-potentials alone it expands more than 50,000 states of each, in some ten seconds at most."""
+"""Tasks of twenty domains of planning competitions, most of them two of each, and of one with conditional effects, for which
+`solve` looks for values over tables: by potentials alone it expands more than 50,000 states of each, in some fifteen seconds at
+most."""
 
 from more_potential_tasks import barman, depots, rovers, satellite, storage, termes, tpp
 from potential_tasks import miconic
 from stage_tasks import floortile, freecell, keys_on_grid, parking, woodworking
 from tasks import blocks
-from vehicle_tasks import driverlog, elevators, logistics, nomystery, transport, zenotravel
+from vehicle_tasks import driverlog, elevators, logistics, nomystery, stops, transport, zenotravel
 
 
 def texts(task):
@@ -28,6 +29,9 @@ TASKS = [
     ("nomystery, 7 parcels", *nomystery(7, 7, 25, 4)),
     ("miconic, 8 passengers", *miconic(8, 10, 1)),
     ("miconic, 9 passengers", *miconic(9, 10, 2)),
+    # by conditional effects
+    ("lift that stops, 12 passengers", *stops(12, 20, 1)),
+    ("lift that stops, 14 passengers", *stops(14, 22, 3)),
     ("rovers, 2 of 4 places", *rovers(2, 4, 2)),
     ("rovers, 2 of 6 places", *rovers(2, 6, 1)),
     ("satellite, 2 of 9 directions", *satellite(2, 9, 7, 3)),

@@ -113,6 +113,21 @@ LOGISTICS = """(define (domain logistics) (:requirements :typing)
 """
 
 
+STOPS = """(define (domain lift-stops) (:requirements :adl)
+  (:types floor passenger)
+  (:predicates (origin ?p - passenger ?f - floor) (destination ?p - passenger ?f - floor) (next ?f ?g - floor) (lift-at ?f - floor)
+    (boarded ?p - passenger) (served ?p - passenger))
+  (:action move :parameters (?f ?g - floor)
+    :precondition (and (lift-at ?f) (or (next ?f ?g) (next ?g ?f)))
+    :effect (and (not (lift-at ?f)) (lift-at ?g)))
+  (:action stop :parameters (?f - floor)
+    :precondition (and (lift-at ?f) (exists (?p - passenger) (or (origin ?p ?f) (destination ?p ?f))))
+    :effect (forall (?p - passenger)
+      (and (when (and (boarded ?p) (destination ?p ?f)) (and (not (boarded ?p)) (served ?p)))
+           (when (and (origin ?p ?f) (not (served ?p))) (boarded ?p))))))
+"""
+
+
 def names(kind, count):
     return [f"{kind}{k}" for k in range(count)]
 
@@ -220,3 +235,14 @@ def logistics(parcels, cities, places, seed):
     others = [point for town in towns for point in points[town][1:]]
     objects = typed(airport=ports, place=others, city=towns, truck=fleet, plane=["a"], parcel=wares)
     return LOGISTICS, problem("logistics", objects, init, goal)
+
+
+def stops(passengers, height, seed):
+    """A lift that lets all on and off where it stops, by conditional effects. It goes from a floor to the next."""
+    draw = random.Random(seed)
+    people, floors = names("p", passengers), names("f", height)
+    init = [f"(lift-at {floors[0]})"] + [f"(next {low} {high})" for low, high in zip(floors, floors[1:])]
+    for person in people:
+        origin, destination = draw.sample(floors, 2)
+        init += [f"(origin {person} {origin})", f"(destination {person} {destination})"]
+    return STOPS, problem("lift-stops", typed(floor=floors, passenger=people), init, [f"(served {person})" for person in people])

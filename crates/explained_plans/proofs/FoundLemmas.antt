@@ -1,26 +1,26 @@
 -- False parts that are found one after another.
-use Rattle.std.specs.Prelude.{◌≡◌, ℕ, ◌+◌, ◌<◌, ◌≤◌, Bool, true, false, nat_lt, if◌then◌else◌, List, [], ◌∷◌, ◌++◌, length, map, take, get_or, All, refl}
+use Rattle.std.specs.Prelude.{◌≡◌, ℕ, ◌+◌, ◌<◌, ◌≤◌, Bool, true, false, nat_lt, if◌then◌else◌, List, [], ◌∷◌, ◌++◌, drop, length, map, take, get_or, All, refl}
 use Rattle.std.proofs.Common.{sym, ◌∙◌, ap, subst, inl, inr, arith}
 use Rattle.std.specs.Global.{Vec}
 use Rattle.std.specs.List.{flat_map}
 use Rattle.std.proofs.lemmas.Bool.{cases_lt}
 use Rattle.std.proofs.lemmas.Bool.Decides.{nat_tests}
-use Rattle.std.proofs.lemmas.Grind.{flat_map-append}
-use Rattle.std.proofs.lemmas.List.{append-nil, append_assoc, length-append, length-map, length-take-le, length_push, map_push, take_all, take_more, take-append-le}
+use Rattle.std.proofs.lemmas.List.{append-nil, append_assoc, length-append, length-map, length-take-le, length_push, map_push, take_all, take-append-le, at_drop_all}
 use Rattle.std.proofs.lemmas.List.Elements.{All-nil, All-push}
 use Rattle.task.specs.declared.schemas.Formula.{Formula}
 use Rattle.task.specs.declared.schemas.Formula as formula
 use Rattle.explained_plans.specs.declared.false_parts.Part as part
 use Rattle.explained_plans.specs.declared.false_parts.Found.{Found}
 use Rattle.explained_plans.specs.FalseParts.{Part, false_parts, false_parts_of_all, itself_if_false}
+use Rattle.explained_plans.specs.VariableNames.{behind, formulas}
 use Rattle.explained_plans.specs.Parts.{AreFirst, AreFound, Finds, FitsPart, IsFalseIn, most_reported, part_of}
 use Rattle.task.specs.TaskParts.{formula_of}
-use Rattle.formulas.proofs.Trees.{formulas_in, formula_of-And}
+use Rattle.explained_plans.proofs.FormulaLists.{conjunction, next_left}
 use Rattle.model.specs.Task as task
 use Rattle.model.specs.Meaning.{State, holds}
 
-abbrev pub as_part : task.Formula → List ℕ → Part
-as_part f objects = record { formula = f; objects = objects }
+abbrev pub as_part : task.Formula → List ℕ → List task.Name → Part
+as_part f objects names = record { formula = f; objects = objects; names = names }
 
 -- ---- the first of some parts, and one more
 
@@ -122,36 +122,24 @@ module _ (t : task.Task) (s : State) where
 
   -- ---- the formula itself
 
-  module _ (f : task.Formula) (objects : List ℕ) where
-    alone : (b : Bool) → holds t f objects s ≡ b → itself_if_false t f objects s ≡ (if b then [] else record { formula = f; objects = objects } ∷ [])
-    alone b is = ap (λ x. if x then [] else record { formula = f; objects = objects } ∷ []) is
+  module _ (f : task.Formula) (objects : List ℕ) (names : List task.Name) where
+    alone : (b : Bool) → holds t f objects s ≡ b → itself_if_false t f objects names s ≡ (if b then [] else as_part f objects names ∷ [])
+    alone b is = ap (λ x. if x then [] else as_part f objects names ∷ []) is
 
-    pub finds_nothing : (found : Found) → holds t f objects s ≡ true → Finds t s (itself_if_false t f objects s) found found
+    pub finds_nothing : (found : Found) → holds t f objects s ≡ true → Finds t s (itself_if_false t f objects names s) found found
     finds_nothing found so = subst (λ l. Finds t s l found found) (sym (alone true so)) (finds_none found)
 
     pub finds_no_room : (old new : Found) → holds t f objects s ≡ false → new.parts ≡ old.parts → new.more ≡ true → length old.parts.items ≡ most_reported
-        → Finds t s (itself_if_false t f objects s) old new
+        → Finds t s (itself_if_false t f objects names s) old new
     finds_no_room old new not_so kept full no_room =
-        subst (λ l. Finds t s l old new) (sym (alone false not_so)) (finds_without (record { formula = f; objects = objects }) old new kept full no_room)
+        subst (λ l. Finds t s l old new) (sym (alone false not_so)) (finds_without (as_part f objects names) old new kept full no_room)
 
-    pub finds_itself : (p : part.Part) (old new : Found) → holds t f objects s ≡ false → part_of p ≡ record { formula = f; objects = objects }
+    pub finds_itself : (p : part.Part) (old new : Found) → holds t f objects s ≡ false → part_of p ≡ as_part f objects names
         → new.parts.items ≡ old.parts.items ++ p ∷ [] → new.more ≡ old.more → (length old.parts.items ≡ most_reported → ⊥) → FitsPart t p
-        → Finds t s (itself_if_false t f objects s) old new
+        → Finds t s (itself_if_false t f objects names s) old new
     finds_itself p old new not_so same here kept room fits =
         subst (λ l. Finds t s l old new) (ap (λ x. x ∷ []) same ∙ sym (alone false not_so))
         (finds_with p old new here kept room fits (ap (λ (q : Part). holds t q.formula q.objects s) same ∙ not_so))
-
-  -- ---- lists
-
-  module _ {X : Type 0} (f : X → List Part) (xs : List X) (i : ℕ) (a b : Found) (so_far : Finds t s (flat_map f (take i xs)) a b) where
-    pub finds_one_more : (x : X) (c : Found) → i < length xs → x ≡ get_or xs i x → Finds t s (f x) b c → Finds t s (flat_map f (take (i + 1) xs)) a c
-    finds_one_more x c lt at next =
-        subst (λ l. Finds t s l a c)
-        (sym (ap (flat_map f) (take_more xs i x lt ∙ ap (λ y. take i xs ++ y ∷ []) (sym at)) ∙ flat_map-append f (take i xs) (x ∷ []) ∙ ap (λ l. flat_map f (take i xs) ++ l) (append-nil (f x))))
-        (finds_more (flat_map f (take i xs)) (f x) a b c so_far next)
-
-    pub finds_whole : length xs ≤ i → Finds t s (flat_map f xs) a b
-    finds_whole past = subst (λ l. Finds t s (flat_map f l) a b) (take_all i xs past) so_far
 
   -- ---- objects
 
@@ -165,13 +153,25 @@ module _ (t : task.Task) (s : State) where
 
 -- ---- conjunctions
 
-false_parts_of_all-list : (t : task.Task) (objects : List ℕ) (s : State) (parts : List Formula)
-    → false_parts_of_all t (formulas_in parts) objects s ≡ flat_map (λ part. false_parts t (formula_of part) objects s) parts
-false_parts_of_all-list t objects s [] = refl
-false_parts_of_all-list t objects s (part ∷ rest) = ap (λ l. false_parts t (formula_of part) objects s ++ l) (false_parts_of_all-list t objects s rest)
+module _ (t : task.Task) (s : State) (objects : List ℕ) (names : List task.Name) (parts : List Formula) (i : ℕ) where
+  -- what is found for the next part, and for those left after it
+  pub finds_next_part : (part : Formula) → i < length parts → part ≡ get_or parts i part → (left : List task.Name) → left ≡ behind (formula_of part) names
+      → (a b c : Found) → Finds t s (false_parts t (formula_of part) objects names s) a b
+      → Finds t s (false_parts_of_all t (formulas (map formula_of (drop (i + 1) parts))) objects left s) b c
+      → Finds t s (false_parts_of_all t (formulas (map formula_of (drop i parts))) objects names s) a c
+  finds_next_part part lt at left is a b c here later =
+      let others : List task.Name → List Part = λ ns. false_parts_of_all t (formulas (map formula_of (drop (i + 1) parts))) objects ns s in
+      subst (λ l. Finds t s l a c) (sym (next_left (λ l. false_parts_of_all t (formulas (map formula_of l)) objects names s) parts i part lt at))
+      (finds_more t s (false_parts t (formula_of part) objects names s) (others (behind (formula_of part) names)) a b c here
+      (subst (λ ns. Finds t s (others ns) b c) is later))
 
+  -- once none is left
+  pub finds_last_part : length parts ≤ i → (found : Found) → Finds t s (false_parts_of_all t (formulas (map formula_of (drop i parts))) objects names s) found found
+  finds_last_part past found =
+      subst (λ l. Finds t s l found found) (sym (at_drop_all (λ l. false_parts_of_all t (formulas (map formula_of l)) objects names s) parts i past)) (finds_none t s found)
+
+-- the parts of the formulas by the list of them
 pub parts_by_all : (f : Formula) (parts : Vec Formula) (items : List Formula) → f ≡ formula.And parts → items ≡ parts.items
-    → (t : task.Task) (objects : List ℕ) (s : State) → false_parts t (formula_of f) objects s ≡ flat_map (λ part. false_parts t (formula_of part) objects s) items
-parts_by_all f parts items is same t objects s =
-    ap (λ g. false_parts t (formula_of g) objects s) is ∙ ap (λ g. false_parts t g objects s) (formula_of-And parts)
-    ∙ false_parts_of_all-list t objects s parts.items ∙ ap (flat_map (λ part. false_parts t (formula_of part) objects s)) (sym same)
+    → (t : task.Task) (objects : List ℕ) (names : List task.Name) (s : State) → false_parts t (formula_of f) objects names s ≡ false_parts_of_all t (formulas (map formula_of items)) objects names s
+parts_by_all f parts items is same t objects names s =
+    ap (λ g. false_parts t g objects names s) (conjunction f parts items is same)

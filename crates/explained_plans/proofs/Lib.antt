@@ -1,3 +1,4 @@
+pub mod FormulaLists
 pub mod Running
 pub mod HistoryLemmas
 pub mod FoundLemmas

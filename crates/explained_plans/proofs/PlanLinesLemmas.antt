@@ -1,15 +1,16 @@
 -- The texts of conjunctions and disjunctions by the lists of their parts, and the lines of parts one after another.
-use Rattle.std.proofs.Common.{◌≡◌, ℕ, suc, zero, List, [], ◌∷◌, ◌++◌, take, None, Some, refl, ap, sym, ◌∙◌, append_assoc, append-nil}
-use Rattle.std.specs.Prelude.{codes, slice_get}
+use Rattle.std.proofs.Common.{◌≡◌, ℕ, ◌+◌, ◌<◌, ◌≤◌, drop, length, suc, zero, List, [], ◌∷◌, ◌++◌, map, take, None, Some, refl, ap, sym, ◌∙◌, append_assoc, append-nil}
+use Rattle.std.specs.Prelude.{codes, get_or, slice_get}
+use Rattle.std.proofs.lemmas.List.{at_drop_all}
 use Rattle.std.specs.Global.{Vec}
-use Rattle.std.specs.List.{flat_map}
 use Rattle.task.specs.declared.schemas.Formula.{Formula}
 use Rattle.task.specs.declared.schemas.Formula as formula
 use Rattle.task.specs.TaskParts.{formula_of}
-use Rattle.formulas.proofs.Trees.{formulas_in, formula_of-And, formula_of-Or}
 use Rattle.explained_plans.specs.FalseParts.{Part}
-use Rattle.explained_plans.specs.FormulaText.{Scope, formula_text, parts_text}
+use Rattle.explained_plans.specs.FormulaText.{Scope, formula_text, parts_text, scope_behind}
 use Rattle.explained_plans.specs.Histories.{History}
+use Rattle.explained_plans.specs.VariableNames.{formulas}
+use Rattle.explained_plans.proofs.FormulaLists.{conjunction, disjunction, next_left}
 use Rattle.explained_plans.specs.PlanLines.{reason_line, reason_lines}
 use Rattle.model.specs.Task.{Task, Instance}
 
@@ -25,25 +26,34 @@ three_added old first second third x y z one two three =
 
 -- ---- conjunctions and disjunctions
 
-module _ (t : Task) (scope : Scope) where
-  abbrev with_blank : Formula → List ℕ
-  with_blank part = codes " " ++ formula_text t scope (formula_of part)
+module _ (t : Task) (scope : Scope) (f : Formula) (parts : Vec Formula) (items : List Formula) where
+  pub and_text : f ≡ formula.And parts → items ≡ parts.items
+      → formula_text t scope (formula_of f) ≡ codes "(and" ++ (parts_text t scope (formulas (map formula_of items)) ++ codes ")")
+  and_text is same = ap (formula_text t scope) (conjunction f parts items is same)
 
-  parts_text-list : (parts : List Formula) → parts_text t scope (formulas_in parts) ≡ flat_map with_blank parts
-  parts_text-list [] = refl
-  parts_text-list (part ∷ rest) = ap (λ l. with_blank part ++ l) (parts_text-list rest)
+  pub or_text : f ≡ formula.Or parts → items ≡ parts.items
+      → formula_text t scope (formula_of f) ≡ codes "(or" ++ (parts_text t scope (formulas (map formula_of items)) ++ codes ")")
+  or_text is same = ap (formula_text t scope) (disjunction f parts items is same)
 
-  pub and_text : (f : Formula) (parts : Vec Formula) (items : List Formula) → f ≡ formula.And parts → items ≡ parts.items
-      → formula_text t scope (formula_of f) ≡ codes "(and" ++ (flat_map with_blank items ++ codes ")")
-  and_text f parts items is same =
-      ap (λ g. formula_text t scope (formula_of g)) is ∙ ap (formula_text t scope) (formula_of-And parts)
-      ∙ ap (λ l. codes "(and" ++ (l ++ codes ")")) (parts_text-list parts.items ∙ ap (flat_map with_blank) (sym same))
+module _ (t : Task) (scope : Scope) (parts : List Formula) (i : ℕ) (text whole : List ℕ)
+    (left : text ++ parts_text t scope (formulas (map formula_of (drop i parts))) ≡ whole) where
+  -- one more part is added
+  pub part_added : (part : Formula) → i < length parts → part ≡ get_or parts i part → (middle last : List ℕ) → middle ≡ text ++ codes " "
+      → last ≡ middle ++ formula_text t scope (formula_of part) → (next : Scope) → next ≡ scope_behind scope (formula_of part)
+      → last ++ parts_text t next (formulas (map formula_of (drop (i + 1) parts))) ≡ whole
+  part_added part lt at middle last blank added next is =
+      let one = formula_text t scope (formula_of part) in
+      let others = parts_text t (scope_behind scope (formula_of part)) (formulas (map formula_of (drop (i + 1) parts))) in
+      ap (λ s. last ++ parts_text t s (formulas (map formula_of (drop (i + 1) parts)))) is
+      ∙ ap (λ l. l ++ others) (two_added text (codes " ") one middle last blank added)
+      ∙ append_assoc text (codes " " ++ one) others
+      ∙ ap (λ l. text ++ l) (append_assoc (codes " ") one others ∙ sym (next_left (λ l. parts_text t scope (formulas (map formula_of l))) parts i part lt at))
+      ∙ left
 
-  pub or_text : (f : Formula) (parts : Vec Formula) (items : List Formula) → f ≡ formula.Or parts → items ≡ parts.items
-      → formula_text t scope (formula_of f) ≡ codes "(or" ++ (flat_map with_blank items ++ codes ")")
-  or_text f parts items is same =
-      ap (λ g. formula_text t scope (formula_of g)) is ∙ ap (formula_text t scope) (formula_of-Or parts)
-      ∙ ap (λ l. codes "(or" ++ (l ++ codes ")")) (parts_text-list parts.items ∙ ap (flat_map with_blank) (sym same))
+  -- once none is left
+  pub parts_added : length parts ≤ i → text ≡ whole
+  parts_added past =
+      sym (append-nil text) ∙ ap (λ l. text ++ l) (sym (at_drop_all (λ l. parts_text t scope (formulas (map formula_of l))) parts i past)) ∙ left
 
 -- ---- the lines of parts
 

@@ -12,6 +12,7 @@ use Rattle.task.specs.TaskParts.{shape_of_schema}
 use Rattle.task.proofs.Shapes.{Shape, found}
 use Rattle.explained_plans.specs.declared.explanations.Reasons.{Reasons}
 use Rattle.explained_plans.specs.Explanations.{AreReasons, IsWhyNotApplicable}
+use Rattle.explained_plans.specs.VariableNames.{VariableNames, names_of_action}
 use Rattle.model.specs.Task as task
 use Rattle.model.specs.Meaning.{State, amount_of, fits, initial_state, is_instance, system_of}
 use Rattle.model.specs.Runs.{StopsAt, run}
@@ -78,8 +79,9 @@ module _ (t : task.Task) (steps : List Instance) (plan : List task.Instance) (sa
       module _ (shape : Shape) (is : Some shape ≡ option_map shape_of_schema (slice_get t.schemas (instance_of item).schema))
           (amount : Option ℕ) (amounts : amount ≡ option_and_then (λ s. amount_of t s.increase (instance_of item).objects) (slice_get t.schemas (instance_of item).schema))
           (lacks : Bool) (lacking : lacks ≡ not (is_some amount)) (reasons : Reasons) (before : List Instance) (first : before ≡ take (n - 1) steps)
-          (why : AreReasons t (map instance_of before) shape.1 (instance_of item).objects reasons) where
-        pub reported : IsWhyNotApplicable t plan n lacks reasons
+          (names : VariableNames) (those : List task.Name) (named : those ≡ names_of_action names (instance_of item).schema)
+          (why : AreReasons t (map instance_of before) shape.1 (instance_of item).objects those reasons) where
+        pub reported : IsWhyNotApplicable t names plan n lacks reasons
         reported =
             let s = found (slice_get t.schemas (instance_of item).schema) shape is in
             record {
@@ -88,6 +90,7 @@ module _ (t : task.Task) (steps : List Instance) (plan : List task.Instance) (sa
               found_there = is_there item at;
               is_its_schema = s.1;
               cost = lacking ∙ ap (λ o. not (is_some o)) (amounts ∙ ap (option_and_then (λ (x : task.Schema). amount_of t x.increase (instance_of item).objects)) s.1);
-              precondition = subst (λ f. AreReasons t (take (n - 1) plan) f (instance_of item).objects reasons) (ap (λ (x : Shape). x.1) s.2)
-                  (subst (λ l. AreReasons t l shape.1 (instance_of item).objects reasons) (ap (map instance_of) first ∙ firsts) why);
+              precondition = subst (λ f. AreReasons t (take (n - 1) plan) f (instance_of item).objects (names_of_action names (instance_of item).schema) reasons) (ap (λ (x : Shape). x.1) s.2)
+                  (subst (λ l. AreReasons t l shape.1 (instance_of item).objects (names_of_action names (instance_of item).schema) reasons) (ap (map instance_of) first ∙ firsts)
+                  (subst (λ ns. AreReasons t (map instance_of before) shape.1 (instance_of item).objects ns reasons) named why));
             }

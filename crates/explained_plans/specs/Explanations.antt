@@ -5,7 +5,8 @@ use Rattle.explained_plans.specs.declared.explanations.PlanExplanation.{PlanExpl
 use Rattle.explained_plans.specs.declared.explanations.PlanExplanation.TheVariants.{Solves, NotApplicable, GoalMissed}
 use Rattle.explained_plans.specs.FalseParts.{false_parts}
 use Rattle.explained_plans.specs.Parts.{AreFirst, AreHistories}
-use Rattle.model.specs.Task.{Task, Instance, Schema, Formula}
+use Rattle.explained_plans.specs.VariableNames.{VariableNames, names_of_action}
+use Rattle.model.specs.Task.{Task, Name, Instance, Schema, Formula}
 use Rattle.model.specs.Meaning.{State, initial_state, system_of, cost_of, has_amount}
 use Rattle.model.specs.Runs.{run}
 use Rattle.model.specs.Runs as runs
@@ -16,27 +17,27 @@ verdict_of (Solves costs total) = runs.valid total
 verdict_of (NotApplicable step lacks_cost reasons) = runs.not_applicable step
 verdict_of (GoalMissed reasons) = runs.goal_missed
 
--- Why the formula does not hold after these steps, where its variables have these objects: the first of its smallest false
--- parts, each with its history.
-pub record AreReasons (task : Task) (steps : List Instance) (formula : Formula) (objects : List ℕ) (reasons : Reasons) : Type 0 where
+-- Why the formula does not hold after these steps, where its variables have these objects, and those of its quantifiers these
+-- names: the first of its smallest false parts, each with its history.
+pub record AreReasons (task : Task) (steps : List Instance) (formula : Formula) (objects : List ℕ) (names : List Name) (reasons : Reasons) : Type 0 where
   pub state : State
   pub runs : run (system_of task) (initial_state task) steps ≡ Some state
-  pub parts : AreFirst (false_parts task formula objects state) reasons.parts.items reasons.more
+  pub parts : AreFirst (false_parts task formula objects names state) reasons.parts.items reasons.more
   pub one_each : length reasons.histories.items ≡ length reasons.parts.items
   pub histories : AreHistories task steps reasons.parts.items reasons.histories.items
 
 -- Why a step is not applicable after those before it, counted from 1: what its precondition lacks, and whether what it
 -- increases the total cost by has no value.
-pub record IsWhyNotApplicable (task : Task) (plan : List Instance) (step : ℕ) (lacks_cost : Bool) (reasons : Reasons) : Type 0 where
+pub record IsWhyNotApplicable (task : Task) (names : VariableNames) (plan : List Instance) (step : ℕ) (lacks_cost : Bool) (reasons : Reasons) : Type 0 where
   pub instance : Instance
   pub schema : Schema
   pub found_there : slice_get plan (step - 1) ≡ Some instance
   pub is_its_schema : slice_get task.schemas instance.schema ≡ Some schema
   pub cost : lacks_cost ≡ not (has_amount task schema instance.objects)
-  pub precondition : AreReasons task (take (step - 1) plan) schema.precondition instance.objects reasons
+  pub precondition : AreReasons task (take (step - 1) plan) schema.precondition instance.objects (names_of_action names instance.schema) reasons
 
--- what is said beside the verdict is true: the cost of each step, or why the plan fails
-abbrev pub IsExplained : Task → List Instance → PlanExplanation → Type 0
-IsExplained task plan (Solves costs total) = costs.items ≡ map (cost_of task) plan
-IsExplained task plan (NotApplicable step lacks_cost reasons) = IsWhyNotApplicable task plan step lacks_cost reasons
-IsExplained task plan (GoalMissed reasons) = AreReasons task plan task.goal [] reasons
+-- what is said beside the verdict is true: the cost of each step, or why the plan fails, with these names of variables
+abbrev pub IsExplained : Task → VariableNames → List Instance → PlanExplanation → Type 0
+IsExplained task names plan (Solves costs total) = costs.items ≡ map (cost_of task) plan
+IsExplained task names plan (NotApplicable step lacks_cost reasons) = IsWhyNotApplicable task names plan step lacks_cost reasons
+IsExplained task names plan (GoalMissed reasons) = AreReasons task plan task.goal [] names.goal reasons

@@ -1,43 +1,47 @@
 -- Why a formula does not hold: the smallest of its parts that are false and make it so.
-use Rattle.std.specs.Prelude.{◌≡◌, ℕ, Bool, false, IsTrue, List, [], ◌∷◌, ◌++◌, slice_get, Some, ◌↔◌, if◌then◌else◌}
+use Rattle.std.specs.Prelude.{◌≡◌, ℕ, Bool, false, IsTrue, List, [], ◌∷◌, ◌++◌, drop, slice_get, Some, ◌↔◌, if◌then◌else◌}
 use Rattle.std.specs.List.{flat_map}
-use Rattle.model.specs.Task.{Task, Formula, Formulas, and, imply, forall, no_formula, more_formulas}
+use Rattle.explained_plans.specs.VariableNames.{behind}
+use Rattle.model.specs.Task.{Task, Name, Formula, Formulas, and, imply, forall, no_formula, more_formulas}
 use Rattle.model.specs.Meaning.{State, holds, objects_of}
 
--- a part of a formula, where the variables in its scope have these objects
+-- a part of a formula, where the variables in its scope have these objects, and those of quantifiers in it the first of these
+-- names
 pub record Part : Type 0 where
   pub formula : Formula
   pub objects : List ℕ
+  pub names : List Name
 
 -- the part holds in the state
 abbrev pub part_holds : Task → State → Part → Bool
 part_holds task state p = holds task p.formula p.objects state
 
 -- the formula itself, and nothing where it holds
-abbrev pub itself_if_false : Task → Formula → List ℕ → State → List Part
-itself_if_false task formula objects state =
-    if holds task formula objects state then [] else record { formula = formula; objects = objects } ∷ []
+abbrev pub itself_if_false : Task → Formula → List ℕ → List Name → State → List Part
+itself_if_false task formula objects names state =
+    if holds task formula objects state then [] else record { formula = formula; objects = objects; names = names } ∷ []
 
 -- The smallest false parts of a formula in a state, from the left, where its variables have these objects: those of each part of
 -- an `and`, of the conclusion of an `imply` whose premise holds, of the part of a `forall` for each object of its variable's
--- types. Every other formula is false by all that is in it, and is its own.
+-- types. Every other formula is false by all that is in it, and is its own. The names are those of the variables of its quantifiers,
+-- and others behind them; each part has them from its own on.
 abbrev mutual
-  pub false_parts : Task → Formula → List ℕ → State → List Part
-  false_parts task (and parts) objects state = false_parts_of_all task parts objects state
-  false_parts task (imply premise conclusion) objects state =
-      if holds task premise objects state then false_parts task conclusion objects state else []
-  false_parts task (forall types part) objects state =
-      flat_map (λ one. false_parts task part (objects ++ one ∷ []) state) (objects_of task types)
-  false_parts task formula objects state = itself_if_false task formula objects state
+  pub false_parts : Task → Formula → List ℕ → List Name → State → List Part
+  false_parts task (and parts) objects names state = false_parts_of_all task parts objects names state
+  false_parts task (imply premise conclusion) objects names state =
+      if holds task premise objects state then false_parts task conclusion objects (behind premise names) state else []
+  false_parts task (forall types part) objects names state =
+      flat_map (λ one. false_parts task part (objects ++ one ∷ []) (drop 1 names) state) (objects_of task types)
+  false_parts task formula objects names state = itself_if_false task formula objects names state
 
-  pub false_parts_of_all : Task → Formulas → List ℕ → State → List Part
-  false_parts_of_all task no_formula objects state = []
-  false_parts_of_all task (more_formulas first rest) objects state =
-      false_parts task first objects state ++ false_parts_of_all task rest objects state
+  pub false_parts_of_all : Task → Formulas → List ℕ → List Name → State → List Part
+  false_parts_of_all task no_formula objects names state = []
+  false_parts_of_all task (more_formulas first rest) objects names state =
+      false_parts task first objects names state ++ false_parts_of_all task rest objects (behind first names) state
 
 -- a formula holds where it has no false part, and each false part is false
 pub record FalsePartsReport : Type 0 where
-  pub none : (task : Task) (formula : Formula) (objects : List ℕ) (state : State)
-      → IsTrue (holds task formula objects state) ↔ (false_parts task formula objects state ≡ [])
-  pub are_false : (task : Task) (formula : Formula) (objects : List ℕ) (state : State) (number : ℕ) (part : Part)
-      → slice_get (false_parts task formula objects state) number ≡ Some part → part_holds task state part ≡ false
+  pub none : (task : Task) (formula : Formula) (objects : List ℕ) (names : List Name) (state : State)
+      → IsTrue (holds task formula objects state) ↔ (false_parts task formula objects names state ≡ [])
+  pub are_false : (task : Task) (formula : Formula) (objects : List ℕ) (names : List Name) (state : State) (number : ℕ) (part : Part)
+      → slice_get (false_parts task formula objects names state) number ≡ Some part → part_holds task state part ≡ false

@@ -1,9 +1,12 @@
--- The text of a formula, as PDDL writes it in lower case, with objects in place of the variables that have them.
-use Rattle.std.specs.Prelude.{ℕ, ◌+◌, ◌-◌, List, [], ◌∷◌, ◌++◌, codes, length, slice_get}
+-- The text of a formula, as PDDL writes it in lower case, with objects in place of the variables that have them, and the
+-- variables of its quantifiers by their names.
+use Rattle.std.specs.Char.{to_ascii_lowercase}
+use Rattle.std.specs.Prelude.{ℕ, ◌+◌, ◌-◌, List, [], ◌∷◌, ◌++◌, codes, drop, length, map, slice_get}
 use Rattle.std.specs.Fmt.{decimal}
 use Rattle.std.specs.List.{flat_map}
 use Rattle.std.specs.Option.{option_map_or}
 use Rattle.model.specs.Task.{Task, Name, ObjectType, Predicate, Union, Term, Formula, Formulas, variable, object, atom, equal, and, or, not, imply, exists, forall, no_formula, more_formulas}
+use Rattle.explained_plans.specs.VariableNames.{behind}
 use Rattle.model.specs.PlanWriting.{object_text}
 
 -- ---- names by their numbers, and no bytes where there is none
@@ -19,22 +22,32 @@ function_name task number = option_map_or (λ (f : Predicate). f.name) (slice_ge
 
 -- ---- variables
 
--- what has a place in scope: the objects of the variables that have one, and the names of those behind them
+-- what has a place in scope: the objects of the variables that have one, and the names of those behind them; and the names that
+-- the variables of quantifiers get, in the order of the text
 pub record Scope : Type 0 where
   pub objects : List ℕ
   pub names : List Name
+  pub coming : List Name
 
 -- the variables that have objects, and no other
-abbrev pub scope_at : List ℕ → Scope
-scope_at objects = record { objects = objects; names = [] }
+abbrev pub scope_at : List ℕ → (coming : List Name) → Scope
+scope_at objects coming = record { objects = objects; names = []; coming = coming }
 
--- the name that the next variable gets: `?1`, `?2` and so on
+-- the name that the next variable gets: the first one, in lower case; where none is left, `?1`, `?2` and so on
+abbrev pub named_next : List Name → (place : ℕ) → Name
+named_next [] place = codes "?" ++ decimal (place + 1)
+named_next (name ∷ others) place = map to_ascii_lowercase name
+
 abbrev pub next_name : Scope → Name
-next_name scope = codes "?" ++ decimal (length scope.names + 1)
+next_name scope = named_next scope.coming (length scope.names)
 
--- the scope behind the next variable
+-- the scope within the next variable's quantifier
 abbrev pub with_next : Scope → Scope
-with_next scope = record { objects = scope.objects; names = scope.names ++ next_name scope ∷ [] }
+with_next scope = record { objects = scope.objects; names = scope.names ++ next_name scope ∷ []; coming = drop 1 scope.coming }
+
+-- the scope behind a formula, whose variables got their names
+abbrev pub scope_behind : Scope → Formula → Scope
+scope_behind scope formula = record { objects = scope.objects; names = scope.names; coming = behind formula scope.coming }
 
 -- ---- terms, types and formulas
 
@@ -70,7 +83,7 @@ abbrev mutual
   formula_text task scope (or parts) = codes "(or" ++ (parts_text task scope parts ++ codes ")")
   formula_text task scope (not part) = codes "(not " ++ (formula_text task scope part ++ codes ")")
   formula_text task scope (imply premise conclusion) =
-      codes "(imply " ++ (formula_text task scope premise ++ (codes " " ++ (formula_text task scope conclusion ++ codes ")")))
+      codes "(imply " ++ (formula_text task scope premise ++ (codes " " ++ (formula_text task (scope_behind scope premise) conclusion ++ codes ")")))
   formula_text task scope (exists types part) =
       codes "(exists (" ++ (variable_declared task scope types ++ (formula_text task (with_next scope) part ++ codes ")"))
   formula_text task scope (forall types part) =
@@ -79,4 +92,4 @@ abbrev mutual
   -- a blank and each formula
   pub parts_text : Task → Scope → Formulas → List ℕ
   parts_text task scope no_formula = []
-  parts_text task scope (more_formulas first rest) = codes " " ++ (formula_text task scope first ++ parts_text task scope rest)
+  parts_text task scope (more_formulas first rest) = codes " " ++ (formula_text task scope first ++ parts_text task (scope_behind scope first) rest)

@@ -1,3 +1,5 @@
+pub mod VariableNames
+pub mod NamesView
 pub mod FalseParts
 pub mod Histories
 pub mod Forms

@@ -6,13 +6,14 @@ use Rattle.explained_plans.specs.declared.histories.History as history
 use Rattle.explained_plans.specs.declared.histories.History.TheVariants.{Always, ByStep}
 use Rattle.explained_plans.specs.FalseParts.{Part, part_holds}
 use Rattle.explained_plans.specs.Histories.{History, always, by_step, IsHistory}
+use Rattle.explained_plans.specs.NamesView.{names_in}
 use Rattle.task.specs.TaskParts.{object_of, formula_of}
 use Rattle.formulas.specs.State.{FitsFormula}
 use Rattle.model.specs.Task as task
 use Rattle.model.specs.Meaning.{State}
 
 abbrev pub part_of : part.Part → Part
-part_of p = record { formula = formula_of p.formula.now; objects = map object_of p.objects.items }
+part_of p = record { formula = formula_of p.formula.now; objects = map object_of p.objects.items; names = names_in p.names.now }
 
 abbrev pub history_of : history.History → History
 history_of Always = always

@@ -55,7 +55,7 @@ made_text task steps (by_step number) = cause_text task steps number (codes " ma
 
 -- how it came that a negation is false
 abbrev pub negation_text : Task → List Instance → (objects : List ℕ) → (part : Formula) → History → List ℕ
-negation_text task steps objects (atom a) history = added_text task steps (formula_text task (scope_at objects) (atom a)) history
+negation_text task steps objects (atom a) history = added_text task steps (formula_text task (scope_at objects []) (atom a)) history
 negation_text task steps objects part history = made_text task steps history
 
 -- how it came that a formula is false, where its variables have these objects: who deleted an atom, who added one that had to be
@@ -68,7 +68,7 @@ why_text task steps objects formula history = made_text task steps history
 -- the line of a false part, with its history
 abbrev pub reason_line : Task → List Instance → Part → History → List ℕ
 reason_line task steps part history =
-    formula_text task (scope_at part.objects) part.formula
+    formula_text task (scope_at part.objects part.names) part.formula
     ++ (codes " is false" ++ (why_text task steps part.objects part.formula history ++ codes ".\n"))
 
 -- the line of each part, with the history at its place
@@ -86,7 +86,7 @@ reasons_text task steps reasons =
 -- what the action increases the total cost by has no value for these objects
 abbrev pub increase_text : Task → (objects : List ℕ) → Increase → List ℕ
 increase_text task objects (by_number number) = []
-increase_text task objects (by_function f) = atom_text task (scope_at objects) (function_name task f.predicate) f.terms ++ codes " has no value.\n"
+increase_text task objects (by_function f) = atom_text task (scope_at objects []) (function_name task f.predicate) f.terms ++ codes " has no value.\n"
 
 abbrev pub instance_increase_text : Task → Instance → List ℕ
 instance_increase_text task i = option_map_or (λ (s : Schema). increase_text task i.objects s.increase) (slice_get task.schemas i.schema) []

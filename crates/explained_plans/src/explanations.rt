@@ -5,11 +5,13 @@ ghost use Rattle.task.specs.Task.{task_of};
 ghost use Rattle.task.specs.TaskParts.{object_of, formula_of};
 ghost use Rattle.formulas.specs.State.{instance_of, plan_of, state_of, FitsFormula};
 ghost use Rattle.explained_plans.specs.Explanations.{verdict_of, AreReasons, IsExplained};
+ghost use Rattle.explained_plans.specs.NamesView.{names_in, names_of};
 ghost use Rattle.model.specs.Runs.{IsVerdict, StopsAt, run, valid, goal_missed};
 ghost use Rattle.model.specs.Meaning.{is_instance, initial_state, system_of, cost_of};
 
 use crate::false_parts::{Found, Part, first_false_parts};
 use crate::histories::{History, histories};
+use crate::variable_names::VariableNames;
 use faults::NoMemory;
 use formulas::{Binding, Instance, Plan, State, amount, cost};
 use std::alloc::Global;
@@ -53,24 +55,28 @@ pub enum PlanExplanation<'t> {
     },
 }
 
-/// What is true of the plan, each instance of which is one of the task's, and why.
+/// What is true of the plan, each instance of which is one of the task's, and why. The variables of quantifiers have these
+/// names.
 ///
 /// # Errors
 /// Memory was refused, which says nothing of the plan.
 pub fn explain_plan<'t>(
     alloc: Global,
     task: &'t Task,
+    names: &'t VariableNames<'t>,
     plan: &Plan,
 ) -> Result<PlanExplanation<'t>, NoMemory>
     requires { IsTrue (list_all (is_instance (task_of task.now)) (plan_of plan.now)) }
     ensures verdict { IfOk result (λ e. IsVerdict (system_of (task_of task.now)) (plan_of plan.now) (verdict_of e)) }
-    ensures explained { IfOk result (IsExplained (task_of task.now) (plan_of plan.now)) }
+    ensures explained { IfOk result (IsExplained (task_of task.now) (names_of names.now) (plan_of plan.now)) }
 {
     let Run { verdict, state } = run_plan(alloc, task, plan)?;
     match verdict {
-        Verdict::Valid { cost } => why_valid(alloc, task, plan, cost),
-        Verdict::NotApplicable { step } => why_not_applicable(alloc, task, plan, step, &state),
-        Verdict::GoalMissed => why_missed(alloc, task, plan, &state),
+        Verdict::Valid { cost } => why_valid(alloc, task, names, plan, cost),
+        Verdict::NotApplicable { step } => why_not_applicable(
+            alloc, task, names, plan, step, &state,
+        ),
+        Verdict::GoalMissed => why_missed(alloc, task, names, plan, &state),
     }
 }
 
@@ -78,12 +84,13 @@ pub fn explain_plan<'t>(
 fn why_valid<'t>(
     alloc: Global,
     task: &Task,
+    names: &VariableNames<'_>,
     plan: &Plan,
     total: u64,
 ) -> Result<PlanExplanation<'t>, NoMemory>
     requires { IsVerdict (system_of (task_of task.now)) (plan_of plan.now) (valid total) }
     ensures verdict { IfOk result (λ e. IsVerdict (system_of (task_of task.now)) (plan_of plan.now) (verdict_of e)) }
-    ensures explained { IfOk result (IsExplained (task_of task.now) (plan_of plan.now)) }
+    ensures explained { IfOk result (IsExplained (task_of task.now) (names_of names.now) (plan_of plan.now)) }
 {
     let steps = plan.steps();
     let costs = costs_of(alloc, task, steps)?;
@@ -105,6 +112,7 @@ fn costs_of(alloc: Global, task: &Task, steps: &[Instance]) -> Result<Vec<u32>, 
 fn why_not_applicable<'t>(
     alloc: Global,
     task: &'t Task,
+    names: &'t VariableNames<'t>,
     plan: &Plan,
     step: usize,
     state: &State,
@@ -113,7 +121,7 @@ fn why_not_applicable<'t>(
     requires stops { StopsAt (system_of (task_of task.now)) (plan_of plan.now) step }
     requires state { run (system_of (task_of task.now)) (initial_state (task_of task.now)) (take (step - 1) (plan_of plan.now)) ≡ Some (state_of state.now) }
     ensures verdict { IfOk result (λ e. IsVerdict (system_of (task_of task.now)) (plan_of plan.now) (verdict_of e)) }
-    ensures explained { IfOk result (IsExplained (task_of task.now) (plan_of plan.now)) }
+    ensures explained { IfOk result (IsExplained (task_of task.now) (names_of names.now) (plan_of plan.now)) }
 {
     let steps = plan.steps();
     let before = &steps[..step - 1];
@@ -127,6 +135,7 @@ fn why_not_applicable<'t>(
         state,
         &schema.precondition,
         &instance.objects,
+        names.of_action(instance.schema),
     )?;
     Ok(PlanExplanation::NotApplicable {
         step,
@@ -139,6 +148,7 @@ fn why_not_applicable<'t>(
 fn why_missed<'t>(
     alloc: Global,
     task: &'t Task,
+    names: &'t VariableNames<'t>,
     plan: &Plan,
     state: &State,
 ) -> Result<PlanExplanation<'t>, NoMemory>
@@ -146,16 +156,17 @@ fn why_missed<'t>(
     requires missed { IsVerdict (system_of (task_of task.now)) (plan_of plan.now) goal_missed }
     requires state { run (system_of (task_of task.now)) (initial_state (task_of task.now)) (plan_of plan.now) ≡ Some (state_of state.now) }
     ensures verdict { IfOk result (λ e. IsVerdict (system_of (task_of task.now)) (plan_of plan.now) (verdict_of e)) }
-    ensures explained { IfOk result (IsExplained (task_of task.now) (plan_of plan.now)) }
+    ensures explained { IfOk result (IsExplained (task_of task.now) (names_of names.now) (plan_of plan.now)) }
 {
     let steps = plan.steps();
     let goal = task.goal();
     let nothing = Binding::new();
-    let reasons = why_false(alloc, task, steps, state, goal, &nothing)?;
+    let reasons = why_false(alloc, task, steps, state, goal, &nothing, &names.goal)?;
     Ok(PlanExplanation::GoalMissed { reasons })
 }
 
-/// Why the formula does not hold in the state that the steps lead to, where its variables have these objects.
+/// Why the formula does not hold in the state that the steps lead to, where its variables have these objects, and those of its
+/// quantifiers these names.
 fn why_false<'t>(
     alloc: Global,
     task: &Task,
@@ -163,13 +174,14 @@ fn why_false<'t>(
     state: &State,
     formula: &'t Formula,
     objects: &Binding,
+    names: &'t [&'t [u8]],
 ) -> Result<Reasons<'t>, NoMemory>
     requires fits { FitsFormula (task_of task.now) (formula_of formula.now) (map object_of objects.now.items) }
     requires instances { IsTrue (list_all (is_instance (task_of task.now)) (map instance_of steps.now)) }
     requires leads { run (system_of (task_of task.now)) (initial_state (task_of task.now)) (map instance_of steps.now) ≡ Some (state_of state.now) }
-    ensures { IfOk result (AreReasons (task_of task.now) (map instance_of steps.now) (formula_of formula.now) (map object_of objects.now.items)) }
+    ensures { IfOk result (AreReasons (task_of task.now) (map instance_of steps.now) (formula_of formula.now) (map object_of objects.now.items) (names_in names.now)) }
 {
-    let Found { parts, more } = first_false_parts(alloc, task, formula, objects, state)?;
+    let Found { parts, more } = first_false_parts(alloc, task, formula, objects, names, state)?;
     let histories = histories(alloc, task, steps, parts.as_slice())?;
     Ok(Reasons {
         parts,

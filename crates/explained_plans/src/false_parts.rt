@@ -1,13 +1,15 @@
 //! Why a formula does not hold: the smallest of its parts that are false and make it so.
 ghost use Rattle.std.specs.Prelude.{map, IfOk, OnOk};
-ghost use Rattle.std.specs.List.{flat_map};
 ghost use Rattle.task.specs.Task.{task_of};
 ghost use Rattle.task.specs.TaskParts.{object_of, formula_of, union_of};
 ghost use Rattle.formulas.specs.State.{state_of, FitsFormula, FitsFormulas};
-ghost use Rattle.explained_plans.specs.FalseParts.{FalsePartsReport, false_parts, itself_if_false};
+ghost use Rattle.explained_plans.specs.FalseParts.{FalsePartsReport, false_parts, false_parts_of_all, itself_if_false};
+ghost use Rattle.explained_plans.specs.NamesView.{names_in};
 ghost use Rattle.explained_plans.specs.Parts.{AreFound, Finds};
+ghost use Rattle.explained_plans.specs.VariableNames.{formulas};
 ghost use Rattle.model.specs.Task.{forall};
 
+use crate::variable_names::{names_behind, without_first};
 use faults::NoMemory;
 use formulas::{Binding, State, copied, holds, objects_of, with_object};
 use std::alloc::Global;
@@ -23,6 +25,8 @@ pub struct Part<'t> {
     pub formula: &'t Formula,
     /// The objects of the variables in its scope, in order.
     pub objects: Binding,
+    /// The names of variables of quantifiers, in the order of the text: those in the part come first.
+    pub names: &'t [&'t [u8]],
 }
 
 /// The first of some false parts.
@@ -34,23 +38,24 @@ pub(crate) struct Found<'t> {
     pub more: bool,
 }
 
-/// The first of the smallest parts that are false in the state, where the variables in scope have these objects. The formula
-/// is well-typed for variables of some types that the objects are of.
+/// The first of the smallest parts that are false in the state, where the variables in scope have these objects, and those of
+/// quantifiers these names. The formula is well-typed for variables of some types that the objects are of.
 pub(crate) fn first_false_parts<'t>(
     alloc: Global,
     task: &Task,
     formula: &'t Formula,
     objects: &Binding,
+    names: &'t [&'t [u8]],
     state: &State,
 ) -> Result<Found<'t>, NoMemory>
     requires { FitsFormula (task_of task.now) (formula_of formula.now) (map object_of objects.now.items) }
-    ensures { IfOk result (AreFound (task_of task.now) (state_of state.now) (false_parts (task_of task.now) (formula_of formula.now) (map object_of objects.now.items) (state_of state.now))) }
+    ensures { IfOk result (AreFound (task_of task.now) (state_of state.now) (false_parts (task_of task.now) (formula_of formula.now) (map object_of objects.now.items) (names_in names.now) (state_of state.now))) }
 {
     let mut found = Found {
         parts: Vec::new(alloc),
         more: false,
     };
-    find(task, formula, objects, state, &mut found)?;
+    find(task, formula, objects, names, state, &mut found)?;
     Ok(found)
 }
 
@@ -61,26 +66,30 @@ fn find<'t>(
     task: &Task,
     formula: &'t Formula,
     objects: &Binding,
+    names: &'t [&'t [u8]],
     state: &State,
     found: &mut Found<'t>,
 ) -> Result<(), NoMemory>
     requires { FitsFormula (task_of task.now) (formula_of formula.now) (map object_of objects.now.items) }
-    ensures { OnOk result (Finds (task_of task.now) (state_of state.now) (false_parts (task_of task.now) (formula_of formula.now) (map object_of objects.now.items) (state_of state.now)) found.old found.new) }
+    ensures { OnOk result (Finds (task_of task.now) (state_of state.now) (false_parts (task_of task.now) (formula_of formula.now) (map object_of objects.now.items) (names_in names.now) (state_of state.now)) found.old found.new) }
 {
     if found.more {
         return Ok(());
     }
     match formula {
-        Formula::And(parts) => find_in_each(task, parts, objects, state, found),
+        Formula::And(parts) => find_in_each(task, parts, objects, names, state, found),
         Formula::Imply(premise, conclusion) => {
             if holds(task, premise, objects, state) {
-                find(task, conclusion, objects, state, found)
+                let left = names_behind(premise, names);
+                find(task, conclusion, objects, left, state, found)
             } else {
                 Ok(())
             }
         }
-        Formula::Forall(types, part) => find_for_each(task, types, part, objects, state, found),
-        _ => found.add_if_false(task, formula, objects, state),
+        Formula::Forall(types, part) => find_for_each(
+            task, types, part, objects, names, state, found,
+        ),
+        _ => found.add_if_false(task, formula, objects, names, state),
     }
 }
 
@@ -90,14 +99,17 @@ fn find_in_each<'t>(
     task: &Task,
     parts: &'t [Formula],
     objects: &Binding,
+    names: &'t [&'t [u8]],
     state: &State,
     found: &mut Found<'t>,
 ) -> Result<(), NoMemory>
     requires { FitsFormulas (task_of task.now) (map formula_of parts.now) (map object_of objects.now.items) }
-    ensures { OnOk result (Finds (task_of task.now) (state_of state.now) (flat_map (λ part. false_parts (task_of task.now) (formula_of part) (map object_of objects.now.items) (state_of state.now)) parts.now) found.old found.new) }
+    ensures { OnOk result (Finds (task_of task.now) (state_of state.now) (false_parts_of_all (task_of task.now) (formulas (map formula_of parts.now)) (map object_of objects.now.items) (names_in names.now) (state_of state.now)) found.old found.new) }
 {
+    let mut left = names;
     for part in parts {
-        find(task, part, objects, state, found)?;
+        find(task, part, objects, left, state, found)?;
+        left = names_behind(part, left);
     }
     Ok(())
 }
@@ -109,14 +121,23 @@ fn find_for_each<'t>(
     types: &TypeUnion,
     part: &'t Formula,
     objects: &Binding,
+    names: &'t [&'t [u8]],
     state: &State,
     found: &mut Found<'t>,
 ) -> Result<(), NoMemory>
     requires { FitsFormula (task_of task.now) (forall (union_of types.now) (formula_of part.now)) (map object_of objects.now.items) }
-    ensures { OnOk result (Finds (task_of task.now) (state_of state.now) (false_parts (task_of task.now) (forall (union_of types.now) (formula_of part.now)) (map object_of objects.now.items) (state_of state.now)) found.old found.new) }
+    ensures { OnOk result (Finds (task_of task.now) (state_of state.now) (false_parts (task_of task.now) (forall (union_of types.now) (formula_of part.now)) (map object_of objects.now.items) (names_in names.now) (state_of state.now)) found.old found.new) }
 {
+    let inner = without_first(names);
     for object in objects_of(task, types) {
-        find(task, part, &with_object(objects, object), state, found)?;
+        find(
+            task,
+            part,
+            &with_object(objects, object),
+            inner,
+            state,
+            found,
+        )?;
     }
     Ok(())
 }
@@ -128,10 +149,11 @@ impl<'t> Found<'t> {
         task: &Task,
         formula: &'t Formula,
         objects: &Binding,
+        names: &'t [&'t [u8]],
         state: &State,
     ) -> Result<(), NoMemory>
         requires { FitsFormula (task_of task.now) (formula_of formula.now) (map object_of objects.now.items) }
-        ensures { OnOk result (Finds (task_of task.now) (state_of state.now) (itself_if_false (task_of task.now) (formula_of formula.now) (map object_of objects.now.items) (state_of state.now)) self.old self.new) }
+        ensures { OnOk result (Finds (task_of task.now) (state_of state.now) (itself_if_false (task_of task.now) (formula_of formula.now) (map object_of objects.now.items) (names_in names.now) (state_of state.now)) self.old self.new) }
     {
         if holds(task, formula, objects, state) {
             return Ok(());
@@ -143,6 +165,7 @@ impl<'t> Found<'t> {
         self.parts.push(Part {
             formula,
             objects: copied(objects),
+            names,
         })?;
         Ok(())
     }

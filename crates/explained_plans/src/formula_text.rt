@@ -1,41 +1,60 @@
 //! Formulas as texts, with objects in place of the variables that have them.
 ghost use Rattle.std.specs.Prelude.{◌≡◌, ◌++◌, ◌∷◌, [], ℕ, List, codes, map, slice_get, IfOk, OnOk};
 ghost use Rattle.std.specs.Borrow.{Bor};
+ghost use Rattle.std.specs.Fmt.{decimal};
 ghost use Rattle.std.specs.List.{flat_map};
 ghost use Rattle.std.specs.Option.{option_map_or};
 ghost use Rattle.std.specs.String.{string_bytes};
 ghost use Rattle.task.specs.Task.{task_of};
 ghost use Rattle.task.specs.TaskParts.{formula_of, lifted_atom_of, object_of, term_of, type_of, union_of};
-ghost use Rattle.explained_plans.specs.FormulaText.{atom_text, formula_text, function_name, next_name, predicate_name, scope_at, term_text, type_name, union_text, variable_declared, variable_text, with_next};
+ghost use Rattle.explained_plans.specs.FormulaText.{atom_text, formula_text, function_name, next_name, parts_text, predicate_name, scope_at, scope_behind, term_text, type_name, union_text, variable_declared, variable_text, with_next};
+ghost use Rattle.explained_plans.specs.NamesView.{names_in};
 ghost use Rattle.explained_plans.specs.ScopeView.{scope_of};
+ghost use Rattle.explained_plans.specs.VariableNames.{formulas};
 ghost use Rattle.model.specs.PlanWriting.{object_name};
 
+use crate::variable_names::{names_behind, without_first};
 use std::alloc::{AllocError, Global};
 use task::{Formula, LiftedAtom, ObjectId, PredicateId, Task, Term, TypeId, TypeUnion};
 
-/// What has a place in scope: the objects of the variables that have one, and the names of those behind them.
+/// What has a place in scope: the objects of the variables that have one, and the names of those behind them. And the names
+/// that the variables of quantifiers get.
 #[derive(Clone, Copy)]
 pub(crate) struct Scope<'a> {
     /// The objects, in order.
     pub objects: &'a [ObjectId],
     /// The names, the outermost quantifier's first.
     pub names: &'a [&'a [u8]],
+    /// The names of variables that are not in scope yet, in the order of the text.
+    pub coming: &'a [&'a [u8]],
 }
 
 impl<'a> Scope<'a> {
-    /// A scope of variables that all have objects.
-    pub(crate) fn of(objects: &'a [ObjectId]) -> Scope<'a>
-        ensures { scope_of result ≡ scope_at (map object_of objects.now) }
+    /// A scope of variables that all have objects, where those of quantifiers get these names.
+    pub(crate) fn of(objects: &'a [ObjectId], coming: &'a [&'a [u8]]) -> Scope<'a>
+        ensures { scope_of result ≡ scope_at (map object_of objects.now) (names_in coming.now) }
     {
         Scope {
             objects,
             names: &[],
+            coming,
+        }
+    }
+
+    /// The scope behind the formula, whose variables got their names.
+    fn behind(self, formula: &Formula) -> Scope<'a>
+        ensures { scope_of result ≡ scope_behind (scope_of self.entry) (formula_of formula.now) }
+    {
+        Scope {
+            objects: self.objects,
+            names: self.names,
+            coming: names_behind(formula, self.coming),
         }
     }
 }
 
-/// Adds the text of the formula. A variable of a quantifier in it is reported as `?1`, `?2` and so on, by its place in scope
-/// behind those that have objects.
+/// Adds the text of the formula. A variable of a quantifier in it is reported by the first name that no other has yet; where
+/// none is left, as `?1`, `?2` and so on, by its place in scope behind those that have objects.
 #[cycle(formula)]
 pub(crate) fn add_formula(
     alloc: Global,
@@ -59,7 +78,7 @@ pub(crate) fn add_formula(
             text.extend_from_slice(b"(imply ")?;
             add_formula(alloc, task, premise, scope, text)?;
             text.extend_from_slice(b" ")?;
-            add_formula(alloc, task, conclusion, scope, text)?;
+            add_formula(alloc, task, conclusion, scope.behind(premise), text)?;
             text.extend_from_slice(b")")
         }
         Formula::Exists(types, part) => {
@@ -114,12 +133,14 @@ fn add_parts(
     scope: Scope<'_>,
     text: &mut Vec<u8>,
 ) -> Result<(), AllocError>
-    ensures { OnOk result (text.new.items ≡ text.old.items ++ (opening.now ++ (flat_map (λ part. codes " " ++ formula_text (task_of task.now) (scope_of scope.entry) (formula_of part)) parts.now ++ codes ")"))) }
+    ensures { OnOk result (text.new.items ≡ text.old.items ++ (opening.now ++ (parts_text (task_of task.now) (scope_of scope.entry) (formulas (map formula_of parts.now)) ++ codes ")"))) }
 {
     text.extend_from_slice(opening)?;
+    let mut current = scope;
     for part in parts {
         text.extend_from_slice(b" ")?;
-        add_formula(alloc, task, part, scope, text)?;
+        add_formula(alloc, task, part, current, text)?;
+        current = current.behind(part);
     }
     text.extend_from_slice(b")")
 }
@@ -139,22 +160,35 @@ fn add_quantified(
         ++ (formula_text (task_of task.now) (with_next (scope_of scope.entry)) (formula_of part.now) ++ codes ")")))) }
 {
     let name = next_name(alloc, scope)?;
-    let names = with_name(alloc, scope.names, name.as_bytes())?;
+    let names = with_name(alloc, scope.names, name.as_slice())?;
     text.extend_from_slice(opening)?;
-    add_declared(task, name.as_bytes(), types, text)?;
+    add_declared(task, name.as_slice(), types, text)?;
     let inner = Scope {
         objects: scope.objects,
         names: names.as_slice(),
+        coming: without_first(scope.coming),
     };
     add_formula(alloc, task, part, inner, text)?;
     text.extend_from_slice(b")")
 }
 
-/// The name of the next variable.
-fn next_name(alloc: Global, scope: Scope<'_>) -> Result<String, AllocError>
-    ensures { IfOk result (λ name. string_bytes name ≡ next_name (scope_of scope.entry)) }
+/// The name of the next variable, in lower case, as the task has all names.
+fn next_name(alloc: Global, scope: Scope<'_>) -> Result<Vec<u8>, AllocError>
+    ensures { IfOk result (λ name. name.items ≡ next_name (scope_of scope.entry)) }
 {
-    let number = scope.names.len() + 1;
+    match scope.coming.first() {
+        Some(name) => name.to_ascii_lowercase(alloc),
+        None => {
+            let name = numbered_name(alloc, scope.names.len() + 1)?;
+            Ok(name.into_bytes())
+        }
+    }
+}
+
+/// The name of a variable of this number, where no name is left.
+fn numbered_name(alloc: Global, number: usize) -> Result<String, AllocError>
+    ensures { IfOk result (λ name. string_bytes name ≡ codes "?" ++ decimal number) }
+{
     format!(in alloc; "?{number}")
 }
 

@@ -1,5 +1,5 @@
 //! What is said of a plan, as lines of text.
-ghost use Rattle.std.specs.Prelude.{◌≡◌, ◌++◌, ◌-◌, ◌==◌, codes, if◌then◌else◌, map, slice_get, None, IfOk, OnOk};
+ghost use Rattle.std.specs.Prelude.{◌≡◌, ◌++◌, ◌-◌, ◌==◌, [], codes, if◌then◌else◌, map, slice_get, None, IfOk, OnOk};
 ghost use Rattle.std.specs.Borrow.{Bor};
 ghost use Rattle.std.specs.Fmt.{decimal};
 ghost use Rattle.std.specs.Option.{option_map};
@@ -228,7 +228,13 @@ fn add_reason(
     ensures { OnOk result (text.new.items ≡ text.old.items ++ reason_line (task_of task.now) (plan_of plan.now) (part_of part.now) (history_of history)) }
 {
     let objects = part.objects.as_slice();
-    add_formula(alloc, task, part.formula, Scope::of(objects), text)?;
+    add_formula(
+        alloc,
+        task,
+        part.formula,
+        Scope::of(objects, part.names),
+        text,
+    )?;
     text.extend_from_slice(b" is false")?;
     add_why(alloc, task, plan, part.formula, objects, history, text)?;
     text.extend_from_slice(b".\n")?;
@@ -298,18 +304,18 @@ fn add_added(
     history: History,
     text: &mut Vec<u8>,
 ) -> Result<(), NoMemory>
-    ensures { OnOk result (text.new.items ≡ text.old.items ++ added_text (task_of task.now) (plan_of plan.now) (formula_text (task_of task.now) (scope_at (map object_of objects.now)) (formula_of atom.now)) (history_of history)) }
+    ensures { OnOk result (text.new.items ≡ text.old.items ++ added_text (task_of task.now) (plan_of plan.now) (formula_text (task_of task.now) (scope_at (map object_of objects.now) []) (formula_of atom.now)) (history_of history)) }
 {
     match history {
         History::Always => {
             text.extend_from_slice(b": ")?;
-            add_formula(alloc, task, atom, Scope::of(objects), text)?;
+            add_formula(alloc, task, atom, Scope::of(objects, &[]), text)?;
             text.extend_from_slice(b" was true from the start")?;
             Ok(())
         }
         History::ByStep(step) => {
             add_cause(alloc, task, plan, step, b" added ", text)?;
-            add_formula(alloc, task, atom, Scope::of(objects), text)?;
+            add_formula(alloc, task, atom, Scope::of(objects, &[]), text)?;
             Ok(())
         }
     }
@@ -421,7 +427,7 @@ fn add_increase(
     match increase {
         Increase::Function(function) => {
             let name = function_name(task, function.predicate);
-            add_atom(task, name, function, Scope::of(objects), text)?;
+            add_atom(task, name, function, Scope::of(objects, &[]), text)?;
             text.extend_from_slice(b" has no value.\n")?;
             Ok(())
         }

@@ -33,6 +33,8 @@ use Rattle.model.specs.Words.{AreParts, Part}
 use Rattle.explained_plans.specs.Explanations as plans
 use Rattle.explained_plans.specs.Explanations.{IsExplained}
 use Rattle.explained_plans.specs.StepPlaces.{IsStepPlace, span_of}
+use Rattle.explained_plans.specs.VariableNames.{VariableNames}
+use Rattle.file_answers.specs.QuantifiedNames.{IsNamedTask}
 use Rattle.explained_plans.specs.declared.explanations.PlanExplanation.{PlanExplanation}
 
 -- the files are among these texts
@@ -101,10 +103,11 @@ module _ (texts : NamedTexts) (domain problem : NamedText) (same_domain : texts.
       ∙ ap (λ (l : Option NamedText). files_of domain problem l) (sym is)))
 
   -- their task is that of these texts
-  pub task_given : (task : model.Task) → IsTaskOf domain.text.now problem.text.now task → IsTaskOf texts.domain.text.now texts.problem.text.now task
-  task_given task is =
-      subst (λ (p : NamedText). IsTaskOf texts.domain.text.now p.text.now task) (sym same_problem)
-      (subst (λ (d : NamedText). IsTaskOf d.text.now problem.text.now task) (sym same_domain) is)
+  pub task_given : (task : model.Task) (names : VariableNames) → IsNamedTask domain.text.now problem.text.now task names
+      → IsNamedTask texts.domain.text.now texts.problem.text.now task names
+  task_given task names is =
+      subst (λ (p : NamedText). IsNamedTask texts.domain.text.now p.text.now task names) (sym same_problem)
+      (subst (λ (d : NamedText). IsNamedTask d.text.now problem.text.now task names) (sym same_domain) is)
 
   -- and the plan's text is among them
   pub plan_given : (plan : Option NamedText) (named : NamedText) → plan ≡ Some named → IfSome plan (λ named. texts.plan ≡ named)
@@ -156,28 +159,28 @@ step_located file (runs.not_applicable step) None at is located = absurd is
 step_located file (runs.not_applicable step) (Some span) at is located = (span, is, located)
 step_located file runs.goal_missed found at is located = tt
 
-module _ (task : model.Task) (steps : List model.Instance) where
+module _ (task : model.Task) (names : VariableNames) (steps : List model.Instance) where
   -- what is told of what is explained is true where that is
   pub explained_told : (file : Named) (explained : PlanExplanation) → IsVerdict (system_of task) steps (plans.verdict_of explained)
-      → IsExplained task steps explained → (r : Result Explanation NoMemory) → IfOk r (IsPlanTold task steps file explained)
-      → IfOk r (IsVerdictExplained task steps file)
+      → IsExplained task names steps explained → (r : Result Explanation NoMemory) → IfOk r (IsPlanTold task steps file explained)
+      → IfOk r (IsVerdictExplained task names steps file)
   explained_told file explained is_true is_explained (Ok e) told = (explained, is_true, is_explained, told)
   explained_told file explained is_true is_explained (Err failed) told = tt
 
-  module _ (texts : NamedTexts) (is_task : IsTaskOf texts.domain.text.now texts.problem.text.now task) (is_plan : IsPlanText task texts.plan.text.now steps) where
-    plan_said : (explained : PlanExplanation) (e : Explanation) → IsExplained task steps explained → (told : IsPlanTold task steps (named_of texts.plan) explained e)
+  module _ (texts : NamedTexts) (is : IsNamedTask texts.domain.text.now texts.problem.text.now task names) (is_plan : IsPlanText task texts.plan.text.now steps) where
+    plan_said : (explained : PlanExplanation) (e : Explanation) → IsExplained task names steps explained → (told : IsPlanTold task steps (named_of texts.plan) explained e)
         → IsPlanSaid (files_in texts) texts.plan.text.now (verdict_of told.code) e.location (string_bytes e.text)
     plan_said explained e is_explained told = record {
       task = task;
       steps = steps;
-      are_read = record { is_task = is_task; is_plan = is_plan };
+      are_read = record { is_task = is.is_task; is_plan = is_plan };
       explained = explained;
-      is_explained = is_explained;
+      is_explained = subst (λ (those : VariableNames). IsExplained task those steps explained) is.are_names is_explained;
       same = sym told.same;
       says = told.says;
     }
 
-    verdict_said : (e : Explanation) → IsVerdictExplained task steps (named_of texts.plan) e → IsSaidOf (files_in texts) e
+    verdict_said : (e : Explanation) → IsVerdictExplained task names steps (named_of texts.plan) e → IsSaidOf (files_in texts) e
     verdict_said e (explained, is_true, is_explained, told) = record {
       located = subst (λ (s : Subject). IsSubjectLocated (files_in texts) s e.location) (sym told.subject)
           (subst (λ (v : runs.Verdict). IsStepLocated (named_of texts.plan) v e.location) (sym told.same) told.located);
@@ -185,12 +188,12 @@ module _ (task : model.Task) (steps : List model.Instance) where
           (plan_said explained e is_explained told);
     }
 
-    pub steps_said : (r : Result Explanation NoMemory) → IfOk r (IsVerdictExplained task steps (named_of texts.plan)) → IfOk r (IsSaidOf (files_in texts))
-    steps_said (Ok e) is = verdict_said e is
-    steps_said (Err failed) is = tt
+    pub steps_said : (r : Result Explanation NoMemory) → IfOk r (IsVerdictExplained task names steps (named_of texts.plan)) → IfOk r (IsSaidOf (files_in texts))
+    steps_said (Ok e) explained = verdict_said e explained
+    steps_said (Err failed) explained = tt
 
   module _ (domain problem : List ℕ) (is_task : IsTaskOf domain problem task) (most : ℕ) (text : List ℕ) (is_plan : IsPlanText task text steps) where
-    verdict_true : (file : Named) (e : Explanation) → IsVerdictExplained task steps file e → IsTrueOf domain problem (Some text) most e.subject
+    verdict_true : (file : Named) (e : Explanation) → IsVerdictExplained task names steps file e → IsTrueOf domain problem (Some text) most e.subject
     verdict_true file e (explained, is_true, is_explained, told) = subst (IsTrueOf domain problem (Some text) most) (sym told.subject)
         (record {
           task = task;
@@ -199,7 +202,7 @@ module _ (task : model.Task) (steps : List model.Instance) where
           is_true = subst (IsVerdict (system_of task) steps) (sym told.same) is_true;
         })
 
-    pub steps_explained : (file : Named) (r : Result Explanation NoMemory) → IfOk r (IsVerdictExplained task steps file)
+    pub steps_explained : (file : Named) (r : Result Explanation NoMemory) → IfOk r (IsVerdictExplained task names steps file)
         → IfOk r (λ e. IsTrueOf domain problem (Some text) most e.subject)
     steps_explained file (Ok e) is = verdict_true file e is
     steps_explained file (Err failed) is = tt

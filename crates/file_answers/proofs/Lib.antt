@@ -1,3 +1,4 @@
 pub mod CheckedLemmas
 mod ExplanationLemmas
 pub mod FilesRead
+mod QuantifiedLemmas

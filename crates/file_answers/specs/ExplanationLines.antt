@@ -26,6 +26,7 @@ use Rattle.file_answers.specs.declared.explanation.Subject.{Subject}
 use Rattle.file_answers.specs.declared.explanation.Subject.TheVariants.{Fault, Plan, Task}
 use Rattle.file_answers.specs.declared.explanation.Grounded.{Grounded}
 use Rattle.file_answers.specs.declared.explanation.Grounded.TheVariants.{Within, Beyond}
+use Rattle.file_answers.specs.QuantifiedNames.{variable_names}
 use Rattle.model.specs.Task as model
 use Rattle.model.specs.Files.{AreRead}
 use Rattle.model.specs.PlanText.{placed_from}
@@ -101,13 +102,14 @@ SayPlan at task steps (NotApplicable step lacks_cost reasons) lines =
     ++ (marks ++ utf8_lossy (step_reasons_text task steps step lacks_cost reasons)))))
 SayPlan at task steps (GoalMissed reasons) lines = lines ≡ verdict_line task steps goal_missed ++ utf8_lossy (reasons_text task steps reasons)
 
--- The lines are those of a plan of this text: of its steps, with what is true of them, and why.
+-- The lines are those of a plan of this text: of its steps, with what is true of them, and why. The variables of quantifiers have the
+-- names that they have in the files.
 pub record IsPlanSaid (files : Files) (text : List ℕ) (verdict : Verdict) (at : Option Location) (lines : List ℕ) : Type 0 where
   pub task : model.Task
   pub steps : List model.Instance
   pub are_read : AreRead files.domain.text files.problem.text text task steps
   pub explained : PlanExplanation
-  pub is_explained : IsExplained task steps explained
+  pub is_explained : IsExplained task (variable_names are_read.is_task.domain_tree are_read.is_task.problem_tree) steps explained
   pub same : explained_verdict explained ≡ verdict
   pub says : SayPlan at task steps explained lines
 

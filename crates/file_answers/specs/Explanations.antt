@@ -12,6 +12,7 @@ use Rattle.source_text.specs.declared.texts.NamedTexts.{NamedTexts}
 use Rattle.explained_faults.specs.Explained.{BeginsWith, heading}
 use Rattle.explained_plans.specs.Explanations as plans
 use Rattle.explained_plans.specs.Explanations.{IsExplained}
+use Rattle.explained_plans.specs.VariableNames.{VariableNames}
 use Rattle.explained_plans.specs.declared.explanations.PlanExplanation.{PlanExplanation}
 use Rattle.explained_plans.specs.Said.{IsSummaryOf, summary_text}
 use Rattle.explained_plans.specs.declared.summary.Summary.{Summary}
@@ -95,9 +96,9 @@ pub record IsPlanTold (task : model.Task) (steps : List model.Instance) (file : 
   pub says : SayPlan e.location task steps explained (string_bytes e.text)
 
 -- and it is true
-abbrev pub IsVerdictExplained : model.Task → List model.Instance → (file : Named) → Explanation → Type 0
-IsVerdictExplained task steps file e =
-    (explained : PlanExplanation) × IsVerdict (system_of task) steps (plans.verdict_of explained) × IsExplained task steps explained
+abbrev pub IsVerdictExplained : model.Task → VariableNames → List model.Instance → (file : Named) → Explanation → Type 0
+IsVerdictExplained task names steps file e =
+    (explained : PlanExplanation) × IsVerdict (system_of task) steps (plans.verdict_of explained) × IsExplained task names steps explained
     × IsPlanTold task steps file explained e
 
 -- a step that is not applicable is one of the text's

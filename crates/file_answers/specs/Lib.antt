@@ -3,3 +3,4 @@ pub mod ExplanationLines
 pub mod Explanations
 pub mod Files
 pub mod Inputs
+pub mod QuantifiedNames

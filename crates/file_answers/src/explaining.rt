@@ -8,7 +8,7 @@ mod of_plan;
 mod of_task;
 
 use crate::explanation::Explanation;
-use crate::files::task_of_files;
+use crate::files::named_task_of_files;
 use faults::NoMemory;
 use of_fault::explain_refused;
 use of_plan::explain_plan_file;
@@ -44,13 +44,13 @@ pub fn explain_files(
     ensures said { IfOk result (IsSaidOf (files_of domain.entry problem.entry plan.entry)) }
 {
     let texts = texts_of(domain, problem, plan);
-    let task = match task_of_files(alloc, domain.text, problem.text) {
-        Ok(task) => task,
+    let named = match named_task_of_files(alloc, domain.text, problem.text) {
+        Ok(named) => named,
         Err(fault) => return explain_refused(alloc, &texts, fault),
     };
     match plan {
-        Some(_) => explain_plan_file(alloc, &task, &texts),
-        None => explain_task(alloc, &task, max_instances),
+        Some(_) => explain_plan_file(alloc, &named, &texts),
+        None => explain_task(alloc, &named.task, max_instances),
     }
 }
 

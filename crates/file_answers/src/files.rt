@@ -6,6 +6,8 @@ ghost use Rattle.syntax_tree.specs.Tree.{domain_of, problem_of};
 ghost use Rattle.task.specs.Task.{task_of};
 ghost use Rattle.formulas.specs.State.{plan_of};
 ghost use Rattle.file_answers.specs.Files.{reported_in};
+ghost use Rattle.explained_plans.specs.NamesView.{names_of};
+ghost use Rattle.file_answers.specs.QuantifiedNames.{IsNamedTask};
 ghost use Rattle.model.specs.Task as model;
 ghost use Rattle.model.specs.Files as reported;
 ghost use Rattle.model.specs.Trees.{domain_file, problem_file};
@@ -13,6 +15,8 @@ ghost use Rattle.model.specs.Files.{IsDomainText, IsProblemText, IsTextFault, Is
 ghost use Rattle.model.specs.Meaning.{is_instance};
 ghost use Rattle.model.specs.PlanText.{IsPlanText};
 
+use crate::quantifiers::variable_names;
+use explained_plans::VariableNames;
 use faults::{Code, Fault, NoMemory, Refused, Span, TextRefusal};
 use formulas::Plan;
 use plan_file::read_plan;
@@ -98,6 +102,51 @@ pub fn task_of_files(alloc: Global, domain: &[u8], problem: &[u8]) -> Result<Tas
     ensures task { IfOk result (λ task. IsTaskOf domain.now problem.now (task_of task)) }
     ensures refused { IfErr result (λ fault. IfSome (reported_in fault) (IsTaskFault domain.now problem.now)) }
 {
+    let Trees { domain, problem } = trees_of_files(alloc, domain, problem)?;
+    Ok(Task::new(alloc, domain, problem)?)
+}
+
+/// A task, and the names of the variables of its quantifiers, which it has not itself.
+#[derive(Drop)]
+pub(crate) struct NamedTask<'a> {
+    /// The task.
+    pub task: Task,
+    /// The names.
+    pub names: VariableNames<'a>,
+}
+
+/// The task of two files as above, with the names of the variables of its quantifiers.
+pub(crate) fn named_task_of_files<'a>(
+    alloc: Global,
+    domain: &'a [u8],
+    problem: &'a [u8],
+) -> Result<NamedTask<'a>, FileFault>
+    ensures task { IfOk result (λ named. IsNamedTask domain.now problem.now (task_of named.task) (names_of named.names)) }
+    ensures refused { IfErr result (λ fault. IfSome (reported_in fault) (IsTaskFault domain.now problem.now)) }
+{
+    let Trees { domain, problem } = trees_of_files(alloc, domain, problem)?;
+    let names = variable_names(alloc, &domain, &problem)?;
+    let task = Task::new(alloc, domain, problem)?;
+    Ok(NamedTask { task, names })
+}
+
+/// The trees of a domain file and a problem file.
+#[derive(Drop)]
+struct Trees<'a> {
+    domain: pddl_tree::Domain<'a>,
+    problem: pddl_tree::Problem<'a>,
+}
+
+/// The trees of two files: the domain is scanned and read, then the problem.
+fn trees_of_files<'a>(
+    alloc: Global,
+    domain: &'a [u8],
+    problem: &'a [u8],
+) -> Result<Trees<'a>, FileFault>
+    ensures domain { IfOk result (λ trees. IsDomainText domain.now (domain_of trees.domain)) }
+    ensures problem { IfOk result (λ trees. IsProblemText problem.now (problem_of trees.problem)) }
+    ensures refused { IfErr result (λ fault. IfSome (reported_in fault) (IsTaskFault domain.now problem.now)) }
+{
     let domain = match read_domain(alloc, domain) {
         Ok(domain) => domain,
         Err(fault) => return Err(FileFault::of(File::Domain, fault)),
@@ -106,7 +155,7 @@ pub fn task_of_files(alloc: Global, domain: &[u8], problem: &[u8]) -> Result<Tas
         Ok(problem) => problem,
         Err(fault) => return Err(FileFault::of(File::Problem, fault)),
     };
-    Ok(Task::new(alloc, domain, problem)?)
+    Ok(Trees { domain, problem })
 }
 
 /// The plan of a plan file, for this task.

@@ -7,6 +7,7 @@ mod explaining;
 mod explanation;
 mod files;
 mod laws;
+mod quantifiers;
 mod solving;
 mod validating;
 

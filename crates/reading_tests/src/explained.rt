@@ -1,7 +1,8 @@
 //! What is said of a plan in memory, of where its steps are, of a task, and of a fault.
 use explained_faults::{File, FileRefusal, NamedText, NamedTexts, explain_fault};
 use explained_plans::{
-    Summary, explain_plan, false_parts_report, report_details, report_verdict, step_place,
+    Summary, VariableNames, explain_plan, false_parts_report, report_details, report_verdict,
+    step_place,
 };
 use faults::{Code, NoMemory, Span};
 use plan_file::read_plan;
@@ -17,7 +18,7 @@ const ROAD: Texts = [
  (:functions (total-cost) (distance ?x ?y))
  (:action hop :parameters (?x ?y) :precondition (and (at ?x) (not (closed ?y)))
   :effect (and (not (at ?x)) (at ?y) (seen ?y) (increase (total-cost) (distance ?x ?y))))
- (:action close :parameters (?x) :precondition (and) :effect (closed ?x)))",
+ (:action close :parameters (?x) :precondition (exists (?y) (seen ?y)) :effect (closed ?x)))",
     "(define (problem r) (:domain road) (:objects a b c)
  (:init (at a) (closed c) (= (total-cost) 0) (= (distance a b) 4) (= (distance b a) 2))
  (:goal (and (at b) (forall (?x) (or (seen ?x) (= ?x a) (closed ?x)))))
@@ -26,17 +27,22 @@ const ROAD: Texts = [
 
 /// Plans, and what is said of them.
 #[rattlefmt::skip]
-static REPORTED: [(&str, &str); 2] = [
+static REPORTED: [(&str, &str); 3] = [
     ("(hop a b)(hop b a)(hop a b)",
         "valid, cost 10\n1  (hop a b)  cost 4, 4 so far\n2  (hop b a)  cost 2, 6 so far\n3  (hop a b)  cost 4, 10 so far\n"),
     ("(hop b c)", "step 1, (hop b c), is not applicable\n(at b) is false: it was never true.\n\
 (not (closed c)) is false: (closed c) was true from the start.\n(distance b c) has no value.\n"),
+    ("(close a)", "step 1, (close a), is not applicable\n(exists (?1 - object) (seen ?1)) is false.\n"),
 ];
 
-/// What is said of the plan of this text: what is true of it, and then why.
+/// What is said of the plan of this text: what is true of it, and then why. Variables of quantifiers have no names.
 fn reported(alloc: Global, task: &Task, text: &str) -> Result<String, Fail> {
     let plan = read_plan(alloc, task, text.as_bytes())?;
-    let explanation = explain_plan(alloc, task, &plan)?;
+    let names = VariableNames {
+        actions: Vec::new(alloc),
+        goal: Vec::new(alloc),
+    };
+    let explanation = explain_plan(alloc, task, &names, &plan)?;
     let mut reported = report_verdict(alloc, task, &plan, &explanation)?;
     let details = report_details(alloc, task, &plan, &explanation)?;
     reported.push_str(details.as_str())?;

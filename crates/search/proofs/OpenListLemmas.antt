@@ -30,6 +30,9 @@ not_below x w sums estimates places = grind (arith, nat_tests)
 le_word : (x y : Reverse ℕ) → is_lt (by_word x y) ≡ false → x.0 ≤ y.0
 le_word x y above = grind (arith, nat_tests)
 
+le_sum : (x w : Waiting) → is_lt (by_sum x w) ≡ false → sum_of x ≤ sum_of w
+le_sum x w above = grind (arith, nat_tests)
+
 -- the words' order is that of their entries
 near_order : (x y : Reverse ℕ) → is_lt (by_word x y) ≡ false → is_lt (by_sum (entry_of x) (entry_of y)) ≡ false
 near_order x y above =
@@ -43,6 +46,10 @@ far_order x w near far = not_below x w (omega (arith, near, far)) (λ same. absu
 -- no entry of the list comes before this one
 abbrev pub IsFirst : Waiting → List Waiting → Type 0
 IsFirst x open_list = All (λ w. is_lt (by_sum x w) ≡ false) open_list
+
+-- what comes first has the least sum
+pub least_first : (x : Waiting) (open_list : List Waiting) → IsFirst x open_list → All (λ w. sum_of x ≤ sum_of w) open_list
+least_first x open_list first = All-weaker (λ w. is_lt (by_sum x w) ≡ false) (λ w. sum_of x ≤ sum_of w) (le_sum x) open_list first
 
 module _ (near : List (Reverse ℕ)) (far : List Waiting) where
   pub joins_near : (near' : List (Reverse ℕ)) (word : Reverse ℕ) (w : Waiting) → entry_of word ≡ w → IsPermutation (word ∷ near) near'

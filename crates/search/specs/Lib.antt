@@ -5,3 +5,4 @@ pub mod Outcome
 pub mod Nodes
 pub mod OpenList
 pub mod Progress
+pub mod UnderWay

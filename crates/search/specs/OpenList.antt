@@ -1,5 +1,5 @@
 -- The open list of a search: what its two heaps hold, and what they keep.
-use Rattle.std.specs.Prelude.{◌≡◌, ℕ, ◌/◌, ◌%◌, ◌≤◌, ◌<◌, List, ◌∷◌, ◌++◌, map, Option, None, Some, All, IsPermutation}
+use Rattle.std.specs.Prelude.{◌≡◌, ℕ, ◌/◌, ◌%◌, ◌≤◌, ◌<◌, List, [], ◌∷◌, ◌++◌, map, Option, None, Some, Contains, All, IsPermutation}
 use Rattle.std.specs.declared.cmp.Ordering.{Ordering}
 use Rattle.std.specs.declared.cmp.Reverse.{Reverse}
 use Rattle.std.specs.Ordering.{nat_cmp, ordering_then}
@@ -39,3 +39,9 @@ pub record Joins (old new : OpenList) (w : Waiting) : Type 0 where
 abbrev pub JoinsBy : OpenList → OpenList → ℕ → ℕ → Option ℕ → Type 0
 JoinsBy old new cost place None = new ≡ old
 JoinsBy old new cost place (Some estimate) = Joins old new (entry cost estimate place)
+
+-- some entry has this sum, and none has a lesser one; or there is no entry
+abbrev pub IsLeastSum : OpenList → Option ℕ → Type 0
+IsLeastSum open_list None = waiting_in open_list ≡ []
+IsLeastSum open_list (Some sum) =
+    ((w : Waiting) × Contains (waiting_in open_list) w × (sum_of w ≡ sum)) × (IsOpenList open_list → All (λ w. sum ≤ sum_of w) (waiting_in open_list))

@@ -5,8 +5,8 @@ ghost use Rattle.search.specs.Outcome.{IsTrueOutcome};
 
 use crate::guide::Guide;
 use crate::nodes::FoundStates;
-use crate::progress::{Buffers, Progress};
 use crate::transitions::TransitionSystem;
+use crate::under_way::{begin, finish};
 use faults::NoMemory;
 use packed_state::StateStore;
 use std::alloc::Global;
@@ -47,6 +47,8 @@ pub enum Outcome<S> {
 /// estimate 0 (`NoEstimate`) that is uniform-cost search, or Dijkstra's algorithm.
 ///
 /// A state that the guide reports dead is listed as a dead end, and never expanded; with `NoDeadEnd` there is none.
+///
+/// `begin`, `go_on` and `finish` are the same search in parts, which may pause.
 ///
 /// What differs from these: the states are in a store, in the order in which they were found, and are named by
 /// their places there; actions are the system's numbers. Where a cheaper way to a waiting state is found, the old entry
@@ -93,28 +95,6 @@ pub fn best_first<T: TransitionSystem, G: Guide, S: StateStore>(
     requires limit { max_states ≤ max_states_listed }
     ensures { IfOk result (IsTrueOutcome (T.means system.now) (G.estimate_of guide.now) (G.is_dead guide.now) S.states max_states) }
 {
-    let room = guide.room(alloc)?;
-    let mut buffers = Buffers::new(alloc, system.width(), room)?;
-    let mut progress = Progress::start(alloc, system, guide, &mut buffers.room, store)?;
-    while let Some(turn) = progress.next_waiting() {
-        progress.store.get(turn.id.0, &mut buffers.state);
-        if system.meets_goal(&buffers.state) {
-            let cost = progress.nodes[turn.id.0 as usize].cost;
-            let (steps, states) = progress.into_plan(alloc, turn.id)?;
-            return Ok(Outcome::Found {
-                steps,
-                cost,
-                states,
-            });
-        }
-        if !progress.expand(system, guide, &mut buffers, turn, max_states)? {
-            return Ok(Outcome::States {
-                bound: turn.sum,
-                states: progress.into_states(),
-            });
-        }
-    }
-    Ok(Outcome::Exhausted {
-        states: progress.into_states(),
-    })
+    let search = begin(alloc, system, guide, store)?;
+    finish(alloc, system, guide, search, max_states)
 }

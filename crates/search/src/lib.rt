@@ -10,6 +10,7 @@ mod open_list;
 mod progress;
 mod transitions;
 mod turns;
+mod under_way;
 
 pub use best::{MAX_STATES, Outcome, best_first};
 pub use dead_ends::{DeadEnd, NoDeadEnd};
@@ -17,3 +18,4 @@ pub use estimates::{Estimate, NoEstimate, value_of};
 pub use guide::{EstimateWithDeadEnds, Guide};
 pub use nodes::{FoundStates, Node, NodeStatus, StateId};
 pub use transitions::TransitionSystem;
+pub use under_way::{Halt, Search, begin, finish, go_on};

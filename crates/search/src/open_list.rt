@@ -5,7 +5,7 @@
 ghost use Rattle.std.specs.Prelude.{◌≡◌, ◌+◌, ◌*◌, ◌≤◌, ◌<◌, [], ◌∷◌, length, All, IsPermutation, IfNone, IfSome, OnOk, false};
 ghost use Rattle.std.specs.Ordering.{is_lt};
 ghost use Rattle.search.specs.Nodes.{sum_of, estimate_of, place_of, entry_at};
-ghost use Rattle.search.specs.OpenList.{by_sum, entry_of, waiting_in, IsOpenList, Joins};
+ghost use Rattle.search.specs.OpenList.{by_sum, entry_of, waiting_in, IsLeastSum, IsOpenList, Joins};
 
 use crate::best::MAX_STATES;
 use crate::nodes::StateId;
@@ -70,6 +70,19 @@ impl OpenList {
         match self.near.pop() {
             Some(Reverse(word)) => Some(entry_in(word)),
             None => self.far.pop(),
+        }
+    }
+
+    /// The sum of the entry that comes next.
+    pub(crate) fn least_sum(&self) -> Option<u64>
+        ensures { IsLeastSum self.now result }
+    {
+        match self.near.peek() {
+            Some(Reverse(word)) => Some(entry_in(*word).0.0),
+            None => match self.far.peek() {
+                Some(Reverse((sum, _, _))) => Some(*sum),
+                None => None,
+            },
         }
     }
 }

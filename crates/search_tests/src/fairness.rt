@@ -6,7 +6,7 @@ ghost use Rattle.grounding.specs.Ground.{atoms_in};
 ghost use Rattle.potentials_improved.specs.Potentials.{potentials_of};
 
 use faults::NoMemory;
-use grounding::Ground;
+use grounding::{Ground, GroundFault};
 use packed_state::Packed;
 use potentials_improved::{
     Allowance, Costs, DeadEnds, DeadFair, Fair, Fairness, Groundwork, Improve, Potentials,
@@ -15,6 +15,7 @@ use search::DeadEnd;
 use std::alloc::Global;
 use std::process::Abort;
 use std::test::Fail;
+use task::Task;
 use test_texts::{HOP, on_task};
 
 /// Potentials of this constant and these weights, where there is one for each atom.
@@ -166,14 +167,34 @@ fn dead_of_two(alloc: Global, ground: &Ground<'_>) -> Result<[Option<(bool, bool
     ])
 }
 
+/// The same of the task.
+fn dead_in(alloc: Global, task: &Task) -> Result<[Option<(bool, bool)>; 2], GroundFault> {
+    let ground = Ground::new(alloc, task, &[], 10)?;
+    Ok(dead_of_two(alloc, &ground)?)
+}
+
+/// What is reported of dead ends of the task.
+fn reported_dead_in(alloc: Global, task: &Task) -> Result<[Option<Fairness>; 3], GroundFault> {
+    let ground = Ground::new(alloc, task, &[], 10)?;
+    Ok(reported_dead_of_three(alloc, &ground)?)
+}
+
+/// What is reported of costs of the task.
+fn reported_in(alloc: Global, task: &Task) -> Result<[Option<Fairness>; 3], GroundFault> {
+    let ground = Ground::new(alloc, task, &[], 10)?;
+    Ok(reported_of_three(alloc, &ground)?)
+}
+
+/// What is estimated of the task.
+fn estimated_in(alloc: Global, task: &Task) -> Result<[Option<u64>; 3], GroundFault> {
+    let ground = Ground::new(alloc, task, &[], 10)?;
+    Ok(estimated_and_improved(alloc, &ground)?)
+}
+
 #[test]
 fn who_is_nowhere_is_dead(rt: HostRuntime) -> Result<(), Fail> {
     on_task(&rt, rt.alloc(), &HOP, |rt, alloc, task| {
-        let ground = Ground::new(alloc, task, &[], 10)?;
-        let reported = (
-            reported_dead_of_three(alloc, &ground)?,
-            dead_of_two(alloc, &ground)?,
-        );
+        let reported = (reported_dead_in(alloc, task)?, dead_in(alloc, task)?);
         let fairness = [
             Some(Fairness::Fair),
             Some(Fairness::Instance(0)),
@@ -187,13 +208,12 @@ fn who_is_nowhere_is_dead(rt: HostRuntime) -> Result<(), Fail> {
 #[test]
 fn hops_are_fair(rt: HostRuntime) -> Result<(), Fail> {
     on_task(&rt, rt.alloc(), &HOP, |rt, alloc, task| {
-        let ground = Ground::new(alloc, task, &[], 10)?;
         let wanted = [
             Some(Fairness::Fair),
             Some(Fairness::Instance(1)),
             Some(Fairness::Goal),
         ];
-        assert_eq!(rt; reported_of_three(alloc, &ground)?, wanted);
+        assert_eq!(rt; reported_in(alloc, task)?, wanted);
         Ok(())
     })
 }
@@ -201,9 +221,8 @@ fn hops_are_fair(rt: HostRuntime) -> Result<(), Fail> {
 #[test]
 fn hops_are_estimated(rt: HostRuntime) -> Result<(), Fail> {
     on_task(&rt, rt.alloc(), &HOP, |rt, alloc, task| {
-        let ground = Ground::new(alloc, task, &[], 10)?;
         let wanted = [Some(6), None, Some(6)];
-        assert_eq!(rt; estimated_and_improved(alloc, &ground)?, wanted);
+        assert_eq!(rt; estimated_in(alloc, task)?, wanted);
         Ok(())
     })
 }

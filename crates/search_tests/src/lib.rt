@@ -13,6 +13,8 @@ mod laws;
 #[cfg(test)]
 mod packed_states;
 #[cfg(test)]
+mod pauses;
+#[cfg(test)]
 mod plain_certificates;
 #[cfg(test)]
 mod plain_tasks;

@@ -159,7 +159,7 @@ fn are_found<S: StateStore>(
 }
 
 /// Whether this is what the row says.
-fn is_reported<S: StateStore>(
+pub(crate) fn is_reported<S: StateStore>(
     alloc: Global,
     outcome: &Outcome<S>,
     row: &Row,

@@ -12,6 +12,13 @@ use Rattle.formulas.specs.declared.instance.Instance as code
 use Rattle.formulas.specs.State.{instance_of}
 use Rattle.packed_state.specs.PooledView.{pooled_states}
 use Rattle.packed_state.specs.declared.pooled.PooledStore.{PooledStore}
+use Rattle.certificate.specs.declared.states.Listed.{Listed}
+use Rattle.grounding.specs.declared.ground.Ground.{Ground}
+use Rattle.grounding.specs.Ground.{task_in, atoms_in}
+use Rattle.search.specs.Estimates.{IsConsistent}
+use Rattle.search.specs.DeadEnds.{DetectsDeadEnds}
+use Rattle.search.proofs.Consistent.{lower_bound as lower_bound_of}
+use Rattle.search.proofs.DeadEnds.{are_dead_ends}
 use Rattle.search.specs.declared.nodes.Node.{Node}
 use Rattle.search.specs.Outcome as search
 use Rattle.search.specs.declared.best.Outcome.{Outcome}
@@ -22,7 +29,8 @@ use Rattle.solver.specs.Limit.{is_limit}
 use Rattle.solver.proofs.ByCost.{more_by_cost}
 use Rattle.solver.proofs.GroundLemmas.{length-reachable, more_reachable, numbers_named, one_named}
 use Rattle.solver.specs.Guidance.{Guidance, estimate_by, reports_dead, CanBeWritten}
-use Rattle.solver.specs.Guided.{found_in}
+use Rattle.solver.specs.Guided.{found_in, AreMarksOf, CanBeMarked, IsSearched}
+use Rattle.solver.specs.declared.limits.Limits.{Limits}
 use Rattle.solver.proofs.GuidanceLemmas.{most_value, estimate-most}
 use Rattle.solver.proofs.FoundLines.{found_line, node_at}
 use Rattle.solver.proofs.LimitLemmas.{limit_claim}
@@ -72,6 +80,29 @@ found_widths task atoms states nodes found k d below =
     let (node, there) = node_at nodes k (omega (arith, below, found.one_for_each)) in
     let reached = found.reachable k (get_or states k d) node (slice_get-get_or states k d below) there in
     length-reachable task atoms (get_or states k d) (reached.0, reached.1)
+
+-- so each has its mark
+module _ (g : Ground) (estimate : List Bool → ℕ) (is_dead : List Bool → Bool) (limits : Limits) (outcome : Outcome PooledStore)
+    (is : IsTrueOutcome (ground_system (task_in g) (atoms_in g)) estimate is_dead pooled_states limits.states outcome) where
+  pub can_be_marked : CanBeMarked (length (atoms_in g)) is_dead (found_in outcome)
+  can_be_marked =
+      let (claim, found) = found_of (ground_system (task_in g) (atoms_in g)) estimate is_dead limits.states outcome is in
+      let most = most_of_limit limits.states limits.states_within in
+      record {
+        one_for_each = found.one_for_each;
+        few = omega (arith, found.within_limit, most);
+        width = found_widths (task_in g) (atoms_in g) (pooled_states (found_in outcome).store) (found_in outcome).nodes.items found;
+        marked = found.marked;
+      }
+
+  pub searched : (guide_system : System (List Bool) ℕ) → guide_system ≡ ground_system (task_in g) (atoms_in g) → IsConsistent guide_system estimate → DetectsDeadEnds guide_system is_dead
+      → (marks : List Listed) → AreMarksOf estimate is_dead (found_in outcome) marks → IsSearched g estimate is_dead limits.states outcome marks
+  searched guide_system same consistent detects marks marked = record {
+    outcome_is = is;
+    marked = marked;
+    lower_bound = subst (λ (t : System (List Bool) ℕ). IsLowerBound t estimate) same (lower_bound_of guide_system estimate consistent);
+    dead_ends = subst (λ (t : System (List Bool) ℕ). AreDeadEnds t is_dead) same (are_dead_ends guide_system is_dead detects);
+  }
 
 pub found_among_more : {S A : Type 0} {t : System S A} {value : S → ℕ} {is_dead : S → Bool} {claim : Claim} {count most : ℕ} {states : List S} {nodes : List Node} → AreFound t value is_dead claim count states nodes
     → count ≤ most → AreFound t value is_dead claim most states nodes

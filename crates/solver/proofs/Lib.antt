@@ -7,6 +7,5 @@ pub mod FoundLines
 pub mod ListingLemmas
 pub mod LimitLemmas
 pub mod AnswerLemmas
-pub mod MoreStates
 pub mod ByCost
 pub mod LoopLemmas

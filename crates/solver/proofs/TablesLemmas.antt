@@ -6,7 +6,7 @@ use Rattle.std.proofs.lemmas.Bool.{and_parts, eqb-true, leb-true}
 use Rattle.std.proofs.lemmas.List.Elements.{All-cons, All-nil}
 use Rattle.certificate.specs.CertificateParts.{are_bounds, bounds_of}
 use Rattle.certificate.specs.declared.header.Bounds.{Bounds}
-use Rattle.certificate_definitions.specs.Certificates.{three, are_potentials, are_tables, are_weights, has_tables, is_row, is_table, is_value_count, is_weight, rise}
+use Rattle.certificate_definitions.specs.Certificates.{three, are_potentials, are_tables, are_weights, has_tables, is_dead_end_weight, is_row, is_table, is_value_count, is_weight, rise}
 use Rattle.potential_functions.specs.PotentialFunctions.{IsInRange}
 use Rattle.potentials.specs.Potentials.{potentials_of}
 use Rattle.potentials.specs.declared.potentials.Potentials.{Potentials}
@@ -17,7 +17,7 @@ use Rattle.table_rows.proofs.TableLemmas.{rows-distinct}
 use Rattle.table_rows.specs.declared.table.Table.{Table}
 use Rattle.table_rows.specs.Tables.{table_of, weight_count_of}
 use Rattle.solver.specs.Guidance.{by_tables, CanBeWritten}
-use Rattle.solver.proofs.GuidanceLemmas.{one_weight_each, weights-in-range}
+use Rattle.solver.proofs.GuidanceLemmas.{limits_of, one_weight_each, weights-in-range}
 
 -- no table in memory has a row twice
 rows_apart : (tables : List Table) → All (λ (t : model.Table). AllPairs (λ (q r : Row). q.atoms ≢ r.atoms) t.rows) (map table_of tables)
@@ -27,6 +27,10 @@ rows_apart (t ∷ tables) = All-cons (λ (u : model.Table). AllPairs (λ (q r : 
 -- so what bounds the costs of plans within the limits can be written
 pub tables-written : (count : ℕ) (bounds : Bounds) → are_bounds three count (bounds_of bounds) ≡ true → CanBeWritten count (by_tables (bounds_of bounds))
 tables-written count bounds are = record { within_limits = are; rows_are_distinct = rows_apart bounds.tables.items }
+
+-- the value of dead ends has a weight for each atom
+pub dead_ends_weighed : (count : ℕ) (s : model.SeveralValues) → are_bounds three count s ≡ true → length s.dead_ends.weights ≡ count
+dead_ends_weighed count s are = one_weight_each (is_dead_end_weight three) count s.dead_ends (limits_of three count s are).dead_ends
 
 pub few_values : (count : ℕ) → is_value_count three count ≡ true → count ≤ 32
 few_values count is = leb-true count 32 (and_parts (nat_le 1 count) (nat_le count 32) is).1

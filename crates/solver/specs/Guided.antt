@@ -1,16 +1,17 @@
 -- What a search may go by, if its certificate is to have it, and what it came to.
-use Rattle.std.specs.Prelude.{◌≡◌, ℕ, ◌≤◌, Bool, List, length, map}
+use Rattle.std.specs.Prelude.{◌≡◌, ℕ, ◌≤◌, Bool, List, All, length, map}
 use Rattle.packed_state.specs.PooledView.{pooled_states}
 use Rattle.packed_state.specs.declared.pooled.PooledStore.{PooledStore}
 use Rattle.grounding.specs.declared.ground.Ground.{Ground}
 use Rattle.grounding.specs.Ground.{task_in, atoms_in}
 use Rattle.certificate.specs.CertificateParts.{listed_of}
 use Rattle.certificate.specs.declared.states.Listed.{Listed}
+use Rattle.certificate_reader.specs.declared.line.TheConstants.{MAX_STATE_LINES}
 use Rattle.model.specs.Grounding.{ground_system}
 use Rattle.model.specs.Claims.{IsLowerBound, AreDeadEnds}
 use Rattle.potential_functions.specs.Settled.{initial_value}
 use Rattle.search.specs.Outcome as search
-use Rattle.search.specs.Outcome.{IsTrueOutcome}
+use Rattle.search.specs.Outcome.{AreMarked, IsTrueOutcome}
 use Rattle.search.specs.declared.best.Outcome.{Outcome}
 use Rattle.search.specs.declared.best.Outcome.TheVariants.{Found, Exhausted, States}
 use Rattle.search.specs.declared.nodes.FoundStates.{FoundStates}
@@ -36,6 +37,13 @@ found_in (States least found) = found
 -- these marks say of each found state, in order, what its line does
 abbrev pub AreMarksOf : (List Bool → ℕ) → (List Bool → Bool) → FoundStates PooledStore → List Listed → Type 0
 AreMarksOf estimate is_dead found marks = map listed_of marks ≡ map mark_of_line (search.lines_of estimate is_dead (pooled_states found.store) found.nodes.items)
+
+-- what is known of the found states where their marks are made
+pub record CanBeMarked (atom_count : ℕ) (is_dead : List Bool → Bool) (found : FoundStates PooledStore) : Type 0 where
+  pub one_for_each : length found.nodes.items ≡ length (pooled_states found.store)
+  pub few : length (pooled_states found.store) ≤ MAX_STATE_LINES
+  pub width : All (λ (bits : List Bool). length bits ≡ atom_count) (pooled_states found.store)
+  pub marked : AreMarked is_dead (pooled_states found.store) found.nodes.items
 
 -- A search of the ground task by an estimate and a test for dead ends came to this outcome, with these marks.
 pub record IsSearched (g : Ground) (estimate : List Bool → ℕ) (is_dead : List Bool → Bool) (max_states : ℕ) (outcome : Outcome PooledStore) (marks : List Listed) : Type 0 where

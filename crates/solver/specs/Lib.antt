@@ -9,3 +9,5 @@ pub mod AtLimit
 pub mod Attempts
 pub mod Reachable
 pub mod Solver
+pub mod Stopped
+pub mod Stretches

@@ -1,5 +1,5 @@
 -- What the answers to a task say.
-use Rattle.std.specs.Prelude.{◌≡◌, ℕ, Bool, true, false, IsTrue, [], None, Some}
+use Rattle.std.specs.Prelude.{◌≡◌, ℕ, IsTrue, [], None, Some}
 use Rattle.std.specs.List.{list_all}
 use Rattle.formulas.specs.State.{plan_of}
 use Rattle.certificate.specs.Certificate.{certificate_of}
@@ -16,14 +16,6 @@ use Rattle.model.specs.Claims.{bound, none}
 use Rattle.model.specs.Meaning.{system_of, is_instance}
 use Rattle.model.specs.Limits.{max_numbered_atoms}
 use Rattle.model.specs.Grounding.{of_instances, of_atoms, exceeded_limit}
-
--- the limit of the listed states is exceeded
-abbrev pub is_stopped : Answer → Bool
-is_stopped (Plan steps cost cert) = false
-is_stopped (Unsolvable cert) = false
-is_stopped (Unknown Instances) = false
-is_stopped (Unknown Atoms) = false
-is_stopped (Unknown (States least cert)) = true
 
 -- The answer is true: the steps are instances of the task, solve it at this cost, and no list of whatever length that
 -- solves costs less; or no list solves; and the certificate shows it, by at most `states` states, with potentials that are

@@ -3,23 +3,20 @@ ghost use Rattle.std.specs.Prelude.{◌≡◌, [], IfOk, IsTrue};
 ghost use Rattle.task.specs.Task.{task_of};
 ghost use Rattle.grounding.specs.Ground.{task_in, atoms_in, IsGroundOf};
 ghost use Rattle.potentials_improved.specs.FairPotentials.{potentials_in, ground_in};
-ghost use Rattle.solver.specs.Attempts.{IfDone};
 ghost use Rattle.solver.specs.Guidance.{estimate_by, reports_dead};
 ghost use Rattle.solver.specs.Guided.{IsGuidanceFor, IsSearched};
 ghost use Rattle.solver.specs.Improved.{AreSettledOrHigh, AreDeadSettledOrHigh};
-ghost use Rattle.solver.specs.Solver.{IsTrueAnswer, is_stopped};
+ghost use Rattle.solver.specs.Solver.{IsTrueAnswer};
 ghost use Rattle.solver.specs.Written.{guidance_of};
 ghost use Rattle.model.specs.WellTyped.{is_task};
 
-use crate::attempt::Attempt;
-use crate::by_tables::solve_by_tables;
 use crate::guidance::{Guidance, potential_of};
 use crate::improved::improved;
 use crate::limits::Limits;
 use crate::listing::cert_of;
-use crate::searched::{Searched, search_by};
+use crate::parts::{Given, Parts, search_in_parts};
+use crate::searched::Searched;
 use crate::steps::plan_of;
-use crate::stopped::Stopped;
 use certificate::{Cert, Claim};
 use faults::{NoMemory, Refused};
 use formulas::Plan;
@@ -27,27 +24,7 @@ use grounding::{Ground, GroundLimit};
 use potentials_improved::{DeadFair, Fair, Groundwork};
 use search::{EstimateWithDeadEnds, Outcome};
 use std::alloc::Global;
-use tables_drafted::Effort;
 use task::Task;
-
-/// A search by potentials alone, which is stopped at so many states, and how much is looked at for tables then.
-#[derive(Clone, Copy)]
-struct Trial {
-    states: u32,
-    effort: Effort,
-}
-
-/// What is tried first. So a task that is solved by fewer states is solved without tables.
-const QUICK: Trial = Trial {
-    states: 100_000,
-    effort: Effort::Quick,
-};
-
-/// What is tried where tables that were found quickly are of some use, but not of enough.
-const THOROUGH: Trial = Trial {
-    states: 500_000,
-    effort: Effort::Thorough,
-};
 
 /// What is found out of a task.
 #[derive(Drop)]
@@ -84,21 +61,6 @@ pub enum Exceeded {
         /// It shows that no plan costs less.
         cert: Cert,
     },
-}
-
-impl Answer {
-    /// Whether the limit of the listed states is exceeded.
-    fn is_stopped(&self) -> bool
-        ensures { result ≡ is_stopped self.now }
-    {
-        match self {
-            Answer::Plan { .. } => false,
-            Answer::Unsolvable { .. } => false,
-            Answer::Unknown(Exceeded::Instances) => false,
-            Answer::Unknown(Exceeded::Atoms) => false,
-            Answer::Unknown(Exceeded::States { .. }) => true,
-        }
-    }
 }
 
 /// A cheapest plan of the task, or that it has none, with the certificate that shows it.
@@ -145,79 +107,10 @@ fn solve_ground(alloc: Global, ground: &Ground<'_>, limits: Limits) -> Result<An
     let estimate: Fair<'_, '_> = improved(alloc, ground, &groundwork)?;
     let dead_ends: DeadFair<'_, '_> = improved(alloc, ground, &groundwork)?;
     drop(groundwork);
-    match try_few(alloc, ground, &estimate, &dead_ends, QUICK, limits)? {
-        Attempt::Done(answer) => return Ok(answer),
-        Attempt::Promising => {
-            let next = try_few(alloc, ground, &estimate, &dead_ends, THOROUGH, limits)?;
-            if let Attempt::Done(answer) = next {
-                return Ok(answer);
-            }
-        }
-        Attempt::InVain => {}
-    }
     solve_by_potentials(alloc, ground, &estimate, &dead_ends, limits)
 }
 
-/// The answer by these potentials, where few states are listed, and else that by tables, if such are found that are better. In
-/// vain too where no more states may be listed.
-fn try_few(
-    alloc: Global,
-    ground: &Ground<'_>,
-    estimate: &Fair<'_, '_>,
-    dead_ends: &DeadFair<'_, '_>,
-    trial: Trial,
-    limits: Limits,
-) -> Result<Attempt<Answer>, NoMemory>
-    requires typed { IsTrue (is_task (task_in ground.now)) }
-    requires ground { IsGroundOf (task_in ground.now) [] limits.instances ground.now }
-    requires estimate { ground_in estimate.now ≡ ground.now }
-    requires improved { AreSettledOrHigh (task_in ground.now) (atoms_in ground.now) (potentials_in estimate.now) }
-    requires dead_ends { ground_in dead_ends.now ≡ ground.now }
-    requires dead_ends_improved { AreDeadSettledOrHigh (task_in ground.now) (atoms_in ground.now) (potentials_in dead_ends.now) }
-    ensures { IfOk result (IfDone (IsTrueAnswer (task_in ground.now) limits.states limits.instances)) }
-{
-    let Some(few) = limits.with_fewer_states(trial.states) else {
-        return Ok(Attempt::InVain);
-    };
-    let first = solve_by_potentials(alloc, ground, estimate, dead_ends, few)?;
-    if first.is_stopped() {
-        return try_tables(alloc, ground, estimate, dead_ends, trial, &first, limits);
-    }
-    Ok(Attempt::Done(first))
-}
-
-/// The answer by tables, if such are found that are better than these potentials, by which the first search was stopped so.
-fn try_tables(
-    alloc: Global,
-    ground: &Ground<'_>,
-    estimate: &Fair<'_, '_>,
-    dead_ends: &DeadFair<'_, '_>,
-    trial: Trial,
-    first: &Answer,
-    limits: Limits,
-) -> Result<Attempt<Answer>, NoMemory>
-    requires typed { IsTrue (is_task (task_in ground.now)) }
-    requires ground { IsGroundOf (task_in ground.now) [] limits.instances ground.now }
-    requires estimate { ground_in estimate.now ≡ ground.now }
-    requires improved { AreSettledOrHigh (task_in ground.now) (atoms_in ground.now) (potentials_in estimate.now) }
-    requires dead_ends { ground_in dead_ends.now ≡ ground.now }
-    requires dead_ends_improved { AreDeadSettledOrHigh (task_in ground.now) (atoms_in ground.now) (potentials_in dead_ends.now) }
-    ensures { IfOk result (IfDone (IsTrueAnswer (task_in ground.now) limits.states limits.instances)) }
-{
-    let Answer::Unknown(Exceeded::States { bound, cert }) = first else {
-        return Ok(Attempt::InVain);
-    };
-    let stopped = Stopped {
-        bound: *bound,
-        cert,
-        potentials: estimate.potentials(),
-        dead_ends: dead_ends.potentials(),
-        effort: trial.effort,
-    };
-    solve_by_tables(alloc, ground, &stopped, limits)
-}
-
-/// The same by these potentials.
+/// The same by these potentials, or by tables if such are found on the way that are better.
 fn solve_by_potentials(
     alloc: Global,
     ground: &Ground<'_>,
@@ -234,12 +127,20 @@ fn solve_by_potentials(
     ensures { IfOk result (IsTrueAnswer (task_in ground.now) limits.states limits.instances) }
 {
     let guide = EstimateWithDeadEnds::new(estimate, dead_ends);
-    let searched = search_by(alloc, ground, &guide, limits)?;
-    let guidance = Guidance::Potentials {
-        value: potential_of(alloc, estimate.potentials())?,
-        dead_ends: potential_of(alloc, dead_ends.potentials())?,
+    let given = Given {
+        potentials: estimate.potentials(),
+        dead_ends: dead_ends.potentials(),
     };
-    answer_of(alloc, ground, guidance, searched, limits)
+    match search_in_parts(alloc, ground, &guide, given, limits)? {
+        Parts::ByTables(answer) => Ok(answer),
+        Parts::ByGuide(searched) => {
+            let guidance = Guidance::Potentials {
+                value: potential_of(alloc, given.potentials)?,
+                dead_ends: potential_of(alloc, given.dead_ends)?,
+            };
+            answer_of(alloc, ground, guidance, searched, limits)
+        }
+    }
 }
 
 /// The answer that a search by the guidance came to, with its certificate.

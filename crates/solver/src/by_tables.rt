@@ -1,8 +1,8 @@
 //! Answers by a search that goes by values over tables.
 //!
-//! Tables are drafted, of which nothing is known. They are taken if a certificate can have them, they are tested to be fair, and
-//! they would have saved a first search by potentials enough of the states that it expanded. Of the values over tables the first
-//! one is that of the potentials.
+//! Tables are drafted, of which nothing is known. They are taken if a certificate can have them, they would have saved the
+//! search by potentials enough of the states that it expanded so far, and a test says that they are fair. Of the values over tables the
+//! first one is that of the potentials.
 ghost use Rattle.std.specs.Prelude.{◌≡◌, ◌==◌, ◌≤◌, [], IfOk, IfSome, IsTrue, Some, length, map, slice_get};
 ghost use Rattle.std.specs.List.{list_all};
 ghost use Rattle.certificate.specs.CertificateParts.{are_bounds, bounds_of, potential_of};
@@ -11,6 +11,7 @@ ghost use Rattle.grounding.specs.Ground.{task_in, atoms_in, IsGroundOf};
 ghost use Rattle.model.specs.Grounding.{ground_system};
 ghost use Rattle.model.specs.NumberedAtoms.{numbered_atoms};
 ghost use Rattle.model.specs.WellTyped.{is_task};
+ghost use Rattle.packed_state.specs.PooledView.{pooled_width};
 ghost use Rattle.potential_functions.specs.Settled.{initial_value};
 ghost use Rattle.potentials.specs.Potentials.{potentials_of};
 ghost use Rattle.solver.specs.Attempts.{IfDone};
@@ -19,11 +20,12 @@ ghost use Rattle.solver.specs.Guided.{IsSearched};
 ghost use Rattle.solver.specs.Improved.{AreSettledOrHigh, AreDeadSettledOrHigh};
 ghost use Rattle.solver.specs.SeveralOver.{several_over};
 ghost use Rattle.solver.specs.Solver.{IsTrueAnswer};
+ghost use Rattle.solver.specs.Stopped.{IsStopped};
 ghost use Rattle.table_functions.specs.FairTables.{AreFair};
 ghost use Rattle.table_functions.specs.TableFunctions.{functions_of, greatest_value};
-ghost use Rattle.table_guides.specs.FairTables.{functions_in, ground_in};
 ghost use Rattle.table_rows.specs.Tables.{weight_count_of};
 ghost use Rattle.table_rows.specs.declared.table.Table as in_memory;
+ghost use Rattle.tables.specs.Several.{several_of, width_of};
 
 use crate::answer::{Answer, answer_of};
 use crate::attempt::Attempt;
@@ -41,7 +43,7 @@ use table_rows::Table;
 use tables::{IndexedTables, TableFunctions, ValuesFairness};
 use tables_drafted::{DraftedTables, Wanted, drafted_tables};
 
-/// The answer by tables, if such are found that are better than the potentials by which a first search was stopped so.
+/// The answer by tables, if such are found that are better than the potentials of a search that pauses so.
 pub(crate) fn solve_by_tables(
     alloc: Global,
     ground: &Ground<'_>,
@@ -50,6 +52,8 @@ pub(crate) fn solve_by_tables(
 ) -> Result<Attempt<Answer>, NoMemory>
     requires typed { IsTrue (is_task (task_in ground.now)) }
     requires ground { IsGroundOf (task_in ground.now) [] limits.instances ground.now }
+    requires stopped { IsStopped stopped.now.store.now stopped.now.nodes.now }
+    requires store_width { pooled_width stopped.now.store.now ≡ length (atoms_in ground.now) }
     requires width { length (potentials_of stopped.now.potentials.now).weights ≡ length (atoms_in ground.now) }
     requires improved { AreSettledOrHigh (task_in ground.now) (atoms_in ground.now) (potentials_of stopped.now.potentials.now) }
     requires dead_ends_improved { AreDeadSettledOrHigh (task_in ground.now) (atoms_in ground.now) (potentials_of stopped.now.dead_ends.now) }
@@ -74,12 +78,13 @@ pub(crate) fn solve_by_tables(
     answer_by_tables(alloc, ground, bounds, values, dead_ends, stopped, limits)
 }
 
-/// Tables that may be better than the potentials by which a first search was stopped so.
+/// Tables that may be better than the potentials of a search that pauses so.
 fn drafted(
     alloc: Global,
     ground: &Ground<'_>,
     stopped: &Stopped<'_>,
 ) -> Result<Option<DraftedTables>, NoMemory>
+    requires stopped { IsStopped stopped.now.store.now stopped.now.nodes.now }
     ensures first { IfOk result (λ o. IfSome o (λ draft. slice_get (map potentials_of draft.values.items) 0 ≡ Some (potentials_of stopped.now.potentials.now))) }
     ensures dead_ends { IfOk result (λ o. IfSome o (λ draft. potentials_of draft.dead_ends ≡ potentials_of stopped.now.dead_ends.now)) }
 {
@@ -106,7 +111,7 @@ fn written(alloc: Global, values: &[Potentials]) -> Result<Vec<Potential>, NoMem
 }
 
 /// The answer by these values, which are given as potentials too, over their tables, if they are fair, and better than what the
-/// first search was guided by.
+/// search that pauses goes by.
 fn answer_by_tables(
     alloc: Global,
     ground: &Ground<'_>,
@@ -122,6 +127,8 @@ fn answer_by_tables(
     requires values { map potentials_of values.items ≡ (bounds_of bounds).values }
     requires dead_ends { potentials_of dead_ends ≡ (bounds_of bounds).dead_ends }
     requires first { first_value (by_tables (bounds_of bounds)) ≡ potentials_of stopped.now.potentials.now }
+    requires stopped { IsStopped stopped.now.store.now stopped.now.nodes.now }
+    requires store_width { pooled_width stopped.now.store.now ≡ length (atoms_in ground.now) }
     requires width { length (potentials_of stopped.now.potentials.now).weights ≡ length (atoms_in ground.now) }
     requires improved { AreSettledOrHigh (task_in ground.now) (atoms_in ground.now) (potentials_of stopped.now.potentials.now) }
     requires dead_ends_improved { AreDeadSettledOrHigh (task_in ground.now) (atoms_in ground.now) (bounds_of bounds).dead_ends }
@@ -139,7 +146,8 @@ fn answer_by_tables(
     }
 }
 
-/// What a search by these values comes to, if they are fair, and better.
+/// What a search by these values comes to, if they are fair, and better. Whether they are better is asked first, as it takes less
+/// time than the test of fairness.
 fn search_by_tables(
     alloc: Global,
     ground: &Ground<'_>,
@@ -153,72 +161,85 @@ fn search_by_tables(
     requires within_limits { IsTrue (are_bounds three (length (atoms_in ground.now)) (bounds_of bounds.now)) }
     requires values { map potentials_of values.items ≡ (bounds_of bounds.now).values }
     requires dead_ends { potentials_of dead_ends ≡ (bounds_of bounds.now).dead_ends }
+    requires stopped { IsStopped stopped.now.store.now stopped.now.nodes.now }
+    requires store_width { pooled_width stopped.now.store.now ≡ length (atoms_in ground.now) }
     requires width { length (potentials_of stopped.now.potentials.now).weights ≡ length (atoms_in ground.now) }
     ensures fair { IfOk result (IfDone (λ _. AreFair (task_in ground.now) (atoms_in ground.now) (bounds_of bounds.now))) }
     ensures no_lower { IfOk result (IfDone (λ _. initial_value (task_in ground.now) (atoms_in ground.now) (potentials_of stopped.now.potentials.now) ≤ estimate_by (by_tables (bounds_of bounds.now)) (ground_system (task_in ground.now) (atoms_in ground.now)).initial)) }
     ensures searched { IfOk result (IfDone (λ s. IsSearched ground.now (estimate_by (by_tables (bounds_of bounds.now))) (reports_dead (by_tables (bounds_of bounds.now))) limits.states s.outcome s.marks.items)) }
 {
-    let Some(guide) = guide_of(alloc, ground, &bounds.tables, values, dead_ends)? else {
+    let Some(functions) = functions_over(alloc, ground, &bounds.tables, values, dead_ends)? else {
         return Ok(Attempt::InVain);
     };
-    if !starts_no_lower(alloc, ground, &guide, stopped.potentials)? {
+    if !starts_no_lower(alloc, ground, &functions, stopped.potentials)? {
         return Ok(Attempt::InVain);
     }
-    let saving = stopped.saving_by(alloc, ground, &guide)?;
-    if !saving.is_worth(bounds.tables.len()) {
-        if saving.is_promising() {
-            return Ok(Attempt::Promising);
-        }
-        return Ok(Attempt::InVain);
+    let saving = stopped.saving_by(alloc, &functions)?;
+    if saving.is_worth(bounds.tables.len()) {
+        return search_if_fair(alloc, ground, functions, limits);
     }
-    let searched = search_by(alloc, ground, &guide, limits)?;
-    Ok(Attempt::Done(searched))
+    if saving.is_promising() {
+        return Ok(Attempt::Promising);
+    }
+    Ok(Attempt::InVain)
 }
 
-/// Whether the initial state's value by the guide is at least that by the potentials.
+/// Whether the initial state's value by these is at least that by the potentials.
 fn starts_no_lower(
     alloc: Global,
     ground: &Ground<'_>,
-    guide: &FairTables<'_, '_, '_>,
+    functions: &TableFunctions<'_>,
     potentials: &Potentials,
 ) -> Result<bool, NoMemory>
-    requires ground { ground_in guide.now ≡ ground.now }
+    requires functions { width_of functions.now ≡ length (atoms_in ground.now) }
     requires width { length (potentials_of potentials.now).weights ≡ length (atoms_in ground.now) }
-    ensures { IfOk result (λ is. IsTrue is → initial_value (task_in ground.now) (atoms_in ground.now) (potentials_of potentials.now) ≤ greatest_value (functions_of (functions_in guide.now)) (ground_system (task_in ground.now) (atoms_in ground.now)).initial) }
+    ensures { IfOk result (λ is. IsTrue is → initial_value (task_in ground.now) (atoms_in ground.now) (potentials_of potentials.now) ≤ greatest_value (functions_of (several_of functions.now)) (ground_system (task_in ground.now) (atoms_in ground.now)).initial) }
 {
     let initial = ground.initial(alloc)?;
-    let functions = guide.functions();
     let mut room = functions.room(alloc)?;
     let value = functions.value(&initial, &mut room);
     Ok(potentials.value(&initial) <= value)
 }
 
-/// These values over these tables as a guide, if they are fair.
-fn guide_of<'g, 't, 'a>(
+/// What a search by these values comes to, if they are fair.
+fn search_if_fair(
     alloc: Global,
-    ground: &'g Ground<'t>,
+    ground: &Ground<'_>,
+    functions: TableFunctions<'_>,
+    limits: Limits,
+) -> Result<Attempt<Searched>, NoMemory>
+    requires atoms { atoms_in ground.now ≡ numbered_atoms (task_in ground.now) [] }
+    requires width { width_of functions ≡ length (atoms_in ground.now) }
+    ensures fair { IfOk result (IfDone (λ _. AreFair (task_in ground.now) (atoms_in ground.now) (several_of functions.entry))) }
+    ensures searched { IfOk result (IfDone (λ s. IsSearched ground.now (estimate_by (by_tables (several_of functions.entry))) (reports_dead (by_tables (several_of functions.entry))) limits.states s.outcome s.marks.items)) }
+{
+    match functions.fairness(alloc, ground)? {
+        ValuesFairness::Fair => {
+            let guide = FairTables::new(alloc, functions, ground)?;
+            let searched = search_by(alloc, ground, &guide, limits)?;
+            Ok(Attempt::Done(searched))
+        }
+        _ => Ok(Attempt::InVain),
+    }
+}
+
+/// These values over these tables, if their rows have a weight for each.
+fn functions_over<'a>(
+    alloc: Global,
+    ground: &Ground<'_>,
     tables: &'a [Table],
     values: Vec<Potentials>,
     dead_ends: Potentials,
-) -> Result<Option<FairTables<'g, 't, 'a>>, NoMemory>
-    requires atoms { atoms_in ground.now ≡ numbered_atoms (task_in ground.now) [] }
+) -> Result<Option<TableFunctions<'a>>, NoMemory>
     requires within_limits { IsTrue (are_bounds three (length (atoms_in ground.now)) (several_over values.items dead_ends tables.now)) }
-    ensures functions { IfOk result (λ o. IfSome o (λ f. functions_in f ≡ several_over values.items dead_ends tables.now)) }
-    ensures ground { IfOk result (λ o. IfSome o (λ f. ground_in f ≡ ground.now)) }
+    ensures { IfOk result (λ o. IfSome o (λ f. several_of f ≡ several_over values.items dead_ends tables.now)) }
 {
     let count = values.len() as u32 + 1;
     if !have_weights(tables, count) {
         return Ok(None);
     }
     let indexed = IndexedTables::index(alloc, ground.width(), count, tables)?;
-    let functions = TableFunctions::new(values, dead_ends, indexed);
-    match functions.fairness(alloc, ground)? {
-        ValuesFairness::Fair => {
-            let guide = FairTables::new(alloc, functions, ground)?;
-            Ok(Some(guide))
-        }
-        _ => Ok(None),
-    }
+    Ok(Some(TableFunctions::new(values, dead_ends, indexed)))
 }
 
 /// Whether the rows of each table have so many weights; so they would in one that has no row.

@@ -8,6 +8,7 @@ mod guidance;
 mod improved;
 mod limits;
 mod listing;
+mod parts;
 mod searched;
 mod steps;
 mod stopped;

@@ -16,7 +16,7 @@ pub struct Limits {
 }
 
 impl Limits {
-    ghost use Rattle.std.specs.Prelude.{◌&&◌, ◌<◌, is_some, IfSome};
+    ghost use Rattle.std.specs.Prelude.{◌&&◌, is_some, IfSome};
 
     /// These limits, and `None` where one of them is out of range.
     ///
@@ -43,18 +43,6 @@ impl Limits {
         ensures { result ≡ self.now.states }
     {
         self.states
-    }
-
-    /// These limits with so many states, if that is fewer.
-    pub(crate) fn with_fewer_states(&self, states: u32) -> Option<Limits>
-        ensures fewer { IfSome result (λ l. l.states < self.now.states) }
-        ensures instances { IfSome result (λ l. l.instances ≡ self.now.instances) }
-    {
-        if states < self.states {
-            Limits::new(states, self.instances)
-        } else {
-            None
-        }
     }
 
     /// The most instances that may be kept.

@@ -1,28 +1,31 @@
-//! What a first search found that was stopped.
-ghost use Rattle.std.specs.Prelude.{◌≡◌, length};
-ghost use Rattle.grounding.specs.Ground.{atoms_in};
+//! What a search found before a pause.
+ghost use Rattle.std.specs.Prelude.{◌≡◌};
+ghost use Rattle.packed_state.specs.PooledView.{pooled_width};
+ghost use Rattle.solver.specs.Stopped.{IsStopped};
+ghost use Rattle.tables.specs.Several.{width_of};
 
-use certificate::{Cert, Mark, StateLine};
 use faults::NoMemory;
-use grounding::Ground;
-use packed_state::{Packed, StateStore};
+use packed_state::{Packed, PooledStore, StateStore};
 use potentials::Potentials;
-use search::Guide;
+use search::Node;
 use std::alloc::Global;
+use tables::TableFunctions;
 use tables_drafted::Effort;
 
 /// How many of the states that were found are samples, at most.
 const MAX_SAMPLES: usize = 32;
 
-/// Of how many it is asked whether they would have been expanded by another guide too, at most.
+/// Of how many it is asked whether they would have been expanded by other values too, at most.
 const MAX_ASKED: usize = 1_000;
 
-/// A search that was stopped at a limit of states: the states that it found, in its certificate, and the bound that it came to.
+/// A search by potentials that pauses: the states that it found, how it reached them, and the bound that it came to.
 #[derive(Clone, Copy)]
 pub(crate) struct Stopped<'a> {
     pub(crate) bound: u64,
-    pub(crate) cert: &'a Cert,
-    /// The potentials that it went by, and those for dead ends.
+    pub(crate) store: &'a PooledStore,
+    /// One for each state, in order.
+    pub(crate) nodes: &'a [Node],
+    /// The potentials that it goes by, and those for dead ends.
     pub(crate) potentials: &'a Potentials,
     pub(crate) dead_ends: &'a Potentials,
     /// How much may be looked at for tables now.
@@ -41,48 +44,44 @@ const TABLES_AT_A_TIME: usize = 12;
 
 impl Stopped<'_> {
     /// The true atoms of some of the states, which are spread evenly over them all.
-    pub(crate) fn samples(&self, alloc: Global) -> Result<Vec<Vec<u32>>, NoMemory> {
-        let mut set = Packed::empty(alloc, self.cert.sets().width())?;
+    pub(crate) fn samples(&self, alloc: Global) -> Result<Vec<Vec<u32>>, NoMemory>
+        requires { IsStopped self.now.store.now self.now.nodes.now }
+    {
+        let mut set = Packed::empty(alloc, self.store.width())?;
         let mut samples = Vec::new(alloc);
-        let step = self.cert.line_count() / MAX_SAMPLES + 1;
-        for place in 0..self.cert.line_count() {
+        let step = self.nodes.len() / MAX_SAMPLES + 1;
+        for place in 0..self.nodes.len() {
             if place % step == step / 2 {
-                let mut line = no_line(alloc);
-                self.cert.read_line(place, &mut set, &mut line)?;
-                samples.push(line.atoms)?;
+                self.store.get(place as u32, &mut set);
+                samples.push(set.numbers(alloc)?)?;
             }
         }
         Ok(samples)
     }
 
-    /// What a search by the guide would have saved, before it came to the same bound: states that are dead by it, or cost, with its
-    /// estimate, more. Some are asked, which are spread evenly.
-    pub(crate) fn saving_by<G: Guide>(
+    /// What a search by these values would have saved, before it came to the same bound: states that are dead by them, or cost,
+    /// with the greatest value, more. Some are asked, which are spread evenly. The values need not be fair.
+    pub(crate) fn saving_by(
         &self,
         alloc: Global,
-        ground: &Ground<'_>,
-        guide: &G,
+        functions: &TableFunctions<'_>,
     ) -> Result<Saving, NoMemory>
-        requires width { G.width_of guide.now ≡ length (atoms_in ground.now) }
+        requires stopped { IsStopped self.now.store.now self.now.nodes.now }
+        requires width { width_of functions.now ≡ pooled_width self.now.store.now }
     {
         let mut saving = Saving {
             expanded: 0,
             saved: 0,
         };
-        if self.cert.sets().width() != ground.width() {
-            return Ok(saving);
-        }
-        let mut room = guide.room(alloc)?;
-        let mut set = Packed::empty(alloc, ground.width())?;
-        let mut line = no_line(alloc);
-        let step = self.cert.line_count() / MAX_ASKED + 1;
-        for place in 0..self.cert.line_count() {
-            if place % step == 0 {
-                self.cert.read_line(place, &mut set, &mut line)?;
-                if line.mark == Mark::Open {
-                    let estimate = guide.value_in(&set, &mut room);
-                    saving.count(self.is_saved(line.cost, estimate));
-                }
+        let mut room = functions.room(alloc)?;
+        let mut set = Packed::empty(alloc, self.store.width())?;
+        let step = self.nodes.len() / MAX_ASKED + 1;
+        for place in 0..self.nodes.len() {
+            let node = self.nodes[place];
+            if place % step == 0 && node.is_expanded() {
+                self.store.get(place as u32, &mut set);
+                let estimate = functions.value_unless_dead(&set, &mut room);
+                saving.count(self.is_saved(node.cost, estimate));
             }
         }
         Ok(saving)
@@ -118,14 +117,5 @@ impl Saving {
     /// Whether more and other tables may save enough, as these would have saved a quarter.
     pub(crate) fn is_promising(self) -> bool {
         self.expanded > 0 && self.saved >= self.expanded / 4
-    }
-}
-
-/// A line to read into.
-fn no_line(alloc: Global) -> StateLine {
-    StateLine {
-        cost: 0,
-        mark: Mark::Open,
-        atoms: Vec::new(alloc),
     }
 }

@@ -5,13 +5,13 @@ use Rattle.std.specs.List.{list_all, find}
 use Rattle.std.specs.Cmp.Lexicographic.{pointwise}
 use Rattle.std.proofs.lemmas.Int.{ints}
 use Rattle.std.proofs.lemmas.Bool.{cases_eq, cases_lt, ltb-true}
-use Rattle.std.proofs.lemmas.List.{map_push, take_more, get_or-set_same, get_or-set_other, get_or_past, get_or_default, length-map, length-take, map-set, set-get_or}
+use Rattle.std.proofs.lemmas.List.{map_push, take_more, get_or-set_same, get_or-set_other, get_or_past, get_or_default, length-map, length-set, length-take, map-set, set-get_or}
 use Rattle.std.proofs.lemmas.Grind.{take-set_at}
 use Rattle.std.proofs.lemmas.Option.{slice_get-get_or, get_or_from_slice_get, slice_get_within}
 use Rattle.model.proofs.ListLemmas.{Contains-here, Contains-there, Contains-got, Contains-none, Contains-cases, Contains-place, map-Contains}
 use Rattle.packed_state.specs.Packed.{bits_of}
 use Rattle.packed_state.specs.declared.packed.Packed.{Packed}
-use Rattle.packed_state.specs.Sets.{has}
+use Rattle.packed_state.specs.Sets.{has, IsNext}
 use Rattle.potential_functions.specs.PotentialFunctions.{IsInRange}
 use Rattle.potential_functions.proofs.Ranges.{zero-range}
 use Rattle.table_functions.specs.Laws.{are_over}
@@ -84,6 +84,11 @@ below-at width scope k all below =
 pub record IsProjected (bits : List Bool) (scope : List ℕ) (count : ℕ) (set : List Bool) : Type 0 where
   pub long : length set ≡ length scope
   pub is : take count set ≡ map (has bits) (take count scope)
+  pub left : (place : ℕ) → count ≤ place → has set place ≡ false
+
+-- of none yet
+pub projected-none : (bits : List Bool) (scope : List ℕ) (set : List Bool) → length set ≡ length scope → ((place : ℕ) → has set place ≡ false) → IsProjected bits scope 0 set
+projected-none bits scope set long none = record { long = long; is = refl; left = λ place _. none place }
 
 pub projected-more : (bits : List Bool) (scope : List ℕ) (k n : ℕ) (old new : List Bool) → k < length scope → get_or scope k 0 ≡ n → length new ≡ length old → new ≡ slice_set old k (has bits n)
     → IsProjected bits scope k old → IsProjected bits scope (k + 1) new
@@ -93,7 +98,44 @@ projected-more bits scope k n old new below at long set before =
     record {
       long = long ∙ before.long;
       is = ap (take (k + 1)) set ∙ take-set_at old k (k + 1) (has bits n) refl within ∙ ap (λ l. l ++ has bits n ∷ []) before.is ∙ sym (ap (map (has bits)) more ∙ map_push (has bits) (take k scope) n);
+      left = λ place above. ap (λ l. has l place) set ∙ get_or-set_other old k place (has bits n) false (λ same. absurd (omega (arith, same, above))) ∙ before.left place (omega (arith, above));
     }
+
+-- ---- a set of which nothing is left
+
+-- all that is left is not below this number
+pub record IsLeftFrom (old : List Bool) (number : ℕ) (set : List Bool) : Type 0 where
+  pub long : length set ≡ length old
+  pub next : IsNext set 0 number
+
+pub left-more : (old set removed : List Bool) (number next : ℕ) → number < length set → IsLeftFrom old number set → removed ≡ slice_set set number false → IsNext removed number next → IsLeftFrom old next removed
+left-more old set removed number next within before is later = record {
+  long = ap length is ∙ length-set set number false ∙ before.long;
+  next = record {
+    above = omega (arith);
+    within = later.within;
+    none_between = λ k _ below. elim (cases_lt k number) [
+      | inl lower ↦ ap (λ l. has l k) is ∙ get_or-set_other set number k false false (λ same. absurd (omega (arith, same, lower))) ∙ before.next.none_between k (omega arith) lower
+      | inr higher ↦ later.none_between k higher below
+    ];
+    is_in = later.is_in;
+  };
+}
+
+-- what was removed is not there any more, so the next number is a later one
+pub left-later : (set removed : List Bool) (number next : ℕ) → number < length set → removed ≡ slice_set set number false → next < length removed → IsNext removed number next → number < next
+left-later set removed number next within is there later = elim (cases_eq number next) [
+  | inl same ↦
+      let gone : has removed next ≡ false = ap (λ l. has l next) is ∙ ap (λ k. has (slice_set set number false) k) (sym same) ∙ get_or-set_same set number false false within in
+      absurd (true≢false (sym (later.is_in there) ∙ gone))
+  | inr other ↦ let above = later.above in omega (arith, above, other)
+]
+
+pub none-left : (old set : List Bool) (number : ℕ) → length set ≤ number → IsLeftFrom old number set → (k : ℕ) → has set k ≡ false
+none-left old set number past before k = elim (cases_lt k number) [
+  | inl lower ↦ before.next.none_between k (omega arith) lower
+  | inr higher ↦ get_or_past set k false (omega (arith, past, higher))
+]
 
 -- ---- sums at each place
 

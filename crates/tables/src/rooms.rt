@@ -1,5 +1,5 @@
 //! What the rows of a state give, added up in memory that is lent.
-ghost use Rattle.std.specs.Prelude.{◌≡◌, ℕ, pos, ◌<◌, ◌^◌, All, IfOk, IfSome, IsTrue, Some, is_some, length, map, nat_lt, slice_get, slice_index_or, slice_set};
+ghost use Rattle.std.specs.Prelude.{◌≡◌, ℕ, pos, ◌<◌, ◌^◌, All, IfOk, IfSome, IsTrue, Some, false, is_some, length, map, nat_lt, slice_get, slice_index_or, slice_set};
 ghost use Rattle.std.specs.List.{list_all};
 ghost use Rattle.packed_state.specs.Packed.{bits_of};
 ghost use Rattle.packed_state.specs.Sets.{has};
@@ -115,27 +115,40 @@ impl Room {
     }
 }
 
-/// Makes it the set of the places of those atoms of the scope that are true in the state.
+/// Makes it the set of the places of those atoms of the scope that are true in the state. Most are false, and nothing is written for
+/// these.
 fn project(scope: &[u32], state: &Packed, set: &mut Packed)
     requires few { length scope.now < 2 ^ 32 }
     requires width { length (bits_of set.old) ≡ length scope.now }
     requires scope { IsTrue (list_all (λ number. nat_lt number (length (bits_of state.now))) scope.now) }
     ensures { bits_of set.new ≡ map (has (bits_of state.now)) scope.now }
 {
+    remove_all(set);
     for place in 0..scope.len() {
-        put(set, place as u32, state.has(scope[place]));
+        insert_if(set, place as u32, state.has(scope[place]));
     }
 }
 
-/// Puts the place into the set, or takes it out.
-fn put(set: &mut Packed, place: u32, value: bool)
-    requires { place < length (bits_of set.old) }
-    ensures { bits_of set.new ≡ slice_set (bits_of set.old) place value }
+/// Takes all numbers out of the set.
+fn remove_all(set: &mut Packed)
+    ensures long { length (bits_of set.new) ≡ length (bits_of set.old) }
+    ensures none { (number : ℕ) → has (bits_of set.new) number ≡ false }
 {
-    if value {
+    let mut number = set.next(0);
+    'numbers: while number < set.width() {
+        set.remove(number);
+        number = set.next(number);
+    }
+}
+
+/// Puts the place, which is not in the set, into it if this is so.
+fn insert_if(set: &mut Packed, place: u32, is: bool)
+    requires there { place < length (bits_of set.old) }
+    requires not_in { has (bits_of set.old) place ≡ false }
+    ensures { bits_of set.new ≡ slice_set (bits_of set.old) place is }
+{
+    if is {
         set.insert(place);
-    } else {
-        set.remove(place);
     }
 }
 

@@ -8,6 +8,7 @@ use crate::parts::TaskParts;
 use crate::schemas::{Formula, Predicate, Schema, TypeUnion};
 use crate::types::{is_below, supertypes};
 use faults::NoMemory;
+use indexmap::IndexMap;
 use std::alloc::Global;
 
 /// A planning task with numbers for names. It is well-typed.
@@ -23,7 +24,7 @@ impl Task {
     ghost use Rattle.std.specs.Prelude.{◌≡◌, length, map, position, slice_get, IfOk, IfSome};
     ghost use Rattle.std.specs.Option.{option_copied, option_map};
     ghost use Rattle.task.specs.Task.{task_of};
-    ghost use Rattle.task.specs.TaskParts.{atom_of, formula_of, object_of, predicate_id_of, schema_id_of, shape_of, shape_of_schema, type_of, union_of};
+    ghost use Rattle.task.specs.TaskParts.{atom_of, formula_of, object_of, predicate_id_of, schema_id_of, shape_of, shape_of_schema, type_of, union_of, value_of};
     ghost use Rattle.model.specs.Meaning.{supertypes_of, is_of, is_below, objects_of, value_in};
     ghost use Rattle.model.specs.Typing.{is_same};
 
@@ -50,6 +51,14 @@ impl Task {
         ensures { result ≡ value_in (task_of self.now).values (atom_of function.now) }
     {
         self.parts.values.get(function).copied()
+    }
+
+    /// The values that the problem gives to functions of objects, in its order. Each function's number is in the place of the
+    /// predicate's.
+    pub fn values(&self) -> &IndexMap<Atom, u32>
+        ensures { map value_of result.now.entries ≡ (task_of self.now).values }
+    {
+        &self.parts.values
     }
 
     /// What is to be reached.
@@ -87,6 +96,14 @@ impl Task {
     {
         let (name, _) = self.parts.types.get_index(id.0 as usize)?;
         Some(name.as_slice())
+    }
+
+    /// The type that the object is declared with, and `None` where the number is beyond the last.
+    pub fn declared_type(&self, id: ObjectId) -> Option<TypeId>
+        ensures { option_map type_of result ≡ option_map (λ o. o.type) (slice_get (task_of self.now).objects id.0) }
+    {
+        let (_, declared) = self.parts.objects.get_index(id.0 as usize)?;
+        Some(*declared)
     }
 
     /// All types that the objects of a type are of: itself and those above it, up to `object`. None where the number is

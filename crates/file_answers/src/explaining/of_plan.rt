@@ -6,6 +6,8 @@ ghost use Rattle.task.specs.Task.{task_of};
 ghost use Rattle.formulas.specs.State.{plan_of};
 ghost use Rattle.validator.specs.Verdict.{verdict_of};
 ghost use Rattle.explained_plans.specs.Explanations as plans;
+ghost use Rattle.explained_plans.specs.NamesView.{names_of};
+ghost use Rattle.file_answers.specs.QuantifiedNames.{IsNamedTask};
 ghost use Rattle.file_answers.specs.ExplanationLines.{IsSaidOf, SayPlan, named_of, place_text};
 ghost use Rattle.file_answers.specs.Explanations.{IsLocatedIf, IsStepFound, IsStepOf, IsTrueOf, IsPlanTold, IsVerdictExplained, files_in};
 ghost use Rattle.model.specs.Files.{IsTaskOf};
@@ -14,7 +16,7 @@ ghost use Rattle.model.specs.PlanText.{IsPlanText};
 
 use crate::explaining::of_fault::explain_refused;
 use crate::explanation::{Explanation, Location, Subject};
-use crate::files::plan_of_file;
+use crate::files::{NamedTask, plan_of_file};
 use explained_plans::{PlanExplanation, explain_plan, report_details, report_verdict, step_place};
 use faults::{NoMemory, Span};
 use formulas::Plan;
@@ -26,15 +28,16 @@ use validator::Verdict;
 /// What is said of the plan of these texts for the task of the others.
 pub(super) fn explain_plan_file(
     alloc: Global,
-    task: &Task,
+    named: &NamedTask<'_>,
     texts: &NamedTexts<'_>,
 ) -> Result<Explanation, NoMemory>
-    ensures subject { (domain problem : List ℕ) (most : ℕ) → IsTaskOf domain problem (task_of task.now)
+    ensures subject { (domain problem : List ℕ) (most : ℕ) → IsTaskOf domain problem (task_of named.now.task)
         → IfOk result (λ e. IsTrueOf domain problem (Some texts.now.plan.text.now) most e.subject) }
-    ensures said { IsTaskOf texts.now.domain.text.now texts.now.problem.text.now (task_of task.now) → IfOk result (IsSaidOf (files_in texts.now)) }
+    ensures said { IsNamedTask texts.now.domain.text.now texts.now.problem.text.now (task_of named.now.task) (names_of named.now.names)
+        → IfOk result (IsSaidOf (files_in texts.now)) }
 {
-    match plan_of_file(alloc, task, texts.plan.text) {
-        Ok(plan) => explain_steps(alloc, task, texts.plan, &plan),
+    match plan_of_file(alloc, &named.task, texts.plan.text) {
+        Ok(plan) => explain_steps(alloc, named, texts.plan, &plan),
         Err(fault) => explain_refused(alloc, texts, fault),
     }
 }
@@ -42,16 +45,16 @@ pub(super) fn explain_plan_file(
 /// What is said of the steps of this file.
 fn explain_steps(
     alloc: Global,
-    task: &Task,
+    named: &NamedTask<'_>,
     file: NamedText<'_>,
     plan: &Plan,
 ) -> Result<Explanation, NoMemory>
-    requires instances { IsTrue (list_all (is_instance (task_of task.now)) (plan_of plan.now)) }
-    requires text { IsPlanText (task_of task.now) file.text.now (plan_of plan.now) }
-    ensures { IfOk result (IsVerdictExplained (task_of task.now) (plan_of plan.now) (named_of file.entry)) }
+    requires instances { IsTrue (list_all (is_instance (task_of named.now.task)) (plan_of plan.now)) }
+    requires text { IsPlanText (task_of named.now.task) file.text.now (plan_of plan.now) }
+    ensures { IfOk result (IsVerdictExplained (task_of named.now.task) (names_of named.now.names) (plan_of plan.now) (named_of file.entry)) }
 {
-    let explained = explain_plan(alloc, task, plan)?;
-    explain_verdict(alloc, task, file, plan, &explained)
+    let explained = explain_plan(alloc, &named.task, &named.names, plan)?;
+    explain_verdict(alloc, &named.task, file, plan, &explained)
 }
 
 /// What is said of the verdict that is explained.

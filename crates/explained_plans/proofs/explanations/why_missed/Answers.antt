@@ -2,7 +2,8 @@ use Rattle.std.proofs.Common.{ap, sym, subst, map, true, Some, ◌≡◌}
 use Rattle.std.specs.List.{list_all}
 use Rattle.task.specs.Task.{task_of}
 use Rattle.task.specs.TaskParts.{formula_of, object_of}
-use Rattle.formulas.specs.State.{plan_of, state_of}
+use Rattle.explained_plans.specs.NamesView.{names_in}
+use Rattle.formulas.specs.State.{instance_of, plan_of, state_of}
 use Rattle.formulas.proofs.Instances.{goal_fits}
 use Rattle.explained_plans.specs.Explanations.{AreReasons}
 use Rattle.model.specs.Meaning.{initial_state, is_instance, system_of}
@@ -25,7 +26,9 @@ pub returns-clause-explained : goal.returns-clause-explained
 returns-clause-explained c =
     let task = task_of c.args.task.now in
     let reasons = c.in_ok-reasons.reasons in
-    subst (λ l. AreReasons task (plan_of c.args.plan.now) task.goal l reasons) (ap (map object_of) c.new-nothing.ensures)
-    (subst (λ f. AreReasons task (plan_of c.args.plan.now) f (map object_of c.new-nothing.result.items) reasons) c.goal-goal.ensures
-    (subst (λ l. AreReasons task l (formula_of c.goal-goal.result.now) (map object_of c.new-nothing.result.items) reasons) c.steps-steps.ensures.steps
-    c.in_ok-reasons.ensures))
+    let names = names_in c.args.names.now.goal.items in
+    subst (λ l. AreReasons task (plan_of c.args.plan.now) task.goal l names reasons) (ap (map object_of) c.new-nothing.ensures)
+    (subst (λ f. AreReasons task (plan_of c.args.plan.now) f (map object_of c.new-nothing.result.items) names reasons) c.goal-goal.ensures
+    (subst (λ l. AreReasons task l (formula_of c.goal-goal.result.now) (map object_of c.new-nothing.result.items) names reasons) c.steps-steps.ensures.steps
+    (subst (λ l. AreReasons task (map instance_of c.steps-steps.result.now) (formula_of c.goal-goal.result.now) (map object_of c.new-nothing.result.items) (names_in l) reasons)
+    c.deref.ensures.value c.in_ok-reasons.ensures)))

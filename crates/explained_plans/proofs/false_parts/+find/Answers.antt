@@ -1,4 +1,4 @@
-use Rattle.std.proofs.Common.{rules, ℕ, List, refl, ◌∙◌, ap, sym, subst, map, ◌++◌, ◌∷◌, []}
+use Rattle.std.proofs.Common.{rules, ℕ, List, refl, ◌∙◌, ap, sym, subst, drop, map, ◌++◌, ◌∷◌, []}
 use Rattle.std.specs.Prelude.{OnOk}
 use Rattle.std.specs.List.{flat_map}
 use Rattle.task.specs.declared.schemas.Formula.{the_lemmas}
@@ -13,8 +13,9 @@ use Rattle.model.specs.Task.{forall}
 use Rattle.model.specs.WellTyped.{is_formula}
 use Rattle.model.proofs.Tests.{passes_at, passes_map}
 use Rattle.explained_plans.specs.FalseParts.{Part, false_parts}
+use Rattle.explained_plans.specs.NamesView.{names_in}
 use Rattle.explained_plans.specs.Parts.{Finds}
-use Rattle.explained_plans.proofs.FoundLemmas.{finds_when_full, finds_whole, finds_next, finds_end, parts_by_all}
+use Rattle.explained_plans.proofs.FoundLemmas.{finds_when_full, finds_next, finds_end, finds_next_part, finds_last_part, parts_by_all}
 use Rattle.explained_plans.proofs.false_parts.+find.Goals as goal
 
 -- ---- formulas
@@ -23,7 +24,7 @@ pub find-returns-then-found : goal.find-returns-then-found
 find-returns-then-found t c =
     let task = task_of c.args.task.now in
     let state = state_of c.args.state.now in
-    finds_when_full task state (false_parts task (formula_of c.args.formula.now) (map object_of c.args.objects.now.items) state) c.args.found.now c.if-found.true
+    finds_when_full task state (false_parts task (formula_of c.args.formula.now) (map object_of c.args.objects.now.items) (names_in c.args.names.now) state) c.args.found.now c.if-found.true
 
 pub find-find_in_each-requires : goal.find-find_in_each-requires
 find-find_in_each-requires t c = (
@@ -41,7 +42,7 @@ find-returns-in-And t c =
     let state = state_of c.args.state.now in
     let objects = map object_of c.args.objects.now.items in
     subst (λ l. OnOk c.find_in_each.result (Finds task state l c.args.found.now c.find_in_each.new.found))
-    (sym (parts_by_all c.args.formula.now c.in-And.parts c.deref.result.now c.in-And.is c.deref.ensures.value task objects state))
+    (sym (parts_by_all c.args.formula.now c.in-And.parts c.deref.result.now c.in-And.is c.deref.ensures.value task objects (names_in c.args.names.now) state))
     c.find_in_each.ensures
 
 pub find-returns-in-Forall : goal.find-returns-in-Forall
@@ -49,10 +50,11 @@ find-returns-in-Forall t c =
     let task = task_of c.args.task.now in
     let state = state_of c.args.state.now in
     let objects = map object_of c.args.objects.now.items in
+    let names = names_in c.args.names.now in
     let types = union_of c.in-Forall.types in
     subst (λ l. OnOk c.find_for_each.result (Finds task state l c.args.found.now c.find_for_each.new.found))
-    (ap (λ g. false_parts task (forall types (formula_of g)) objects state) c.deref-in-Forall.ensures
-    ∙ sym (ap (λ g. false_parts task (formula_of g) objects state) c.in-Forall.is))
+    (ap (λ g. false_parts task (forall types (formula_of g)) objects names state) c.deref-in-Forall.ensures
+    ∙ sym (ap (λ g. false_parts task (formula_of g) objects names state) c.in-Forall.is))
     c.find_for_each.ensures
 
 -- ---- their lists
@@ -69,12 +71,23 @@ find_in_each-find-requires t c =
       },
     )
 
+pub find_in_each-loop-part-init : goal.find_in_each-loop-part-init
+find_in_each-loop-part-init t c = λ _ so. so
+
+pub find_in_each-loop-part-preserved : goal.find_in_each-loop-part-preserved
+find_in_each-loop-part-preserved t c =
+    let task = task_of c.args.task.now in
+    let state = state_of c.args.state.now in
+    λ last later. c.loop-part.invariant last
+    (finds_next_part task state (map object_of c.args.objects.now.items) (names_in c.loop-part.left.now) c.args.parts.now c.loop-part.part-index c.part-item.result
+    c.loop-part-test.true c.part-item.is (names_in c.names_behind-left.result.now) c.names_behind-left.ensures c.loop-part.found c.find.new.found last c.in_ok-find.ensures later)
+
 pub find_in_each-returns : goal.find_in_each-returns
 find_in_each-returns t c =
     let task = task_of c.args.task.now in
     let state = state_of c.args.state.now in
-    finds_whole task state (λ part. false_parts task (formula_of part) (map object_of c.args.objects.now.items) state) c.args.parts.now c.loop-part.part-index
-    c.args.found.now c.loop-part.found c.loop-part.invariant c.loop-part-test.false
+    c.loop-part.invariant c.loop-part.found
+    (finds_last_part task state (map object_of c.args.objects.now.items) (names_in c.loop-part.left.now) c.args.parts.now c.loop-part.part-index c.loop-part-test.false c.loop-part.found)
 
 -- ---- their objects
 
@@ -101,9 +114,11 @@ find_for_each-loop-object-preserved t c =
     let part = formula_of c.args.part.now in
     let objects = c.args.objects.now.items in
     let one = c.in-Some.object in
-    let gives : ℕ → List Part = λ n. false_parts task part (map object_of objects ++ n ∷ []) state in
-    let here = subst (λ l. Finds task state (false_parts task part l state) c.loop-object.found c.find.new.found)
-    (one_more objects c.with_object.result.items one objects refl c.with_object.ensures) c.in_ok-find.ensures in (
+    let gives : ℕ → List Part = λ n. false_parts task part (map object_of objects ++ n ∷ []) (drop 1 (names_in c.args.names.now)) state in
+    let here = subst (λ l. Finds task state (false_parts task part l (drop 1 (names_in c.args.names.now)) state) c.loop-object.found c.find.new.found)
+    (one_more objects c.with_object.result.items one objects refl c.with_object.ensures)
+    (subst (λ ns. Finds task state (false_parts task part (map object_of c.with_object.result.items) ns state) c.loop-object.found c.find.new.found)
+    c.without_first-inner.ensures c.in_ok-find.ensures) in (
       rest_among _ _ one.0 c.in-Some.ensures.steps _ c.loop-object.invariant.0,
       λ last later. c.loop-object.invariant.1 last (finds_next task state gives _ _ one.0 c.in-Some.ensures.steps _ _ last here later),
     )
@@ -113,7 +128,7 @@ find_for_each-returns t c =
     let task = task_of c.args.task.now in
     let state = state_of c.args.state.now in
     let part = formula_of c.args.part.now in
-    let gives : ℕ → List Part = λ n. false_parts task part (map object_of c.args.objects.now.items ++ n ∷ []) state in
+    let gives : ℕ → List Part = λ n. false_parts task part (map object_of c.args.objects.now.items ++ n ∷ []) (drop 1 (names_in c.args.names.now)) state in
     let all = ap objects_left c.into_iter-object-iterator.ensures.into_iter_gives ∙ c.objects_of-object-items.ensures in
     subst (λ l. Finds task state (flat_map gives l) c.args.found.now c.loop-object.found) all
     (c.loop-object.invariant.1 _ (finds_end task state gives _ c.in-None.ensures.steps.0 _))

@@ -1,4 +1,4 @@
-use Rattle.std.proofs.Common.{◌≡◌, ◌++◌, ◌∙◌, ap, map, subst, sym}
+use Rattle.std.proofs.Common.{◌≡◌, [], ◌++◌, ◌∙◌, ap, map, subst, sym}
 use Rattle.std.specs.Prelude.{codes}
 use Rattle.task.specs.Task.{task_of}
 use Rattle.task.specs.TaskParts.{formula_of, object_of}
@@ -14,7 +14,7 @@ returns-in_ok-extend_from_slice-in-Always-2 c =
     let task = task_of c.args.task.now in
     let atom = formula_of c.args.atom.now in
     let old = c.args.text.now.items in
-    let text = formula_text task (scope_at (map object_of c.args.objects.now)) atom in
+    let text = formula_text task (scope_at (map object_of c.args.objects.now) []) atom in
     let last = c.extend_from_slice-in-Always.new.self.items in
     subst (λ h. last ≡ old ++ added_text task (plan_of c.args.plan.now) text (history_of h)) (sym c.in-Always.is)
     (three_added old (codes ": ") text (codes " was true from the start") c.extend_from_slice.new.self.items c.add_formula.new.text.items last

@@ -1,4 +1,4 @@
-use Rattle.std.proofs.Common.{◌≡◌, ◌++◌, ◌∙◌, ap, map, subst, sym}
+use Rattle.std.proofs.Common.{◌≡◌, [], ◌++◌, ◌∙◌, ap, map, subst, sym}
 use Rattle.std.specs.Prelude.{codes}
 use Rattle.task.specs.Task.{task_of}
 use Rattle.task.specs.TaskParts.{increase_of, lifted_atom_of, object_of}
@@ -16,8 +16,8 @@ returns-in_ok-extend_from_slice-in-Function c =
     let last = c.extend_from_slice.new.self.items in
     let name = c.function_name-name.ensures in
     subst (λ i. last ≡ old ++ increase_text task objects (increase_of i)) (sym c.in-Function.is)
-    (two_added old (atom_text task (scope_at objects) (function_name task f.predicate) f.terms) (codes " has no value.\n") c.add_atom.new.text.items last
+    (two_added old (atom_text task (scope_at objects []) (function_name task f.predicate) f.terms) (codes " has no value.\n") c.add_atom.new.text.items last
     (c.in_ok-add_atom-in-Function.ensures
     ∙ ap (λ s. old ++ atom_text task s c.function_name-name.result.now f.terms) c.of.ensures
-    ∙ ap (λ n. old ++ atom_text task (scope_at objects) n f.terms) name)
+    ∙ ap (λ n. old ++ atom_text task (scope_at objects []) n f.terms) name)
     c.in_ok-extend_from_slice-in-Function.ensures.items)

@@ -1,5 +1,6 @@
 use Rattle.std.proofs.Common.{Option, ℕ, List, ap, subst}
 use Rattle.std.specs.Prelude.{IfOk}
+use Rattle.explained_plans.specs.NamesView.{names_of}
 use Rattle.task.specs.Task.{task_of}
 use Rattle.file_answers.specs.Files.{reported_in}
 use Rattle.file_answers.proofs.FilesRead.{task_input}
@@ -27,7 +28,7 @@ returns-in-Some-clause-subject c =
     let texts = c.texts_of-texts in
     subst (λ (plan : Option (List ℕ)). IfOk c.explain_plan_file.result (λ e. IsTrueOf c.args.domain.text.now c.args.problem.text.now plan c.args.max_instances e.subject))
     (plan_given texts.result c.args.domain c.args.problem texts.ensures.domain texts.ensures.problem c.args.plan _ c.in-Some.is texts.ensures.plan)
-    (c.explain_plan_file.ensures.subject c.args.domain.text.now c.args.problem.text.now c.args.max_instances c.in-Ok.ensures.task)
+    (c.explain_plan_file.ensures.subject c.args.domain.text.now c.args.problem.text.now c.args.max_instances c.in-Ok.ensures.task.is_task)
 
 pub returns-in-Some-clause-said : goal.returns-in-Some-clause-said
 returns-in-Some-clause-said c =
@@ -35,13 +36,13 @@ returns-in-Some-clause-said c =
     subst (λ (files : Files). IfOk c.explain_plan_file.result (IsSaidOf files))
     (files_given texts.result c.args.domain c.args.problem texts.ensures.domain texts.ensures.problem c.args.plan _ c.in-Some.is texts.ensures.plan)
     (c.explain_plan_file.ensures.said
-    (task_given texts.result c.args.domain c.args.problem texts.ensures.domain texts.ensures.problem (task_of c.in-Ok.task) c.in-Ok.ensures.task))
+    (task_given texts.result c.args.domain c.args.problem texts.ensures.domain texts.ensures.problem (task_of c.in-Ok.named.task) (names_of c.in-Ok.named.names) c.in-Ok.ensures.task))
 
 pub returns-clause-subject : goal.returns-clause-subject
 returns-clause-subject c =
-    task_explained (task_of c.in-Ok.task) c.args.max_instances c.args.domain.text.now c.args.problem.text.now c.in-Ok.ensures.task (text_in c.args.plan) (ap text_in c.in-None.is)
+    task_explained (task_of c.in-Ok.named.task) c.args.max_instances c.args.domain.text.now c.args.problem.text.now c.in-Ok.ensures.task.is_task (text_in c.args.plan) (ap text_in c.in-None.is)
     c.explain_task.result c.explain_task.ensures
 
 pub returns-clause-said : goal.returns-clause-said
 returns-clause-said c =
-    task_said (task_of c.in-Ok.task) c.args.max_instances (files_of c.args.domain c.args.problem c.args.plan) c.explain_task.result c.explain_task.ensures
+    task_said (task_of c.in-Ok.named.task) c.args.max_instances (files_of c.args.domain c.args.problem c.args.plan) c.explain_task.result c.explain_task.ensures

@@ -1,0 +1,34 @@
+-- The names of the variables of quantifiers, in the order of the text: the task has numbers for variables, and no names.
+use Rattle.std.specs.Prelude.{ℕ, List, [], ◌∷◌, drop, slice_get}
+use Rattle.std.specs.Option.{option_map_or}
+use Rattle.model.specs.Task.{Name, Formula, Formulas, atom, equal, and, or, not, imply, exists, forall, no_formula, more_formulas}
+
+-- those in the precondition of each action, in the order of the actions, and those in the goal; a name begins with its `?`
+pub record VariableNames : Type 0 where
+  pub actions : List (List Name)
+  pub goal : List Name
+
+-- those of the action of this number
+abbrev pub names_of_action : VariableNames → ℕ → List Name
+names_of_action names number = option_map_or (λ (those : List Name). those) (slice_get names.actions number) []
+
+-- Of names that begin with those of a formula's variables, the ones behind these.
+abbrev mutual
+  pub behind : Formula → List Name → List Name
+  behind (atom a) names = names
+  behind (equal left right) names = names
+  behind (and parts) names = behind_all parts names
+  behind (or parts) names = behind_all parts names
+  behind (not part) names = behind part names
+  behind (imply premise conclusion) names = behind conclusion (behind premise names)
+  behind (exists types part) names = behind part (drop 1 names)
+  behind (forall types part) names = behind part (drop 1 names)
+
+  pub behind_all : Formulas → List Name → List Name
+  behind_all no_formula names = names
+  behind_all (more_formulas first rest) names = behind_all rest (behind first names)
+
+-- formulas from a list
+abbrev pub formulas : List Formula → Formulas
+formulas [] = no_formula
+formulas (first ∷ rest) = more_formulas first (formulas rest)

@@ -1,0 +1,32 @@
+use Rattle.std.proofs.Common.{IfSome, sym, subst}
+use Rattle.std.proofs.lemmas.Result.{err_from_is_err_and}
+use Rattle.syntax_tree.specs.Tree.{domain_of, problem_of}
+use Rattle.model.specs.Files.{IsTaskFault}
+use Rattle.file_answers.proofs.FilesRead.{pair_reported}
+use Rattle.file_answers.proofs.files.named_task_of_files.Goals as goal
+
+pub returns-in_err-domain-clause-refused : goal.returns-in_err-domain-clause-refused
+returns-in_err-domain-clause-refused c =
+    let p = err_from_is_err_and c.from_residual.result c.from_residual.ensures.1 in
+    rw (p.1, p.2) c.in_err-domain.ensures.refused
+
+pub returns-in_err-task-clause-refused : goal.returns-in_err-task-clause-refused
+returns-in_err-task-clause-refused c =
+    let p = err_from_is_err_and c.from_residual-in_err-task.result c.from_residual-in_err-task.ensures.1 in
+    rw p.1
+    (subst (λ o. IfSome o (IsTaskFault c.args.domain.now c.args.problem.now)) (sym p.2)
+    (pair_reported c.args.domain.now c.args.problem.now (domain_of c.in_ok-domain.field-0.domain) (problem_of c.in_ok-domain.field-0.problem)
+    c.in_ok-domain.ensures.domain c.in_ok-domain.ensures.problem _ c.in_err-task.ensures.least))
+
+pub returns-clause-task : goal.returns-clause-task
+returns-clause-task c = record {
+  is_task = record {
+    domain_tree = domain_of c.in_ok-domain.field-0.domain;
+    problem_tree = problem_of c.in_ok-domain.field-0.problem;
+    domain_reads = c.in_ok-domain.ensures.domain;
+    problem_reads = c.in_ok-domain.ensures.problem;
+    well_typed = c.in_ok-task.ensures.well_typed;
+    resolved = c.in_ok-task.ensures.task;
+  };
+  are_names = c.in_ok-names.ensures;
+}

@@ -1,0 +1,17 @@
+use Rattle.std.proofs.Common.{◌-◌}
+use Rattle.search.specs.Nodes.{expanded_count}
+use Rattle.search.specs.Progress.{nodes_in}
+use Rattle.search.specs.UnderWay.{IsUnderWay}
+use Rattle.search.proofs.under_way.go_on.Given as goal
+
+abbrev pub invariant-turns : goal.invariant-turns
+invariant-turns g l =
+    let t = g.T.TransitionSystem.means l.system in
+    let value = g.G.Guide.estimate_of l.guide in
+    let width = g.T.TransitionSystem.width_of l.system in
+    IsUnderWay t value (g.G.Guide.is_dead l.guide) (g.G.Guide.fits l.guide) g.S.StateStore.states g.S.StateStore.width_of width l.max_states
+    (record { progress = l.progress; buffers = l.buffers })
+
+abbrev pub decreases-turns : goal.decreases-turns
+decreases-turns g l =
+    l.max_states - expanded_count (nodes_in g.S.StateStore.states l.progress)

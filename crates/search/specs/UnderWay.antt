@@ -1,0 +1,33 @@
+-- A search that is under way: what it keeps true from one turn to the next, and where it halts.
+use Rattle.std.specs.Prelude.{◌≡◌, ℕ, ◌≤◌, Bool, List, length}
+use Rattle.model.specs.Runs.{System}
+use Rattle.search.specs.declared.nodes.Node.{Node}
+use Rattle.search.specs.declared.under_way.Halt.{Halt}
+use Rattle.search.specs.declared.under_way.Halt.TheVariants.{Ended, Paused}
+use Rattle.search.specs.declared.under_way.Search.{Search}
+use Rattle.search.specs.Nodes.{AreOpen}
+use Rattle.search.specs.Outcome.{IsTrueOutcome}
+use Rattle.search.specs.Progress.{AreWide, IsSearch, nodes_in}
+
+-- the states that it found
+abbrev pub store_in : {Store R : Type 0} → Search Store R → Store
+store_in search = search.progress.store
+
+-- how it reached each of them
+abbrev pub nodes_of : {Store R : Type 0} → Search Store R → List Node
+nodes_of search = search.progress.nodes.items
+
+module _ {S Store R : Type 0} (t : System S ℕ) (value : S → ℕ) (is_dead : S → Bool) (fits : R → Type 0) (states_of : Store → List S) (width_of : Store → ℕ) (width : ℕ) where
+  -- Between two turns of a search of states of this width, which listed no more of them than it may.
+  pub record IsUnderWay (max_states : ℕ) (s : Search Store R) : Type 0 where
+    pub search : IsSearch t value is_dead states_of s.progress
+    pub are_open : AreOpen t (nodes_in states_of s.progress)
+    pub within : length (states_of (store_in s)) ≤ max_states
+    pub store_width : width_of (store_in s) ≡ width
+    pub buffers : AreWide width s.buffers
+    pub room : fits s.buffers.room
+
+  -- The search ended with a true outcome, or goes on once as many states are listed as it is to pause at.
+  abbrev pub IsTrueHalt : ℕ → ℕ → Halt Store R → Type 0
+  IsTrueHalt pause max_states (Ended outcome) = IsTrueOutcome t value is_dead states_of max_states outcome
+  IsTrueHalt pause max_states (Paused search) = IsUnderWay max_states search × (pause ≤ length (states_of (store_in search)))

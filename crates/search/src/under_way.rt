@@ -1,0 +1,140 @@
+//! A search that is under way: it pauses between two turns, and goes on.
+ghost use Rattle.std.specs.Prelude.{◌≡◌, ◌≤◌, ℕ, [], IfOk};
+ghost use Rattle.model.specs.Limits.{max_states_listed};
+ghost use Rattle.search.specs.OpenList.{IsLeastSum};
+ghost use Rattle.search.specs.Outcome.{IsTrueOutcome};
+ghost use Rattle.search.specs.UnderWay.{store_in, nodes_of, IsUnderWay, IsTrueHalt};
+
+use crate::best::Outcome;
+use crate::guide::Guide;
+use crate::nodes::Node;
+use crate::progress::{Buffers, Progress};
+use crate::transitions::TransitionSystem;
+use faults::NoMemory;
+use packed_state::StateStore;
+use std::alloc::Global;
+
+/// A search that is under way: the states that it found so far, and which of them wait. Its guide's room is an `R`.
+#[derive(Drop)]
+pub struct Search<S, R> {
+    progress: Progress<S>,
+    buffers: Buffers<R>,
+}
+
+/// What a search came to.
+#[derive(Drop)]
+pub enum Halt<S, R> {
+    /// The answer.
+    Ended(Outcome<S>),
+    /// As many states are listed as it was to pause at, and there is no answer yet.
+    Paused(Search<S, R>),
+}
+
+impl<S: StateStore, R> Search<S, R> {
+    /// The states that it found, in the order in which it found them.
+    pub fn store(&self) -> &S
+        ensures { result.now ≡ store_in self.now }
+    {
+        &self.progress.store
+    }
+
+    /// For each of them, in the same order, how it was reached.
+    pub fn nodes(&self) -> &[Node]
+        ensures { result.now ≡ nodes_of self.now }
+    {
+        &self.progress.nodes
+    }
+
+    /// The least sum of cost and estimate in the open list, if anything is in it. Nothing else is claimed of it: an entry may
+    /// be stale, as where a cheaper way to its state was found.
+    pub fn bound(&self) -> Option<u64>
+        ensures { IsLeastSum self.now.progress.open_list result }
+    {
+        self.progress.open_list.least_sum()
+    }
+}
+
+/// Begins a search, which has found the initial state alone.
+pub fn begin<T: TransitionSystem, G: Guide, S: StateStore>(
+    alloc: Global,
+    system: &T,
+    guide: &G,
+    store: S,
+) -> Result<Search<S, G::Room>, NoMemory>
+    requires guide_width { G.width_of guide.now ≡ T.width_of system.now }
+    requires empty { S.states store ≡ [] }
+    requires width { S.width_of store ≡ T.width_of system.now }
+    ensures { IfOk result (λ search. (max_states : ℕ) → 1 ≤ max_states
+        → IsUnderWay (T.means system.now) (G.estimate_of guide.now) (G.is_dead guide.now) (G.fits guide.now) S.states S.width_of (T.width_of system.now) max_states search) }
+{
+    let room = guide.room(alloc)?;
+    let mut buffers = Buffers::new(alloc, system.width(), room)?;
+    let progress = Progress::start(alloc, system, guide, &mut buffers.room, store)?;
+    Ok(Search { progress, buffers })
+}
+
+/// Goes on with the search until it ends, or at least `pause` states are listed. It pauses between two turns alone, so that
+/// more than `pause` may be listed then: all successors of the state that was expanded last are.
+pub fn go_on<T: TransitionSystem, G: Guide, S: StateStore>(
+    alloc: Global,
+    system: &T,
+    guide: &G,
+    search: Search<S, G::Room>,
+    pause: u32,
+    max_states: u32,
+) -> Result<Halt<S, G::Room>, NoMemory>
+    requires made_for { G.system_of guide.now ≡ T.means system.now }
+    requires guide_width { G.width_of guide.now ≡ T.width_of system.now }
+    requires under_way { IsUnderWay (T.means system.now) (G.estimate_of guide.now) (G.is_dead guide.now) (G.fits guide.now) S.states S.width_of (T.width_of system.now) max_states search }
+    requires limit { max_states ≤ max_states_listed }
+    ensures { IfOk result (IsTrueHalt (T.means system.now) (G.estimate_of guide.now) (G.is_dead guide.now) (G.fits guide.now) S.states S.width_of (T.width_of system.now) pause max_states) }
+{
+    let Search {
+        mut progress,
+        mut buffers,
+    } = search;
+    'turns: while progress.store.len() < pause as usize {
+        let Some(turn) = progress.next_waiting() else {
+            return Ok(Halt::Ended(Outcome::Exhausted {
+                states: progress.into_states(),
+            }));
+        };
+        progress.store.get(turn.id.0, &mut buffers.state);
+        if system.meets_goal(&buffers.state) {
+            let cost = progress.nodes[turn.id.0 as usize].cost;
+            let (steps, states) = progress.into_plan(alloc, turn.id)?;
+            return Ok(Halt::Ended(Outcome::Found {
+                steps,
+                cost,
+                states,
+            }));
+        }
+        if !progress.expand(system, guide, &mut buffers, turn, max_states)? {
+            return Ok(Halt::Ended(Outcome::States {
+                bound: turn.sum,
+                states: progress.into_states(),
+            }));
+        }
+    }
+    Ok(Halt::Paused(Search { progress, buffers }))
+}
+
+/// Goes on with the search until it ends.
+pub fn finish<T: TransitionSystem, G: Guide, S: StateStore>(
+    alloc: Global,
+    system: &T,
+    guide: &G,
+    search: Search<S, G::Room>,
+    max_states: u32,
+) -> Result<Outcome<S>, NoMemory>
+    requires made_for { G.system_of guide.now ≡ T.means system.now }
+    requires guide_width { G.width_of guide.now ≡ T.width_of system.now }
+    requires under_way { IsUnderWay (T.means system.now) (G.estimate_of guide.now) (G.is_dead guide.now) (G.fits guide.now) S.states S.width_of (T.width_of system.now) max_states search }
+    requires limit { max_states ≤ max_states_listed }
+    ensures { IfOk result (IsTrueOutcome (T.means system.now) (G.estimate_of guide.now) (G.is_dead guide.now) S.states max_states) }
+{
+    match go_on(alloc, system, guide, search, u32::MAX, max_states)? {
+        Halt::Ended(outcome) => Ok(outcome),
+        Halt::Paused(_) => unreachable!(),
+    }
+}

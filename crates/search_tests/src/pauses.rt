@@ -1,0 +1,79 @@
+//! A search that pauses twice: where it pauses, and that it comes to the answer to which one comes that does not pause.
+ghost use Rattle.std.specs.Prelude.{◌≡◌, []};
+
+use crate::blind_rooms::Blind;
+use crate::rooms::Rooms;
+use crate::searches::{Row, is_reported};
+use crate::signs::Signs;
+use faults::NoMemory;
+use packed_state::{PlainStore, StateStore};
+use search::{
+    EstimateWithDeadEnds, Guide, Halt, Outcome, Search, TransitionSystem, begin, finish, go_on,
+};
+use std::alloc::Global;
+use std::test::Fail;
+
+/// From each room a door leads to the next, at cost 1, and another to the one after that, at cost 5.
+#[rattlefmt::skip]
+static CLIMB: Row = Row {
+    rooms: Rooms { width: 10, first: &[1, 2, 3, 4, 5], second: &[2, 3, 4, 5], first_cost: 1, second_cost: 5, goal: 3 },
+    signs: &[], most: 100, plan: Some((&[1, 1, 1], 3)), limit: None, found: &[0, 1, 2, 3, 4], costs: &[0, 1, 2, 3, 7],
+};
+
+/// How many states a search has listed, how many nodes it has, and the least sum of one that waits.
+type Seen = (usize, usize, Option<u64>);
+
+fn seen<S: StateStore, R>(search: &Search<S, R>) -> Seen {
+    (search.store().len(), search.nodes().len(), search.bound())
+}
+
+/// What is seen of a search that pauses at two states and at four, and what it comes to.
+type InParts<S> = Option<(Seen, Seen, Outcome<S>)>;
+
+fn in_parts<T: TransitionSystem, G: Guide, S: StateStore>(
+    alloc: Global,
+    system: &T,
+    guide: &G,
+    store: S,
+) -> Result<InParts<S>, NoMemory>
+    requires made_for { G.system_of guide.now ≡ T.means system.now }
+    requires guide_width { G.width_of guide.now ≡ T.width_of system.now }
+    requires empty { S.states store ≡ [] }
+    requires width { S.width_of store ≡ T.width_of system.now }
+{
+    let search = begin(alloc, system, guide, store)?;
+    let Halt::Paused(search) = go_on(alloc, system, guide, search, 2, 100)? else {
+        return Ok(None);
+    };
+    let first = seen(&search);
+    let Halt::Paused(search) = go_on(alloc, system, guide, search, 4, 100)? else {
+        return Ok(None);
+    };
+    let second = seen(&search);
+    let outcome = finish(alloc, system, guide, search, 100)?;
+    Ok(Some((first, second, outcome)))
+}
+
+/// The same of the row's rooms, and whether the search comes to what the row says.
+fn climbs(alloc: Global, row: &Row) -> Result<Option<(Seen, Seen, bool)>, NoMemory> {
+    let signs = Signs {
+        rooms: row.rooms,
+        signs: row.signs,
+    };
+    let blind = Blind(row.rooms);
+    let guide = EstimateWithDeadEnds::new(&signs, &blind);
+    let store = PlainStore::new(alloc, row.rooms.width)?;
+    match in_parts(alloc, &row.rooms, &guide, store)? {
+        Some((first, second, outcome)) => {
+            Ok(Some((first, second, is_reported(alloc, &outcome, row)?)))
+        }
+        None => Ok(None),
+    }
+}
+
+#[test]
+fn goes_on_where_it_paused(rt: HostRuntime) -> Result<(), Fail> {
+    let wanted = ((3, 3, Some(1)), (4, 4, Some(2)), true);
+    assert_eq!(rt; climbs(rt.alloc(), &CLIMB)?, Some(wanted));
+    Ok(())
+}

@@ -1,0 +1,40 @@
+-- How far a search of the ground task by an estimate and a test for dead ends came, of as many states as may be listed.
+use Rattle.std.specs.Prelude.{ℕ, Bool, List, length}
+use Rattle.grounding.specs.declared.ground.Ground.{Ground}
+use Rattle.grounding.specs.Ground.{task_in, atoms_in}
+use Rattle.model.specs.Grounding.{ground_system}
+use Rattle.packed_state.specs.PooledView.{pooled_states, pooled_width}
+use Rattle.packed_state.specs.declared.pooled.PooledStore.{PooledStore}
+use Rattle.search.specs.UnderWay as under_way
+use Rattle.search.specs.declared.under_way.Search.{Search}
+use Rattle.solver.specs.declared.searched.Stretch.{Stretch}
+use Rattle.solver.specs.declared.searched.Stretch.TheVariants.{Ended, Paused}
+use Rattle.solver.specs.declared.parts.Part.{Part}
+use Rattle.solver.specs.declared.parts.Part.TheVariants as part
+use Rattle.solver.specs.declared.parts.Parts.{Parts}
+use Rattle.solver.specs.declared.parts.Parts.TheVariants.{ByTables, ByGuide}
+use Rattle.solver.specs.declared.limits.Limits.{Limits}
+use Rattle.solver.specs.Guided.{IsSearched}
+use Rattle.solver.specs.Solver.{IsTrueAnswer}
+
+module _ {R : Type 0} (g : Ground) (estimate : List Bool → ℕ) (is_dead : List Bool → Bool) (fits : R → Type 0) where
+  -- between two turns
+  abbrev pub IsUnderWay : ℕ → Search PooledStore R → Type 0
+  IsUnderWay max_states s =
+      under_way.IsUnderWay (ground_system (task_in g) (atoms_in g)) estimate is_dead fits pooled_states pooled_width (length (atoms_in g)) max_states s
+
+  -- to its end, or to a pause
+  abbrev pub IsStretch : ℕ → Stretch R → Type 0
+  IsStretch max_states (Ended searched) = IsSearched g estimate is_dead max_states searched.outcome searched.marks.items
+  IsStretch max_states (Paused s) = IsUnderWay max_states s
+
+-- an answer by tables, or what the search came to
+abbrev pub IsTrueEnd : (g : Ground) (estimate : List Bool → ℕ) (is_dead : List Bool → Bool) → Limits → Parts → Type 0
+IsTrueEnd g estimate is_dead limits (ByTables answer) = IsTrueAnswer (task_in g) limits.states limits.instances answer
+IsTrueEnd g estimate is_dead limits (ByGuide searched) = IsSearched g estimate is_dead limits.states searched.outcome searched.marks.items
+
+-- such an end, or a search to go on with
+abbrev pub IsTruePart : {R : Type 0} (g : Ground) (estimate : List Bool → ℕ) (is_dead : List Bool → Bool) (fits : R → Type 0) → Limits → Part R → Type 0
+IsTruePart g estimate is_dead fits limits (part.Ended end) = IsTrueEnd g estimate is_dead limits end
+IsTruePart g estimate is_dead fits limits (part.Promising s) = IsUnderWay g estimate is_dead fits limits.states s
+IsTruePart g estimate is_dead fits limits (part.InVain s) = IsUnderWay g estimate is_dead fits limits.states s

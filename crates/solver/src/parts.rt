@@ -1,0 +1,211 @@
+//! A search by potentials that pauses to look for tables.
+ghost use Rattle.std.specs.Prelude.{◌≡◌, [], IfOk, IsTrue, length};
+ghost use Rattle.grounding.specs.Ground.{task_in, atoms_in, IsGroundOf};
+ghost use Rattle.model.specs.Grounding.{ground_system};
+ghost use Rattle.model.specs.WellTyped.{is_task};
+ghost use Rattle.packed_state.specs.PooledView.{pooled_width};
+ghost use Rattle.potentials.specs.Potentials.{potentials_of};
+ghost use Rattle.search.specs.UnderWay.{store_in, nodes_of};
+ghost use Rattle.solver.specs.Attempts.{IfDone};
+ghost use Rattle.solver.specs.Improved.{AreSettledOrHigh, AreDeadSettledOrHigh};
+ghost use Rattle.solver.specs.Solver.{IsTrueAnswer};
+ghost use Rattle.solver.specs.Stopped.{IsStopped};
+ghost use Rattle.solver.specs.Stretches.{IsTrueEnd, IsTruePart, IsUnderWay};
+
+use crate::answer::Answer;
+use crate::attempt::Attempt;
+use crate::by_tables::solve_by_tables;
+use crate::limits::Limits;
+use crate::searched::{Searched, Stretch, begin_by, finish_by, go_on_by};
+use crate::stopped::Stopped;
+use faults::NoMemory;
+use grounding::Ground;
+use packed_state::PooledStore;
+use potentials::Potentials;
+use search::{Guide, Search};
+use std::alloc::Global;
+use tables_drafted::Effort;
+
+/// Where a search by potentials pauses, and how much is looked at for tables then.
+#[derive(Clone, Copy)]
+struct Pause {
+    /// How many states are listed, at least.
+    states: u32,
+    effort: Effort,
+}
+
+/// The first pause. So a task that is solved by fewer states is solved without tables.
+const QUICK: Pause = Pause {
+    states: 100_000,
+    effort: Effort::Quick,
+};
+
+/// The second one, where tables that were found quickly are of some use, but not of enough.
+const THOROUGH: Pause = Pause {
+    states: 500_000,
+    effort: Effort::Thorough,
+};
+
+/// The potentials that a search goes by.
+#[derive(Clone, Copy)]
+pub(crate) struct Given<'a> {
+    pub(crate) potentials: &'a Potentials,
+    /// Those for dead ends.
+    pub(crate) dead_ends: &'a Potentials,
+}
+
+/// What a search in parts comes to.
+#[derive(Drop)]
+pub(crate) enum Parts {
+    /// An answer by tables that were found at a pause.
+    ByTables(Answer),
+    /// The search's own end.
+    ByGuide(Searched),
+}
+
+/// What a part of a search comes to, and a look for tables after it.
+#[derive(Drop)]
+enum Part<R> {
+    /// The end.
+    Ended(Parts),
+    /// No tables, but with more effort some may be found.
+    Promising(Search<PooledStore, R>),
+    /// No tables, and none are expected.
+    InVain(Search<PooledStore, R>),
+}
+
+/// What a search of the ground task by the guide comes to, which goes by these potentials; or the answer by tables, if such are
+/// found at a pause that are better.
+pub(crate) fn search_in_parts<G: Guide>(
+    alloc: Global,
+    ground: &Ground<'_>,
+    guide: &G,
+    given: Given<'_>,
+    limits: Limits,
+) -> Result<Parts, NoMemory>
+    requires typed { IsTrue (is_task (task_in ground.now)) }
+    requires ground { IsGroundOf (task_in ground.now) [] limits.instances ground.now }
+    requires system { G.system_of guide.now ≡ ground_system (task_in ground.now) (atoms_in ground.now) }
+    requires guide_width { G.width_of guide.now ≡ length (atoms_in ground.now) }
+    requires width { length (potentials_of given.potentials.now).weights ≡ length (atoms_in ground.now) }
+    requires improved { AreSettledOrHigh (task_in ground.now) (atoms_in ground.now) (potentials_of given.potentials.now) }
+    requires dead_ends_improved { AreDeadSettledOrHigh (task_in ground.now) (atoms_in ground.now) (potentials_of given.dead_ends.now) }
+    ensures { IfOk result (IsTrueEnd ground.now (G.estimate_of guide.now) (G.is_dead guide.now) limits) }
+{
+    let search = begin_by(alloc, ground, guide, limits)?;
+    match search_to_pause(alloc, ground, guide, search, given, QUICK, limits)? {
+        Part::Ended(parts) => Ok(parts),
+        Part::Promising(search) => search_on(alloc, ground, guide, search, given, limits),
+        Part::InVain(search) => search_to_end(alloc, ground, guide, search, limits),
+    }
+}
+
+/// The same after the first pause.
+fn search_on<G: Guide>(
+    alloc: Global,
+    ground: &Ground<'_>,
+    guide: &G,
+    search: Search<PooledStore, G::Room>,
+    given: Given<'_>,
+    limits: Limits,
+) -> Result<Parts, NoMemory>
+    requires typed { IsTrue (is_task (task_in ground.now)) }
+    requires ground { IsGroundOf (task_in ground.now) [] limits.instances ground.now }
+    requires system { G.system_of guide.now ≡ ground_system (task_in ground.now) (atoms_in ground.now) }
+    requires guide_width { G.width_of guide.now ≡ length (atoms_in ground.now) }
+    requires under_way { IsUnderWay ground.now (G.estimate_of guide.now) (G.is_dead guide.now) (G.fits guide.now) limits.states search }
+    requires width { length (potentials_of given.potentials.now).weights ≡ length (atoms_in ground.now) }
+    requires improved { AreSettledOrHigh (task_in ground.now) (atoms_in ground.now) (potentials_of given.potentials.now) }
+    requires dead_ends_improved { AreDeadSettledOrHigh (task_in ground.now) (atoms_in ground.now) (potentials_of given.dead_ends.now) }
+    ensures { IfOk result (IsTrueEnd ground.now (G.estimate_of guide.now) (G.is_dead guide.now) limits) }
+{
+    match search_to_pause(alloc, ground, guide, search, given, THOROUGH, limits)? {
+        Part::Ended(parts) => Ok(parts),
+        Part::Promising(search) => search_to_end(alloc, ground, guide, search, limits),
+        Part::InVain(search) => search_to_end(alloc, ground, guide, search, limits),
+    }
+}
+
+/// The same after the last pause.
+fn search_to_end<G: Guide>(
+    alloc: Global,
+    ground: &Ground<'_>,
+    guide: &G,
+    search: Search<PooledStore, G::Room>,
+    limits: Limits,
+) -> Result<Parts, NoMemory>
+    requires system { G.system_of guide.now ≡ ground_system (task_in ground.now) (atoms_in ground.now) }
+    requires guide_width { G.width_of guide.now ≡ length (atoms_in ground.now) }
+    requires under_way { IsUnderWay ground.now (G.estimate_of guide.now) (G.is_dead guide.now) (G.fits guide.now) limits.states search }
+    ensures { IfOk result (IsTrueEnd ground.now (G.estimate_of guide.now) (G.is_dead guide.now) limits) }
+{
+    let searched = finish_by(alloc, ground, guide, search, limits)?;
+    Ok(Parts::ByGuide(searched))
+}
+
+/// The search up to a pause, and a look for tables there. There is no pause where no more states may be listed.
+fn search_to_pause<G: Guide>(
+    alloc: Global,
+    ground: &Ground<'_>,
+    guide: &G,
+    search: Search<PooledStore, G::Room>,
+    given: Given<'_>,
+    pause: Pause,
+    limits: Limits,
+) -> Result<Part<G::Room>, NoMemory>
+    requires typed { IsTrue (is_task (task_in ground.now)) }
+    requires ground { IsGroundOf (task_in ground.now) [] limits.instances ground.now }
+    requires system { G.system_of guide.now ≡ ground_system (task_in ground.now) (atoms_in ground.now) }
+    requires guide_width { G.width_of guide.now ≡ length (atoms_in ground.now) }
+    requires under_way { IsUnderWay ground.now (G.estimate_of guide.now) (G.is_dead guide.now) (G.fits guide.now) limits.states search }
+    requires width { length (potentials_of given.potentials.now).weights ≡ length (atoms_in ground.now) }
+    requires improved { AreSettledOrHigh (task_in ground.now) (atoms_in ground.now) (potentials_of given.potentials.now) }
+    requires dead_ends_improved { AreDeadSettledOrHigh (task_in ground.now) (atoms_in ground.now) (potentials_of given.dead_ends.now) }
+    ensures { IfOk result (IsTruePart ground.now (G.estimate_of guide.now) (G.is_dead guide.now) (G.fits guide.now) limits) }
+{
+    if pause.states >= limits.states() {
+        return Ok(Part::InVain(search));
+    }
+    match go_on_by(alloc, ground, guide, search, pause.states, limits)? {
+        Stretch::Ended(searched) => Ok(Part::Ended(Parts::ByGuide(searched))),
+        Stretch::Paused(search) => {
+            match solve_at_pause(alloc, ground, &search, given, pause.effort, limits)? {
+                Attempt::Done(answer) => Ok(Part::Ended(Parts::ByTables(answer))),
+                Attempt::Promising => Ok(Part::Promising(search)),
+                Attempt::InVain => Ok(Part::InVain(search)),
+            }
+        }
+    }
+}
+
+/// The answer by tables, if such are found that are better than the potentials of this search.
+fn solve_at_pause<R>(
+    alloc: Global,
+    ground: &Ground<'_>,
+    search: &Search<PooledStore, R>,
+    given: Given<'_>,
+    effort: Effort,
+    limits: Limits,
+) -> Result<Attempt<Answer>, NoMemory>
+    requires typed { IsTrue (is_task (task_in ground.now)) }
+    requires ground { IsGroundOf (task_in ground.now) [] limits.instances ground.now }
+    requires stopped { IsStopped (store_in search.now) (nodes_of search.now) }
+    requires store_width { pooled_width (store_in search.now) ≡ length (atoms_in ground.now) }
+    requires width { length (potentials_of given.potentials.now).weights ≡ length (atoms_in ground.now) }
+    requires improved { AreSettledOrHigh (task_in ground.now) (atoms_in ground.now) (potentials_of given.potentials.now) }
+    requires dead_ends_improved { AreDeadSettledOrHigh (task_in ground.now) (atoms_in ground.now) (potentials_of given.dead_ends.now) }
+    ensures { IfOk result (IfDone (IsTrueAnswer (task_in ground.now) limits.states limits.instances)) }
+{
+    let Some(bound) = search.bound() else {
+        return Ok(Attempt::InVain);
+    };
+    let stopped = Stopped {
+        bound,
+        store: search.store(),
+        nodes: search.nodes(),
+        potentials: given.potentials,
+        dead_ends: given.dead_ends,
+        effort,
+    };
+    solve_by_tables(alloc, ground, &stopped, limits)
+}

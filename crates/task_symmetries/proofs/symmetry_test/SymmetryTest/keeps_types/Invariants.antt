@@ -1,0 +1,13 @@
+use Rattle.std.proofs.Common.{◌≡◌, ℕ, Bool, true, nat_eq, take}
+use Rattle.std.specs.List.{list_all}
+use Rattle.std.specs.Option.{option_eq}
+use Rattle.symmetries.specs.Symmetries.{declared_type}
+use Rattle.task_symmetries.specs.Pairs.{pair_of}
+use Rattle.task_symmetries.specs.SymmetryTest.{task_tested}
+use Rattle.task_symmetries.proofs.symmetry_test.SymmetryTest.keeps_types.Given as goal
+
+-- the pairs so far are of one type each
+abbrev pub invariant-loop-pair : goal.invariant-loop-pair
+invariant-loop-pair l =
+    let test : ℕ × ℕ → Bool = λ pair. option_eq nat_eq (declared_type (task_tested l.self) pair.0) (declared_type (task_tested l.self) pair.1) in
+    list_all (λ pair. test (pair_of pair)) (take l.pair-index l.pair-items) ≡ true

@@ -1,0 +1,12 @@
+-- The code's exchanges, in the terms of the definitions.
+use Rattle.std.specs.Prelude.{ℕ}
+use Rattle.task_symmetries.specs.declared.exchange.Exchange.{Exchange}
+use Rattle.task_symmetries.specs.Pairs.{pairs_in}
+use Rattle.symmetries.specs.Exchanges as exchanges
+
+abbrev pub exchange_of : Exchange → exchanges.Exchange
+exchange_of e = pairs_in e.pairs.items
+
+-- the object that comes into the place of one
+abbrev pub image : Exchange → ℕ → ℕ
+image e = exchanges.image_of_object (exchange_of e)

@@ -1,0 +1,113 @@
+//! Which places of a list name an object.
+ghost use Rattle.std.specs.Prelude.{◌≡◌, ℕ, ◌<◌, ◌++◌, ◌∷◌, [], ◌==◌, if◌then◌else◌, length, map, slice_get, IfOk, OnOk};
+ghost use Rattle.std.specs.Option.{option_map};
+ghost use Rattle.task.specs.TaskParts.{atom_of, object_of, value_of};
+ghost use Rattle.task_symmetries.specs.Places.{Covers, IsAdded, IsAddedAt, functions_of, row_of};
+
+use faults::NoMemory;
+use indexmap::IndexMap;
+use std::alloc::Global;
+use task::{Atom, ObjectId};
+
+/// For each object, by its number, the places of what names it.
+#[derive(Drop)]
+pub(crate) struct PlacesByObject {
+    alloc: Global,
+    rows: Vec<Vec<usize>>,
+}
+
+impl PlacesByObject {
+    /// Those of the atoms.
+    pub(crate) fn of_atoms(alloc: Global, atoms: &[Atom]) -> Result<PlacesByObject, NoMemory>
+        ensures { IfOk result (Covers (map atom_of atoms.now)) }
+    {
+        let mut places = PlacesByObject::none(alloc);
+        for place in 0..atoms.len() {
+            places.add(atoms[place].objects.as_slice(), place)?;
+        }
+        Ok(places)
+    }
+
+    /// Those of the functions that have values.
+    pub(crate) fn of_functions(
+        alloc: Global,
+        values: &IndexMap<Atom, u32>,
+    ) -> Result<PlacesByObject, NoMemory>
+        ensures { IfOk result (Covers (functions_of (map value_of values.now.entries))) }
+    {
+        let mut places = PlacesByObject::none(alloc);
+        for place in 0..values.len() {
+            places.add_function(values, place)?;
+        }
+        Ok(places)
+    }
+
+    /// The function at this place has this place, if there is one.
+    fn add_function(&mut self, values: &IndexMap<Atom, u32>, place: usize) -> Result<(), NoMemory>
+        ensures { OnOk result (IsAddedAt (functions_of (map value_of values.now.entries)) place self.old self.new) }
+    {
+        match function_at(values, place) {
+            Some(function) => self.add(function.objects.as_slice(), place),
+            None => Ok(()),
+        }
+    }
+
+    /// None for any object.
+    fn none(alloc: Global) -> PlacesByObject
+        ensures { (o : ℕ) → row_of result o ≡ [] }
+    {
+        PlacesByObject {
+            alloc,
+            rows: Vec::new(alloc),
+        }
+    }
+
+    /// The places of what names the object.
+    pub(crate) fn of(&self, object: ObjectId) -> &[usize]
+        ensures { result.now ≡ row_of self.now object.0 }
+    {
+        match self.rows.get(object.0 as usize) {
+            Some(row) => row.as_slice(),
+            None => &[],
+        }
+    }
+
+    /// What is at this place names these objects.
+    fn add(&mut self, objects: &[ObjectId], place: usize) -> Result<(), NoMemory>
+        ensures { OnOk result (IsAdded place (map object_of objects.now) self.old self.new) }
+    {
+        for object in objects {
+            self.grow(*object)?;
+            self.push(*object, place)?;
+        }
+        Ok(())
+    }
+
+    /// Gives the object a row, if it has none.
+    fn grow(&mut self, object: ObjectId) -> Result<(), NoMemory>
+        ensures within { OnOk result (object.0 < length self.new.rows.items) }
+        ensures rows { OnOk result ((o : ℕ) → row_of self.new o ≡ row_of self.old o) }
+    {
+        'rows: while self.rows.len() <= object.0 as usize {
+            self.rows.push(Vec::new(self.alloc))?;
+        }
+        Ok(())
+    }
+
+    /// Adds the place to the object's row.
+    fn push(&mut self, object: ObjectId, place: usize) -> Result<(), NoMemory>
+        requires { object.0 < length self.old.rows.items }
+        ensures { OnOk result ((o : ℕ) → row_of self.new o ≡ (if o == object.0 then row_of self.old o ++ place ∷ [] else row_of self.old o)) }
+    {
+        self.rows[object.0 as usize].push(place)?;
+        Ok(())
+    }
+}
+
+/// The function at this place, if there is one.
+fn function_at(values: &IndexMap<Atom, u32>, place: usize) -> Option<&Atom>
+    ensures { option_map (λ function. atom_of function.now) result ≡ slice_get (functions_of (map value_of values.now.entries)) place }
+{
+    let (function, _) = values.get_index(place)?;
+    Some(function)
+}
