@@ -1,0 +1,5 @@
+pub mod SwappedBits
+pub mod FirstDifference
+pub mod Ranks
+pub mod ImageBits
+pub mod Turns

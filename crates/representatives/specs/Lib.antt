@@ -1,0 +1,3 @@
+pub mod Places
+pub mod Pairs
+pub mod Representatives
