@@ -3,3 +3,4 @@ pub mod FirstDifference
 pub mod Ranks
 pub mod ImageBits
 pub mod Turns
+pub mod Kept

@@ -56,6 +56,12 @@ pub record AreKept (atoms : List Atom) (exchanges : List Exchange) : Type 0 wher
   pub different : list_all (λ (e : Exchange). are_different (objects_in e)) exchanges ≡ true
   pub kept : list_all (keeps_atoms atoms) exchanges ≡ true
 
+-- The bits are those of a state whose representative is that of the state at the start.
+pub record Stands (atoms : List Atom) (exchanges : List Exchange) (start : State) (bits : List Bool) : Type 0 where
+  pub state : State
+  pub is : bits_of_state atoms state ≡ bits
+  pub same : representative atoms exchanges state ≡ representative atoms exchanges start
+
 module _ (atoms : List Atom) (exchanges : List Exchange) (are : AreKept atoms exchanges) where
   abbrev swaps : List (List (ℕ × ℕ))
   swaps = swaps_of_all atoms exchanges
@@ -88,13 +94,7 @@ module _ (atoms : List Atom) (exchanges : List Exchange) (are : AreKept atoms ex
       by_found None is = refl
       by_found (Some e) is = sym (earlier e (Contains-got exchanges n e is) s)
 
-  -- The bits are those of a state whose representative is that of the state at the start.
-  pub record Stands (start : State) (bits : List Bool) : Type 0 where
-    pub state : State
-    pub is : bits_of_state atoms state ≡ bits
-    pub same : representative atoms exchanges state ≡ representative atoms exchanges start
-
-  module _ (start : State) (bits : List Bool) (stands : Stands start bits) where
+  module _ (start : State) (bits : List Bool) (stands : Stands atoms exchanges start bits) where
     abbrev s : State
     s = stands.state
 
@@ -112,7 +112,7 @@ module _ (atoms : List Atom) (exchanges : List Exchange) (are : AreKept atoms ex
 
     -- the first that does in its place
     pub record IsTurn (new : List Bool) : Type 0 where
-      pub after : Stands start new
+      pub after : Stands atoms exchanges start new
       pub less : rank new < rank bits
       pub wide : length new ≡ length bits
 

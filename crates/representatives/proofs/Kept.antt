@@ -1,0 +1,150 @@
+-- What is known of the code's representatives.
+use Rattle.std.proofs.Common.{◌≡◌, ◌∙◌, ℕ, ◌+◌, ◌^◌, ◌<◌, ◌≤◌, ◌⊎◌, inl, inr, Bool, true, false, List, [], ◌∷◌, ◌++◌, map, length, take, get_or, Option, None, Some, refl, sym, ap, subst, arith}
+use Rattle.std.specs.Prelude.{slice_get, nat_lt}
+use Rattle.std.specs.Global.{Vec}
+use Rattle.std.specs.List.{list_all}
+use Rattle.std.specs.Option.{option_map}
+use Rattle.std.proofs.lemmas.Bool.{cases_lt, and_from, and_parts, ltb-true, lt-ltb}
+use Rattle.std.proofs.lemmas.List.{length-map, map-append, take_more, take_all}
+use Rattle.std.proofs.lemmas.List.Folds.{list_all-map}
+use Rattle.std.proofs.lemmas.Option.{slice_get-map, slice_get-get_or}
+use Rattle.task.specs.TaskParts.{atom_of}
+use Rattle.grounding.specs.declared.ground.Ground.{Ground}
+use Rattle.grounding.specs.Ground.{atoms_in}
+use Rattle.model.specs.Task.{Atom}
+use Rattle.model.specs.Meaning.{State}
+use Rattle.model.specs.Fluents.{is_fluent}
+use Rattle.model.specs.Grounding.{state_of_bits, bits_of_state}
+use Rattle.model.proofs.ListLemmas.{Contains-got}
+use Rattle.model.proofs.Tests.{passes_weaker}
+use Rattle.model.proofs.PackedStates.{bits_of-packed_state}
+use Rattle.symmetries.specs.Exchanges.{Exchange, image_of_object, objects_in, are_different}
+use Rattle.symmetries.specs.Quotients.{keeps_atoms, packed_representative}
+use Rattle.symmetries.proofs.ExchangeLemmas.{own_inverse}
+use Rattle.symmetries.proofs.QuotientLemmas.{map_some}
+use Rattle.task_symmetries.specs.declared.exchange.Exchange as code
+use Rattle.task_symmetries.specs.Exchange.{exchange_of}
+use Rattle.representatives.specs.declared.pairs.Pair.{Pair}
+use Rattle.representatives.specs.declared.representatives.Representatives.{Representatives}
+use Rattle.representatives.specs.Places.{swap_of, swaps_of_all, are_within, is_within, is_earlier_at, swapped_at, FindsFrom}
+use Rattle.representatives.specs.Pairs.{pair_of, AreBelow, swap_in, swaps_in}
+use Rattle.representatives.specs.Representatives.{task_of, atoms_of, exchanges_of, swaps_of}
+use Rattle.representatives.proofs.Ranks.{rank}
+use Rattle.representatives.proofs.ImageBits.{numbers_within}
+use Rattle.representatives.proofs.Turns.{AreKept, within, Stands, ends, IsTurn, turns}
+
+all_different : (exchanges : List code.Exchange) → list_all (λ (e : Exchange). are_different (objects_in e)) (map exchange_of exchanges) ≡ true
+all_different [] = refl
+all_different (e ∷ exchanges) =
+    and_from (are_different (objects_in (exchange_of e))) (list_all (λ (x : Exchange). are_different (objects_in x)) (map exchange_of exchanges)) e.different (all_different exchanges)
+
+pub kept_of : (r : Representatives) → AreKept (atoms_of r) (exchanges_of r)
+kept_of r = record { distinct = r.ground.now.numbering.distinct; different = all_different r.exchanges.now; kept = r.kept }
+
+-- the pairs at a place
+pub swap_at : (swaps : List (Vec Pair)) (n : ℕ) (pairs : Vec Pair) → n < length swaps → pairs ≡ get_or swaps n pairs → slice_get (swaps_in swaps) n ≡ Some (swap_in pairs)
+swap_at swaps n pairs inside at =
+    slice_get-map swap_in swaps n ∙ ap (option_map swap_in) (slice_get-get_or swaps n pairs inside ∙ ap Some (sym at))
+
+pub swap_within : (r : Representatives) (n : ℕ) (pairs : Vec Pair) → slice_get (swaps_of r) n ≡ Some (swap_in pairs) → AreBelow (length (atoms_of r)) pairs.items
+swap_within r n pairs at =
+    let drawn = map_some (swap_of (atoms_of r)) (slice_get (exchanges_of r) n) (swap_in pairs)
+    (sym (slice_get-map (swap_of (atoms_of r)) (exchanges_of r) n) ∙ ap (λ l. slice_get l n) (sym r.made) ∙ at) in
+    sym (list_all-map (is_within (length (atoms_of r))) pair_of pairs.items)
+    ∙ ap (are_within (length (atoms_of r))) (sym drawn.2)
+    ∙ within (atoms_of r) (exchanges_of r) (kept_of r) drawn.0 (Contains-got (exchanges_of r) n drawn.0 drawn.1)
+
+-- what is known of the pairs at a place
+pub at_index : (r : Representatives) (n : ℕ) (pairs : Vec Pair) (items : List Pair) → n < length (swaps_of r) → pairs ≡ get_or r.swaps.items n pairs → items ≡ pairs.items
+    → (slice_get (swaps_of r) n ≡ Some (map pair_of items)) × AreBelow (length (atoms_of r)) items
+at_index r n pairs items inside at same =
+    let there = swap_at r.swaps.items n pairs (omega (arith, inside, length-map r.swaps.items swap_in)) at in (
+      there ∙ ap (λ l. Some (map pair_of l)) (sym same),
+      subst (AreBelow (length (atoms_of r))) (sym same) (swap_within r n pairs there),
+    )
+
+-- ---- how they are made
+
+-- the pairs of each exchange so far, and of one more
+pub made_more : (atoms : List Atom) (exchanges : List code.Exchange) (i : ℕ) (e : code.Exchange) (old : List (Vec Pair)) (pairs : Vec Pair) → i < length exchanges → e ≡ get_or exchanges i e
+    → swap_in pairs ≡ swap_of atoms (exchange_of e)
+    → swaps_in old ≡ map (λ (x : code.Exchange). swap_of atoms (exchange_of x)) (take i exchanges)
+    → swaps_in (old ++ pairs ∷ []) ≡ map (λ (x : code.Exchange). swap_of atoms (exchange_of x)) (take (i + 1) exchanges)
+made_more atoms exchanges i e old pairs inside at here before =
+    let f : code.Exchange → List (ℕ × ℕ) = λ x. swap_of atoms (exchange_of x) in
+    map-append swap_in old (pairs ∷ []) ∙ (λ k. before k ++ here k ∷ [])
+    ∙ sym (ap (map f) (take_more exchanges i e inside ∙ ap (λ x. take i exchanges ++ x ∷ []) (sym at)) ∙ map-append f (take i exchanges) (e ∷ []))
+
+pub made_whole : (atoms : List Atom) (exchanges : List code.Exchange) (i : ℕ) (swaps : List (Vec Pair)) → length exchanges ≤ i
+    → swaps_in swaps ≡ map (λ (x : code.Exchange). swap_of atoms (exchange_of x)) (take i exchanges) → swaps_in swaps ≡ swaps_of_all atoms (map exchange_of exchanges)
+made_whole atoms exchanges i swaps past made =
+    made ∙ ap (map (λ (x : code.Exchange). swap_of atoms (exchange_of x))) (take_all i exchanges past) ∙ maps exchanges
+  where
+    maps : (es : List code.Exchange) → map (λ (x : code.Exchange). swap_of atoms (exchange_of x)) es ≡ swaps_of_all atoms (map exchange_of es)
+    maps [] = refl
+    maps (e ∷ es) = ap (λ l. swap_of atoms (exchange_of e) ∷ l) (maps es)
+
+are_within-more : (width more : ℕ) → width ≤ more → (pairs : List (ℕ × ℕ)) → are_within width pairs ≡ true → are_within more pairs ≡ true
+are_within-more width more room pairs all =
+    passes_weaker (is_within width) (is_within more) (λ pair inside.
+    let parts = and_parts (nat_lt pair.0 width) (nat_lt pair.1 width) inside in
+    let lower = ltb-true pair.0 width parts.0 in
+    let upper = ltb-true pair.1 width parts.1 in
+    and_from (nat_lt pair.0 more) (nat_lt pair.1 more) (lt-ltb pair.0 more (omega (arith, lower, room))) (lt-ltb pair.1 more (omega (arith, upper, room)))) pairs all
+
+-- the numbers of atoms are few
+pub numbers_fit : (g : Ground) (e : code.Exchange) (numbers : List (ℕ × ℕ)) → keeps_atoms (atoms_in g) (exchange_of e) ≡ true → numbers ≡ swap_of (atoms_in g) (exchange_of e)
+    → are_within (2 ^ 32) numbers ≡ true
+numbers_fit g e numbers keeps is =
+    let few = g.numbering.few_atoms in
+    let long = length-map g.numbering.atoms.keys atom_of in
+    ap (are_within (2 ^ 32)) is
+    ∙ are_within-more (length (atoms_in g)) (2 ^ 32) (omega (arith, few, long)) (swap_of (atoms_in g) (exchange_of e))
+    (numbers_within (atoms_in g) g.numbering.distinct (image_of_object (exchange_of e)) (own_inverse (exchange_of e) e.different) keeps)
+
+-- ---- the loop
+
+module _ (r : Representatives) where
+  abbrev start_of : List Bool → State
+  start_of bits = state_of_bits (task_of r) (atoms_of r) bits
+
+  -- the bits are those of a state with the representative of the one at the start
+  abbrev pub HaveCome : List Bool → List Bool → Type 0
+  HaveCome start bits = Stands (atoms_of r) (exchanges_of r) (start_of start) bits
+
+  pub starts : (bits : List Bool) → length bits ≡ length (atoms_of r) → HaveCome bits bits
+  starts bits long = record {
+    state = start_of bits;
+    is = bits_of-packed_state (is_fluent (task_of r)) (task_of r).init (atoms_of r) r.ground.now.numbering.fluent r.ground.now.numbering.distinct bits long;
+    same = refl;
+  }
+
+  -- no image comes before, where none does from a number on and none did before it
+  pub has_ended : (start bits : List Bool) → HaveCome start bits → (from : ℕ) (found : Option ℕ) → ((n : ℕ) → n < from → is_earlier_at (swaps_of r) bits n ≡ false)
+      → FindsFrom (swaps_of r) bits from found → ((number : ℕ) → found ≡ Some number → ⊥)
+      → bits ≡ packed_representative (task_of r) (atoms_of r) (exchanges_of r) start
+  has_ended start bits come from (Some number) passed finds none = absurd (none number refl)
+  has_ended start bits come from None passed finds none =
+      ends (atoms_of r) (exchanges_of r) (kept_of r) (start_of start) bits come (λ n. ap (λ swaps. is_earlier_at swaps bits n) (sym r.made) ∙ at n (cases_lt n from))
+    where
+      at : (n : ℕ) → (n < from) ⊎ (from ≤ n) → is_earlier_at (swaps_of r) bits n ≡ false
+      at n (inl below) = passed n below
+      at n (inr past) = finds n past
+
+  -- the first image that comes before has been taken
+  pub record HasTurned (start bits new : List Bool) : Type 0 where
+    pub come : HaveCome start new
+    pub less : rank new < rank bits
+    pub wide : length new ≡ length bits
+
+  pub has_turned : (start bits : List Bool) → HaveCome start bits → (from number : ℕ) → ((n : ℕ) → n < from → is_earlier_at (swaps_of r) bits n ≡ false)
+      → FindsFrom (swaps_of r) bits from (Some number) → (new : List Bool) → new ≡ swapped_at (swaps_of r) bits number → HasTurned start bits new
+  has_turned start bits come from number passed finds new is =
+      let turn = turns (atoms_of r) (exchanges_of r) (kept_of r) (start_of start) bits come number (ap (λ swaps. is_earlier_at swaps bits number) (sym r.made) ∙ finds.0)
+      (λ k less. ap (λ swaps. is_earlier_at swaps bits k) (sym r.made) ∙ at k less (cases_lt k from)) in
+      let same : swapped_at (swaps_of_all (atoms_of r) (exchanges_of r)) bits number ≡ new = ap (λ swaps. swapped_at swaps bits number) (sym r.made) ∙ sym is in
+      subst (HasTurned start bits) same (record { come = turn.after; less = turn.less; wide = turn.wide })
+    where
+      at : (k : ℕ) → k < number → (k < from) ⊎ (from ≤ k) → is_earlier_at (swaps_of r) bits k ≡ false
+      at k less (inl below) = passed k below
+      at k less (inr past) = finds.1 k past less
