@@ -1,6 +1,6 @@
 -- The image of a state by an exchange, bit by bit.
-use Rattle.std.proofs.Common.{◌≡◌, ◌∙◌, ℕ, zero, suc, ◌+◌, ◌<◌, ◌≤◌, inl, inr, Bool, true, false, List, [], ◌∷◌, map, length, get_or, Option, None, Some, refl, sym, ap, arith}
-use Rattle.std.specs.Prelude.{slice_get, cond, nat_lt, filter, IsTrue}
+use Rattle.std.proofs.Common.{◌≡◌, ◌∙◌, ℕ, zero, suc, ◌+◌, ◌<◌, ◌≤◌, Bool, true, false, List, [], ◌∷◌, map, length, get_or, Option, None, Some, refl, sym, ap, arith}
+use Rattle.std.specs.Prelude.{slice_get, cond, nat_lt, filter}
 use Rattle.std.specs.List.{list_all, filter_map, range_with_len, cons_option}
 use Rattle.std.specs.Option.{option_map_or}
 use Rattle.std.specs.FinSet.{contains}
@@ -17,7 +17,7 @@ use Rattle.symmetries.specs.Exchanges.{image_of_atom, image_of_state}
 use Rattle.symmetries.specs.Quotients.{comes_before}
 use Rattle.symmetries.proofs.Lists.{all-at}
 use Rattle.symmetries.proofs.Images.{atom_twice, contains-back}
-use Rattle.task_symmetries.specs.Numbers.{image_number, pair_from, exchanged_numbers}
+use Rattle.task_symmetries.specs.Numbers.{image_number, exchanged_numbers}
 use Rattle.representatives.specs.Places.{is_within, are_within, is_earlier, with_swapped}
 use Rattle.representatives.proofs.SwappedBits.{pair_at, same_bits, length-with_swapped, swapped_places}
 use Rattle.representatives.proofs.FirstDifference.{comes_before-bits, before-bits, by_pairs}

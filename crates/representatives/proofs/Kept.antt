@@ -1,37 +1,40 @@
 -- What is known of the code's representatives.
 use Rattle.std.proofs.Common.{◌≡◌, ◌∙◌, ℕ, ◌+◌, ◌^◌, ◌<◌, ◌≤◌, ◌⊎◌, inl, inr, Bool, true, false, List, [], ◌∷◌, ◌++◌, map, length, take, get_or, Option, None, Some, refl, sym, ap, subst, arith}
-use Rattle.std.specs.Prelude.{slice_get, nat_lt}
+use Rattle.std.specs.Prelude.{slice_get, slice_index, nat_lt, IsTrue}
 use Rattle.std.specs.Global.{Vec}
 use Rattle.std.specs.List.{list_all}
-use Rattle.std.specs.Option.{option_map}
-use Rattle.std.proofs.lemmas.Bool.{cases_lt, and_from, and_parts, ltb-true, lt-ltb}
-use Rattle.std.proofs.lemmas.List.{length-map, map-append, take_more, take_all}
-use Rattle.std.proofs.lemmas.List.Folds.{list_all-map}
-use Rattle.std.proofs.lemmas.Option.{slice_get-map, slice_get-get_or}
+use Rattle.std.specs.Option.{option_map_or}
+use Rattle.std.proofs.lemmas.Bool.{true≢false, cases_lt, and_from, and_parts, ltb-true, lt-ltb}
+use Rattle.std.proofs.lemmas.List.{get_or_read, length-map, map-append, take_more, take_all}
+use Rattle.std.proofs.lemmas.Option.{slice_get_within}
 use Rattle.task.specs.TaskParts.{atom_of}
 use Rattle.grounding.specs.declared.ground.Ground.{Ground}
 use Rattle.grounding.specs.Ground.{atoms_in}
 use Rattle.model.specs.Task.{Atom}
 use Rattle.model.specs.Meaning.{State}
 use Rattle.model.specs.Fluents.{is_fluent}
-use Rattle.model.specs.Grounding.{state_of_bits, bits_of_state}
-use Rattle.model.proofs.ListLemmas.{Contains-got}
+use Rattle.model.specs.Grounding.{state_of_bits}
 use Rattle.model.proofs.Tests.{passes_weaker}
 use Rattle.model.proofs.PackedStates.{bits_of-packed_state}
 use Rattle.symmetries.specs.Exchanges.{Exchange, image_of_object, objects_in, are_different}
+use Rattle.symmetries.specs.Symmetries.{is_symmetry}
 use Rattle.symmetries.specs.Quotients.{keeps_atoms, packed_representative}
 use Rattle.symmetries.proofs.ExchangeLemmas.{own_inverse}
-use Rattle.symmetries.proofs.QuotientLemmas.{map_some}
 use Rattle.task_symmetries.specs.declared.exchange.Exchange as code
 use Rattle.task_symmetries.specs.Exchange.{exchange_of}
+use Rattle.packed_state.specs.Sets.{has}
 use Rattle.representatives.specs.declared.pairs.Pair.{Pair}
 use Rattle.representatives.specs.declared.representatives.Representatives.{Representatives}
-use Rattle.representatives.specs.Places.{swap_of, swaps_of_all, are_within, is_within, is_earlier_at, swapped_at, FindsFrom}
+use Rattle.representatives.specs.Places.{swap_of, swaps_of_all, are_within, is_within, is_earlier, is_earlier_at, swapped_at, FindsFrom}
+use Rattle.representatives.specs.Apart.{AreAllWithin}
+use Rattle.representatives.specs.NewNames.{IsRenamed}
 use Rattle.representatives.specs.Pairs.{pair_of, AreBelow, swap_in, swaps_in}
 use Rattle.representatives.specs.Representatives.{task_of, atoms_of, exchanges_of, swaps_of}
 use Rattle.representatives.proofs.Ranks.{rank}
 use Rattle.representatives.proofs.ImageBits.{numbers_within}
-use Rattle.representatives.proofs.Turns.{AreKept, within, Stands, ends, IsTurn, turns}
+use Rattle.representatives.proofs.ApartLemmas.{swap_at, these_below, passed_on}
+use Rattle.representatives.proofs.NewNames.{renamed}
+use Rattle.representatives.proofs.Turns.{AreKept, all_within, Stands, ends, turns}
 
 all_different : (exchanges : List code.Exchange) → list_all (λ (e : Exchange). are_different (objects_in e)) (map exchange_of exchanges) ≡ true
 all_different [] = refl
@@ -41,40 +44,22 @@ all_different (e ∷ exchanges) =
 pub kept_of : (r : Representatives) → AreKept (atoms_of r) (exchanges_of r)
 kept_of r = record { distinct = r.ground.now.numbering.distinct; different = all_different r.exchanges.now; kept = r.kept }
 
--- the pairs at a place
-pub swap_at : (swaps : List (Vec Pair)) (n : ℕ) (pairs : Vec Pair) → n < length swaps → pairs ≡ get_or swaps n pairs → slice_get (swaps_in swaps) n ≡ Some (swap_in pairs)
-swap_at swaps n pairs inside at =
-    slice_get-map swap_in swaps n ∙ ap (option_map swap_in) (slice_get-get_or swaps n pairs inside ∙ ap Some (sym at))
-
-pub swap_within : (r : Representatives) (n : ℕ) (pairs : Vec Pair) → slice_get (swaps_of r) n ≡ Some (swap_in pairs) → AreBelow (length (atoms_of r)) pairs.items
-swap_within r n pairs at =
-    let drawn = map_some (swap_of (atoms_of r)) (slice_get (exchanges_of r) n) (swap_in pairs)
-    (sym (slice_get-map (swap_of (atoms_of r)) (exchanges_of r) n) ∙ ap (λ l. slice_get l n) (sym r.made) ∙ at) in
-    sym (list_all-map (is_within (length (atoms_of r))) pair_of pairs.items)
-    ∙ ap (are_within (length (atoms_of r))) (sym drawn.2)
-    ∙ within (atoms_of r) (exchanges_of r) (kept_of r) drawn.0 (Contains-got (exchanges_of r) n drawn.0 drawn.1)
+-- all numbers of atoms are below the width
+pub all_below : (r : Representatives) → AreAllWithin (length (atoms_of r)) (swaps_of r)
+all_below r = subst (AreAllWithin (length (atoms_of r))) (sym r.made) (all_within (atoms_of r) (exchanges_of r) (kept_of r))
 
 -- what is known of the pairs at a place
 pub at_index : (r : Representatives) (n : ℕ) (pairs : Vec Pair) (items : List Pair) → n < length (swaps_of r) → pairs ≡ get_or r.swaps.items n pairs → items ≡ pairs.items
     → (slice_get (swaps_of r) n ≡ Some (map pair_of items)) × AreBelow (length (atoms_of r)) items
 at_index r n pairs items inside at same =
-    let there = swap_at r.swaps.items n pairs (omega (arith, inside, length-map r.swaps.items swap_in)) at in (
-      there ∙ ap (λ l. Some (map pair_of l)) (sym same),
-      subst (AreBelow (length (atoms_of r))) (sym same) (swap_within r n pairs there),
+    let within : n < length r.swaps.items = omega (arith, inside, length-map r.swaps.items swap_in) in (
+      swap_at r.swaps.items n pairs within at ∙ ap (λ l. Some (map pair_of l)) (sym same),
+      these_below r.swaps.items n pairs items within at same (length (atoms_of r)) (all_below r),
     )
 
 -- ---- how they are made
 
--- the pairs of each exchange so far, and of one more
-pub made_more : (atoms : List Atom) (exchanges : List code.Exchange) (i : ℕ) (e : code.Exchange) (old : List (Vec Pair)) (pairs : Vec Pair) → i < length exchanges → e ≡ get_or exchanges i e
-    → swap_in pairs ≡ swap_of atoms (exchange_of e)
-    → swaps_in old ≡ map (λ (x : code.Exchange). swap_of atoms (exchange_of x)) (take i exchanges)
-    → swaps_in (old ++ pairs ∷ []) ≡ map (λ (x : code.Exchange). swap_of atoms (exchange_of x)) (take (i + 1) exchanges)
-made_more atoms exchanges i e old pairs inside at here before =
-    let f : code.Exchange → List (ℕ × ℕ) = λ x. swap_of atoms (exchange_of x) in
-    map-append swap_in old (pairs ∷ []) ∙ (λ k. before k ++ here k ∷ [])
-    ∙ sym (ap (map f) (take_more exchanges i e inside ∙ ap (λ x. take i exchanges ++ x ∷ []) (sym at)) ∙ map-append f (take i exchanges) (e ∷ []))
-
+-- once the pairs of each exchange are there
 pub made_whole : (atoms : List Atom) (exchanges : List code.Exchange) (i : ℕ) (swaps : List (Vec Pair)) → length exchanges ≤ i
     → swaps_in swaps ≡ map (λ (x : code.Exchange). swap_of atoms (exchange_of x)) (take i exchanges) → swaps_in swaps ≡ swaps_of_all atoms (map exchange_of exchanges)
 made_whole atoms exchanges i swaps past made =
@@ -83,6 +68,12 @@ made_whole atoms exchanges i swaps past made =
     maps : (es : List code.Exchange) → map (λ (x : code.Exchange). swap_of atoms (exchange_of x)) es ≡ swaps_of_all atoms (map exchange_of es)
     maps [] = refl
     maps (e ∷ es) = ap (λ l. swap_of atoms (exchange_of e) ∷ l) (maps es)
+
+pub made_within : (g : Ground) (exchanges : List code.Exchange) (swaps : List (Vec Pair)) → swaps_in swaps ≡ swaps_of_all (atoms_in g) (map exchange_of exchanges)
+    → list_all (keeps_atoms (atoms_in g)) (map exchange_of exchanges) ≡ true → AreAllWithin (length (atoms_in g)) (swaps_in swaps)
+made_within g exchanges swaps made kept =
+    subst (AreAllWithin (length (atoms_in g))) (sym made)
+    (all_within (atoms_in g) (map exchange_of exchanges) (record { distinct = g.numbering.distinct; different = all_different exchanges; kept = kept }))
 
 are_within-more : (width more : ℕ) → width ≤ more → (pairs : List (ℕ × ℕ)) → are_within width pairs ≡ true → are_within more pairs ≡ true
 are_within-more width more room pairs all =
@@ -148,3 +139,33 @@ module _ (r : Representatives) where
       at : (k : ℕ) → k < number → (k < from) ⊎ (from ≤ k) → is_earlier_at (swaps_of r) bits k ≡ false
       at k less (inl below) = passed k below
       at k less (inr past) = finds.1 k past less
+
+  -- and then no image comes before by an exchange below the number noted beside this one
+  pub still_none : (bits : List Bool) (from number first : ℕ) → ((n : ℕ) → n < from → is_earlier_at (swaps_of r) bits n ≡ false) → FindsFrom (swaps_of r) bits from (Some number)
+      → (new : List Bool) → new ≡ swapped_at (swaps_of r) bits number → first ≡ slice_index r.first_neighbours.items number
+      → (n : ℕ) → n < first → is_earlier_at (swaps_of r) new n ≡ false
+  still_none bits from number first passed finds new is noted n below =
+      ap (λ b. is_earlier_at (swaps_of r) b n) is
+      ∙ passed_on (swaps_of r) r.first_neighbours.items bits number r.apart (λ k less. at k less (cases_lt k from)) n (omega (arith, below, noted))
+    where
+      at : (k : ℕ) → k < number → (k < from) ⊎ (from ≤ k) → is_earlier_at (swaps_of r) bits k ≡ false
+      at k less (inl below) = passed k below
+      at k less (inr past) = finds.1 k past less
+
+-- an exchange whose image comes before has a number noted beside it
+pub noted_at : (r : Representatives) (bits : List Bool) (n noted : ℕ) → is_earlier_at (swaps_of r) bits n ≡ true → noted ≡ get_or r.first_neighbours.items n noted → noted ≡ slice_index r.first_neighbours.items n
+noted_at r bits n noted passes at = get_or_read r.first_neighbours.items n noted (within (slice_get (swaps_of r) n) refl) at 0
+  where
+    within : (found : Option (List (ℕ × ℕ))) → slice_get (swaps_of r) n ≡ found → n < length r.first_neighbours.items
+    within None none = absurd (true≢false (sym passes ∙ ap (λ o. option_map_or (λ pairs. is_earlier pairs (has bits)) o false) none))
+    within (Some pairs) some =
+        let inside = slice_get_within (swaps_of r) n pairs some in
+        let each = r.each in
+        let long = length-map r.swaps.items swap_in in
+        omega (arith, inside, each, long)
+
+pub has_new_names : (r : Representatives) (bits new : List Bool) → new ≡ packed_representative (task_of r) (atoms_of r) (exchanges_of r) bits
+    → IsTrue (list_all (is_symmetry (task_of r)) (exchanges_of r)) → IsRenamed (task_of r) (atoms_of r) bits new
+has_new_names r bits new is all =
+    subst (IsRenamed (task_of r) (atoms_of r) bits) (sym is)
+    (renamed (task_of r) (atoms_of r) (exchanges_of r) r.ground.now.numbering.fluent r.kept all r.ground.now.numbering.statics.task.now.well_typed bits)

@@ -3,4 +3,6 @@ pub mod FirstDifference
 pub mod Ranks
 pub mod ImageBits
 pub mod Turns
+pub mod ApartLemmas
+pub mod NewNames
 pub mod Kept

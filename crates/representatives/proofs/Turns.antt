@@ -1,25 +1,25 @@
 -- Turns of the loop that takes images: as long as one comes before the state, the first of them in its place.
-use Rattle.std.proofs.Common.{◌≡◌, ◌∙◌, ℕ, zero, suc, ◌+◌, ◌<◌, ◌≤◌, inl, inr, Bool, true, false, List, [], ◌∷◌, map, length, get_or, Option, None, Some, refl, sym, ap, subst, arith}
-use Rattle.std.specs.Prelude.{Contains, slice_get, cond, IsTrue}
+use Rattle.std.proofs.Common.{◌≡◌, ◌∙◌, ℕ, zero, suc, ◌<◌, Bool, true, false, List, [], ◌∷◌, map, length, Option, None, Some, refl, sym, ap, arith}
+use Rattle.std.specs.Prelude.{Contains, slice_get}
 use Rattle.std.specs.List.{list_all, find}
 use Rattle.std.specs.Option.{option_map_or}
 use Rattle.std.proofs.lemmas.Bool.{cond-true, cond-false, true≢false}
 use Rattle.std.proofs.lemmas.List.{length-map}
 use Rattle.std.specs.FinSet.{contains}
-use Rattle.model.specs.Task.{Atom, Task}
+use Rattle.model.specs.Task.{Atom}
 use Rattle.model.specs.Meaning.{State}
 use Rattle.model.specs.NumberedAtoms.{are_distinct}
-use Rattle.model.specs.Grounding.{state_of_bits, bits_of_state}
+use Rattle.model.specs.Grounding.{bits_of_state}
 use Rattle.model.proofs.ListLemmas.{Contains-got}
 use Rattle.symmetries.specs.Exchanges.{Exchange, image_of_object, image_of_state, objects_in, are_different}
-use Rattle.symmetries.specs.Quotients.{comes_before, image_before, representative, keeps_atoms, packed_representative}
+use Rattle.symmetries.specs.Quotients.{comes_before, image_before, representative, keeps_atoms}
 use Rattle.symmetries.proofs.Lists.{all-at}
 use Rattle.symmetries.proofs.ExchangeLemmas.{own_inverse}
 use Rattle.symmetries.proofs.RepresentativeLemmas.{are_representatives}
 use Rattle.packed_state.specs.Sets.{has}
-use Rattle.representatives.specs.Places.{swap_of, swaps_of_all, are_within, is_earlier, with_swapped, is_earlier_at, swapped_at, FindsFrom}
-use Rattle.representatives.proofs.SwappedBits.{length-with_swapped}
-use Rattle.representatives.proofs.FirstDifference.{is_before, comes_before-bits}
+use Rattle.representatives.specs.Places.{swap_of, swaps_of_all, are_within, is_earlier, with_swapped, is_earlier_at, swapped_at}
+use Rattle.representatives.specs.Apart.{AreAllWithin}
+use Rattle.representatives.proofs.FirstDifference.{comes_before-bits}
 use Rattle.representatives.proofs.Ranks.{rank, rank-before}
 use Rattle.representatives.proofs.ImageBits.{numbers_within, image_earlier, image_swapped}
 
@@ -73,14 +73,21 @@ module _ (atoms : List Atom) (exchanges : List Exchange) (are : AreKept atoms ex
     keeps : keeps_atoms atoms e ≡ true
     keeps = all-at (keeps_atoms atoms) exchanges e are.kept at
 
-    pub within : are_within (length atoms) (swap_of atoms e) ≡ true
+    within : are_within (length atoms) (swap_of atoms e) ≡ true
     within = numbers_within atoms are.distinct (image_of_object e) both_ways keeps
 
-    pub earlier : (s : State) → comes_before atoms (image_of_state (image_of_object e) s) s ≡ is_earlier (swap_of atoms e) (has (bits_of_state atoms s))
+    earlier : (s : State) → comes_before atoms (image_of_state (image_of_object e) s) s ≡ is_earlier (swap_of atoms e) (has (bits_of_state atoms s))
     earlier s = image_earlier atoms are.distinct (image_of_object e) both_ways keeps s
 
-    pub swapped : (s : State) → bits_of_state atoms (image_of_state (image_of_object e) s) ≡ with_swapped (swap_of atoms e) (bits_of_state atoms s)
+    swapped : (s : State) → bits_of_state atoms (image_of_state (image_of_object e) s) ≡ with_swapped (swap_of atoms e) (bits_of_state atoms s)
     swapped s = image_swapped atoms are.distinct (image_of_object e) both_ways keeps s
+
+  pub all_within : AreAllWithin (length atoms) swaps
+  all_within n = ap (are_within (length atoms)) (at-map (λ pairs. pairs) (swap_of atoms) exchanges n []) ∙ by_found (slice_get exchanges n) refl
+    where
+      by_found : (found : Option Exchange) → slice_get exchanges n ≡ found → are_within (length atoms) (option_map_or (swap_of atoms) found []) ≡ true
+      by_found None is = refl
+      by_found (Some e) is = within e (Contains-got exchanges n e is)
 
   -- the test of a state's image, by bits
   at_number : (s : State) (n : ℕ) → is_earlier_at swaps (bits_of_state atoms s) n

@@ -2,6 +2,7 @@
 //! them all, found bit by bit.
 #![tactic(auto)]
 
+mod neighbours;
 mod pairs;
 mod representatives;
 

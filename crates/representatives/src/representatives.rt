@@ -7,7 +7,9 @@ ghost use Rattle.symmetries.specs.Quotients.{keeps_atoms};
 ghost use Rattle.task_symmetries.specs.Exchange.{exchange_of};
 ghost use Rattle.representatives.specs.Pairs.{pair_of, swaps_in};
 ghost use Rattle.representatives.specs.Places.{swap_of, swaps_of_all};
+ghost use Rattle.representatives.specs.Apart.{AreApartBelow};
 
+use crate::neighbours::first_neighbours;
 use crate::pairs::{Pair, exchange_bits, image_comes_before, pairs_from};
 use faults::NoMemory;
 use grounding::Ground;
@@ -23,17 +25,23 @@ pub struct Representatives<'g, 't, 'e> {
     exchanges: &'e [Exchange],
     /// For each exchange the pairs of numbers of atoms that it takes to each other, by their lower numbers.
     swaps: Vec<Vec<Pair>>,
+    /// For each exchange a number below which none has an atom of it.
+    first_neighbours: Vec<usize>,
     ghost kept: { list_all (keeps_atoms (atoms_in ground.now)) (map exchange_of exchanges.now) ≡ true } by { Prim.hlevel props },
     ghost made: { swaps_in swaps.items ≡ swaps_of_all (atoms_in ground.now) (map exchange_of exchanges.now) } by { Prim.hlevel props },
+    ghost apart: { AreApartBelow (swaps_in swaps.items) first_neighbours.items } by { Prim.hlevel props },
+    ghost each: { length first_neighbours.items ≡ length swaps.items },
 }
 
 impl<'g, 't, 'e> Representatives<'g, 't, 'e> {
-    ghost use Rattle.std.specs.Prelude.{◌<◌};
+    ghost use Rattle.std.specs.Prelude.{◌<◌, IsTrue};
     ghost use Rattle.packed_state.specs.Packed.{bits_of};
     ghost use Rattle.grounding.specs.Ground.{task_in};
+    ghost use Rattle.symmetries.specs.Symmetries.{is_symmetry};
     ghost use Rattle.symmetries.specs.Quotients.{packed_representative};
     ghost use Rattle.representatives.specs.Places.{is_earlier_at, swapped_at, FindsFrom};
     ghost use Rattle.representatives.specs.Representatives.{task_of, atoms_of, exchanges_of, swaps_of};
+    ghost use Rattle.representatives.specs.NewNames.{IsRenamed};
 
     /// Those by these exchanges of the objects of the ground task. `None`, if the image of a numbered atom by one of them has no
     /// number.
@@ -57,24 +65,36 @@ impl<'g, 't, 'e> Representatives<'g, 't, 'e> {
                 None => return Ok(None),
             }
         }
+        let first_neighbours = first_neighbours(alloc, ground.width() as usize, swaps.as_slice())?;
         Ok(Some(Representatives {
             ground,
             exchanges,
             swaps,
+            first_neighbours,
         }))
+    }
+
+    /// The ground task.
+    pub fn ground(&self) -> &'g Ground<'t>
+        ensures task { task_in result.now ≡ task_of self.now }
+        ensures atoms { atoms_in result.now ≡ atoms_of self.now }
+    {
+        self.ground
     }
 
     /// Makes a state its representative: as long as the image by one of the exchanges comes before it, the first such image
     /// takes its place. Of two states the one comes before in which the least atom is true that is true in one of them alone.
-    /// No memory is taken.
+    /// Where the exchanges are symmetries of the task it is the state under other names of objects. No memory is taken.
     pub fn represent(&self, state: &mut Packed)
         requires { length (bits_of state.old) ≡ length (atoms_of self.now) }
-        ensures { bits_of state.new ≡ packed_representative (task_of self.now) (atoms_of self.now) (exchanges_of self.now) (bits_of state.old) }
+        ensures represented { bits_of state.new ≡ packed_representative (task_of self.now) (atoms_of self.now) (exchanges_of self.now) (bits_of state.old) }
+        ensures renamed { IsTrue (list_all (is_symmetry (task_of self.now)) (exchanges_of self.now)) →
+            IsRenamed (task_of self.now) (atoms_of self.now) (bits_of state.old) (bits_of state.new) }
     {
         let mut from = 0;
         'images: while let Some(number) = self.next_before(state, from) {
             self.exchange(number, state);
-            from = 0;
+            from = self.first_neighbours[number];
         }
     }
 

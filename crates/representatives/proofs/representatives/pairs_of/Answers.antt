@@ -1,5 +1,4 @@
-use Rattle.std.proofs.Common.{rules, ◌≡◌, ◌∙◌, true, sym, ap, subst}
-use Rattle.std.specs.Prelude.{is_some}
+use Rattle.std.proofs.Common.{rules, ◌≡◌, ◌∙◌, true, sym, ap}
 use Rattle.grounding.specs.Ground.{atoms_in}
 use Rattle.symmetries.specs.Quotients.{keeps_atoms}
 use Rattle.task_symmetries.specs.Exchange.{exchange_of}

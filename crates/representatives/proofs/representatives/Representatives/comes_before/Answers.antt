@@ -1,4 +1,4 @@
-use Rattle.std.proofs.Common.{rules, ◌≡◌, ◌∙◌, length, get_or, false, sym, ap, subst}
+use Rattle.std.proofs.Common.{◌∙◌, false, sym, ap, subst}
 use Rattle.std.specs.Option.{option_map_or}
 use Rattle.packed_state.specs.Packed.{bits_of}
 use Rattle.packed_state.specs.Sets.{has}
