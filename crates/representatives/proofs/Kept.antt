@@ -7,7 +7,6 @@ use Rattle.std.specs.Option.{option_map_or}
 use Rattle.std.proofs.lemmas.Bool.{true≢false, cases_lt, and_from, and_parts, ltb-true, lt-ltb}
 use Rattle.std.proofs.lemmas.List.{get_or_read, length-map, map-append, take_more, take_all}
 use Rattle.std.proofs.lemmas.Option.{slice_get_within}
-use Rattle.task.specs.TaskParts.{atom_of}
 use Rattle.grounding.specs.declared.ground.Ground.{Ground}
 use Rattle.grounding.specs.Ground.{atoms_in}
 use Rattle.model.specs.Task.{Atom}
@@ -88,7 +87,7 @@ pub numbers_fit : (g : Ground) (e : code.Exchange) (numbers : List (ℕ × ℕ))
     → are_within (2 ^ 32) numbers ≡ true
 numbers_fit g e numbers keeps is =
     let few = g.numbering.few_atoms in
-    let long = length-map g.numbering.atoms.keys atom_of in
+    let long : length (atoms_in g) ≡ length g.numbering.atoms.keys = length-map g.numbering.atoms.keys _ in
     ap (are_within (2 ^ 32)) is
     ∙ are_within-more (length (atoms_in g)) (2 ^ 32) (omega (arith, few, long)) (swap_of (atoms_in g) (exchange_of e))
     (numbers_within (atoms_in g) g.numbering.distinct (image_of_object (exchange_of e)) (own_inverse (exchange_of e) e.different) keeps)
