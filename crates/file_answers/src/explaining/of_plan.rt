@@ -78,6 +78,7 @@ fn explain_verdict(
         text,
         location,
         hints: Vec::new(alloc),
+        further: Vec::new(alloc),
         notes: Vec::new(alloc),
     })
 }
