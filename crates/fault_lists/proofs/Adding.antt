@@ -8,6 +8,7 @@ use Rattle.std.proofs.lemmas.List.Elements.{All-append}
 use Rattle.task_parts.specs.Walk.{found, least_of}
 use Rattle.task_parts.specs.declared.fault.TaskRefusal.{TaskRefusal}
 use Rattle.task_parts.specs.declared.walk.Walk.{Walk}
+use Rattle.task_parts.proofs.Found.{got_twice}
 use Rattle.task_parts.proofs.Least.{found-Some}
 use Rattle.task_parts.proofs.Reports.{on_ok_weaker}
 use Rattle.typing.specs.Task.{refusal_of}
@@ -85,3 +86,11 @@ repeated_step placed_as xs i x below is before after whole names includes =
       subst (λ ns. Includes whole (refused 16 (repeated_after ns (map placed_as rest)))) (sym names) (λ f at. both f (on_right (refused 16 first) (refused 16 later) at)),
       λ f at. both f (on_left (refused 16 first) (refused 16 later) at),
     )
+
+-- the same, reported by the place of the declaration
+pub repeated_step_at : {X : Type 0} (placed_as : X → Placed) (xs : List X) (i : ℕ) (d : X) → i < length xs
+    → (before after : List task.Name) (whole : List TypingFault) → after ≡ with_name before (placed_as (get_or xs i d)).word
+    → Includes whole (refused 16 (repeated_after before (map placed_as (drop i xs))))
+    → Includes whole (refused 16 (repeated_after after (map placed_as (drop (i + 1) xs))))
+    × Includes whole (refused 16 (if is_known before (placed_as (get_or xs i d)).word then placed_as (get_or xs i d) ∷ [] else []))
+repeated_step_at placed_as xs i d below = repeated_step placed_as xs i (get_or xs i d) below (got_twice xs i d below)

@@ -1,19 +1,19 @@
 //! The faults of declarations: of the types of each the first, and each that is declared again.
-ghost use Rattle.std.specs.Prelude.{◌≡◌, [], ◌∷◌, ◌++◌, codes, fold, if◌then◌else◌, length, map, IfOk, OnOk};
+ghost use Rattle.std.specs.Prelude.{◌≡◌, ◌<◌, [], ◌∷◌, ◌++◌, codes, drop, fold, if◌then◌else◌, length, map, take, IfOk, OnOk};
 ghost use Rattle.std.specs.List.{flat_map};
 ghost use Rattle.task_parts.specs.TypedLists.{declared_of};
 ghost use Rattle.task_parts.specs.Scope.{keys_in};
 ghost use Rattle.syntax_tree.specs.Tree.{file_of};
 ghost use Rattle.syntax_tree.specs.Tree as read;
 ghost use Rattle.fault_lists.specs.FaultLists.{Adds};
-ghost use Rattle.model.specs.Trees.{domain_file};
+ghost use Rattle.model.specs.Trees.{domain_file, problem_file};
 ghost use Rattle.model.specs.Typing as typing;
 
 use crate::found::FoundFaults;
 use faults::{Code, NoMemory};
 use indexmap::IndexMap;
 use std::alloc::Global;
-use syntax_tree::{Domain, Name, Predicate as Declaration, Problem};
+use syntax_tree::{Domain, Group, Name, Predicate as Declaration, Problem};
 use task::TypeId;
 use task_parts::domain::declare;
 use task_parts::typed_lists::{Declared, add, collect};
@@ -35,6 +35,14 @@ fn first_type(
     found.gather(&walk)
 }
 
+/// One of some declarations, alone.
+fn alone<'s, 't>(declared: &'s [Declared<'t>], index: usize) -> &'s [Declared<'t>]
+    requires { index < length declared.now }
+    ensures { result.now ≡ take 1 (drop index declared.now) }
+{
+    &declared[index..index + 1]
+}
+
 /// The first unknown type of each of some declarations.
 pub(crate) fn unknown_types(
     alloc: Global,
@@ -45,7 +53,7 @@ pub(crate) fn unknown_types(
     ensures { OnOk result (Adds found.old.gathered.items found.new.gathered.items (typing.type_faults (keys_in names.now.entries) (map declared_of declared.now))) }
 {
     for index in 0..declared.len() {
-        let one = &declared[index..index + 1];
+        let one = alone(declared, index);
         first_type(alloc, found, names, one)?;
     }
     Ok(())
@@ -155,6 +163,24 @@ fn of_declared(
     declare_all(alloc, found, &mut names, declared)
 }
 
+/// The faults of the constants and the objects of two lists, where these are the types.
+fn of_lists<'t>(
+    alloc: Global,
+    found: &mut FoundFaults,
+    types: &TypeTable,
+    constants: &'t [Group<'t>],
+    objects: &'t [Group<'t>],
+) -> Result<(), NoMemory>
+    ensures { OnOk result (Adds found.old.gathered.items found.new.gathered.items
+        (typing.objects_faults (keys_in types.now.by_name.entries)
+        (typing.declared domain_file (map read.group_of constants.now) ++ typing.declared problem_file (map read.group_of objects.now)))) }
+{
+    let mut list = Vec::new(alloc);
+    add(&mut list, TaskFile::Domain, constants)?;
+    add(&mut list, TaskFile::Problem, objects)?;
+    of_declared(alloc, found, types, list.as_slice())
+}
+
 /// The faults of the constants and the objects, where these are the types.
 pub(crate) fn of_objects(
     alloc: Global,
@@ -166,11 +192,9 @@ pub(crate) fn of_objects(
     ensures { OnOk result (Adds found.old.gathered.items found.new.gathered.items
         (typing.objects_faults (keys_in types.now.by_name.entries) (typing.declared_objects (read.domain_of domain.now) (read.problem_of problem.now)))) }
 {
-    let (constants, objects) = (domain.constants.as_slice(), problem.objects.as_slice());
-    let mut list = Vec::new(alloc);
-    add(&mut list, TaskFile::Domain, constants)?;
-    add(&mut list, TaskFile::Problem, objects)?;
-    of_declared(alloc, found, types, list.as_slice())
+    let constants = domain.constants.as_slice();
+    let objects = problem.objects.as_slice();
+    of_lists(alloc, found, types, constants, objects)
 }
 
 /// The faults of the types of the arguments of a predicate or a function.

@@ -1,5 +1,5 @@
 //! The faults of formulas: of each atom and each equality the first.
-ghost use Rattle.std.specs.Prelude.{◌≡◌, ◌++◌, IfOk, OnOk, IsTrue};
+ghost use Rattle.std.specs.Prelude.{◌≡◌, ◌++◌, [], OnOk};
 ghost use Rattle.std.specs.List.{flat_map};
 ghost use Rattle.task_parts.specs.Scope.{known_over, BeginsWith};
 ghost use Rattle.syntax_tree.specs.Tree.{file_of};
@@ -136,25 +136,6 @@ fn of_parts(
     Ok(())
 }
 
-/// The faults of an implication.
-#[cycle(formulas)]
-fn of_both(
-    alloc: Global,
-    found: &mut FoundFaults,
-    globals: &Globals<'_>,
-    variables: &mut IndexMap<Vec<u8>, TypeUnion>,
-    premise: &tree::Formula<'_>,
-    conclusion: &tree::Formula<'_>,
-) -> Result<(), NoMemory>
-    ensures finds { OnOk result (Adds found.old.gathered.items found.new.gathered.items
-        (typing.formula_faults (file_of globals.now.file) (known_over globals.now variables.old.entries) (read.formula_of premise.now)
-        ++ typing.formula_faults (file_of globals.now.file) (known_over globals.now variables.old.entries) (read.formula_of conclusion.now))) }
-    ensures variables { OnOk result (variables.new.entries ≡ variables.old.entries) }
-{
-    of_formula(alloc, found, globals, variables, premise)?;
-    of_formula(alloc, found, globals, variables, conclusion)
-}
-
 /// The faults of a precondition or a goal, where these variables are in scope. They are in scope after it again, and no other.
 #[cycle(formulas)]
 pub(crate) fn of_formula(
@@ -175,7 +156,8 @@ pub(crate) fn of_formula(
         tree::Formula::Or(parts) => of_parts(alloc, found, globals, variables, parts),
         tree::Formula::Not(part) => of_formula(alloc, found, globals, variables, part),
         tree::Formula::Imply(premise, conclusion) => {
-            of_both(alloc, found, globals, variables, premise, conclusion)
+            of_formula(alloc, found, globals, variables, premise)?;
+            of_formula(alloc, found, globals, variables, conclusion)
         }
         tree::Formula::Exists(groups, part) => {
             quantifier(alloc, found, globals, variables, groups, part)

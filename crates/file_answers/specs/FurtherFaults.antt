@@ -1,5 +1,5 @@
 -- The faults of two files beside the first, and what their lines say.
-use Rattle.std.specs.Prelude.{◌≡◌, ℕ, List, All}
+use Rattle.std.specs.Prelude.{◌≡◌, ℕ, nat_le, List, [], ◌++◌, All, codes, length, flat_map, if◌then◌else◌}
 use Rattle.std.specs.String.{string_bytes}
 use Rattle.explained_faults.specs.Explained.{BeginsWith, heading}
 use Rattle.explained_faults.specs.declared.explanation.FileRefusal.{FileRefusal}
@@ -36,6 +36,16 @@ pub record IsToldOf (domain problem name text : List ℕ) (f : FurtherFault) : T
   pub is_fault : IsFaultOfTexts domain problem typed
   pub is_reported : IsReportedAt typed f.fault
   pub says : SayFault name text f.fault (string_bytes f.text)
+
+-- the text ends with these bytes
+abbrev pub EndsWith : (text ending : List ℕ) → Type 0
+EndsWith text ending = (first : List ℕ) × (text ≡ first ++ ending)
+
+-- the lines of such faults, an empty line before each, and after so many a line that there may be more
+abbrev pub further_text : List FurtherFault → List ℕ
+further_text further =
+    flat_map (λ (f : FurtherFault). codes "\n" ++ string_bytes f.text) further
+    ++ (if nat_le 20 (length further) then codes "\nthere may be more faults: mend these first\n" else [])
 
 -- ---- on the way
 

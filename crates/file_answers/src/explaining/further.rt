@@ -1,12 +1,12 @@
 //! The faults of two files beside the first.
-ghost use Rattle.std.specs.Prelude.{IfOk, OnOk};
+ghost use Rattle.std.specs.Prelude.{◌≡◌, IfOk, OnOk};
 ghost use Rattle.std.specs.String.{string_bytes};
-ghost use Rattle.explained_faults.specs.Explained.{BeginsWith};
 ghost use Rattle.typing.specs.Task.{refusal_of};
-ghost use Rattle.file_answers.specs.FurtherFaults.{AreFurther, IsFaultOfTexts, IsReportedAt, SayFault};
-ghost use Rattle.file_answers.specs.Explanations.{IsFaultExplained};
+ghost use Rattle.file_answers.specs.FurtherFaults.{AreFurther, IsFaultOfTexts, IsReportedAt, SayFault, further_text};
+ghost use Rattle.file_answers.specs.Explanations.{IsExplainedAlone, IsFaultExplained};
 ghost use Rattle.source_text.specs.Files.{name_in, text_in};
 
+use crate::explaining::of_plan::joined;
 use crate::explanation::{Explanation, FurtherFault};
 use crate::files::faults_of_files;
 use explained_faults::{FileRefusal, explain_fault};
@@ -25,12 +25,12 @@ pub(super) fn with_further(
     first: FileRefusal,
     alone: Explanation,
 ) -> Result<Explanation, NoMemory>
-    requires { IsFaultExplained texts.now first.file first.code first.span alone }
+    requires { IsExplainedAlone texts.now first.file first.code first.span alone }
     ensures { IfOk result (IsFaultExplained texts.now first.file first.code first.span) }
 {
     let further = further_faults(alloc, texts, first)?;
-    let mut text = alone.text;
-    add_lines(&mut text, &further)?;
+    let more = further_text(alloc, &further)?;
+    let text = joined(alone.text, more.as_str())?;
     Ok(Explanation {
         subject: alone.subject,
         text,
@@ -41,18 +41,19 @@ pub(super) fn with_further(
     })
 }
 
-/// Adds the lines of the faults, an empty line before each; of the most that are told, that there may be more.
-fn add_lines(text: &mut String, further: &[FurtherFault]) -> Result<(), NoMemory>
-    ensures { OnOk result (BeginsWith (string_bytes text.new) (string_bytes text.old)) }
+/// The lines of the faults, an empty line before each; of the most that are told, a line that there may be more.
+fn further_text(alloc: Global, further: &[FurtherFault]) -> Result<String, NoMemory>
+    ensures { IfOk result (λ text. string_bytes text ≡ further_text further.now) }
 {
-    for one in further {
+    let mut text = String::new(alloc);
+    'faults: for fault in further {
         text.push_str("\n")?;
-        text.push_str(one.text.as_str())?;
+        text.push_str(fault.text.as_str())?;
     }
-    if further.len() >= MOST {
-        text.push_str("\nthere may be more faults: mend these first\n")?;
+    if further.len() < MOST {
+        return Ok(text);
     }
-    Ok(())
+    joined(text, "\nthere may be more faults: mend these first\n")
 }
 
 /// The faults of the two files beside this one, where that is a fault of typing: each with its lines.
@@ -65,7 +66,7 @@ fn further_faults(
 {
     let found = faults_of_files(alloc, texts.domain.text, texts.problem.text)?;
     let mut further = Vec::new(alloc);
-    for refusal in &found.gathered {
+    'faults: for refusal in &found.gathered {
         add_fault(alloc, texts, first, &mut further, *refusal)?;
     }
     Ok(further)

@@ -1,6 +1,6 @@
 //! What is said of a file that is refused.
 ghost use Rattle.std.specs.Prelude.{IfOk};
-ghost use Rattle.file_answers.specs.Explanations.{IsFaultExplained, IsOfFault};
+ghost use Rattle.file_answers.specs.Explanations.{IsExplainedAlone, IsOfFault};
 
 use crate::explaining::further::with_further;
 use crate::explanation::{Explanation, Location, Subject};
@@ -36,7 +36,7 @@ fn explain_at(
     code: Code,
     span: Span,
 ) -> Result<Explanation, NoMemory>
-    ensures { IfOk result (IsFaultExplained texts.now file code span) }
+    ensures { IfOk result (IsExplainedAlone texts.now file code span) }
 {
     let fault = FileRefusal { file, code, span };
     let explained = explain_fault(alloc, texts, fault)?;

@@ -154,7 +154,7 @@ fn text_of(
 }
 
 /// One text and then another.
-fn joined(first: String, second: &str) -> Result<String, NoMemory>
+pub(super) fn joined(first: String, second: &str) -> Result<String, NoMemory>
     ensures { IfOk result (λ text. string_bytes text ≡ string_bytes first ++ second.now) }
 {
     let mut text = first;
