@@ -1,10 +1,10 @@
 -- How what is gathered grows.
 use Rattle.std.proofs.Common.{◌≡◌, ◌∙◌, ℕ, zero, suc, ◌<◌, ◌+◌, List, [], ◌∷◌, ◌++◌, map, drop, length, get_or, Option, None, Some, inl, inr, refl, sym, ap, subst, arith, if◌then◌else◌, Result, OnOk}
 use Rattle.std.specs.Prelude.{All, Contains}
-use Rattle.std.specs.List.{flat_map}
+use Rattle.std.specs.List.{flat_map, insert}
 use Rattle.std.specs.Option.{option_map}
 use Rattle.std.proofs.lemmas.List.{drop_more, map-append}
-use Rattle.std.proofs.lemmas.List.Elements.{All-append}
+use Rattle.std.proofs.lemmas.List.Sorted.{All-permutation, IsPermutation-insert}
 use Rattle.task_parts.specs.Walk.{found, least_of}
 use Rattle.task_parts.specs.declared.fault.TaskRefusal.{TaskRefusal}
 use Rattle.task_parts.specs.declared.walk.Walk.{Walk}
@@ -25,12 +25,13 @@ none_added gathered faults = λ all includes among. among
 -- one of the faults is
 pub one_added : (before after : List TaskRefusal) (fault : TaskRefusal) (faults : List TypingFault) → GathersAtMost before after fault → Contains faults (refusal_of fault) → Adds before after faults
 one_added before after fault faults (inl same) at = λ all includes among. subst (AreAmong all) (sym same) among
-one_added before after fault faults (inr more) at = λ all includes among.
-    subst (AreAmong all) (sym more) (All-append (λ (r : TaskRefusal). Contains all (refusal_of r)) before (fault ∷ []) among (alone all (includes (refusal_of fault) at)))
+one_added before after fault faults (inr (place, more)) at = λ all includes among.
+    subst (AreAmong all) (sym more) (All-permutation (λ (r : TaskRefusal). Contains all (refusal_of r)) (fault ∷ before) (insert before place fault) (IsPermutation-insert before place fault)
+    (with_one all (includes (refusal_of fault) at) among))
   where
-    alone : (all : List TypingFault) → Contains all (refusal_of fault) → AreAmong all (fault ∷ [])
-    alone all here zero d below = here
-    alone all here (suc k) d below = absurd (omega (arith, below))
+    with_one : (all : List TypingFault) → Contains all (refusal_of fault) → AreAmong all before → AreAmong all (fault ∷ before)
+    with_one all here among zero r below = here
+    with_one all here among (suc k) r below = among k r (omega (arith, below))
 
 -- the least that a walk found is
 pub gathers : {A E : Type 0} (r : Result A E) (least : TaskRefusal) (walk : Walk) (before after : List TaskRefusal) → walk.least ≡ Some least → OnOk r (GathersAtMost before after least)

@@ -1,5 +1,6 @@
 -- The faults of a pair that are listed.
-use Rattle.std.specs.Prelude.{◌≡◌, ◌⊎◌, ℕ, List, [], ◌∷◌, ◌++◌, map, All, Contains}
+use Rattle.std.specs.Prelude.{◌≡◌, ◌⊎◌, ℕ, List, map, All, Contains}
+use Rattle.std.specs.List.{insert}
 use Rattle.std.specs.Global.{Vec}
 use Rattle.task.specs.TaskParts.{predicate_of}
 use Rattle.task.specs.declared.schemas.Predicate.{Predicate}
@@ -40,9 +41,9 @@ Includes all faults = (f : TypingFault) → Contains faults f → Contains all f
 abbrev pub Adds : (before after : List TaskRefusal) → List TypingFault → Type 0
 Adds before after faults = (all : List TypingFault) → Includes all faults → AreAmong all before → AreAmong all after
 
--- nothing is gathered, or this fault is
+-- nothing is gathered, or this fault is, in some place
 abbrev pub GathersAtMost : (before after : List TaskRefusal) → TaskRefusal → Type 0
-GathersAtMost before after fault = (after ≡ before) ⊎ (after ≡ before ++ fault ∷ [])
+GathersAtMost before after fault = (after ≡ before) ⊎ ((place : ℕ) × (after ≡ insert before place fault))
 
 -- these are the predicates that the domain declares
 abbrev pub ArePredicatesOf : Domain → List (Vec ℕ × Predicate) → Type 0

@@ -1,5 +1,5 @@
 //! Faults are gathered, walk by walk.
-ghost use Rattle.std.specs.Prelude.{◌≡◌, List, [], None, OnOk};
+ghost use Rattle.std.specs.Prelude.{◌≡◌, ◌≤◌, List, [], None, length, OnOk};
 ghost use Rattle.task_parts.specs.Walk.{found, least_of};
 ghost use Rattle.fault_lists.specs.FaultLists.{Adds, GathersAtMost};
 ghost use Rattle.model.specs.Typing.{TypingFault};
@@ -7,7 +7,7 @@ ghost use Rattle.model.specs.Typing.{TypingFault};
 use faults::NoMemory;
 use std::alloc::Global;
 use task_parts::Walk;
-use typing::TaskRefusal;
+use typing::{TaskFile, TaskRefusal};
 
 /// The most faults that are gathered.
 pub const MOST: usize = 1000;
@@ -15,10 +15,8 @@ pub const MOST: usize = 1000;
 /// Faults of a pair of files, each once.
 #[derive(Drop)]
 pub struct FoundFaults {
-    /// Those that are gathered, in the order in which they were found.
+    /// Those that are gathered, the domain's before the problem's, in the order of the text.
     pub gathered: Vec<TaskRefusal>,
-    /// Whether there was one more, which is not.
-    pub has_more: bool,
 }
 
 impl FoundFaults {
@@ -28,7 +26,6 @@ impl FoundFaults {
     {
         FoundFaults {
             gathered: Vec::new(alloc),
-            has_more: false,
         }
     }
 
@@ -42,18 +39,34 @@ impl FoundFaults {
         }
     }
 
-    /// Gathers a fault, if it is not there yet.
+    /// Gathers a fault in its place, if it is not there yet and there is room.
     fn add(&mut self, fault: TaskRefusal) -> Result<(), NoMemory>
         ensures { OnOk result (GathersAtMost self.old.gathered.items self.new.gathered.items fault) }
     {
-        if self.gathered.contains(&fault) {
+        if self.gathered.contains(&fault) || self.gathered.len() >= MOST {
             return Ok(());
         }
-        if self.gathered.len() >= MOST {
-            self.has_more = true;
-            return Ok(());
-        }
-        self.gathered.push(fault)?;
+        let place = place_of(&self.gathered, &fault);
+        self.gathered.insert(place, fault)?;
         Ok(())
     }
+}
+
+/// The place before the first of the faults that comes after this one.
+fn place_of(gathered: &[TaskRefusal], fault: &TaskRefusal) -> usize
+    ensures { result ≤ length gathered.now }
+{
+    match gathered.iter().position(|other| comes_before(fault, other)) {
+        Some(place) => place,
+        None => gathered.len(),
+    }
+}
+
+/// Whether a fault comes before another: the domain's before the problem's, then by their starts, then by their numbers.
+fn comes_before(fault: &TaskRefusal, other: &TaskRefusal) -> bool {
+    if fault.file != other.file {
+        return fault.file == TaskFile::Domain;
+    }
+    let (start, number) = (fault.span.start, fault.code.number());
+    (start, number) < (other.span.start, other.code.number())
 }
