@@ -172,9 +172,9 @@ fn of_types(
 /// actions, the initial state and the goal are one phase, since none of them rests on another:
 ///
 /// - of each declaration the first type that is not known, and each name that is declared again;
-/// - of the parameters of an action or the variables of a quantifier each type that is not known and the first other fault, and
-///   only where they have none, what is wrong below them;
-/// - of each atom, equality and fact the first fault, and of the increases of an action.
+/// - of the parameters of an action or the variables of a quantifier the first fault, and of each of them the first type that is not
+///   known; what is wrong below them only where they have none;
+/// - of each atom, equality and fact the first fault, and one of the increases of an action.
 ///
 /// Left out, though they may be the fault that is reported first, are cycles of types, what is one too many, the metric, and in
 /// the initial state a second start of the total cost and another value of a function. At most [`MOST`](crate::MOST) are gathered.

@@ -129,11 +129,11 @@ fn is_told(
 }
 
 /// Whether a fault may come of the same mistake as another: it is the same, or the same word is refused by the same number, and if that
-/// is a variable, in the same action.
+/// is a variable, in the same action or in the problem.
 fn comes_of(texts: &NamedTexts<'_>, fault: FileRefusal, other: FileRefusal) -> bool {
     let (word, told) = (word_of(texts, fault), word_of(texts, other));
     let is_again = fault.code == other.code && word.eq_ignore_ascii_case(told);
-    is_again && (!word.starts_with(b"?") || are_in_one_action(texts, fault, other))
+    is_again && (!word.starts_with(b"?") || are_in_one_scope(texts, fault, other))
 }
 
 /// The bytes that a fault is reported for.
@@ -142,15 +142,17 @@ fn word_of<'a>(texts: &NamedTexts<'a>, fault: FileRefusal) -> &'a [u8] {
     text.get(fault.span.start..fault.span.end).unwrap_or(b"")
 }
 
-/// Whether two faults are in one file, and no action begins between them.
-fn are_in_one_action(texts: &NamedTexts<'_>, fault: FileRefusal, other: FileRefusal) -> bool {
-    let (start, end) = (
-        fault.span.start.min(other.span.start),
-        fault.span.start.max(other.span.start),
-    );
-    let between = texts.text(fault.file).get(start..end).unwrap_or(b"");
-    fault.file == other.file
-        && !between
-            .windows(b":action".len())
-            .any(|piece| piece.eq_ignore_ascii_case(b":action"))
+/// Whether two faults are in the problem, or in the domain with no action that begins between them.
+fn are_in_one_scope(texts: &NamedTexts<'_>, fault: FileRefusal, other: FileRefusal) -> bool {
+    let start = fault.span.start.min(other.span.start);
+    let end = fault.span.start.max(other.span.start);
+    let between = texts.domain.text.get(start..end).unwrap_or(b"");
+    fault.file == other.file && (fault.file == File::Problem || !has_action(between))
+}
+
+/// Whether an action begins in a piece of a domain.
+fn has_action(piece: &[u8]) -> bool {
+    piece
+        .windows(b":action".len())
+        .any(|word| word.eq_ignore_ascii_case(b":action"))
 }
