@@ -1,10 +1,11 @@
 //! The faults of two files beside the first.
 ghost use Rattle.std.specs.Prelude.{◌≡◌, IfOk, OnOk};
 ghost use Rattle.std.specs.String.{string_bytes};
-ghost use Rattle.typing.specs.Task.{refusal_of};
+ghost use Rattle.typing.specs.Task.{file_of, refusal_of};
 ghost use Rattle.file_answers.specs.FurtherFaults.{AreFurther, IsFaultOfTexts, IsReportedAt, SayFault, further_text};
 ghost use Rattle.file_answers.specs.Explanations.{IsExplainedAlone, IsFaultExplained};
-ghost use Rattle.source_text.specs.Files.{name_in, text_in};
+ghost use Rattle.source_text.specs.Files.{file_view, name_in, text_in};
+ghost use Rattle.model.specs.Files.{of_task};
 
 use crate::explaining::of_plan::joined;
 use crate::explanation::{Explanation, FurtherFault};
@@ -96,14 +97,20 @@ fn add_fault(
 fn in_file(refusal: TaskRefusal) -> FileRefusal
     ensures { IsReportedAt (refusal_of refusal) result }
 {
-    let file = match refusal.file {
-        TaskFile::Domain => File::Domain,
-        TaskFile::Problem => File::Problem,
-    };
     FileRefusal {
-        file,
+        file: one_of_files(refusal.file),
         code: refusal.code,
         span: refusal.span,
+    }
+}
+
+/// A file of a task as one of the files that are given.
+fn one_of_files(file: TaskFile) -> File
+    ensures { file_view result ≡ of_task (file_of file) }
+{
+    match file {
+        TaskFile::Domain => File::Domain,
+        TaskFile::Problem => File::Problem,
     }
 }
 
