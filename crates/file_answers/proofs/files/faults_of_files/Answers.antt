@@ -1,15 +1,14 @@
-use Rattle.std.proofs.Common.{[], arith, subst, sym}
+use Rattle.std.proofs.Common.{arith, subst, sym}
 use Rattle.std.proofs.lemmas.Result.{IfOk-weaker}
-use Rattle.std.specs.Prelude.{All, List}
+use Rattle.std.specs.Prelude.{All}
 use Rattle.syntax_tree.specs.Tree.{domain_of, problem_of}
-use Rattle.task_parts.specs.declared.fault.TaskRefusal.{TaskRefusal}
 use Rattle.typing.specs.Task.{refusal_of}
 use Rattle.file_answers.specs.FurtherFaults.{IsFaultOfTexts}
 use Rattle.file_answers.proofs.files.faults_of_files.Goals as goal
 
 pub returns-in-Ok : goal.returns-in-Ok
 returns-in-Ok c =
-    IfOk-weaker c.listed_faults.result _ (λ found. All (λ (r : TaskRefusal). IsFaultOfTexts c.args.domain.now c.args.problem.now (refusal_of r)) found.gathered.items)
+    IfOk-weaker c.listed_faults.result _ _
     (λ found are k r below. record {
       domain_tree = domain_of c.in-Ok.trees.domain;
       problem_tree = problem_of c.in-Ok.trees.problem;
@@ -21,4 +20,4 @@ returns-in-Ok c =
 
 pub returns-in-At : goal.returns-in-At
 returns-in-At c =
-    subst (All (λ (r : TaskRefusal). IsFaultOfTexts c.args.domain.now c.args.problem.now (refusal_of r))) (sym c.new.ensures) (λ k r below. absurd (omega (arith, below)))
+    subst (All (λ r. IsFaultOfTexts c.args.domain.now c.args.problem.now (refusal_of r))) (sym c.new.ensures) (λ k r below. absurd (omega (arith, below)))
