@@ -18,6 +18,6 @@ returns-in-Ok c =
     })
     c.listed_faults.ensures
 
-pub returns-in-At : goal.returns-in-At
-returns-in-At c =
+pub returns-in-Err-At : goal.returns-in-Err-At
+returns-in-Err-At c =
     subst (All (λ r. IsFaultOfTexts c.args.domain.now c.args.problem.now (refusal_of r))) (sym c.new.ensures) (λ k r below. absurd (omega (arith, below)))

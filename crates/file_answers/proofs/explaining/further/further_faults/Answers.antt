@@ -1,4 +1,3 @@
-use Rattle.std.proofs.Common.{arith, ap, subst, sym}
 use Rattle.file_answers.proofs.explaining.further.further_faults.Goals as goal
 
 pub faults-preserved : goal.faults-preserved

@@ -10,7 +10,7 @@ use Rattle.file_answers.proofs.explaining.further.with_further.Goals as goal
 pub returns : goal.returns
 returns c =
     let old = string_bytes c.args.alone.text in let new = string_bytes c.in_ok-text.text in let more = further_text c.in_ok-further.further.items in
-    let is : new ≡ old ++ more = c.in_ok-text.ensures ∙ ap (λ t. old ++ t) (c.as_str.ensures ∙ c.in_ok-more.ensures ∙ ap further_text c.deref.ensures.value) in
+    let is : new ≡ old ++ more = c.in_ok-text.ensures ∙ ap (λ t. old ++ t) (c.as_str.ensures.value ∙ c.in_ok-more.ensures ∙ ap further_text c.deref.ensures.value) in
     record {
       subject = c.requires.subject;
       located = c.requires.located;
