@@ -11,7 +11,7 @@ use Rattle.solver.proofs.AnswerLemmas.{can_be_marked, searched, most_of_limit}
 use Rattle.search.specs.declared.under_way.Halt.{Halt}
 use Rattle.search.specs.UnderWay.{IsTrueHalt}
 use Rattle.packed_state.specs.PooledView.{pooled_width}
-use Rattle.solver.proofs.searched.go_on_by.Goals as goal
+use Rattle.solver.proofs.searched.stretch_by.Goals as goal
 
 pub go_on-requires-clause-under_way : goal.go_on-requires-clause-under_way
 go_on-requires-clause-under_way g c =
@@ -55,4 +55,4 @@ returns-in-Paused g c =
     let is_dead = g.G.Guide.is_dead guide in
     let t = ground_system (task_in known) (atoms_in known) in
     let halt = subst (IsTrueHalt t estimate is_dead (g.G.Guide.fits guide) pooled_states pooled_width (length (atoms_in known)) c.args.pause c.states.result) c.in-Paused.is c.in_ok-outcome.ensures in
-    subst (λ (n : ℕ). IsUnderWay known estimate is_dead (g.G.Guide.fits guide) n c.in-Paused.search) c.states.ensures halt.0
+    (subst (λ (n : ℕ). IsUnderWay known estimate is_dead (g.G.Guide.fits guide) n c.in-Paused.search) c.states.ensures halt.0, halt.1)

@@ -1,0 +1,23 @@
+-- What is said one line after another.
+use Rattle.std.proofs.Common.{ℕ, Bool, List}
+use Rattle.std.specs.Prelude.{Option}
+use Rattle.devices.specs.Devices.{IsWritten}
+use Rattle.solver.specs.Said.{Stream, AreSaid, nothing, one_more, GoesOn}
+
+-- one line more is said
+pub one_line : (IsLine : List ℕ → Type 0) (wants_memory : Bool) (failures : ℕ) (taken : Option (List ℕ)) (failures_after : ℕ) (taken_after : Option (List ℕ)) (line : List ℕ)
+    → IsLine line → IsWritten wants_memory failures failures_after taken taken_after line → GoesOn IsLine wants_memory failures taken failures_after taken_after
+one_line IsLine wants_memory failures taken failures_after taken_after line is written origin said =
+    one_more (record { failures = failures; taken = taken }) (record { failures = failures_after; taken = taken_after }) line said is written
+
+-- what is said after what was said
+pub said_after : {IsLine : List ℕ → Type 0} {wants_memory : Bool} {before now after : Stream} → AreSaid IsLine wants_memory before now → AreSaid IsLine wants_memory now after
+    → AreSaid IsLine wants_memory before after
+said_after first nothing = first
+said_after first (one_more now after line said is written) = one_more now after line (said_after first said) is written
+
+-- what is said is so of more
+pub said_of_more : {IsLine IsMore : List ℕ → Type 0} {wants_memory : Bool} {before after : Stream} → ((line : List ℕ) → IsLine line → IsMore line)
+    → AreSaid IsLine wants_memory before after → AreSaid IsMore wants_memory before after
+said_of_more more nothing = nothing
+said_of_more more (one_more now after line said is written) = one_more now after line (said_of_more more said) (more line is) written

@@ -1,0 +1,89 @@
+-- What is said of a task while it is solved: the lines, what makes them true, and what a sink took of them.
+use Rattle.std.specs.Prelude.{◌≡◌, ℕ, ◌≤◌, Bool, true, false, List, [], ◌++◌, length, map, codes, count_by, Option, Contains, ⊤}
+use Rattle.std.specs.Fmt.{decimal}
+use Rattle.devices.specs.Devices.{IsWritten}
+use Rattle.packed_state.specs.Store.{AreDistinct}
+use Rattle.solver.specs.declared.progress.Report.{Report}
+use Rattle.solver.specs.declared.progress.Report.TheVariants.{Ground, Search, End}
+use Rattle.model.specs.Task.{Task}
+use Rattle.model.specs.Runs.{CostsAtLeast, IsReachable}
+use Rattle.model.specs.Meaning.{system_of}
+use Rattle.model.specs.NumberedAtoms.{numbered_atoms}
+use Rattle.model.specs.StaticallyFalse.{kept_instances}
+use Rattle.model.specs.Grounding.{ground_system}
+use Rattle.certificate_definitions.specs.Certificates.{Certificate, IsClosedFor}
+use Rattle.model.specs.Claims.{Mark, opened, cut, dead}
+use Rattle.certificate.specs.Certificate.{certificate_of}
+use Rattle.certificate.specs.ListedSets.{Marked, marked}
+use Rattle.solver.specs.declared.answer.Answer.{Answer}
+use Rattle.solver.specs.declared.answer.Answer.TheVariants.{Plan, Unsolvable, Unknown}
+use Rattle.solver.specs.declared.answer.Exceeded.TheVariants.{Instances, Atoms, States}
+
+-- the line of a report: `key=value`, with a space between two
+abbrev pub line_of : Report → List ℕ
+line_of (Ground instances atoms) =
+    codes "progress=ground instances=" ++ (decimal instances ++ (codes " atoms=" ++ (decimal atoms ++ codes "\n")))
+line_of (Search bound listed expanded) =
+    codes "progress=search bound=" ++ (decimal bound ++ (codes " listed=" ++ (decimal listed ++ (codes " expanded=" ++ (decimal expanded ++ codes "\n")))))
+line_of (End listed expanded) =
+    codes "progress=end listed=" ++ (decimal listed ++ (codes " expanded=" ++ (decimal expanded ++ codes "\n")))
+
+-- So many different states are reachable: sets of the numbers of atoms, as the ground task has them.
+abbrev pub AreReachable : Task → ℕ → Type 0
+AreReachable task count =
+    let t = ground_system task (numbered_atoms task []) in
+    (states : List (List Bool)) × AreDistinct states × ((s : List Bool) → Contains states s → IsReachable t s) × (length states ≡ count)
+
+-- what is said of a certificate at the end: how many states it lists, and how many of them are open
+abbrev pub is_opened : Mark → Bool
+is_opened opened = true
+is_opened (cut rest) = false
+is_opened dead = false
+
+abbrev pub is_open : Marked → Bool
+is_open line = is_opened line.mark
+
+abbrev pub report_of : Certificate → Report
+report_of certificate = End (length certificate.lines) (count_by is_open (map marked certificate.lines))
+
+-- The report is true of the task: so many of its instances are kept, and so many of its atoms have numbers; or every list of instances that
+-- solves it costs at least the bound, so many of its states were found to be reachable, and no more of them were expanded; or a
+-- closed certificate of it lists so many states, so many of them as open.
+abbrev pub IsTrueReport : Task → Report → Type 0
+IsTrueReport task (Ground instances atoms) = (instances ≡ length (kept_instances task)) × (atoms ≡ length (numbered_atoms task []))
+IsTrueReport task (Search bound listed expanded) = CostsAtLeast (system_of task) bound × AreReachable task listed × (expanded ≤ listed)
+IsTrueReport task (End listed expanded) = (certificate : Certificate) × IsClosedFor task certificate × (End listed expanded ≡ report_of certificate)
+
+-- the line is that of a true report
+abbrev pub IsTrueLine : Task → List ℕ → Type 0
+IsTrueLine task line = (report : Report) × (line ≡ line_of report) × IsTrueReport task report
+
+-- a sink at one time: how often it failed, and what it took, where that is known
+pub record Stream : Type 0 where
+  pub failures : ℕ
+  pub taken : Option (List ℕ)
+
+-- Between two times a sink took such lines alone, one after another: each whole, or a beginning of it where the sink counted a
+-- failure, or is one that may want memory.
+pub data AreSaid (IsLine : List ℕ → Type 0) (wants_memory : Bool) (before : Stream) : Stream → Type 0 where
+  nothing : AreSaid IsLine wants_memory before before
+  one_more : (now after : Stream) (line : List ℕ) → AreSaid IsLine wants_memory before now → IsLine line
+      → IsWritten wants_memory now.failures after.failures now.taken after.taken line → AreSaid IsLine wants_memory before after
+
+-- The last line was that of the end: where the answer has a certificate, of this.
+abbrev pub EndsBy : Bool → (failures : ℕ) (taken : Option (List ℕ)) → Certificate → Type 0
+EndsBy wants_memory failures taken certificate =
+    (now : Stream) × IsWritten wants_memory now.failures failures now.taken taken (line_of (report_of certificate))
+
+abbrev pub HasEnded : Bool → (failures : ℕ) (taken : Option (List ℕ)) → Answer → Type 0
+HasEnded wants_memory failures taken (Plan steps cost cert) = EndsBy wants_memory failures taken (certificate_of cert)
+HasEnded wants_memory failures taken (Unsolvable cert) = EndsBy wants_memory failures taken (certificate_of cert)
+HasEnded wants_memory failures taken (Unknown Instances) = ⊤
+HasEnded wants_memory failures taken (Unknown Atoms) = ⊤
+HasEnded wants_memory failures taken (Unknown (States least cert)) = EndsBy wants_memory failures taken (certificate_of cert)
+
+-- Whatever was said before, such lines alone were said since.
+abbrev pub GoesOn : (IsLine : List ℕ → Type 0) → Bool → (failures : ℕ) (taken : Option (List ℕ)) (failures_after : ℕ) (taken_after : Option (List ℕ)) → Type 0
+GoesOn IsLine wants_memory failures taken failures_after taken_after =
+    (origin : Stream) → AreSaid IsLine wants_memory origin (record { failures = failures; taken = taken })
+    → AreSaid IsLine wants_memory origin (record { failures = failures_after; taken = taken_after })

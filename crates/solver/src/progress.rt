@@ -1,0 +1,101 @@
+//! What is said of a search while it goes on: lines of `key=value`, for scripts.
+ghost use Rattle.std.specs.Prelude.{◌≡◌, IfOk, OnOk};
+ghost use Rattle.std.specs.String.{string_bytes};
+ghost use Rattle.devices.specs.Devices.{IsWritten};
+ghost use Rattle.solver.specs.Said.{GoesOn, IsTrueLine, IsTrueReport, line_of};
+ghost use Rattle.model.specs.Task.{Task};
+
+use devices::{IoFault, Sink, write_all};
+use faults::NoMemory;
+use std::alloc::{AllocError, Global};
+
+/// How far a task is solved.
+#[derive(Clone, Copy, Debug, PartialEq, Eq)]
+pub enum Report {
+    /// The ground task is made.
+    Ground {
+        /// How many instances are kept.
+        instances: usize,
+        /// How many atoms have numbers.
+        atoms: usize,
+    },
+    /// A search is under way.
+    Search {
+        /// Every plan costs at least this.
+        bound: u64,
+        /// How many states it lists.
+        listed: usize,
+        /// How many of them it expanded.
+        expanded: usize,
+    },
+    /// There is an answer with a certificate.
+    End {
+        /// How many states the certificate lists.
+        listed: usize,
+        /// How many of them are open: these were expanded.
+        expanded: usize,
+    },
+}
+
+impl Report {
+    /// Its line.
+    fn line(self, alloc: Global) -> Result<String, AllocError>
+        ensures { IfOk result (λ line. string_bytes line ≡ line_of self) }
+    {
+        match self {
+            Report::Ground { instances, atoms } => {
+                format!(in alloc; "progress=ground instances={instances} atoms={atoms}\n")
+            }
+            Report::Search {
+                bound,
+                listed,
+                expanded,
+            } => {
+                format!(in alloc; "progress=search bound={bound} listed={listed} expanded={expanded}\n")
+            }
+            Report::End { listed, expanded } => {
+                format!(in alloc; "progress=end listed={listed} expanded={expanded}\n")
+            }
+        }
+    }
+}
+
+/// Writes the report's line. That the sink fails changes nothing else; it may then have taken a beginning of the line.
+///
+/// # Errors
+/// Memory for the line is refused. Then nothing is written.
+pub(crate) fn say<E: Sink>(alloc: Global, report: Report, err: &mut E) -> Result<(), NoMemory>
+    ensures said { (task : Task) → IsTrueReport task report → GoesOn (IsTrueLine task) E.wants_memory (E.failures err.old) (E.taken err.old) (E.failures err.new) (E.taken err.new) }
+    ensures written { OnOk result (IsWritten E.wants_memory (E.failures err.old) (E.failures err.new) (E.taken err.old) (E.taken err.new) (line_of report)) }
+{
+    match report.line(alloc) {
+        Ok(line) => {
+            write(err, line.as_bytes());
+            Ok(())
+        }
+        Err(AllocError) => Err(NoMemory),
+    }
+}
+
+/// Writes these bytes, as far as the sink takes them.
+fn write<E: Sink>(err: &mut E, bytes: &[u8])
+    ensures { IsWritten E.wants_memory (E.failures err.old) (E.failures err.new) (E.taken err.old) (E.taken err.new) bytes.now }
+{
+    let _ = write_all(err, bytes);
+}
+
+/// A sink that hears nothing: whatever is said is dropped.
+#[derive(Drop)]
+pub(crate) struct Unheard;
+
+impl Sink for Unheard {
+    ghost use Rattle.std.specs.Prelude.{None};
+
+    ghost failures = { λ _. 0 };
+
+    ghost taken = { λ _. None };
+
+    fn write(&mut self, piece: &[u8]) -> Result<usize, IoFault> {
+        Ok(piece.len())
+    }
+}
