@@ -4,3 +4,4 @@ pub mod Explanations
 pub mod Files
 pub mod Inputs
 pub mod QuantifiedNames
+pub mod SaidOf

@@ -1,5 +1,5 @@
 -- What is said one line after another.
-use Rattle.std.proofs.Common.{ℕ, Bool, List}
+use Rattle.std.proofs.Common.{◌≡◌, ℕ, Bool, List, refl}
 use Rattle.std.specs.Prelude.{Option}
 use Rattle.devices.specs.Devices.{IsWritten}
 use Rattle.solver.specs.Said.{Stream, AreSaid, nothing, one_more, GoesOn}
@@ -21,3 +21,14 @@ pub said_of_more : {IsLine IsMore : List ℕ → Type 0} {wants_memory : Bool} {
     → AreSaid IsLine wants_memory before after → AreSaid IsMore wants_memory before after
 said_of_more more nothing = nothing
 said_of_more more (one_more now after line said is written) = one_more now after line (said_of_more more said) (more line is) written
+
+pub goes_on_of_more : (IsLine IsMore : List ℕ → Type 0) (wants_memory : Bool) (failures : ℕ) (taken : Option (List ℕ)) (failures_after : ℕ) (taken_after : Option (List ℕ))
+    → ((line : List ℕ) → IsLine line → IsMore line) → GoesOn IsLine wants_memory failures taken failures_after taken_after
+    → GoesOn IsMore wants_memory failures taken failures_after taken_after
+goes_on_of_more IsLine IsMore wants_memory failures taken failures_after taken_after more goes_on origin said =
+    said_after said (said_of_more more (goes_on (record { failures = failures; taken = taken }) nothing))
+
+-- nothing is said where no line may be
+pub none_said : (IsLine : List ℕ → Type 0) (wants_memory : Bool) (before after : Stream) → ((line : List ℕ) → IsLine line → ⊥) → AreSaid IsLine wants_memory before after → after ≡ before
+none_said IsLine wants_memory before after none nothing = refl
+none_said IsLine wants_memory before after none (one_more now after line said is written) = absurd (none line is)
