@@ -4,9 +4,10 @@ use Rattle.std.specs.Fmt.{decimal}
 use Rattle.devices.specs.Devices.{IsWritten}
 use Rattle.packed_state.specs.Store.{AreDistinct}
 use Rattle.solver.specs.declared.progress.Report.{Report}
-use Rattle.solver.specs.declared.progress.Report.TheVariants.{Ground, Search, End}
+use Rattle.solver.specs.declared.progress.Report.TheVariants.{Ground, Search, Limit, End}
+use Rattle.solver.specs.declared.progress.RaisedBy.TheVariants as raised_by
 use Rattle.model.specs.Task.{Task}
-use Rattle.model.specs.Runs.{CostsAtLeast, IsReachable}
+use Rattle.model.specs.Runs.{System, CostsAtLeast, IsReachable}
 use Rattle.model.specs.Meaning.{system_of}
 use Rattle.model.specs.NumberedAtoms.{numbered_atoms}
 use Rattle.model.specs.StaticallyFalse.{kept_instances}
@@ -25,14 +26,14 @@ line_of (Ground instances atoms) =
     codes "progress=ground instances=" ++ (decimal instances ++ (codes " atoms=" ++ (decimal atoms ++ codes "\n")))
 line_of (Search bound listed expanded) =
     codes "progress=search bound=" ++ (decimal bound ++ (codes " listed=" ++ (decimal listed ++ (codes " expanded=" ++ (decimal expanded ++ codes "\n")))))
+line_of (Limit raised_by.States) = codes "progress=limit raise=--states\n"
+line_of (Limit raised_by.Instances) = codes "progress=limit raise=--instances\n"
 line_of (End listed expanded) =
     codes "progress=end listed=" ++ (decimal listed ++ (codes " expanded=" ++ (decimal expanded ++ codes "\n")))
 
--- So many different states are reachable: sets of the numbers of atoms, as the ground task has them.
-abbrev pub AreReachable : Task → ℕ → Type 0
-AreReachable task count =
-    let t = ground_system task (numbered_atoms task []) in
-    (states : List (List Bool)) × AreDistinct states × ((s : List Bool) → Contains states s → IsReachable t s) × (length states ≡ count)
+-- so many different states are reachable
+abbrev pub AreReachable : {S A : Type 0} → System S A → ℕ → Type 0
+AreReachable {S} t count = (states : List S) × AreDistinct states × ((s : S) → Contains states s → IsReachable t s) × (length states ≡ count)
 
 -- what is said of a certificate at the end: how many states it lists, and how many of them are open
 abbrev pub is_opened : Mark → Bool
@@ -47,11 +48,12 @@ abbrev pub report_of : Certificate → Report
 report_of certificate = End (length certificate.lines) (count_by is_open (map marked certificate.lines))
 
 -- The report is true of the task: so many of its instances are kept, and so many of its atoms have numbers; or every list of instances that
--- solves it costs at least the bound, so many of its states were found to be reachable, and no more of them were expanded; or a
--- closed certificate of it lists so many states, so many of them as open.
+-- solves it costs at least the bound, so many states of the ground task are reachable, and no more of them were expanded; or a
+-- closed certificate of it lists so many states, so many of them as open. Of a limit nothing is claimed.
 abbrev pub IsTrueReport : Task → Report → Type 0
 IsTrueReport task (Ground instances atoms) = (instances ≡ length (kept_instances task)) × (atoms ≡ length (numbered_atoms task []))
-IsTrueReport task (Search bound listed expanded) = CostsAtLeast (system_of task) bound × AreReachable task listed × (expanded ≤ listed)
+IsTrueReport task (Search bound listed expanded) = CostsAtLeast (system_of task) bound × AreReachable (ground_system task (numbered_atoms task [])) listed × (expanded ≤ listed)
+IsTrueReport task (Limit option) = ⊤
 IsTrueReport task (End listed expanded) = (certificate : Certificate) × IsClosedFor task certificate × (End listed expanded ≡ report_of certificate)
 
 -- the line is that of a true report

@@ -6,7 +6,8 @@ ghost use Rattle.potentials_improved.specs.FairPotentials.{potentials_in, ground
 ghost use Rattle.solver.specs.Guidance.{estimate_by, reports_dead};
 ghost use Rattle.solver.specs.Guided.{IsGuidanceFor, IsSearched};
 ghost use Rattle.solver.specs.Improved.{AreSettledOrHigh, AreDeadSettledOrHigh};
-ghost use Rattle.solver.specs.Said.{GoesOn, HasEnded, IsTrueLine, is_open, report_of};
+ghost use Rattle.solver.specs.Said.{GoesOn, HasEnded, IsTrueLine, IsTrueReport, is_open, report_of};
+ghost use Rattle.model.specs.NumberedAtoms.{numbered_atoms};
 ghost use Rattle.solver.specs.Solver.{IsTrueAnswer};
 ghost use Rattle.solver.specs.Written.{guidance_of};
 ghost use Rattle.certificate.specs.Certificate.{certificate_of};
@@ -19,7 +20,7 @@ use crate::improved::improved;
 use crate::limits::Limits;
 use crate::listing::cert_of;
 use crate::parts::{Given, Parts, search_in_parts};
-use crate::progress::{Report, Unheard, say};
+use crate::progress::{RaisedBy, Report, Unheard, say};
 use crate::searched::Searched;
 use crate::steps::plan_of;
 use certificate::{Cert, Claim, Listed, Mark};
@@ -116,18 +117,18 @@ pub fn solve_and_say<E: Sink>(
     ensures ended { IfOk result (HasEnded E.wants_memory (E.failures err.new) (E.taken err.new)) }
 {
     match Ground::new(alloc, task, &[], limits.instances()) {
-        Ok(ground) => {
-            let answer = solve_ground(alloc, &ground, limits, err)?;
-            say_end(alloc, &answer, err)?;
-            Ok(answer)
+        Ok(ground) => solve_ground(alloc, &ground, limits, err),
+        Err(Refused::At(GroundLimit::Instances)) => {
+            say(alloc, Report::Limit(RaisedBy::Instances), err)?;
+            Ok(Answer::Unknown(Exceeded::Instances))
         }
-        Err(Refused::At(GroundLimit::Instances)) => Ok(Answer::Unknown(Exceeded::Instances)),
         Err(Refused::At(GroundLimit::Atoms)) => Ok(Answer::Unknown(Exceeded::Atoms)),
         Err(Refused::NoMemory) => Err(NoMemory),
     }
 }
 
-/// Says how many states the certificate of an answer lists, if it has one, and how many of them are open.
+/// Says how many states the certificate of an answer lists, if it has one, and how many of them are open; and before it which option
+/// raises the limit that is exceeded, if one does.
 fn say_end<E: Sink>(alloc: Global, answer: &Answer, err: &mut E) -> Result<(), NoMemory>
     ensures said { (task : model.Task) (states instances : ℕ) → IsTrueAnswer task states instances answer.now → GoesOn (IsTrueLine task) E.wants_memory (E.failures err.old) (E.taken err.old) (E.failures err.new) (E.taken err.new) }
     ensures ended { OnOk result (HasEnded E.wants_memory (E.failures err.new) (E.taken err.new) answer.now) }
@@ -135,8 +136,14 @@ fn say_end<E: Sink>(alloc: Global, answer: &Answer, err: &mut E) -> Result<(), N
     match answer {
         Answer::Plan { cert, .. } => say(alloc, end_of(cert), err),
         Answer::Unsolvable { cert } => say(alloc, end_of(cert), err),
-        Answer::Unknown(Exceeded::States { cert, .. }) => say(alloc, end_of(cert), err),
-        Answer::Unknown(Exceeded::Instances | Exceeded::Atoms) => Ok(()),
+        Answer::Unknown(Exceeded::States { cert, .. }) => {
+            say(alloc, Report::Limit(RaisedBy::States), err)?;
+            say(alloc, end_of(cert), err)
+        }
+        Answer::Unknown(Exceeded::Instances) => {
+            say(alloc, Report::Limit(RaisedBy::Instances), err)
+        }
+        Answer::Unknown(Exceeded::Atoms) => Ok(()),
     }
 }
 
@@ -174,12 +181,37 @@ fn solve_ground<E: Sink>(
     requires ground { IsGroundOf (task_in ground.now) [] limits.instances ground.now }
     ensures answer { IfOk result (IsTrueAnswer (task_in ground.now) limits.states limits.instances) }
     ensures said { GoesOn (IsTrueLine (task_in ground.now)) E.wants_memory (E.failures err.old) (E.taken err.old) (E.failures err.new) (E.taken err.new) }
+    ensures ended { IfOk result (HasEnded E.wants_memory (E.failures err.new) (E.taken err.new)) }
 {
-    let report = Report::Ground {
+    say(alloc, ground_report(ground), err)?;
+    let answer = solve_said(alloc, ground, limits, err)?;
+    say_end(alloc, &answer, err)?;
+    Ok(answer)
+}
+
+/// How large the ground task is.
+fn ground_report(ground: &Ground<'_>) -> Report
+    requires { atoms_in ground.now ≡ numbered_atoms (task_in ground.now) [] }
+    ensures { IsTrueReport (task_in ground.now) result }
+{
+    Report::Ground {
         instances: ground.instances().len(),
         atoms: ground.width() as usize,
-    };
-    say(alloc, report, err)?;
+    }
+}
+
+/// The same once it is said how large the ground task is, but for the end.
+fn solve_said<E: Sink>(
+    alloc: Global,
+    ground: &Ground<'_>,
+    limits: Limits,
+    err: &mut E,
+) -> Result<Answer, NoMemory>
+    requires typed { IsTrue (is_task (task_in ground.now)) }
+    requires ground { IsGroundOf (task_in ground.now) [] limits.instances ground.now }
+    ensures answer { IfOk result (IsTrueAnswer (task_in ground.now) limits.states limits.instances) }
+    ensures said { GoesOn (IsTrueLine (task_in ground.now)) E.wants_memory (E.failures err.old) (E.taken err.old) (E.failures err.new) (E.taken err.new) }
+{
     let groundwork = Groundwork::new(alloc, ground)?;
     let estimate: Fair<'_, '_> = improved(alloc, ground, &groundwork)?;
     let dead_ends: DeadFair<'_, '_> = improved(alloc, ground, &groundwork)?;

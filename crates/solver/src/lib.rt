@@ -16,6 +16,6 @@ mod stopped;
 mod system;
 
 pub use answer::{Answer, Exceeded, solve, solve_and_say};
-pub use progress::Report;
+pub use progress::{RaisedBy, Report};
 pub use limits::{Limits, MAX_LIMIT};
 pub use system::GroundSystem;

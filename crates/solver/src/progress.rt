@@ -28,6 +28,8 @@ pub enum Report {
         /// How many of them it expanded.
         expanded: usize,
     },
+    /// A limit is exceeded that an option raises.
+    Limit(RaisedBy),
     /// There is an answer with a certificate.
     End {
         /// How many states the certificate lists.
@@ -35,6 +37,15 @@ pub enum Report {
         /// How many of them are open: these were expanded.
         expanded: usize,
     },
+}
+
+/// The option that raises a limit.
+#[derive(Clone, Copy, Debug, PartialEq, Eq)]
+pub enum RaisedBy {
+    /// That of the listed states.
+    States,
+    /// That of the kept instances.
+    Instances,
 }
 
 impl Report {
@@ -52,6 +63,12 @@ impl Report {
                 expanded,
             } => {
                 format!(in alloc; "progress=search bound={bound} listed={listed} expanded={expanded}\n")
+            }
+            Report::Limit(RaisedBy::States) => {
+                format!(in alloc; "progress=limit raise=--states\n")
+            }
+            Report::Limit(RaisedBy::Instances) => {
+                format!(in alloc; "progress=limit raise=--instances\n")
             }
             Report::End { listed, expanded } => {
                 format!(in alloc; "progress=end listed={listed} expanded={expanded}\n")
