@@ -46,10 +46,10 @@ pub record AreRead : Type 0 where
   -- a plus may occur before the digits, and noughts
   pub plus : AskToSolve (words (codes "--states" ∷ codes "+016777216" ∷ [])) (record plain { states = 16777216 })
   pub to_validate : Asks (codes "validate" ∷ codes "d" ∷ codes "p" ∷ codes "l" ∷ codes "--json" ∷ []) (to_validate (codes "d") (codes "p") (codes "l") true)
-  pub to_check : Asks (codes "check" ∷ codes "d" ∷ codes "p" ∷ codes "c" ∷ codes "--plan" ∷ codes "l" ∷ codes "--instances=7" ∷ [])
-      (to_check (codes "d") (codes "p") (codes "c") (record { instances = 7; plan = Some (codes "l"); json = false; progress = false }))
   pub to_check_with_progress : Asks (codes "check" ∷ codes "--progress" ∷ codes "d" ∷ codes "p" ∷ codes "c" ∷ [])
       (to_check (codes "d") (codes "p") (codes "c") (record { instances = 1000000; plan = None; json = false; progress = true }))
+  pub to_check : Asks (codes "check" ∷ codes "d" ∷ codes "p" ∷ codes "c" ∷ codes "--plan" ∷ codes "l" ∷ codes "--instances=7" ∷ [])
+      (to_check (codes "d") (codes "p") (codes "c") (record { instances = 7; plan = Some (codes "l"); json = false; progress = false }))
   pub a_task_to_explain : Asks (codes "explain" ∷ codes "d" ∷ codes "p" ∷ []) (to_explain (codes "d") (codes "p") (record { instances = 1000000; plan = None; json = false }))
   pub a_plan_to_explain : Asks (codes "explain" ∷ codes "d" ∷ codes "--instances" ∷ codes "7" ∷ codes "p" ∷ codes "l" ∷ [])
       (to_explain (codes "d") (codes "p") (record { instances = 7; plan = Some (codes "l"); json = false }))

@@ -11,7 +11,7 @@ mod quantifiers;
 mod solving;
 mod validating;
 
-pub use checking::{Checked, check_files};
+pub use checking::{Checked, check_files, check_files_and_say};
 pub use explained_plans::Summary;
 pub use explaining::explain_files;
 pub use explanation::{Explanation, Grounded, Location, Subject};

@@ -1,19 +1,22 @@
 -- What is said on the way, and what is reported after it.
-use Rattle.std.proofs.Common.{◌≡◌, ◌∙◌, ℕ, ◌⊎◌, inl, inr, Bool, List, refl, sym, ap, subst, arith}
-use Rattle.std.specs.Prelude.{Option, Result, Ok, Err, IfOk, IsTrue}
+use Rattle.std.proofs.Common.{◌≡◌, ◌∙◌, ℕ, ◌⊎◌, inl, inr, Bool, List, ◌++◌, refl, sym, ap, subst, arith}
+use Rattle.std.specs.Prelude.{Option, None, Some, Result, Ok, Err, IfOk, IfSome, IsTrue}
 use Rattle.command_line.proofs.OrderLemmas.{one_wanted}
 use Rattle.command_line.specs.Orders.{Asks, Wanted, to_solve, to_validate, to_check, to_explain}
-use Rattle.devices.specs.Devices.{IsWritten}
+use Rattle.certificate_definitions.specs.CertificateText.{text_of}
+use Rattle.devices.specs.Devices.{IsKept, IsWritten}
+use Rattle.file_answers.specs.SaidOf.{IsCheckLineOf}
 use Rattle.devices.specs.declared.device.IoFault.TheVariants as device
 use Rattle.file_answers.specs.declared.files.FileFault.TheVariants as refusal
-use Rattle.solver.specs.Said.{AreSaid, HasEnded, Stream}
+use Rattle.progress_lines.specs.Said.{AreSaid, Stream, stream}
+use Rattle.solver.specs.Said.{HasEnded}
 use Rattle.solver.specs.declared.answer.Answer.{Answer}
 use Rattle.solver.specs.declared.answer.Answer.TheVariants.{Plan, Unsolvable, Unknown}
-use Rattle.solver.proofs.SaidLemmas.{said_after, said_of_more, none_said}
+use Rattle.progress_lines.proofs.SaidLemmas.{said_after, said_of_more, none_said}
 use Rattle.planner_main.specs.Asked.{Outputs, outputs_of}
 use Rattle.planner_main.specs.AnswerReported as answers
 use Rattle.planner_main.specs.Program.{IsReportOn, IsReportedOn, IsReported}
-use Rattle.planner_main.specs.Progress.{AsksForProgress, EndsByEnd, HasEndedFor, HasEndedIf, HasSaidEnd, IsFailedLine, IsProgress, IsProgressOn, SaysAfter, WantsProgress, stream}
+use Rattle.planner_main.specs.Progress.{AsksForProgress, AsksForSearchProgress, EndsByEnd, HasEndedFor, HasEndedIf, HasSaidEnd, IsFailedLine, IsProgress, IsProgressOn, SaysAfter, WantsProgress, WantsSearchProgress}
 use Rattle.planner_main.specs.Reported.{status_of}
 use Rattle.planner_main.specs.Solution.{WritesReport}
 use Rattle.planner_main.specs.declared.failures.Failure.{Failure}
@@ -62,13 +65,24 @@ failed_is_progress contents (to_check domain problem cert asked) line (inr (is, 
 failed_is_progress contents (to_explain domain problem asked) line (inl (is, named)) = absurd (cc)
 failed_is_progress contents (to_explain domain problem asked) line (inr (is, named)) = absurd (cc)
 
+-- what is so of what comes of a file is so of what the file holds, where that is known
+known_if_kept : (known came : Option (List ℕ)) → IsKept known came → (P : List ℕ → Type 0) → IfSome came P → IfSome known P
+known_if_kept None came kept P so = tt
+known_if_kept (Some bytes) came kept P so = subst (λ (o : Option (List ℕ)). IfSome o P) kept so
+
+pub known_of_kept : (known came : Option (List ℕ)) → IsKept known came → (domain problem line : List ℕ) → IsCheckLineOf domain problem came line → IsCheckLineOf domain problem known line
+known_of_kept known came kept domain problem line (task, is, inl (lines, rest, so, same)) =
+    (task, is, inl (lines, rest, known_if_kept known came kept (λ bytes. bytes ≡ text_of lines ++ rest) so, same))
+known_of_kept known came kept domain problem line (task, is, inr (text, c, so, is_text, same)) =
+    (task, is, inr (text, c, known_if_kept known came kept (λ bytes. bytes ≡ text) so, is_text, same))
+
 -- where there is a line, it is asked for
 pub wanted_of_line : (contents : List ℕ → Option (List ℕ)) (wanted : Wanted) (line : List ℕ) → IsProgressOn contents wanted line → WantsProgress wanted
 wanted_of_line contents (to_validate domain problem plan json) line is = absurd is
 wanted_of_line contents (to_solve domain problem asked) line (inl (is, on)) = is
 wanted_of_line contents (to_solve domain problem asked) line (inr (inl (is, named))) = is
 wanted_of_line contents (to_solve domain problem asked) line (inr (inr (is, named))) = is
-wanted_of_line contents (to_check domain problem cert asked) line is = absurd is
+wanted_of_line contents (to_check domain problem cert asked) line is = is.0
 wanted_of_line contents (to_explain domain problem asked) line is = absurd is
 
 module _ (contents : List ℕ → Option (List ℕ)) (words : List (List ℕ)) (wanted : Wanted) (asks : Asks words wanted) (wants_memory : Bool) (before after : Stream)
@@ -105,16 +119,16 @@ module _ (wants_memory : Bool) (failures : ℕ) (taken : Option (List ℕ)) wher
   ended_by_status contents (to_check domain problem cert asked) found status is ended same = tt
   ended_by_status contents (to_explain domain problem asked) found status is ended same = tt
 
-  end_wanted : (wanted : Wanted) (status : ℕ) → HasSaidEnd wanted wants_memory failures taken status → WantsProgress wanted → (status ≡ 0) ⊎ (status ≡ 10) → EndsByEnd wants_memory failures taken
+  end_wanted : (wanted : Wanted) (status : ℕ) → HasSaidEnd wanted wants_memory failures taken status → WantsSearchProgress wanted → (status ≡ 0) ⊎ (status ≡ 10) → EndsByEnd wants_memory failures taken
   end_wanted (to_validate domain problem plan json) status ended wants which = absurd wants
   end_wanted (to_solve domain problem asked) status ended wants which = ended wants which
   end_wanted (to_check domain problem cert asked) status ended wants which = absurd wants
   end_wanted (to_explain domain problem asked) status ended wants which = absurd wants
 
   pub end_of_words : (words : List (List ℕ)) (wanted : Wanted) → Asks words wanted → (status : ℕ) → HasSaidEnd wanted wants_memory failures taken status
-      → AsksForProgress words → (status ≡ 0) ⊎ (status ≡ 10) → EndsByEnd wants_memory failures taken
+      → AsksForSearchProgress words → (status ≡ 0) ⊎ (status ≡ 10) → EndsByEnd wants_memory failures taken
   end_of_words words wanted asks status ended (other, others, wants) which =
-      end_wanted wanted status ended (subst WantsProgress (one_wanted words other wanted others asks) wants) which
+      end_wanted wanted status ended (subst WantsSearchProgress (one_wanted words other wanted others asks) wants) which
 
 -- once it is written, nothing more is said
 pub ended_written : (wants_memory : Bool) (before after : Stream) (contents : List ℕ → Option (List ℕ)) (wanted : Wanted) (found : Report) → IsReportOn contents wanted found

@@ -2,22 +2,24 @@
 use Rattle.std.specs.Prelude.{◌≡◌, ℕ, ◌⊎◌, Bool, IsTrue, List, ◌++◌, codes, Option, Some, ⊤}
 use Rattle.command_line.specs.Orders.{Asks, Asked, Wanted, to_solve, to_validate, to_check, to_explain}
 use Rattle.devices.specs.Devices.{IsWritten}
-use Rattle.file_answers.specs.SaidOf.{IsTrueLineOf}
-use Rattle.solver.specs.Said.{AreSaid, HasEnded, Stream, line_of}
-use Rattle.solver.specs.declared.progress.Report.TheVariants.{End}
+use Rattle.file_answers.specs.SaidOf.{IsCheckLineOf, IsTrueLineOf}
+use Rattle.progress_lines.specs.Said.{AreSaid, Stream, stream}
+use Rattle.solver.specs.Said.{HasEnded, line_of}
+use Rattle.solver.specs.declared.reports.Report.TheVariants.{End}
 use Rattle.planner_main.specs.Asked.{Outputs, outputs_of}
 use Rattle.planner_main.specs.Program.{OnTwo}
 use Rattle.planner_main.specs.declared.printing.reports.Report.{Report}
 use Rattle.planner_main.specs.declared.printing.reports.Report.TheVariants as report
-
-abbrev pub stream : (failures : ℕ) → Option (List ℕ) → Stream
-stream failures taken = record { failures = failures; taken = taken }
 
 -- ---- the lines
 
 -- a line of a search, true of the task of two files
 abbrev pub IsSearchLine : (List ℕ → Option (List ℕ)) → (domain problem : List ℕ) → (progress : Bool) → List ℕ → Type 0
 IsSearchLine contents domain problem progress line = IsTrue progress × OnTwo contents domain problem (λ d p. IsTrueLineOf d p line)
+
+-- a line of a check, so of the task of two files and of the text of a third
+abbrev pub IsCheckingLine : (List ℕ → Option (List ℕ)) → (domain problem cert : List ℕ) → (progress : Bool) → List ℕ → Type 0
+IsCheckingLine contents domain problem cert progress line = IsTrue progress × OnTwo contents domain problem (λ d p. IsCheckLineOf d p (contents cert) line)
 
 -- the line of a file that fails, if one is named: its name is the rest of the line
 abbrev pub failed_line : (name : List ℕ) → List ℕ
@@ -30,12 +32,12 @@ abbrev pub IsFailedLine : Outputs → List ℕ → Type 0
 IsFailedLine outputs line = IsFailedLineOf outputs.progress outputs.cert line ⊎ IsFailedLineOf outputs.progress outputs.plan line
 
 -- What is asked for says this line on the way: `solve`, where progress is asked for, one that is true of the task, or that a file fails
--- which it was to write.
+-- which it was to write; and `check` one that is so of the certificate.
 abbrev pub IsProgressOn : (List ℕ → Option (List ℕ)) → Wanted → List ℕ → Type 0
 IsProgressOn contents (to_validate domain problem plan json) line = ⊥
 IsProgressOn contents (to_solve domain problem asked) line =
     IsSearchLine contents domain problem asked.progress line ⊎ IsFailedLine (outputs_of (to_solve domain problem asked)) line
-IsProgressOn contents (to_check domain problem cert asked) line = ⊥
+IsProgressOn contents (to_check domain problem cert asked) line = IsCheckingLine contents domain problem cert asked.progress line
 IsProgressOn contents (to_explain domain problem asked) line = ⊥
 
 abbrev pub IsProgress : (List ℕ → Option (List ℕ)) → List (List ℕ) → List ℕ → Type 0
@@ -46,11 +48,21 @@ IsProgress contents words line = (wanted : Wanted) × Asks words wanted × IsPro
 abbrev pub WantsProgress : Wanted → Type 0
 WantsProgress (to_validate domain problem plan json) = ⊥
 WantsProgress (to_solve domain problem asked) = IsTrue asked.progress
-WantsProgress (to_check domain problem cert asked) = ⊥
+WantsProgress (to_check domain problem cert asked) = IsTrue asked.progress
 WantsProgress (to_explain domain problem asked) = ⊥
 
 abbrev pub AsksForProgress : List (List ℕ) → Type 0
 AsksForProgress words = (wanted : Wanted) × Asks words wanted × WantsProgress wanted
+
+-- and of a search
+abbrev pub WantsSearchProgress : Wanted → Type 0
+WantsSearchProgress (to_validate domain problem plan json) = ⊥
+WantsSearchProgress (to_solve domain problem asked) = IsTrue asked.progress
+WantsSearchProgress (to_check domain problem cert asked) = ⊥
+WantsSearchProgress (to_explain domain problem asked) = ⊥
+
+abbrev pub AsksForSearchProgress : List (List ℕ) → Type 0
+AsksForSearchProgress words = (wanted : Wanted) × Asks words wanted × WantsSearchProgress wanted
 
 -- ---- what is there then
 

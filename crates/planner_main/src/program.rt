@@ -6,8 +6,8 @@ ghost use Rattle.planner_main.specs.Failures.{device_line, is_failure, no_memory
 ghost use Rattle.planner_main.specs.Program.{Reports, ReportsFor, ReportsPartly, ReportsPartlyFor, Refuses, HasFailed, HasNotFailed, CountsEither, CountsFailure, NamesInput, NamesText, IsFaultFor, IsFound, IsOneOf, IsUnread, SaysOfWords, fault_in, inputs_of, texts_of};
 ghost use Rattle.devices.specs.Texts.{AreKept};
 ghost use Rattle.devices.specs.Devices.{IsWritten};
-ghost use Rattle.planner_main.specs.Progress.{AsksForProgress, EndsByEnd, HasEndedFor, HasSaidEnd, IsProgress, IsProgressOn, SaysAfter, stream};
-ghost use Rattle.solver.specs.Said.{AreSaid};
+ghost use Rattle.planner_main.specs.Progress.{AsksForProgress, AsksForSearchProgress, EndsByEnd, HasEndedFor, HasSaidEnd, IsProgress, IsProgressOn, SaysAfter};
+ghost use Rattle.progress_lines.specs.Said.{AreSaid, stream};
 
 mod acceptance;
 mod explaining;
@@ -19,7 +19,7 @@ mod writing;
 
 use crate::failures::{Failure, report_failure, report_words};
 use crate::printing::Report;
-use acceptance::{InputNames, report_of_check};
+use acceptance::{CheckAsked, InputNames, report_of_check};
 use command_line::{MaxCount, Order, read_words};
 use devices::{Files, Sink};
 use explaining::report_of_explain;
@@ -89,7 +89,7 @@ pub fn run<F: Files, O: Sink, E: Sink>(
     // plan costs at least, and how large the task and the search are; and beside the answer of a search the last one is that of the end.
     ensures quiet { (AsksForProgress (texts words.now) → ⊥) → is_failure result ≡ false → E.taken err.new ≡ E.taken err.old }
     ensures progress { is_failure result ≡ false → AreSaid (IsProgress (F.contents files.old) (texts words.now)) E.wants_memory (stream (E.failures err.old) (E.taken err.old)) (stream (E.failures err.new) (E.taken err.new)) }
-    ensures ended { AsksForProgress (texts words.now) → (result ≡ 0) ⊎ (result ≡ 10) → EndsByEnd E.wants_memory (E.failures err.new) (E.taken err.new) }
+    ensures ended { AsksForSearchProgress (texts words.now) → (result ≡ 0) ⊎ (result ≡ 10) → EndsByEnd E.wants_memory (E.failures err.new) (E.taken err.new) }
 
     // The status of words that are no command is reported exactly of these, unless memory for reading them is refused; and that of
     // texts only where they are refused: `explain` reports the fault on the standard output, as what was asked for, and of the other
@@ -187,15 +187,21 @@ fn report_of<F: Files, E: Sink>(
             cert,
             plan,
             instances,
+            progress,
             ..
         } => {
+            let instances = instances.number();
+            let asked = CheckAsked {
+                instances,
+                progress,
+            };
             let names = InputNames {
                 domain,
                 problem,
                 cert,
                 plan,
             };
-            report_of_check(alloc, names, instances.number(), files)
+            report_of_check(alloc, names, asked, files, err)
         }
         Order::Explain {
             domain,

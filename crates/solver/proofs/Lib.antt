@@ -10,4 +10,4 @@ pub mod AnswerLemmas
 pub mod ByCost
 pub mod LoopLemmas
 pub mod PauseLemmas
-pub mod SaidLemmas
+pub mod EndLemmas

@@ -1,11 +1,12 @@
--- What is said of a task while it is solved: the lines, what makes them true, and what a sink took of them.
+-- What is said of a task while it is solved: the lines, and what makes them true.
 use Rattle.std.specs.Prelude.{◌≡◌, ℕ, ◌≤◌, Bool, true, false, List, [], ◌++◌, length, map, codes, count_by, Option, Contains, ⊤}
 use Rattle.std.specs.Fmt.{decimal}
 use Rattle.devices.specs.Devices.{IsWritten}
+use Rattle.progress_lines.specs.Said.{Stream}
 use Rattle.packed_state.specs.Store.{AreDistinct}
-use Rattle.solver.specs.declared.progress.Report.{Report}
-use Rattle.solver.specs.declared.progress.Report.TheVariants.{Ground, Search, Limit, End}
-use Rattle.solver.specs.declared.progress.RaisedBy.TheVariants as raised_by
+use Rattle.solver.specs.declared.reports.Report.{Report}
+use Rattle.solver.specs.declared.reports.Report.TheVariants.{Ground, Search, Limit, End}
+use Rattle.solver.specs.declared.reports.RaisedBy.TheVariants as raised_by
 use Rattle.model.specs.Task.{Task}
 use Rattle.model.specs.Runs.{System, CostsAtLeast, IsReachable}
 use Rattle.model.specs.Meaning.{system_of}
@@ -60,18 +61,6 @@ IsTrueReport task (End listed expanded) = (certificate : Certificate) × IsClose
 abbrev pub IsTrueLine : Task → List ℕ → Type 0
 IsTrueLine task line = (report : Report) × (line ≡ line_of report) × IsTrueReport task report
 
--- a sink at one time: how often it failed, and what it took, where that is known
-pub record Stream : Type 0 where
-  pub failures : ℕ
-  pub taken : Option (List ℕ)
-
--- Between two times a sink took such lines alone, one after another: each whole, or a beginning of it where the sink counted a
--- failure, or is one that may want memory.
-pub data AreSaid (IsLine : List ℕ → Type 0) (wants_memory : Bool) (before : Stream) : Stream → Type 0 where
-  nothing : AreSaid IsLine wants_memory before before
-  one_more : (now after : Stream) (line : List ℕ) → AreSaid IsLine wants_memory before now → IsLine line
-      → IsWritten wants_memory now.failures after.failures now.taken after.taken line → AreSaid IsLine wants_memory before after
-
 -- The last line was that of the end: where the answer has a certificate, of this.
 abbrev pub EndsBy : Bool → (failures : ℕ) (taken : Option (List ℕ)) → Certificate → Type 0
 EndsBy wants_memory failures taken certificate =
@@ -83,9 +72,3 @@ HasEnded wants_memory failures taken (Unsolvable cert) = EndsBy wants_memory fai
 HasEnded wants_memory failures taken (Unknown Instances) = ⊤
 HasEnded wants_memory failures taken (Unknown Atoms) = ⊤
 HasEnded wants_memory failures taken (Unknown (States least cert)) = EndsBy wants_memory failures taken (certificate_of cert)
-
--- Whatever was said before, such lines alone were said since.
-abbrev pub GoesOn : (IsLine : List ℕ → Type 0) → Bool → (failures : ℕ) (taken : Option (List ℕ)) (failures_after : ℕ) (taken_after : Option (List ℕ)) → Type 0
-GoesOn IsLine wants_memory failures taken failures_after taken_after =
-    (origin : Stream) → AreSaid IsLine wants_memory origin (record { failures = failures; taken = taken })
-    → AreSaid IsLine wants_memory origin (record { failures = failures_after; taken = taken_after })

@@ -6,10 +6,12 @@ ghost use Rattle.potentials_improved.specs.FairPotentials.{potentials_in, ground
 ghost use Rattle.solver.specs.Guidance.{estimate_by, reports_dead};
 ghost use Rattle.solver.specs.Guided.{IsGuidanceFor, IsSearched};
 ghost use Rattle.solver.specs.Improved.{AreSettledOrHigh, AreDeadSettledOrHigh};
-ghost use Rattle.solver.specs.Said.{GoesOn, HasEnded, IsTrueLine, IsTrueReport, is_open, report_of};
+ghost use Rattle.progress_lines.specs.Said.{GoesOn};
+ghost use Rattle.solver.specs.Said.{HasEnded, IsTrueLine, IsTrueReport, is_open, report_of};
 ghost use Rattle.model.specs.NumberedAtoms.{numbered_atoms};
 ghost use Rattle.solver.specs.Solver.{IsTrueAnswer};
 ghost use Rattle.solver.specs.Written.{guidance_of};
+ghost use Rattle.solver.specs.declared.answer.Answer.TheVariants.{Unknown};
 ghost use Rattle.certificate.specs.Certificate.{certificate_of};
 ghost use Rattle.certificate.specs.CertificateParts.{listed_of};
 ghost use Rattle.model.specs.Task as model;
@@ -20,7 +22,7 @@ use crate::improved::improved;
 use crate::limits::Limits;
 use crate::listing::cert_of;
 use crate::parts::{Given, Parts, search_in_parts};
-use crate::progress::{RaisedBy, Report, Unheard, say};
+use crate::reports::{RaisedBy, Report, say};
 use crate::searched::Searched;
 use crate::steps::plan_of;
 use certificate::{Cert, Claim, Listed, Mark};
@@ -29,6 +31,7 @@ use faults::{NoMemory, Refused};
 use formulas::Plan;
 use grounding::{Ground, GroundLimit};
 use potentials_improved::{DeadFair, Fair, Groundwork};
+use progress_lines::Unheard;
 use search::{EstimateWithDeadEnds, Outcome};
 use std::alloc::Global;
 use task::Task;
@@ -136,14 +139,22 @@ fn say_end<E: Sink>(alloc: Global, answer: &Answer, err: &mut E) -> Result<(), N
     match answer {
         Answer::Plan { cert, .. } => say(alloc, end_of(cert), err),
         Answer::Unsolvable { cert } => say(alloc, end_of(cert), err),
-        Answer::Unknown(Exceeded::States { cert, .. }) => {
+        Answer::Unknown(limit) => say_limit(alloc, limit, err),
+    }
+}
+
+/// Says which option raises the limit that is exceeded, if one does, and then what its certificate lists, if it has one.
+fn say_limit<E: Sink>(alloc: Global, limit: &Exceeded, err: &mut E) -> Result<(), NoMemory>
+    ensures said { (task : model.Task) (states instances : ℕ) → IsTrueAnswer task states instances (Unknown limit.now) → GoesOn (IsTrueLine task) E.wants_memory (E.failures err.old) (E.taken err.old) (E.failures err.new) (E.taken err.new) }
+    ensures ended { OnOk result (HasEnded E.wants_memory (E.failures err.new) (E.taken err.new) (Unknown limit.now)) }
+{
+    match limit {
+        Exceeded::States { cert, .. } => {
             say(alloc, Report::Limit(RaisedBy::States), err)?;
             say(alloc, end_of(cert), err)
         }
-        Answer::Unknown(Exceeded::Instances) => {
-            say(alloc, Report::Limit(RaisedBy::Instances), err)
-        }
-        Answer::Unknown(Exceeded::Atoms) => Ok(()),
+        Exceeded::Instances => say(alloc, Report::Limit(RaisedBy::Instances), err),
+        Exceeded::Atoms => Ok(()),
     }
 }
 

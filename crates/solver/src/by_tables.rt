@@ -19,7 +19,8 @@ ghost use Rattle.solver.specs.Guidance.{by_tables, estimate_by, first_value, rep
 ghost use Rattle.solver.specs.Guided.{IsSearched};
 ghost use Rattle.solver.specs.Improved.{AreSettledOrHigh, AreDeadSettledOrHigh};
 ghost use Rattle.solver.specs.SeveralOver.{several_over};
-ghost use Rattle.solver.specs.Said.{GoesOn, IsTrueLine};
+ghost use Rattle.progress_lines.specs.Said.{GoesOn};
+ghost use Rattle.solver.specs.Said.{IsTrueLine};
 ghost use Rattle.solver.specs.Solver.{IsTrueAnswer};
 ghost use Rattle.solver.specs.Stopped.{IsStopped};
 ghost use Rattle.table_functions.specs.FairTables.{AreFair};

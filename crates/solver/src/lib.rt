@@ -9,13 +9,13 @@ mod improved;
 mod limits;
 mod listing;
 mod parts;
-mod progress;
+mod reports;
 mod searched;
 mod steps;
 mod stopped;
 mod system;
 
 pub use answer::{Answer, Exceeded, solve, solve_and_say};
-pub use progress::{RaisedBy, Report};
+pub use reports::{RaisedBy, Report};
 pub use limits::{Limits, MAX_LIMIT};
 pub use system::GroundSystem;

@@ -13,12 +13,13 @@ ghost use Rattle.packed_state.specs.Packed.{bits_of};
 ghost use Rattle.search.specs.Outcome.{is_expanded, is_marked_dead, line_of};
 ghost use Rattle.solver.specs.Guided as guided;
 ghost use Rattle.solver.specs.Guided.{AreMarksOf, CanBeMarked, IsSearched};
-ghost use Rattle.solver.specs.Said.{GoesOn, IsTrueLine};
+ghost use Rattle.progress_lines.specs.Said.{GoesOn};
+ghost use Rattle.solver.specs.Said.{IsTrueLine};
 ghost use Rattle.solver.specs.Stretches.{AreOpenIn, IsStretch, IsUnderWay};
 ghost use Rattle.solver.specs.Listing.{mark_of_line};
 
 use crate::limits::Limits;
-use crate::progress::{Report, say};
+use crate::reports::{Report, say};
 use crate::system::GroundSystem;
 use certificate::{Listed, Mark};
 use devices::Sink;

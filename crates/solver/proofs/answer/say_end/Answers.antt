@@ -1,10 +1,10 @@
-use Rattle.std.proofs.Common.{◌∙◌, sym, ap, subst}
+use Rattle.std.proofs.Common.{sym, subst}
 use Rattle.std.specs.Prelude.{OnOk}
 use Rattle.certificate.specs.Certificate.{certificate_of}
 use Rattle.solver.specs.Said.{HasEnded}
 use Rattle.solver.specs.declared.answer.Answer.{Answer}
-use Rattle.solver.specs.declared.answer.Answer.TheVariants.{Unknown}
-use Rattle.solver.proofs.SaidLemmas.{ends_by}
+use Rattle.solver.specs.Solver.{IsTrueAnswer}
+use Rattle.solver.proofs.EndLemmas.{ends_by}
 use Rattle.solver.proofs.answer.say_end.Goals as goal
 
 pub returns-in-Plan-clause-ended : goal.returns-in-Plan-clause-ended
@@ -17,7 +17,10 @@ returns-in-Unsolvable-clause-ended g c =
     subst (λ (a : Answer). OnOk c.say-in-Unsolvable.result (HasEnded g.E.Sink.wants_memory (g.E.Sink.failures c.say-in-Unsolvable.new.err) (g.E.Sink.taken c.say-in-Unsolvable.new.err) a)) (sym (c.in-Unsolvable.is))
     (ends_by c.say-in-Unsolvable.result _ _ _ _ _ c.end_of-in-Unsolvable.result (certificate_of c.in-Unsolvable.cert) c.end_of-in-Unsolvable.ensures c.say-in-Unsolvable.ensures.written)
 
-pub returns-in_ok-say-in-Unknown-States-clause-ended : goal.returns-in_ok-say-in-Unknown-States-clause-ended
-returns-in_ok-say-in-Unknown-States-clause-ended g c =
-    subst (λ (a : Answer). OnOk c.say-in-Unknown-States-2.result (HasEnded g.E.Sink.wants_memory (g.E.Sink.failures c.say-in-Unknown-States-2.new.err) (g.E.Sink.taken c.say-in-Unknown-States-2.new.err) a)) (sym (c.in-Unknown-States.is ∙ ap Unknown c.in-Unknown-States.field-0-is))
-    (ends_by c.say-in-Unknown-States-2.result _ _ _ _ _ c.end_of-in-Unknown-States.result (certificate_of c.in-Unknown-States.cert) c.end_of-in-Unknown-States.ensures c.say-in-Unknown-States-2.ensures.written)
+pub returns-in-Unknown-clause-ended : goal.returns-in-Unknown-clause-ended
+returns-in-Unknown-clause-ended g c =
+    subst (λ (a : Answer). OnOk c.say_limit.result (HasEnded g.E.Sink.wants_memory (g.E.Sink.failures c.say_limit.new.err) (g.E.Sink.taken c.say_limit.new.err) a)) (sym c.in-Unknown.is) c.say_limit.ensures.ended
+
+pub returns-in-Unknown-clause-said : goal.returns-in-Unknown-clause-said
+returns-in-Unknown-clause-said g c = λ task states instances is.
+    c.say_limit.ensures.said task states instances (subst (IsTrueAnswer task states instances) c.in-Unknown.is is)

@@ -2,7 +2,8 @@ use Rattle.std.proofs.Common.{◌-◌, length}
 use Rattle.grounding.specs.Ground.{task_in}
 use Rattle.packed_state.specs.PooledView.{pooled_states}
 use Rattle.search.specs.UnderWay.{store_in}
-use Rattle.solver.specs.Said.{GoesOn, IsTrueLine}
+use Rattle.progress_lines.specs.Said.{GoesOn}
+use Rattle.solver.specs.Said.{IsTrueLine}
 use Rattle.solver.specs.Stretches.{IsUnderWay}
 use Rattle.solver.proofs.searched.go_on_by.Given as goal
 

@@ -7,9 +7,9 @@ use Rattle.planner_main.specs.Program.{on_the_output}
 use Rattle.planner_main.specs.Reported.{status_of}
 use Rattle.planner_main.specs.Solution.{files_for}
 use Rattle.planner_main.proofs.ProgramReported.{both_written, partly_in_cert, partly_in_plan, reported_is}
-use Rattle.solver.specs.Said.{AreSaid, Stream}
-use Rattle.solver.proofs.SaidLemmas.{said_of_more}
-use Rattle.planner_main.specs.Progress.{IsFailedLine, stream}
+use Rattle.progress_lines.specs.Said.{AreSaid, Stream, stream}
+use Rattle.progress_lines.proofs.SaidLemmas.{said_of_more}
+use Rattle.planner_main.specs.Progress.{IsFailedLine}
 use Rattle.planner_main.proofs.program.writing.write_report.Goals as goal
 
 pub plan_text-plan-requires : goal.plan_text-plan-requires

@@ -2,9 +2,9 @@ use Rattle.std.proofs.Common.{ℕ, List}
 use Rattle.model.specs.Files.{IsTaskOf}
 use Rattle.task.specs.Task.{task_of}
 use Rattle.solver.specs.Said.{IsTrueLine}
-use Rattle.solver.proofs.SaidLemmas.{goes_on_of_more}
+use Rattle.progress_lines.proofs.SaidLemmas.{goes_on_of_more}
 use Rattle.file_answers.specs.SaidOf.{IsTrueLineOf}
-use Rattle.file_answers.proofs.solving.solve_task_and_say.Goals as goal
+use Rattle.file_answers.proofs.solving.solve_task.Goals as goal
 
 pub returns-in-Ok-clause-said : goal.returns-in-Ok-clause-said
 returns-in-Ok-clause-said g c = λ domain problem is.

@@ -2,11 +2,13 @@
 ghost use Rattle.std.specs.Prelude.{◌≡◌, IfOk, OnOk};
 ghost use Rattle.std.specs.String.{string_bytes};
 ghost use Rattle.devices.specs.Devices.{IsWritten};
-ghost use Rattle.solver.specs.Said.{GoesOn, IsTrueLine, IsTrueReport, line_of};
+ghost use Rattle.progress_lines.specs.Said.{GoesOn};
+ghost use Rattle.solver.specs.Said.{IsTrueLine, IsTrueReport, line_of};
 ghost use Rattle.model.specs.Task.{Task};
 
-use devices::{IoFault, Sink, write_all};
+use devices::Sink;
 use faults::NoMemory;
+use progress_lines::say_line;
 use std::alloc::{AllocError, Global};
 
 /// How far a task is solved.
@@ -87,32 +89,9 @@ pub(crate) fn say<E: Sink>(alloc: Global, report: Report, err: &mut E) -> Result
 {
     match report.line(alloc) {
         Ok(line) => {
-            write(err, line.as_bytes());
+            say_line(err, line.as_bytes());
             Ok(())
         }
         Err(AllocError) => Err(NoMemory),
-    }
-}
-
-/// Writes these bytes, as far as the sink takes them.
-fn write<E: Sink>(err: &mut E, bytes: &[u8])
-    ensures { IsWritten E.wants_memory (E.failures err.old) (E.failures err.new) (E.taken err.old) (E.taken err.new) bytes.now }
-{
-    let _ = write_all(err, bytes);
-}
-
-/// A sink that hears nothing: whatever is said is dropped.
-#[derive(Drop)]
-pub(crate) struct Unheard;
-
-impl Sink for Unheard {
-    ghost use Rattle.std.specs.Prelude.{None};
-
-    ghost failures = { λ _. 0 };
-
-    ghost taken = { λ _. None };
-
-    fn write(&mut self, piece: &[u8]) -> Result<usize, IoFault> {
-        Ok(piece.len())
     }
 }
