@@ -1,11 +1,18 @@
-//! Which exchanges of objects are symmetries of a task.
+//! Which exchanges of objects are symmetries of a task, and by which states they represent others.
+ghost use Rattle.std.specs.Prelude.{◌≡◌, length, IfOk};
+ghost use Rattle.packed_state.specs.Packed.{bits_of};
+ghost use Rattle.grounding.specs.Ground.{atoms_in};
+
 use faults::NoMemory;
+use grounding::Ground;
+use packed_state::Packed;
+use representatives::Representatives;
 use std::alloc::Global;
 use std::process::Abort;
 use std::test::Fail;
 use task::{ObjectId, Task};
 use task_symmetries::{Exchange, SymmetryTest};
-use test_texts::{FOUR_BALLS, on_task};
+use test_texts::{FOUR_BALLS, atom, on_task};
 
 /// Objects of the task with four balls, by their numbers: two rooms, the balls, two grippers; and whether their exchange is a
 /// symmetry. None, where they make no exchange.
@@ -48,5 +55,112 @@ fn are_judged(rt: &impl Abort, alloc: Global, task: &Task) -> Result<(), Fail> {
 fn exchanges_are_judged(rt: HostRuntime) -> Result<(), Fail> {
     on_task(&rt, rt.alloc(), &FOUR_BALLS, |rt, alloc, task| {
         are_judged(rt, alloc, task)
+    })
+}
+
+/// The four balls, by the numbers of the objects.
+static BALLS: [u32; 4] = [2, 3, 4, 5];
+
+/// The rooms of the four balls in a state, and in its representative, where each may change places with the next one.
+static REPRESENTED: [([u32; 4], [u32; 4]); 5] = [
+    ([0, 0, 0, 0], [0, 0, 0, 0]),
+    ([1, 0, 0, 0], [0, 0, 0, 1]),
+    ([1, 0, 1, 0], [0, 0, 1, 1]),
+    ([1, 1, 1, 0], [0, 1, 1, 1]),
+    ([1, 1, 1, 1], [1, 1, 1, 1]),
+];
+
+/// The state in which the balls are in these rooms, and nothing else is true.
+fn balls_in(alloc: Global, ground: &Ground<'_>, rooms: &[u32]) -> Result<Packed, NoMemory>
+    ensures { IfOk result (λ state. length (bits_of state) ≡ length (atoms_in ground.now)) }
+{
+    let mut state = Packed::empty(alloc, ground.width())?;
+    for (ball, room) in BALLS.iter().zip(rooms) {
+        if let Some(number) = ground.number_of(&atom(4, &[*ball, *room])) {
+            if number < state.width() {
+                state.insert(number);
+            }
+        }
+    }
+    Ok(state)
+}
+
+/// Whether the state of the first rooms is represented by that of the others.
+fn is_represented(
+    alloc: Global,
+    representatives: &Representatives<'_, '_, '_>,
+    rooms: &[u32],
+    others: &[u32],
+) -> Result<bool, NoMemory> {
+    let mut state = balls_in(alloc, representatives.ground(), rooms)?;
+    representatives.represent(&mut state);
+    Ok(state == balls_in(alloc, representatives.ground(), others)?)
+}
+
+fn are_represented(
+    rt: &impl Abort,
+    alloc: Global,
+    representatives: &Representatives<'_, '_, '_>,
+) -> Result<(), Fail> {
+    for (rooms, others) in &REPRESENTED {
+        assert_eq!(rt;
+            is_represented(alloc, representatives, rooms, others)?,
+            true
+        );
+    }
+    Ok(())
+}
+
+/// The exchanges of each ball with the next one.
+fn of_neighbours(alloc: Global, task: &Task) -> Result<Vec<Exchange>, NoMemory> {
+    let mut exchanges = Vec::new(alloc);
+    for pair in BALLS.windows(2) {
+        if let Some(exchange) = exchange_of(alloc, task, pair)? {
+            exchanges.push(exchange)?;
+        }
+    }
+    Ok(exchanges)
+}
+
+fn represents(
+    rt: &impl Abort,
+    alloc: Global,
+    ground: &Ground<'_>,
+    exchanges: &[Exchange],
+) -> Result<(), Fail> {
+    match Representatives::new(alloc, ground, exchanges)? {
+        Some(representatives) => are_represented(rt, alloc, &representatives),
+        None => Err("an image has no number".into()),
+    }
+}
+
+#[test]
+fn balls_are_represented(rt: HostRuntime) -> Result<(), Fail> {
+    on_task(&rt, rt.alloc(), &FOUR_BALLS, |rt, alloc, task| {
+        let ground = Ground::new(alloc, task, &[], 100)?;
+        let exchanges = of_neighbours(alloc, task)?;
+        represents(rt, alloc, &ground, &exchanges)
+    })
+}
+
+/// Whether all images by the exchange of these objects have numbers.
+fn has_numbers(alloc: Global, task: &Task, numbers: &[u32]) -> Result<bool, Fail> {
+    let ground = Ground::new(alloc, task, &[], 100)?;
+    let mut exchanges = Vec::new(alloc);
+    if let Some(exchange) = exchange_of(alloc, task, numbers)? {
+        exchanges.push(exchange)?;
+    }
+    Ok(Representatives::new(alloc, &ground, &exchanges)?.is_some())
+}
+
+#[test]
+fn images_need_numbers(rt: HostRuntime) -> Result<(), Fail> {
+    on_task(&rt, rt.alloc(), &FOUR_BALLS, |rt, alloc, task| {
+        let answers = [
+            has_numbers(alloc, task, &[2, 3])?,
+            has_numbers(alloc, task, &[2, 6])?,
+        ];
+        assert_eq!(rt; answers, [true, false]);
+        Ok(())
     })
 }

@@ -1,0 +1,43 @@
+use Rattle.std.proofs.Common.{rules, ◌≡◌, ◌∙◌, true, false, length, map, sym, ap, subst}
+use Rattle.std.specs.List.{list_all}
+use Rattle.grounding.specs.Ground.{atoms_in}
+use Rattle.symmetries.specs.Quotients.{keeps_atoms}
+use Rattle.model.proofs.Tests.{passes_not, passes_whole, passes_map}
+use Rattle.task_symmetries.specs.declared.exchange.Exchange.{Exchange}
+use Rattle.task_symmetries.specs.Exchange.{exchange_of}
+use Rattle.representatives.specs.Pairs.{swaps_in}
+use Rattle.representatives.specs.Apart.{AreAllWithin, AreApartBelow}
+use Rattle.representatives.proofs.Kept.{made_whole, made_within}
+use Rattle.representatives.proofs.representatives.Representatives.new.Goals as goal
+
+pub returns-in-None-clause-kept : goal.returns-in-None-clause-kept
+returns-in-None-clause-kept c =
+    let atoms = atoms_in c.args.ground.now in
+    let e = c.exchange-item.result in
+    let fails : false ≡ keeps_atoms atoms (exchange_of e) = search rules in
+    passes_not (λ (x : Exchange). keeps_atoms atoms (exchange_of x)) c.args.exchanges.now c.loop-exchange.exchange-index e c.loop-exchange-test.true c.exchange-item.is (sym fails)
+    ∙ sym (passes_map (keeps_atoms atoms) exchange_of c.args.exchanges.now)
+
+pub first_neighbours-requires : goal.first_neighbours-requires
+first_neighbours-requires c =
+    let g = c.args.ground.now in
+    let exchanges = c.args.exchanges.now in
+    let kept : list_all (keeps_atoms (atoms_in g)) (map exchange_of exchanges) ≡ true =
+    passes_map (keeps_atoms (atoms_in g)) exchange_of exchanges
+    ∙ sym (passes_whole (λ (x : Exchange). keeps_atoms (atoms_in g) (exchange_of x)) exchanges c.loop-exchange.exchange-index c.loop-exchange-test.false c.loop-exchange.invariant.kept) in
+    let made = made_whole (atoms_in g) exchanges c.loop-exchange.exchange-index c.loop-exchange.swaps.items c.loop-exchange-test.false c.loop-exchange.invariant.made in
+    subst (λ width. AreAllWithin width (swaps_in c.as_slice.result.now)) (sym c.width.ensures)
+    (subst (λ l. AreAllWithin (length (atoms_in g)) (swaps_in l)) (sym c.as_slice.ensures.value) (made_within g exchanges c.loop-exchange.swaps.items made kept))
+
+pub invariant_of-result : goal.invariant_of-result
+invariant_of-result c =
+    let atoms = atoms_in c.args.ground.now in
+    let exchanges = c.args.exchanges.now in
+    record {
+      kept =
+          passes_map (keeps_atoms atoms) exchange_of exchanges
+          ∙ sym (passes_whole (λ (x : Exchange). keeps_atoms atoms (exchange_of x)) exchanges c.loop-exchange.exchange-index c.loop-exchange-test.false c.loop-exchange.invariant.kept);
+      made = made_whole atoms exchanges c.loop-exchange.exchange-index c.loop-exchange.swaps.items c.loop-exchange-test.false c.loop-exchange.invariant.made;
+      apart = subst (λ l. AreApartBelow (swaps_in l) c.in_ok-first_neighbours.first_neighbours.items) c.as_slice.ensures.value c.in_ok-first_neighbours.ensures.apart;
+      each = c.in_ok-first_neighbours.ensures.each ∙ ap length c.as_slice.ensures.value;
+    }

@@ -1,0 +1,147 @@
+//! Representatives of the packed states of a ground task.
+ghost use Rattle.std.specs.Prelude.{◌≡◌, true, length, map, is_some, IfOk, IfSome};
+ghost use Rattle.std.specs.List.{list_all};
+ghost use Rattle.std.proofs.Props.{props};
+ghost use Rattle.grounding.specs.Ground.{atoms_in};
+ghost use Rattle.symmetries.specs.Quotients.{keeps_atoms};
+ghost use Rattle.task_symmetries.specs.Exchange.{exchange_of};
+ghost use Rattle.representatives.specs.Pairs.{pair_of, swaps_in};
+ghost use Rattle.representatives.specs.Places.{swap_of, swaps_of_all};
+ghost use Rattle.representatives.specs.Apart.{AreApartBelow};
+
+use crate::neighbours::first_neighbours;
+use crate::pairs::{Pair, exchange_bits, image_comes_before, pairs_from};
+use faults::NoMemory;
+use grounding::Ground;
+use packed_state::Packed;
+use std::alloc::Global;
+use task_symmetries::{Exchange, exchanged_numbers};
+
+/// Exchanges of objects, as what they do to the packed states of a ground task: of the states that they take into one another
+/// one stands for them all, their representative.
+#[derive(Drop)]
+pub struct Representatives<'g, 't, 'e> {
+    ground: &'g Ground<'t>,
+    exchanges: &'e [Exchange],
+    /// For each exchange the pairs of numbers of atoms that it takes to each other, by their lower numbers.
+    swaps: Vec<Vec<Pair>>,
+    /// For each exchange a number below which none has an atom of it.
+    first_neighbours: Vec<usize>,
+    ghost kept: { list_all (keeps_atoms (atoms_in ground.now)) (map exchange_of exchanges.now) ≡ true } by { Prim.hlevel props },
+    ghost made: { swaps_in swaps.items ≡ swaps_of_all (atoms_in ground.now) (map exchange_of exchanges.now) } by { Prim.hlevel props },
+    ghost apart: { AreApartBelow (swaps_in swaps.items) first_neighbours.items } by { Prim.hlevel props },
+    ghost each: { length first_neighbours.items ≡ length swaps.items },
+}
+
+impl<'g, 't, 'e> Representatives<'g, 't, 'e> {
+    ghost use Rattle.std.specs.Prelude.{◌<◌, IsTrue};
+    ghost use Rattle.packed_state.specs.Packed.{bits_of};
+    ghost use Rattle.grounding.specs.Ground.{task_in};
+    ghost use Rattle.symmetries.specs.Symmetries.{is_symmetry};
+    ghost use Rattle.symmetries.specs.Quotients.{packed_representative};
+    ghost use Rattle.representatives.specs.Places.{is_earlier_at, swapped_at, FindsFrom};
+    ghost use Rattle.representatives.specs.Representatives.{task_of, atoms_of, exchanges_of, swaps_of};
+    ghost use Rattle.representatives.specs.NewNames.{IsRenamed};
+
+    /// Those by these exchanges of the objects of the ground task. `None`, if the image of a numbered atom by one of them has no
+    /// number.
+    ///
+    /// # Errors
+    /// Memory was refused, which says nothing of the exchanges.
+    pub fn new(
+        alloc: Global,
+        ground: &'g Ground<'t>,
+        exchanges: &'e [Exchange],
+    ) -> Result<Option<Representatives<'g, 't, 'e>>, NoMemory>
+        ensures kept { IfOk result (λ made. is_some made ≡ list_all (keeps_atoms (atoms_in ground.now)) (map exchange_of exchanges.now)) }
+        ensures task { IfOk result (λ made. IfSome made (λ r. task_of r ≡ task_in ground.now)) }
+        ensures atoms { IfOk result (λ made. IfSome made (λ r. atoms_of r ≡ atoms_in ground.now)) }
+        ensures exchanges { IfOk result (λ made. IfSome made (λ r. exchanges_of r ≡ map exchange_of exchanges.now)) }
+    {
+        let mut swaps = Vec::new(alloc);
+        for exchange in exchanges {
+            match pairs_of(alloc, ground, exchange)? {
+                Some(pairs) => swaps.push(pairs)?,
+                None => return Ok(None),
+            }
+        }
+        let first_neighbours = first_neighbours(alloc, ground.width() as usize, swaps.as_slice())?;
+        Ok(Some(Representatives {
+            ground,
+            exchanges,
+            swaps,
+            first_neighbours,
+        }))
+    }
+
+    /// The ground task.
+    pub fn ground(&self) -> &'g Ground<'t>
+        ensures task { task_in result.now ≡ task_of self.now }
+        ensures atoms { atoms_in result.now ≡ atoms_of self.now }
+    {
+        self.ground
+    }
+
+    /// Makes a state its representative: as long as the image by one of the exchanges comes before it, the first such image
+    /// takes its place. Of two states the one comes before in which the least atom is true that is true in one of them alone.
+    /// Where the exchanges are symmetries of the task it is the state under other names of objects. No memory is taken.
+    pub fn represent(&self, state: &mut Packed)
+        requires { length (bits_of state.old) ≡ length (atoms_of self.now) }
+        ensures represented { bits_of state.new ≡ packed_representative (task_of self.now) (atoms_of self.now) (exchanges_of self.now) (bits_of state.old) }
+        ensures renamed { IsTrue (list_all (is_symmetry (task_of self.now)) (exchanges_of self.now)) →
+            IsRenamed (task_of self.now) (atoms_of self.now) (bits_of state.old) (bits_of state.new) }
+    {
+        let mut from = 0;
+        'images: while let Some(number) = self.next_before(state, from) {
+            self.exchange(number, state);
+            from = self.first_neighbours[number];
+        }
+    }
+
+    /// The first exchange, from this number on, whose image of the state comes before it.
+    fn next_before(&self, state: &Packed, from: usize) -> Option<usize>
+        requires { length (bits_of state.now) ≡ length (atoms_of self.now) }
+        ensures { FindsFrom (swaps_of self.now) (bits_of state.now) from result }
+    {
+        for number in from..self.swaps.len() {
+            if self.comes_before(number, state) {
+                return Some(number);
+            }
+        }
+        None
+    }
+
+    /// Whether the image of the state by the exchange of this number comes before it.
+    fn comes_before(&self, number: usize, state: &Packed) -> bool
+        requires number { number < length (swaps_of self.now) }
+        requires wide { length (bits_of state.now) ≡ length (atoms_of self.now) }
+        ensures { result ≡ is_earlier_at (swaps_of self.now) (bits_of state.now) number }
+    {
+        image_comes_before(self.swaps[number].as_slice(), state)
+    }
+
+    /// Makes the state its image by the exchange of this number.
+    fn exchange(&self, number: usize, state: &mut Packed)
+        requires number { number < length (swaps_of self.now) }
+        requires wide { length (bits_of state.old) ≡ length (atoms_of self.now) }
+        ensures { bits_of state.new ≡ swapped_at (swaps_of self.now) (bits_of state.old) number }
+    {
+        exchange_bits(self.swaps[number].as_slice(), state);
+    }
+}
+
+/// The pairs of numbers of atoms that the exchange takes to each other. `None`, if the image of a numbered atom has no number.
+fn pairs_of(
+    alloc: Global,
+    ground: &Ground<'_>,
+    exchange: &Exchange,
+) -> Result<Option<Vec<Pair>>, NoMemory>
+    ensures kept { IfOk result (λ found. is_some found ≡ keeps_atoms (atoms_in ground.now) (exchange_of exchange.now)) }
+    ensures pairs { IfOk result (λ found. IfSome found (λ pairs. map pair_of pairs.items ≡ swap_of (atoms_in ground.now) (exchange_of exchange.now))) }
+{
+    let Some(numbers) = exchanged_numbers(alloc, ground.atoms(), exchange)? else {
+        return Ok(None);
+    };
+    let pairs = pairs_from(alloc, numbers.as_slice())?;
+    Ok(Some(pairs))
+}
