@@ -5,3 +5,4 @@ pub mod Files
 pub mod Inputs
 pub mod QuantifiedNames
 pub mod FurtherFaults
+pub mod SaidOf

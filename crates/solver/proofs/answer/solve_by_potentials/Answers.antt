@@ -72,4 +72,4 @@ answer_of-requires-clause-searched c =
     let reports = ap (λ f. is_dead_by (potentials_in f)) c.new-guide.ensures.dead_ends ∙ ap is_dead_by (sym dead_ends) in
     subst (λ (e : List Bool → ℕ). IsSearched known e (is_dead_by q) c.args.limits.states outcome marks) estimates
     (subst (λ (r : List Bool → Bool). IsSearched known (value_by (score (potentials_in guide.estimate.now))) r c.args.limits.states outcome marks) reports
-    (subst (IsTrueEnd known (value_by (score (potentials_in guide.estimate.now))) (is_dead_by (potentials_in guide.dead_ends.now)) c.args.limits) c.in-ByGuide.is c.in_ok-answer.ensures))
+    (subst (IsTrueEnd known (value_by (score (potentials_in guide.estimate.now))) (is_dead_by (potentials_in guide.dead_ends.now)) c.args.limits) c.in-ByGuide.is c.in_ok-answer.ensures.end))

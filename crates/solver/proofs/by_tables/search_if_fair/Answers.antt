@@ -34,4 +34,4 @@ pub returns-in_ok-searched-in-Fair-clause-searched : goal.returns-in_ok-searched
 returns-in_ok-searched-in-Fair-clause-searched c =
     let searched = c.in_ok-searched-in-Fair.searched in
     subst (λ (s : SeveralValues). IsSearched c.args.ground.now (estimate_by (by_tables s)) (reports_dead (by_tables s)) c.args.limits.states searched.outcome searched.marks.items)
-    c.in_ok-guide-in-Fair.ensures.functions c.in_ok-searched-in-Fair.ensures
+    c.in_ok-guide-in-Fair.ensures.functions c.in_ok-searched-in-Fair.ensures.searched

@@ -1,4 +1,4 @@
-use Rattle.std.proofs.Common.{inl}
+use Rattle.std.proofs.Common.{inl, inr}
 use Rattle.std.specs.Option.{option_map}
 use Rattle.faults.proofs.Results.{passed_on}
 use Rattle.task.specs.Task.{task_of}
@@ -9,7 +9,9 @@ use Rattle.cert_checker.specs.CertChecker.{IsNoFault}
 use Rattle.cert_checker.specs.Checking.{Refuses}
 use Rattle.cert_checker.proofs.AcceptLemmas.{accepts_read, counts_judged, none_at_fault, not_refused, refuses_read}
 use Rattle.cert_checker.proofs.FirstLemmas.{cuts_allowed}
-use Rattle.cert_checker.proofs.checker.check.Goals as goal
+use Rattle.cert_checker.proofs.SaidLemmas.{whole_said}
+use Rattle.progress_lines.proofs.SaidLemmas.{said_after, said_of_more}
+use Rattle.cert_checker.proofs.checker.check_and_say.Goals as goal
 
 pub returns-in_err-cert-clause-refused : goal.returns-in_err-cert-clause-refused
 returns-in_err-cert-clause-refused g c =
@@ -56,3 +58,13 @@ returns-clause-failures g c =
 -- the rows of each table have a weight for each value and one for dead ends
 pub judge-requires-clause-counted : goal.judge-requires-clause-counted
 judge-requires-clause-counted g c = c.in_ok-cert.ensures.weighed
+
+pub returns-in_err-cert-clause-said : goal.returns-in_err-cert-clause-said
+returns-in_err-cert-clause-said g c = said_of_more (λ line is. inl is) c.in_err-cert.ensures.said
+
+pub returns-clause-said : goal.returns-clause-said
+returns-clause-said g c =
+    said_after (said_of_more (λ line is. inl is) c.in_ok-cert.ensures.said)
+    (said_of_more
+    (λ line is. inr (whole_said g.R.Source.remaining (task_of c.args.task.now) c.args.reader.now c.read_cert.new.reader (certificate_of c.in_ok-cert.cert) c.in_ok-cert.ensures.read line is))
+    c.say_whole.ensures)

@@ -1,10 +1,11 @@
 use Rattle.std.proofs.lemmas.Result.{err_from_is_err_and, IfOk-weaker}
+use Rattle.progress_lines.specs.Said.{nothing}
 use Rattle.task.specs.Task.{task_of}
 use Rattle.model.proofs.TaskNames.{task_has_names}
 use Rattle.file_answers.specs.Files.{text_in}
 use Rattle.file_answers.proofs.FilesRead.{task_input}
 use Rattle.file_answers.proofs.CheckedLemmas.{none_reported_of_inputs, none_reported_of_inputs_in}
-use Rattle.file_answers.proofs.checking.check_files.Goals as goal
+use Rattle.file_answers.proofs.checking.check_files_and_say.Goals as goal
 
 pub returns-in_err-task-clause-refused : goal.returns-in_err-task-clause-refused
 returns-in_err-task-clause-refused g c =
@@ -38,3 +39,9 @@ pub returns-clause-names : goal.returns-clause-names
 returns-clause-names g c =
     IfOk-weaker c.check_task.result _ _ (λ checked is. task_has_names c.args.domain.now c.args.problem.now (task_of checked.task) is)
     (c.check_task.ensures.task c.args.domain.now c.args.problem.now c.in_ok-task.ensures.task)
+
+pub returns-in_err-task-clause-said : goal.returns-in_err-task-clause-said
+returns-in_err-task-clause-said g c = nothing
+
+pub returns-clause-said : goal.returns-clause-said
+returns-clause-said g c = c.check_task.ensures.said c.args.domain.now c.args.problem.now c.in_ok-task.ensures.task
