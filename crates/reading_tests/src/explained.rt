@@ -35,14 +35,18 @@ static REPORTED: [(&str, &str); 3] = [
     ("(close a)", "step 1, (close a), is not applicable\n(exists (?1 - object) (seen ?1)) is false.\n"),
 ];
 
-/// What is said of the plan of this text: what is true of it, and then why. Variables of quantifiers have no names.
-fn reported(alloc: Global, task: &Task, text: &str) -> Result<String, Fail> {
+/// A task whose quantified variables have no names.
+#[derive(Drop)]
+struct Nameless<'a> {
+    task: &'a Task,
+    names: VariableNames<'a>,
+}
+
+/// What is said of the plan of this text: what is true of it, and then why.
+fn reported(alloc: Global, nameless: &Nameless<'_>, text: &str) -> Result<String, Fail> {
+    let task = nameless.task;
     let plan = read_plan(alloc, task, text.as_bytes())?;
-    let names = VariableNames {
-        actions: Vec::new(alloc),
-        goal: Vec::new(alloc),
-    };
-    let explanation = explain_plan(alloc, task, &names, &plan)?;
+    let explanation = explain_plan(alloc, task, &nameless.names, &plan)?;
     let mut reported = report_verdict(alloc, task, &plan, &explanation)?;
     let details = report_details(alloc, task, &plan, &explanation)?;
     reported.push_str(details.as_str())?;
@@ -50,8 +54,15 @@ fn reported(alloc: Global, task: &Task, text: &str) -> Result<String, Fail> {
 }
 
 fn are_reported(rt: &impl Abort, alloc: Global, task: &Task) -> Result<(), Fail> {
+    let nameless = Nameless {
+        task,
+        names: VariableNames {
+            actions: Vec::new(alloc),
+            goal: Vec::new(alloc),
+        },
+    };
     for (plan, wanted) in &REPORTED {
-        let text = reported(alloc, task, *plan)?;
+        let text = reported(alloc, &nameless, *plan)?;
         assert_eq!(rt; text.as_str(), *wanted);
     }
     Ok(())
