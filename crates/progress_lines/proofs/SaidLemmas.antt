@@ -32,3 +32,9 @@ goes_on_of_more IsLine IsMore wants_memory failures taken failures_after taken_a
 pub none_said : (IsLine : List ℕ → Type 0) (wants_memory : Bool) (before after : Stream) → ((line : List ℕ) → IsLine line → ⊥) → AreSaid IsLine wants_memory before after → after ≡ before
 none_said IsLine wants_memory before _ none nothing = refl
 none_said IsLine wants_memory before _ none (one_more now after line said is written) = absurd (none line is)
+
+-- one line is said
+pub said_once : (IsLine : List ℕ → Type 0) (wants_memory : Bool) (failures : ℕ) (taken : Option (List ℕ)) (failures_after : ℕ) (taken_after : Option (List ℕ)) (line : List ℕ)
+    → IsLine line → IsWritten wants_memory failures failures_after taken taken_after line → AreSaid IsLine wants_memory (stream failures taken) (stream failures_after taken_after)
+said_once IsLine wants_memory failures taken failures_after taken_after line is written =
+    one_more (stream failures taken) (stream failures_after taken_after) line nothing is written

@@ -9,5 +9,5 @@ use Rattle.solver.proofs.answer.say_limit.Goals as goal
 
 pub returns-in_ok-say-in-States-clause-ended : goal.returns-in_ok-say-in-States-clause-ended
 returns-in_ok-say-in-States-clause-ended g c =
-    subst (λ (l : Exceeded). OnOk c.say-in-States-2.result (HasEnded g.E.Sink.wants_memory (g.E.Sink.failures c.say-in-States-2.new.err) (g.E.Sink.taken c.say-in-States-2.new.err) (Unknown l))) (sym c.in-States.is)
-    (ends_by c.say-in-States-2.result _ _ _ _ _ c.end_of.result (certificate_of c.in-States.cert) c.end_of.ensures c.say-in-States-2.ensures.written)
+    subst (λ (l : Exceeded). OnOk c.say-in-States.result (HasEnded g.E.Sink.wants_memory (g.E.Sink.failures c.say-in-States.new.err) (g.E.Sink.taken c.say-in-States.new.err) (Unknown l))) (sym c.in-States.is)
+    (ends_by c.say-in-States.result _ _ _ _ _ c.end_of.result (certificate_of c.in-States.cert) c.end_of.ensures c.say-in-States.ensures.written)
