@@ -10,8 +10,8 @@ use Rattle.std.proofs.lemmas.List.Folds.{list_all-append, list_all-map}
 use Rattle.model.specs.Claims.{Claim, none}
 use Rattle.certificate_definitions.specs.Certificates.{Version, one, two, three, StateLine, is_number, is_claim}
 use Rattle.table_functions.specs.TableFunctions.{Row}
-use Rattle.certificate_definitions.specs.CertificateText.{WeightedAtom, TableLine, scope, row, NamedCertificate, TextLine, version, claims, constant, atom, tabled, listed, last, Format, is_line, row_count, scope_count, begin_with_scope, format_of, most_atoms, most_tables, most_rows, most_states, text_lines, keeps_text_limits, AreWhole, BeginCertificate, Beginning, head_lines, format_in}
-use Rattle.certificate_definitions.specs.CertificateMachine.{Body, CertificatePlace, at_version, at_claim, at_constant, in_body, ended, no_format, no_body, atom_more, scope_more, row_more, state_more, atom_follows, row_follows, only_if, next_place, place_from, place_after}
+use Rattle.certificate_definitions.specs.CertificateText.{WeightedAtom, TableLine, scope, row, NamedCertificate, TextLine, version, claims, constant, swapped, atom, tabled, listed, last, Format, is_line, row_count, scope_count, begin_with_scope, format_of, most_atoms, most_tables, most_rows, most_states, text_lines, keeps_text_limits, AreWhole, BeginCertificate, Beginning, head_lines, format_in}
+use Rattle.certificate_definitions.specs.CertificateMachine.{Body, CertificatePlace, at_version, at_claim, at_constant, in_body, ended, no_format, no_body, atom_more, scope_more, row_more, state_more, swap_follows, atom_follows, row_follows, only_if, next_place, place_from, place_after}
 use Rattle.certificate_definitions.proofs.Beginnings.{body_lines}
 
 -- ---- what comes before a place
@@ -23,6 +23,7 @@ body_of g = record { format = format_in g; tables = scope_count g.tables; rows =
 pub record Keeps (g : Beginning) : Type 0 where
   pub claim_is : IsTrue (is_claim g.claim)
   pub constants_are : IsTrue (is_line (format_in g) (constant g.constants))
+  pub swaps_are : IsTrue (list_all (λ names. is_line (format_in g) (swapped names)) g.swaps)
   pub atoms_are : IsTrue (list_all (λ a. is_line (format_in g) (atom a)) g.atoms)
   pub tables_are : IsTrue (list_all (λ t. is_line (format_in g) (tabled t)) g.tables)
   pub states_are : IsTrue (list_all (λ l. is_line (format_in g) (listed l)) g.states)
@@ -70,6 +71,10 @@ pub no_states : (states : List StateLine) → length states ≡ 0 → states ≡
 no_states [] empty = refl
 no_states (l ∷ states) empty = absurd (omega (arith, empty))
 
+pub no_atoms : (atoms : List WeightedAtom) → length atoms ≡ 0 → atoms ≡ []
+no_atoms [] empty = refl
+no_atoms (a ∷ atoms) empty = absurd (omega (arith, empty))
+
 pub no_tables : (tables : List TableLine) → IsTrue (begin_with_scope tables) → scope_count tables ≡ 0 → tables ≡ []
 no_tables [] first none_yet = refl
 no_tables (scope s ∷ tables) first none_yet = absurd (omega (arith, none_yet))
@@ -116,7 +121,11 @@ scope_after (row r ∷ tables) atoms first = absurd (cc first)
 module _ (g : Beginning) (keeps : Keeps g) where
   -- the beginning with other atoms, tables or states
   abbrev with_parts : List WeightedAtom → List TableLine → List StateLine → Beginning
-  with_parts atoms tables states = record { version = g.version; claim = g.claim; constants = g.constants; atoms = atoms; tables = tables; states = states }
+  with_parts atoms tables states = record { version = g.version; claim = g.claim; constants = g.constants; swaps = g.swaps; atoms = atoms; tables = tables; states = states }
+
+  -- the exchanges and the atoms
+  abbrev fronts : List TextLine
+  fronts = map swapped g.swaps ++ map atom g.atoms
 
   abbrev first_three : List TextLine → List TextLine
   first_three lines = version g.version ∷ claims g.claim ∷ constant g.constants ∷ lines
@@ -131,6 +140,7 @@ module _ (g : Beginning) (keeps : Keeps g) where
         keeps = record {
           claim_is = keeps.claim_is;
           constants_are = keeps.constants_are;
+          swaps_are = keeps.swaps_are;
           atoms_are = all_more (λ a. is_line (format_in g) (atom a)) g.atoms a keeps.atoms_are is;
           tables_are = ap (list_all (λ t. is_line format (tabled t))) no_tables;
           states_are = ap (list_all (λ l. is_line format (listed l))) no_states;
@@ -142,10 +152,38 @@ module _ (g : Beginning) (keeps : Keeps g) where
         };
         body_is = (λ i. record { format = record { version = g.version; weights = length g.constants; atoms = one_longer g.atoms a i }; tables = scope_count g.tables; rows = row_count g.tables; states = length g.states });
         lines_are =
-            (λ i. first_three (body_lines g.atoms (no_tables i) (no_states i) ++ atom a ∷ []))
-            ∙ ap (λ lines. first_three (lines ++ atom a ∷ [])) (append-nil (map atom g.atoms ++ []) ∙ append-nil (map atom g.atoms))
-            ∙ ap first_three (sym (map-append atom g.atoms (a ∷ [])) ∙ sym (append-nil (map atom atoms)) ∙ sym (append-nil (map atom atoms ++ [])))
-            ∙ (λ i. first_three (body_lines atoms (sym no_tables i) (sym no_states i)));
+            (λ i. first_three (body_lines g.swaps g.atoms (no_tables i) (no_states i) ++ atom a ∷ []))
+            ∙ ap (λ lines. first_three (lines ++ atom a ∷ [])) (append-nil ((map swapped g.swaps ++ map atom g.atoms) ++ []) ∙ append-nil (map swapped g.swaps ++ map atom g.atoms))
+            ∙ ap first_three (append_assoc (map swapped g.swaps) (map atom g.atoms) (atom a ∷ []) ∙ ap (λ lines. map swapped g.swaps ++ lines) (sym (map-append atom g.atoms (a ∷ [])))
+            ∙ sym (append-nil (map swapped g.swaps ++ map atom atoms)) ∙ sym (append-nil ((map swapped g.swaps ++ map atom atoms) ++ [])))
+            ∙ (λ i. first_three (body_lines g.swaps atoms (sym no_tables i) (sym no_states i)));
+      }
+
+  with_swap : (names : List (List ℕ)) → g.atoms ≡ [] → g.tables ≡ [] → g.states ≡ [] → is_line (format_in g) (swapped names) ≡ true → IsBody (body_of g) (head_lines g ++ swapped names ∷ [])
+  with_swap names no_atoms no_tables no_states is =
+      let swaps : List (List (List ℕ)) = g.swaps ++ names ∷ [] in
+      record {
+        beginning = record { version = g.version; claim = g.claim; constants = g.constants; swaps = swaps; atoms = g.atoms; tables = g.tables; states = g.states };
+        keeps = record {
+          claim_is = keeps.claim_is;
+          constants_are = keeps.constants_are;
+          swaps_are = all_more (λ names. is_line (format_in g) (swapped names)) g.swaps names keeps.swaps_are is;
+          atoms_are = keeps.atoms_are;
+          tables_are = keeps.tables_are;
+          states_are = keeps.states_are;
+          scope_first = keeps.scope_first;
+          few_atoms = keeps.few_atoms;
+          few_tables = keeps.few_tables;
+          few_rows = keeps.few_rows;
+          few_states = keeps.few_states;
+        };
+        body_is = refl;
+        lines_are =
+            (λ i. first_three (body_lines g.swaps (no_atoms i) (no_tables i) (no_states i) ++ swapped names ∷ []))
+            ∙ ap (λ lines. first_three (lines ++ swapped names ∷ [])) (append-nil ((map swapped g.swaps ++ []) ++ []) ∙ append-nil (map swapped g.swaps ++ []) ∙ append-nil (map swapped g.swaps))
+            ∙ ap first_three (sym (map-append swapped g.swaps (names ∷ []))
+            ∙ sym (append-nil (map swapped swaps)) ∙ sym (append-nil (map swapped swaps ++ [])) ∙ sym (append-nil ((map swapped swaps ++ []) ++ [])))
+            ∙ (λ i. first_three (body_lines swaps (sym no_atoms i) (sym no_tables i) (sym no_states i)));
       }
 
   with_table_line : (t : TableLine) (b : Body) → g.states ≡ [] → is_line (format_in g) (tabled t) ≡ true → IsTrue (begin_with_scope (g.tables ++ t ∷ []))
@@ -155,6 +193,7 @@ module _ (g : Beginning) (keeps : Keeps g) where
     keeps = record {
       claim_is = keeps.claim_is;
       constants_are = keeps.constants_are;
+      swaps_are = keeps.swaps_are;
       atoms_are = keeps.atoms_are;
       tables_are = all_more (λ t. is_line (format_in g) (tabled t)) g.tables t keeps.tables_are is;
       states_are = keeps.states_are;
@@ -166,12 +205,12 @@ module _ (g : Beginning) (keeps : Keeps g) where
     };
     body_is = same;
     lines_are =
-        (λ i. first_three (body_lines g.atoms g.tables (no_states i) ++ tabled t ∷ []))
-        ∙ ap (λ lines. first_three (lines ++ tabled t ∷ [])) (append-nil (map atom g.atoms ++ map tabled g.tables))
-        ∙ ap first_three (append_assoc (map atom g.atoms) (map tabled g.tables) (tabled t ∷ [])
-        ∙ ap (λ lines. map atom g.atoms ++ lines) (sym (map-append tabled g.tables (t ∷ [])))
-        ∙ sym (append-nil (map atom g.atoms ++ map tabled (g.tables ++ t ∷ []))))
-        ∙ (λ i. first_three (body_lines g.atoms (g.tables ++ t ∷ []) (sym no_states i)));
+        (λ i. first_three (body_lines g.swaps g.atoms g.tables (no_states i) ++ tabled t ∷ []))
+        ∙ ap (λ lines. first_three (lines ++ tabled t ∷ [])) (append-nil (fronts ++ map tabled g.tables))
+        ∙ ap first_three (append_assoc fronts (map tabled g.tables) (tabled t ∷ [])
+        ∙ ap (λ lines. fronts ++ lines) (sym (map-append tabled g.tables (t ∷ [])))
+        ∙ sym (append-nil (fronts ++ map tabled (g.tables ++ t ∷ []))))
+        ∙ (λ i. first_three (body_lines g.swaps g.atoms (g.tables ++ t ∷ []) (sym no_states i)));
   }
 
   with_scope : (s : List ℕ) → g.states ≡ [] → scope_count g.tables < most_tables → is_line (format_in g) (tabled (scope s)) ≡ true → IsBody (scope_more (body_of g)) (head_lines g ++ tabled (scope s) ∷ [])
@@ -195,6 +234,7 @@ module _ (g : Beginning) (keeps : Keeps g) where
     keeps = record {
       claim_is = keeps.claim_is;
       constants_are = keeps.constants_are;
+      swaps_are = keeps.swaps_are;
       atoms_are = keeps.atoms_are;
       tables_are = keeps.tables_are;
       states_are = all_more (λ l. is_line (format_in g) (listed l)) g.states l keeps.states_are is;
@@ -206,24 +246,25 @@ module _ (g : Beginning) (keeps : Keeps g) where
     };
     body_is = (λ i. record { format = format_in g; tables = scope_count g.tables; rows = row_count g.tables; states = one_longer g.states l i });
     lines_are =
-        ap first_three (append_assoc (map atom g.atoms ++ map tabled g.tables) (map listed g.states) (listed l ∷ [])
-        ∙ ap (λ lines. (map atom g.atoms ++ map tabled g.tables) ++ lines) (sym (map-append listed g.states (l ∷ []))));
+        ap first_three (append_assoc (fronts ++ map tabled g.tables) (map listed g.states) (listed l ∷ [])
+        ∙ ap (λ lines. (fronts ++ map tabled g.tables) ++ lines) (sym (map-append listed g.states (l ∷ []))));
   }
 
   -- the lines before the last one, and it, are a certificate
   whole : AreWhole (head_lines g ++ last (length g.states) ∷ [])
   whole =
-      let c : NamedCertificate = record { version = g.version; claim = g.claim; constants = g.constants; atoms = g.atoms; tables = g.tables; lines = g.states } in
+      let c : NamedCertificate = record { version = g.version; claim = g.claim; constants = g.constants; swaps = g.swaps; atoms = g.atoms; tables = g.tables; lines = g.states } in
       let test : TextLine → Bool = is_line (format_in g) in
+      let swaps : list_all test (map swapped g.swaps) ≡ true = list_all-map test swapped g.swaps ∙ keeps.swaps_are in
       let atoms : list_all test (map atom g.atoms) ≡ true = list_all-map test atom g.atoms ∙ keeps.atoms_are in
       let tables : list_all test (map tabled g.tables) ≡ true = list_all-map test tabled g.tables ∙ keeps.tables_are in
       let states : list_all test (map listed g.states) ≡ true = list_all-map test listed g.states ∙ keeps.states_are in
       let number : is_number (length g.states) ≡ true = lt-ltb (length g.states) 1152921504606846976 (omega (arith, keeps.few_states)) in
-      let body : list_all test (body_lines g.atoms g.tables g.states) ≡ true =
-      list_all-append test (map atom g.atoms ++ map tabled g.tables) (map listed g.states)
-      ∙ both_true _ _ (list_all-append test (map atom g.atoms) (map tabled g.tables) ∙ both_true _ _ atoms tables) states in
-      let following : list_all test (body_lines g.atoms g.tables g.states ++ last (length g.states) ∷ []) ≡ true =
-      list_all-append test (body_lines g.atoms g.tables g.states) (last (length g.states) ∷ []) ∙ both_true _ _ body (both_true (is_number (length g.states)) true number refl) in
+      let body : list_all test (body_lines g.swaps g.atoms g.tables g.states) ≡ true =
+      list_all-append test (fronts ++ map tabled g.tables) (map listed g.states)
+      ∙ both_true _ _ (list_all-append test fronts (map tabled g.tables) ∙ both_true _ _ (list_all-append test (map swapped g.swaps) (map atom g.atoms) ∙ both_true _ _ swaps atoms) tables) states in
+      let following : list_all test (body_lines g.swaps g.atoms g.tables g.states ++ last (length g.states) ∷ []) ≡ true =
+      list_all-append test (body_lines g.swaps g.atoms g.tables g.states) (last (length g.states) ∷ []) ∙ both_true _ _ body (both_true (is_number (length g.states)) true number refl) in
       let each : list_all test (text_lines c) ≡ true = both_true (is_claim g.claim) _ keeps.claim_is (both_true (test (constant g.constants)) _ keeps.constants_are following) in
       let few : nat_le (length g.atoms) most_atoms ≡ true = le-leb (length g.atoms) most_atoms keeps.few_atoms in
       let few_tables : nat_le (scope_count g.tables) most_tables ≡ true = le-leb (scope_count g.tables) most_tables keeps.few_tables in
@@ -236,6 +277,14 @@ module _ (g : Beginning) (keeps : Keeps g) where
   step_on (version w) next leads = never next leads
   step_on (claims claim) next leads = never next leads
   step_on (constant k) next leads = never next leads
+  step_on (swapped names) next leads =
+      let b : Body = body_of g in
+      let (holds, same) = only_where (swap_follows b && is_line b.format (swapped names)) (in_body b) next leads in
+      let (follows, is) = and_parts (swap_follows b) (is_line b.format (swapped names)) holds in
+      let (before, empty) = and_parts ((b.format.atoms == 0) && (b.tables == 0)) (b.states == 0) follows in
+      let (no_atom, first) = and_parts (b.format.atoms == 0) (b.tables == 0) before in
+      subst (λ q. ComesBefore q (head_lines g ++ swapped names ∷ [])) same
+      (with_swap names (no_atoms g.atoms (eqb-true b.format.atoms 0 no_atom)) (no_tables g.tables keeps.scope_first (eqb-true b.tables 0 first)) (no_states g.states (eqb-true b.states 0 empty)) is)
   step_on (atom a) next leads =
       let b : Body = body_of g in
       let (holds, same) = only_where (atom_follows b && nat_lt b.format.atoms most_atoms && is_line b.format (atom a)) (in_body (atom_more b)) next leads in
@@ -274,6 +323,7 @@ step : (place : CertificatePlace) (line : TextLine) (next : CertificatePlace) (l
 step at_version (version v) next lines occurs leads = subst (λ q. ComesBefore q (lines ++ version v ∷ [])) (place_same (at_claim v) next leads) (ap (λ lines. lines ++ version v ∷ []) occurs)
 step at_version (claims claim) next lines occurs leads = never next leads
 step at_version (constant k) next lines occurs leads = never next leads
+step at_version (swapped names) next lines occurs leads = never next leads
 step at_version (atom a) next lines occurs leads = never next leads
 step at_version (tabled t) next lines occurs leads = never next leads
 step at_version (listed l) next lines occurs leads = never next leads
@@ -283,6 +333,7 @@ step (at_claim v) (claims claim) next lines occurs leads =
     let (is, same) = only_where (is_line (no_format v) (claims claim)) (at_constant v) next leads in
     subst (λ q. ComesBefore q (lines ++ claims claim ∷ [])) same (claim, is, ap (λ lines. lines ++ claims claim ∷ []) occurs)
 step (at_claim v) (constant k) next lines occurs leads = never next leads
+step (at_claim v) (swapped names) next lines occurs leads = never next leads
 step (at_claim v) (atom a) next lines occurs leads = never next leads
 step (at_claim v) (tabled t) next lines occurs leads = never next leads
 step (at_claim v) (listed l) next lines occurs leads = never next leads
@@ -293,10 +344,11 @@ step (at_constant v) (constant k) next lines occurs leads =
     let (claim, is, are) = occurs in
     let (holds, same) = only_where (is_line (no_format v) (constant k)) (in_body (no_body v (length k))) next leads in
     subst (λ q. ComesBefore q (lines ++ constant k ∷ [])) same (record {
-      beginning = record { version = v; claim = claim; constants = k; atoms = []; tables = []; states = [] };
+      beginning = record { version = v; claim = claim; constants = k; swaps = []; atoms = []; tables = []; states = [] };
       keeps = record {
         claim_is = is;
         constants_are = holds;
+        swaps_are = refl;
         atoms_are = refl;
         tables_are = refl;
         states_are = refl;
@@ -309,6 +361,7 @@ step (at_constant v) (constant k) next lines occurs leads =
       body_is = refl;
       lines_are = ap (λ lines. lines ++ constant k ∷ []) are;
     })
+step (at_constant v) (swapped names) next lines occurs leads = never next leads
 step (at_constant v) (atom a) next lines occurs leads = never next leads
 step (at_constant v) (tabled t) next lines occurs leads = never next leads
 step (at_constant v) (listed l) next lines occurs leads = never next leads
@@ -319,6 +372,7 @@ step (in_body b) line next lines body leads =
 step ended (version w) next lines occurs leads = never next leads
 step ended (claims claim) next lines occurs leads = never next leads
 step ended (constant k) next lines occurs leads = never next leads
+step ended (swapped names) next lines occurs leads = never next leads
 step ended (atom a) next lines occurs leads = never next leads
 step ended (tabled t) next lines occurs leads = never next leads
 step ended (listed l) next lines occurs leads = never next leads
@@ -404,6 +458,13 @@ module _ (v : Version) (weights : ℕ) where
   abbrev body : (n tables rows states : ℕ) → CertificatePlace
   body n t r m = in_body (record { format = format n; tables = t; rows = r; states = m })
 
+  swaps_read : (swaps : List (List (List ℕ))) (more : List TextLine) → list_all (λ names. is_line (format 0) (swapped names)) swaps ≡ true
+      → place_from (body 0 0 0 0) (map swapped swaps ++ more) ≡ place_from (body 0 0 0 0) more
+  swaps_read [] more all = refl
+  swaps_read (names ∷ swaps) more all =
+      let (here, rest) = and_parts (is_line (format 0) (swapped names)) (list_all (λ names. is_line (format 0) (swapped names)) swaps) all in
+      ap (λ b. option_and_then (λ next. place_from next (map swapped swaps ++ more)) (only_if b (body 0 0 0 0))) here ∙ swaps_read swaps more rest
+
   atoms_read : (atoms : List WeightedAtom) (n : ℕ) (more : List TextLine) → list_all (λ a. is_line (format n) (atom a)) atoms ≡ true → n + length atoms ≤ most_atoms
       → place_from (body n 0 0 0) (map atom atoms ++ more) ≡ place_from (body (n + length atoms) 0 0 0) more
   atoms_read [] n more all few = ap (λ k. place_from (body k 0 0 0) more) (zero_more n)
@@ -474,16 +535,20 @@ lines_read c keeps =
     let (few, rows) = and_parts (nat_le k most_atoms) _ bodies in
     let (scopes, few_rows) = and_parts (begin_with_scope c.tables && nat_le (scope_count c.tables) most_tables) (nat_le (row_count c.tables) most_rows) rows in
     let (first, few_tables) = and_parts (begin_with_scope c.tables) (nat_le (scope_count c.tables) most_tables) scopes in
+    let swap_lines : List TextLine = map swapped c.swaps in
     let atom_lines : List TextLine = map atom c.atoms in
     let table_lines : List TextLine = map tabled c.tables in
     let state_lines : List TextLine = map listed c.lines in
     let end : List TextLine = last (length c.lines) ∷ [] in
-    let all_lines : List TextLine = ((atom_lines ++ table_lines) ++ state_lines) ++ end in
+    let fronts : List TextLine = swap_lines ++ atom_lines in
+    let all_lines : List TextLine = ((fronts ++ table_lines) ++ state_lines) ++ end in
     let (claim, other) = and_parts (is_claim c.claim) (list_all test (constant c.constants ∷ all_lines)) each in
     let (constant_is, following) = and_parts (test (constant c.constants)) (list_all test all_lines) other in
-    let (body_is, _) = and_parts (list_all test ((atom_lines ++ table_lines) ++ state_lines)) (list_all test end) (sym (list_all-append test ((atom_lines ++ table_lines) ++ state_lines) end) ∙ following) in
-    let (fronts, states) = and_parts (list_all test (atom_lines ++ table_lines)) (list_all test state_lines) (sym (list_all-append test (atom_lines ++ table_lines) state_lines) ∙ body_is) in
-    let (atoms, tables) = and_parts (list_all test atom_lines) (list_all test table_lines) (sym (list_all-append test atom_lines table_lines) ∙ fronts) in
+    let (body_is, _) = and_parts (list_all test ((fronts ++ table_lines) ++ state_lines)) (list_all test end) (sym (list_all-append test ((fronts ++ table_lines) ++ state_lines) end) ∙ following) in
+    let (behind, states) = and_parts (list_all test (fronts ++ table_lines)) (list_all test state_lines) (sym (list_all-append test (fronts ++ table_lines) state_lines) ∙ body_is) in
+    let (fronts_are, tables) = and_parts (list_all test fronts) (list_all test table_lines) (sym (list_all-append test fronts table_lines) ∙ behind) in
+    let (swaps, atoms) = and_parts (list_all test swap_lines) (list_all test atom_lines) (sym (list_all-append test swap_lines atom_lines) ∙ fronts_are) in
+    let swaps_are : list_all (λ names. test (swapped names)) c.swaps ≡ true = sym (list_all-map test swapped c.swaps) ∙ swaps in
     let atoms_are : list_all (λ a. test (atom a)) c.atoms ≡ true = sym (list_all-map test atom c.atoms) ∙ atoms in
     let tables_are : list_all (λ t. test (tabled t)) c.tables ≡ true = sym (list_all-map test tabled c.tables) ∙ tables in
     let states_are : list_all (λ l. test (listed l)) c.lines ≡ true = sym (list_all-map test listed c.lines) ∙ states in
@@ -496,7 +561,8 @@ lines_read c keeps =
     let r : ℕ = row_count c.tables in
     ap (λ b. option_and_then (λ next. place_from next (constant c.constants ∷ all_lines)) (only_if b (at_constant v))) claim
     ∙ ap (λ b. option_and_then (λ next. place_from next all_lines) (only_if b (in_body (no_body v w)))) constant_is
-    ∙ ap (place_from (in_body (no_body v w))) (append_assoc (atom_lines ++ table_lines) state_lines end ∙ append_assoc atom_lines table_lines (state_lines ++ end))
+    ∙ ap (place_from (in_body (no_body v w))) (append_assoc (fronts ++ table_lines) state_lines end ∙ append_assoc fronts table_lines (state_lines ++ end) ∙ append_assoc swap_lines atom_lines (table_lines ++ (state_lines ++ end)))
+    ∙ swaps_read v w c.swaps (atom_lines ++ (table_lines ++ (state_lines ++ end))) swaps_are
     ∙ atoms_read v w c.atoms 0 (table_lines ++ (state_lines ++ end)) atoms_are (omega (arith, atoms_within))
     ∙ ap (λ n. place_from (body v w n 0 0 0) (table_lines ++ (state_lines ++ end))) (from_zero k)
     ∙ all_tables_read v w k c.tables (state_lines ++ end) tables_are first tables_within rows_within

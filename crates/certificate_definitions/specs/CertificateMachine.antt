@@ -3,9 +3,9 @@
 use Rattle.std.specs.Prelude.{ℕ, ◌+◌, Bool, ◌&&◌, ◌==◌, nat_lt, if◌then◌else◌, List, [], ◌∷◌, length, Option, None, Some}
 use Rattle.std.specs.Option.{option_and_then}
 use Rattle.certificate_definitions.specs.Certificates.{Version, one}
-use Rattle.certificate_definitions.specs.CertificateText.{Format, scope, row, TextLine, version, claims, constant, atom, tabled, listed, last, is_line, most_atoms, most_tables, most_rows, most_states}
+use Rattle.certificate_definitions.specs.CertificateText.{Format, scope, row, TextLine, version, claims, constant, swapped, atom, tabled, listed, last, is_line, most_atoms, most_tables, most_rows, most_states}
 
--- what came after the constants: atoms, which the format counts, tables, their rows, and states
+-- what came after the constants and the exchanges: atoms, which the format counts, tables, their rows, and states
 pub record Body : Type 0 where
   pub format : Format
   pub tables : ℕ
@@ -54,7 +54,10 @@ row_more b = record { format = b.format; tables = b.tables; rows = b.rows + 1; s
 abbrev pub state_more : Body → Body
 state_more b = record { format = b.format; tables = b.tables; rows = b.rows; states = b.states + 1 }
 
--- whether one more may follow: atoms come before tables, these before states, and a row after a scope
+-- whether one more may follow: exchanges come before atoms, these before tables, these before states, and a row after a scope
+abbrev pub swap_follows : Body → Bool
+swap_follows b = (b.format.atoms == 0) && (b.tables == 0) && (b.states == 0)
+
 abbrev pub atom_follows : Body → Bool
 atom_follows b = (b.tables == 0) && (b.states == 0)
 
@@ -70,6 +73,7 @@ abbrev pub next_place : CertificatePlace → TextLine → Option CertificatePlac
 next_place at_version (version v) = Some (at_claim v)
 next_place (at_claim v) (claims claim) = only_if (is_line (no_format v) (claims claim)) (at_constant v)
 next_place (at_constant v) (constant k) = only_if (is_line (no_format v) (constant k)) (in_body (no_body v (length k)))
+next_place (in_body b) (swapped names) = only_if (swap_follows b && is_line b.format (swapped names)) (in_body b)
 next_place (in_body b) (atom a) = only_if (atom_follows b && nat_lt b.format.atoms most_atoms && is_line b.format (atom a)) (in_body (atom_more b))
 next_place (in_body b) (tabled (scope s)) = only_if ((b.states == 0) && nat_lt b.tables most_tables && is_line b.format (tabled (scope s))) (in_body (scope_more b))
 next_place (in_body b) (tabled (row r)) = only_if (row_follows b && nat_lt b.rows most_rows && is_line b.format (tabled (row r))) (in_body (row_more b))
