@@ -103,6 +103,10 @@ text_lines c = version c.version ∷ claims c.claim ∷ constant c.constants ∷
 abbrev pub most_atoms : ℕ
 most_atoms = 1048576
 
+-- the most exchanges
+abbrev pub most_swaps : ℕ
+most_swaps = 1048576
+
 -- the most tables
 abbrev pub most_tables : ℕ
 most_tables = 4194304
@@ -135,15 +139,20 @@ abbrev pub is_table_line : Format → TableLine → Bool
 is_table_line f (scope atoms) = rise f.atoms 0 atoms && nat_le 1 (length atoms)
 is_table_line f (row r) = are_weights f.weights r.weights && rise f.atoms 0 r.atoms
 
--- no name is left over, and none is there twice
+-- two by two none is left over
 abbrev pub are_paired : {X : Type 0} → List X → Bool
 are_paired [] = true
 are_paired (x ∷ []) = false
 are_paired (x ∷ y ∷ rest) = are_paired rest
 
+-- no name is there twice
 abbrev pub differ : List (List ℕ) → Bool
 differ [] = true
 differ (name ∷ rest) = not (list_any (is_same name) rest) && differ rest
+
+-- two names at least, names in lower case, of which two by two none is left over, and none is there twice
+abbrev pub are_exchanged : List (List ℕ) → Bool
+are_exchanged names = nat_le 2 (length names) && are_paired names && differ names && list_all is_lower_name names
 
 -- The line keeps the limits by itself, in a text of this format: numbers are below 2 to the power 60, constants and weights are
 -- at most 2147483647 either way, names are names of a domain file in lower case (PDDL 1.2 manual, "Domains") of at most 255
@@ -154,7 +163,7 @@ is_line f (version w) = true
 is_line f (claims claim) = is_claim claim
 is_line f (constant k) = is_weight_count f.version (length k) && list_all is_weight k
 is_line f (atom a) = are_weights f.weights a.weights && list_all is_lower_name (a.atom.predicate ∷ a.atom.objects) && nat_le (length (line_text (atom a))) longest_line
-is_line f (swapped names) = has_exchanges f.version && nat_le 2 (length names) && are_paired names && differ names && list_all is_lower_name names && nat_le (length (line_text (swapped names))) longest_line
+is_line f (swapped names) = has_exchanges f.version && are_exchanged names && nat_le (length (line_text (swapped names))) longest_line
 is_line f (tabled t) = has_tables f.version && is_table_line f t
 is_line f (listed l) = is_state_line f.version f.atoms l
 is_line f (last count) = is_number count
@@ -183,7 +192,7 @@ format_of c = record { version = c.version; weights = length c.constants; atoms 
 -- the certificate keeps all limits
 abbrev pub keeps_text_limits : NamedCertificate → Bool
 keeps_text_limits c =
-    nat_le (length c.atoms) most_atoms && (begin_with_scope c.tables && nat_le (scope_count c.tables) most_tables && nat_le (row_count c.tables) most_rows) && nat_le (length c.lines) most_states
+    (nat_le (length c.swaps) most_swaps && nat_le (length c.atoms) most_atoms) && (begin_with_scope c.tables && nat_le (scope_count c.tables) most_tables && nat_le (row_count c.tables) most_rows) && nat_le (length c.lines) most_states
     && list_all (is_line (format_of c)) (text_lines c)
 
 -- The text is this certificate.
@@ -225,8 +234,11 @@ head_lines b = version b.version ∷ claims b.claim ∷ constant b.constants ∷
 abbrev pub format_in : Beginning → Format
 format_in b = record { version = b.version; weights = length b.constants; atoms = length b.atoms }
 
--- they are a line of an atom, a table, a row or a state that may occur there but for the limit, which the lines before have used up
+-- they are a line of an exchange, an atom, a table, a row or a state that may occur there but for the limit, which the lines before
+-- have used up
 pub data IsOneTooMany (before : List TextLine) (bytes : List ℕ) : Type 0 where
+  swaps : (b : Beginning) (names : List (List ℕ)) → before ≡ head_lines b → b.atoms ≡ [] → b.tables ≡ [] → b.states ≡ [] → length b.swaps ≡ most_swaps
+      → IsTrue (is_line (format_in b) (swapped names)) → bytes ≡ line_text (swapped names) → IsOneTooMany before bytes
   atoms : (b : Beginning) (a : WeightedAtom) → before ≡ head_lines b → b.tables ≡ [] → b.states ≡ [] → length b.atoms ≡ most_atoms
       → IsTrue (is_line (format_in b) (atom a)) → bytes ≡ line_text (atom a) → IsOneTooMany before bytes
   scopes : (b : Beginning) (s : List ℕ) → before ≡ head_lines b → b.states ≡ [] → scope_count b.tables ≡ most_tables
@@ -257,7 +269,7 @@ pub data IsFaultAfter (before : List TextLine) (bytes : List ℕ) : ℕ → Type
   trailing : AreWhole before → bytes ≢ [] → IsFaultAfter before bytes 40
   -- the text ends before the last line does
   cut_short : ¬ AreWhole before → IsInOneLine bytes → length bytes ≤ longest_line → IsFaultAfter before bytes 42
-  -- an atom, a table, a row or a state too many
+  -- an exchange, an atom, a table, a row or a state too many
   too_many : (line : List ℕ) → HasLine bytes line → IsOneTooMany before line → IsFaultAfter before bytes 55
 
 -- The number is reported for this line, counted from 1, which is the first at fault: the lines before it begin a certificate.

@@ -52,11 +52,11 @@ said_of v constants weights = record { version = v; claim = bound 0; constants =
 
 -- the place after these lines, in a text of this version with so many constants, behind two atoms
 abbrev pub behind_atoms : Version → ℕ → List TextLine → Option CertificatePlace
-behind_atoms v weights = place_from (in_body (record { format = record { version = v; weights = weights; atoms = 2 }; tables = 0; rows = 0; states = 0 }))
+behind_atoms v weights = place_from (in_body (record { format = record { version = v; weights = weights; atoms = 2 }; swaps = 0; tables = 0; rows = 0; states = 0 }))
 
 -- the place after these lines, in a text of this version, behind its constants
 abbrev pub behind_constants : Version → List TextLine → Option CertificatePlace
-behind_constants v = place_from (in_body (record { format = record { version = v; weights = 2; atoms = 0 }; tables = 0; rows = 0; states = 0 }))
+behind_constants v = place_from (in_body (record { format = record { version = v; weights = 2; atoms = 0 }; swaps = 0; tables = 0; rows = 0; states = 0 }))
 
 pub record AreTextsJudged : Type 0 where
   -- Atoms come before tables, each table before its rows, and all of them before states.

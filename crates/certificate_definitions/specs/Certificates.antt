@@ -143,7 +143,7 @@ keeps_limits c =
     && is_value_count c.version (length c.values) && list_all (are_potentials is_weight (length c.atoms)) c.values
     && are_potentials (is_dead_end_weight c.version) (length c.atoms) c.dead_ends
     && are_tables c.version (length c.atoms) (length c.values + 1) c.tables && nat_le (length c.tables) 4194304 && nat_le (length (rows_of c.tables)) 4194304
-    && are_exchanges c.version c.exchanges
+    && are_exchanges c.version c.exchanges && nat_le (length c.exchanges) 1048576
 
 -- ---- listings
 
