@@ -1,5 +1,5 @@
 -- What a condition decides is whether its formula holds, and its literals are of numbered atoms.
-use Rattle.std.proofs.Common.{◌≡◌, ◌∙◌, ℕ, ◌<◌, Bool, true, false, ◌&&◌, List, [], ◌∷◌, length, None, Some, refl, sym, ap, subst, true≢false}
+use Rattle.std.proofs.Common.{◌≡◌, ◌∙◌, ℕ, ◌<◌, Bool, true, false, ◌&&◌, List, [], ◌∷◌, length, Option, None, Some, refl, sym, ap, subst, true≢false}
 use Rattle.std.specs.List.{All, list_all, filter_map, cons_option}
 use Rattle.std.specs.Option.{option_map}
 use Rattle.std.proofs.lemmas.Option.{slice_get_within}
@@ -14,55 +14,60 @@ use Rattle.model.specs.Grounding.{state_of_bits}
 use Rattle.model.proofs.NumberingLemmas.{got-number_of}
 use Rattle.model.proofs.SureLiteralsHold.{sure_literals_hold}
 use Rattle.grounding.specs.declared.condition.Condition.{Condition}
-use Rattle.grounding.specs.Outright.{is_outright}
+use Rattle.grounding.specs.Settled.{beyond}
 use Rattle.grounding.specs.Unnumbered.{may_hold}
 use Rattle.grounding.specs.Conditions.{literals_in, beyond_of, decided_by, may_of, IsConditionOf}
-use Rattle.grounding.proofs.OutrightLemmas.{holds_outright}
-use Rattle.grounding.proofs.PackedTruth.{literals-packed}
+use Rattle.grounding.proofs.SettledLemmas.{beyond-says}
+use Rattle.grounding.proofs.PackedTruth.{literals-packed, packed-statics}
 
 -- ---- what is decided
 
--- Where a formula that holds has true literals, where one that says all outright holds where they are true, and where they
--- are true where those with numbers are and the others may be, what is decided is whether the formula holds.
-truly : (held all agreed may outright : Bool) → (held ≡ true → all ≡ true) → (outright ≡ true → held ≡ all) → all ≡ (agreed && may)
-    → (answer : Bool) → decided_by (beyond_of may outright) agreed ≡ Some answer → held ≡ answer
-truly true all true true true sure says is answer reported = cc
-truly true all true true false sure says is answer reported = absurd (cc)
-truly true all true false outright sure says is answer reported = absurd (true≢false (sym (sure refl) ∙ is))
-truly true all false may outright sure says is answer reported = absurd (true≢false (sym (sure refl) ∙ is))
-truly false all true true true sure says is answer reported = absurd (true≢false (sym is ∙ sym (says refl)))
-truly false all true true false sure says is answer reported = absurd (cc)
-truly false all false true true sure says is answer reported = cc
-truly false all false true false sure says is answer reported = cc
-truly false all agreed false outright sure says is answer reported = cc
+and_true : (agreed : Bool) → (agreed && true) ≡ agreed
+and_true true = refl
+and_true false = refl
+
+-- Where what is said beyond the literals is so, and where these are true where those with numbers are and the others may be, what
+-- is decided is whether the formula holds.
+truly : (held all agreed may : Bool) (said : Option Bool) → (held ≡ true → all ≡ true) → ((one : Bool) → said ≡ Some one → held ≡ (one && all)) → all ≡ (agreed && may)
+    → (answer : Bool) → decided_by (beyond_of may said) agreed ≡ Some answer → held ≡ answer
+truly held all agreed true (Some true) sure says is answer reported = says true refl ∙ is ∙ and_true agreed ∙ (cc)
+truly held all agreed true (Some false) sure says is answer reported = says false refl ∙ (cc)
+truly true all true true None sure says is answer reported = absurd (cc)
+truly false all true true None sure says is answer reported = absurd (cc)
+truly true all false true None sure says is answer reported = absurd (true≢false (sym (sure refl) ∙ is))
+truly false all false true None sure says is answer reported = cc
+truly true all true false said sure says is answer reported = absurd (true≢false (sym (sure refl) ∙ is))
+truly true all false false said sure says is answer reported = absurd (true≢false (sym (sure refl) ∙ is))
+truly false all agreed false said sure says is answer reported = cc
 
 -- what is asked beyond says whether the literals without numbers may hold
-may_beyond : (may outright : Bool) → may_of (beyond_of may outright) ≡ may
-may_beyond false outright = refl
-may_beyond true true = refl
-may_beyond true false = refl
+may_beyond : (may : Bool) (said : Option Bool) → may_of (beyond_of may said) ≡ may
+may_beyond false said = refl
+may_beyond true (Some true) = refl
+may_beyond true (Some false) = refl
+may_beyond true None = refl
 
 module _ (t : Task) (atoms : List Atom) (distinct : are_distinct atoms ≡ true) (fluent : (q : Atom) → occurs_in atoms q ≡ true → is_fluent t q.predicate ≡ true) (f : Formula) (binding : List ℕ) where
   pub decided-truly : (bits : List Bool) (answer : Bool)
-      → decided_by (beyond_of (list_all (may_hold t atoms) (sure t f binding)) (is_outright f)) (list_all (agrees bits) (numbered_literals t atoms f binding)) ≡ Some answer
+      → decided_by (beyond_of (list_all (may_hold t atoms) (sure t f binding)) (beyond t binding f)) (list_all (agrees bits) (numbered_literals t atoms f binding)) ≡ Some answer
       → holds t f binding (state_of_bits t atoms bits) ≡ answer
   decided-truly bits answer reported =
       let state = state_of_bits t atoms bits in
       truly (holds t f binding state) (list_all (literal_holds state) (sure t f binding)) (list_all (agrees bits) (numbered_literals t atoms f binding))
-      (list_all (may_hold t atoms) (sure t f binding)) (is_outright f)
+      (list_all (may_hold t atoms) (sure t f binding)) (beyond t binding f)
       (λ held. sure_literals_hold t f binding state held)
-      (λ outright. holds_outright t f binding state outright)
+      (beyond-says t state (packed-statics t atoms distinct fluent bits) f binding)
       (literals-packed t atoms distinct fluent bits (sure t f binding))
       answer reported
 
   -- so is what a condition with these literals decides
-  pub condition-of : (c : Condition) → literals_in c ≡ numbered_literals t atoms f binding → c.beyond ≡ beyond_of (list_all (may_hold t atoms) (sure t f binding)) (is_outright f)
+  pub condition-of : (c : Condition) → literals_in c ≡ numbered_literals t atoms f binding → c.beyond ≡ beyond_of (list_all (may_hold t atoms) (sure t f binding)) (beyond t binding f)
       → IsConditionOf t atoms f binding c
-  condition-of c literals beyond = record {
+  condition-of c literals asked = record {
     literals = literals;
-    may = ap may_of beyond ∙ may_beyond (list_all (may_hold t atoms) (sure t f binding)) (is_outright f);
+    may = ap may_of asked ∙ may_beyond (list_all (may_hold t atoms) (sure t f binding)) (beyond t binding f);
     decided = λ bits answer long reported.
-        decided-truly bits answer (sym (λ i. decided_by (beyond i) (list_all (agrees bits) (literals i))) ∙ reported);
+        decided-truly bits answer (sym (λ i. decided_by (asked i) (list_all (agrees bits) (literals i))) ∙ reported);
   }
 
 -- ---- numbers below the width

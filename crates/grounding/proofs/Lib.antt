@@ -1,4 +1,5 @@
 pub mod OutrightLemmas
+pub mod SettledLemmas
 pub mod PackedTruth
 pub mod LiteralLists
 pub mod Conditions

@@ -17,7 +17,7 @@ use Rattle.grounding.specs.declared.ground.Ground.{Ground}
 use Rattle.grounding.specs.declared.match_tree.Node.{Node}
 use Rattle.grounding.specs.declared.match_tree.MatchTree.{MatchTree}
 use Rattle.grounding.specs.declared.watch_lists.WatchLists.{WatchLists}
-use Rattle.grounding.specs.Conditions.{literals_in, decided_by, may_of, may_hold_at}
+use Rattle.grounding.specs.Conditions.{literals_in, decided_by, can_of, can_hold_at}
 use Rattle.grounding.specs.Ground.{task_in, atoms_in}
 use Rattle.grounding.specs.MatchNodes.{met, left_out, found, numbers_in, literals_at, agrees_at, AgreesWith, IsMet, IsTree}
 use Rattle.grounding.specs.MatchTree.{row_in, nodes_of, numbers_of, filed_in, AreRows, AreMatched}
@@ -94,10 +94,12 @@ matched width conditions lists tree are rows unwatched = record {
 not_agreed : (b : Beyond) → decided_by b false ≡ Some false
 not_agreed beyond.Nothing = refl
 not_agreed beyond.Never = refl
+not_agreed beyond.Refuted = refl
 not_agreed beyond.Formula = refl
 
-not_held : (b : Beyond) (agreed : Bool) → may_of b ≡ false → decided_by b agreed ≡ Some false
+not_held : (b : Beyond) (agreed : Bool) → can_of b ≡ false → decided_by b agreed ≡ Some false
 not_held beyond.Never agreed never = refl
+not_held beyond.Refuted agreed never = refl
 not_held beyond.Nothing agreed never = absurd (true≢false never)
 not_held beyond.Formula agreed never = absurd (true≢false never)
 
@@ -161,10 +163,10 @@ module _ (g : Ground) (bits : List Bool) (long : length bits ≡ length (atoms_i
       decided n within c.0 c.1 false (ap (decided_by c.0.beyond) off ∙ not_agreed c.0.beyond)
 
   -- nor is one that may hold nowhere
-  not_may : (n : ℕ) → n < length g.conditions.items → may_hold_at g.conditions.items n ≡ false → passes n ≡ false
+  not_may : (n : ℕ) → n < length g.conditions.items → can_hold_at g.conditions.items n ≡ false → passes n ≡ false
   not_may n within never =
       let c = item-at g.conditions.items n within in
-      let may : may_of c.0.beyond ≡ false = sym (ap (λ o. option_map_or (λ (d : Condition). may_of d.beyond) o false) c.1) ∙ never in
+      let may : can_of c.0.beyond ≡ false = sym (ap (λ o. option_map_or (λ (d : Condition). can_of d.beyond) o false) c.1) ∙ never in
       decided n within c.0 c.1 false (not_held c.0.beyond (agrees_at g.conditions.items bits n) may)
 
   -- nor is one that wants an atom that is false
@@ -264,25 +266,25 @@ module _ (g : Ground) (bits : List Bool) (long : length bits ≡ length (atoms_i
       is ∙ skipped a (b - a) (omega (arith, there, next.within, long)) (λ k above below. next.none_between k above (omega (arith, below, there))) ∙ ap (λ n. filter passes (filed_below row n)) there
 
   -- of what is applicable all numbers are filed
-  all_filed : (n : ℕ) → (if passes n then times n (filter (may_hold_at g.conditions.items) (range_with_len 0 (length g.conditions.items))) else zero)
+  all_filed : (n : ℕ) → (if passes n then times n (filter (can_hold_at g.conditions.items) (range_with_len 0 (length g.conditions.items))) else zero)
       ≡ (if passes n then times n (range_with_len 0 (length g.conditions.items)) else zero)
   all_filed n = by_test (passes n) refl
     where
       all : List ℕ
       all = range_with_len 0 (length g.conditions.items)
 
-      may_hold : passes n ≡ true → may_hold_at g.conditions.items n ≡ true
+      may_hold : passes n ≡ true → can_hold_at g.conditions.items n ≡ true
       may_hold holds =
           let i = step-named (task_in g) (atoms_in g) bits n holds in
           let within = slice_get_within (kept_instances (task_in g)) n i.0 i.1 in
-          elim (may_hold_at g.conditions.items n) as (λ b. may_hold_at g.conditions.items n ≡ b → b ≡ true) [
+          elim (can_hold_at g.conditions.items n) as (λ b. can_hold_at g.conditions.items n ≡ b → b ≡ true) [
             | true ↦ λ _. refl
             | false ↦ λ never. absurd (true≢false (sym holds ∙ not_may n (omega (arith, within, kept-many)) never))
           ] refl
 
-      by_test : (b : Bool) → passes n ≡ b → (if b then times n (filter (may_hold_at g.conditions.items) all) else zero) ≡ (if b then times n all else zero)
+      by_test : (b : Bool) → passes n ≡ b → (if b then times n (filter (can_hold_at g.conditions.items) all) else zero) ≡ (if b then times n all else zero)
       by_test false fails = refl
-      by_test true holds = times-filter (may_hold_at g.conditions.items) n all ∙ ap (λ b. if b then times n all else zero) (may_hold holds)
+      by_test true holds = times-filter (can_hold_at g.conditions.items) n all ∙ ap (λ b. if b then times n all else zero) (may_hold holds)
 
   -- in order, they are those that are applicable
   pub found-sorted : (a : ℕ) (before all sorted : List ℕ) → a ≡ length (atoms_in g) → before ≡ filter passes (filed_below row a) → all ≡ before ++ filter passes (found bits 0 g.tree.unwatched.items)

@@ -7,7 +7,7 @@ use Rattle.std.specs.Option.{option_map, option_map_or}
 use Rattle.std.specs.FinSet.{contains, contains-from_list}
 use Rattle.std.proofs.lemmas.Bool.{false_from_ne_true}
 use Rattle.model.specs.Task.{Atom, Task}
-use Rattle.model.specs.Fluents.{is_fluent}
+use Rattle.model.specs.Fluents.{is_fluent, HasInitialStatics}
 use Rattle.model.specs.SureLiterals.{Literal, is_true, is_false, are_same, are_different, literal_holds}
 use Rattle.model.specs.NumberedAtoms.{occurs_in, number_of, are_distinct}
 use Rattle.model.specs.NumberedLiterals.{NumberedLiteral, numbered_literal, agrees}
@@ -16,6 +16,7 @@ use Rattle.model.proofs.Atoms.{atoms_total}
 use Rattle.model.proofs.ListLemmas.{Contains-place}
 use Rattle.model.proofs.NumberingLemmas.{occurs_in-got, got-number_of, number_of-got, occurs_in-Contains}
 use Rattle.model.proofs.PackedStates.{contains-numbered, contains-packed, chosen-occurs_in}
+use Rattle.model.proofs.PackedStates as packed
 use Rattle.grounding.specs.Unnumbered.{is_initial_static, may_hold}
 
 and_true : (b : Bool) → b ≡ (b && true)
@@ -48,6 +49,10 @@ module _ (t : Task) (atoms : List Atom) (distinct : are_distinct atoms ≡ true)
       true≢false (sym (chosen-occurs_in atoms bits a there) ∙ unnumbered-apart a none)) in
       contains-packed (is_fluent t) t.init atoms bits a
       ∙ (λ i. unchosen i || (not (is_fluent t a.predicate) && sym (contains-from_list atoms_total t.init a) i))
+
+  -- the static atoms are those of the start
+  pub packed-statics : (bits : List Bool) → HasInitialStatics t (state_of_bits t atoms bits)
+  packed-statics bits a static = packed.contains-static (is_fluent t) t.init atoms fluent bits a static ∙ sym (contains-from_list atoms_total t.init a)
 
   -- ---- literals
 

@@ -12,7 +12,7 @@ use Rattle.grounding_kept.specs.declared.numbers.NumberedLiteral.{NumberedLitera
 use Rattle.grounding_kept.specs.Numbers.{numbered_of}
 use Rattle.grounding.specs.declared.condition.Condition.{Condition}
 use Rattle.grounding.specs.declared.watch_lists.WatchLists.{WatchLists}
-use Rattle.grounding.specs.Conditions.{literals_in, may_hold_at}
+use Rattle.grounding.specs.Conditions.{literals_in, can_hold_at}
 use Rattle.grounding.specs.InPlace.{AreInPlace}
 use Rattle.grounding.specs.Preconditions.{IsPrecondition}
 use Rattle.grounding.specs.Watched.{IsWanted, IsWatchable, IsEither}
@@ -81,7 +81,7 @@ module _ (width : ℕ) (conditions : List Condition) where
       none = (λ j. filed-empty (row_of w) rows (length w.rows.items) j ++ unwatched j)
 
   abbrev may : ℕ → Bool
-  may = may_hold_at conditions
+  may = can_hold_at conditions
 
   -- how often a number is among those that may hold, of one condition more
   may-more : (number n : ℕ) → times n (filter may (range_with_len 0 (number + 1))) ≡ times n (filter may (range_with_len 0 number)) + times n (filter may (number ∷ []))
@@ -90,7 +90,7 @@ module _ (width : ℕ) (conditions : List Condition) where
       ∙ times-append n (filter may (range_with_len 0 number)) (filter may (number ∷ []))
 
   -- a condition more that may hold nowhere, which is not filed
-  pub watched-same : (number : ℕ) (w : WatchLists) → AreWatched width conditions number w → may_hold_at conditions number ≡ false → AreWatched width conditions (number + 1) w
+  pub watched-same : (number : ℕ) (w : WatchLists) → AreWatched width conditions number w → can_hold_at conditions number ≡ false → AreWatched width conditions (number + 1) w
   watched-same number w so never = record {
     wide = so.wide;
     few = omega (arith, so.few);
@@ -101,7 +101,7 @@ module _ (width : ℕ) (conditions : List Condition) where
 
   -- one condition more that may hold
   pub watched-more : (number : ℕ) (watched : Option ℕ) (old new : WatchLists) (c : Condition) → AreWatched width conditions number old → IsFiled number watched old new
-      → number < length conditions → slice_get conditions number ≡ Some c → IfSome watched (IsWatchable width (literals_in c)) → may_hold_at conditions number ≡ true
+      → number < length conditions → slice_get conditions number ≡ Some c → IfSome watched (IsWatchable width (literals_in c)) → can_hold_at conditions number ≡ true
       → AreWatched width conditions (number + 1) new
   watched-more number watched old new c so is within at watchable may_hold = record {
     wide = is.width ∙ so.wide;

@@ -17,35 +17,48 @@ use Rattle.model.specs.Grounding.{state_of_bits}
 abbrev pub literals_in : Condition → List model.NumberedLiteral
 literals_in c = map numbered_of c.literals.items
 
--- what is to be asked beyond the literals, by whether all those without a number may hold, and whether the formula says
--- all outright
-abbrev pub beyond_of : Bool → Bool → Beyond
-beyond_of false outright = beyond.Never
-beyond_of true true = beyond.Nothing
-beyond_of true false = beyond.Formula
+-- what is to be asked beyond the literals, by whether all those without a number may hold, and by what the formula says
+-- beyond them
+abbrev pub beyond_of : Bool → Option Bool → Beyond
+beyond_of false said = beyond.Never
+beyond_of true (Some true) = beyond.Nothing
+beyond_of true (Some false) = beyond.Refuted
+beyond_of true None = beyond.Formula
 
 -- what is decided, by whether the literals are true
 abbrev pub decided_by : Beyond → Bool → Option Bool
 decided_by beyond.Nothing agreed = Some agreed
 decided_by beyond.Never agreed = Some false
+decided_by beyond.Refuted agreed = Some false
 decided_by beyond.Formula true = None
 decided_by beyond.Formula false = Some false
 
 abbrev pub decided_in : Condition → List Bool → Option Bool
 decided_in c bits = decided_by c.beyond (list_all (agrees bits) (literals_in c))
 
--- whether the formula holds in some packed state, as far as that is known
+-- whether the literals without numbers are true in the packed states
 abbrev pub may_of : Beyond → Bool
 may_of beyond.Nothing = true
 may_of beyond.Never = false
+may_of beyond.Refuted = true
 may_of beyond.Formula = true
 
 abbrev pub may_hold_in : Condition → Bool
 may_hold_in c = may_of c.beyond
 
+-- whether the formula holds in some packed state, as far as that is known
+abbrev pub can_of : Beyond → Bool
+can_of beyond.Nothing = true
+can_of beyond.Never = false
+can_of beyond.Refuted = false
+can_of beyond.Formula = true
+
+abbrev pub can_hold_in : Condition → Bool
+can_hold_in c = can_of c.beyond
+
 -- that of this number is of such a formula
-abbrev pub may_hold_at : List Condition → ℕ → Bool
-may_hold_at conditions n = option_map_or may_hold_in (slice_get conditions n) false
+abbrev pub can_hold_at : List Condition → ℕ → Bool
+can_hold_at conditions n = option_map_or can_hold_in (slice_get conditions n) false
 
 -- It has the formula's literals that are of numbered atoms, where these objects stand for the variables, it says whether its
 -- other literals may hold, and what it decides is whether the formula holds.

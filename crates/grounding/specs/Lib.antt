@@ -1,5 +1,7 @@
 pub mod Views
 pub mod Outright
+pub mod Settled
+pub mod InitialView
 pub mod Unnumbered
 pub mod StateView
 pub mod Conditions

@@ -6,7 +6,7 @@ use Rattle.std.specs.Global.{Vec}
 use Rattle.grounding.specs.declared.condition.Condition.{Condition}
 use Rattle.grounding.specs.declared.match_tree.Node.{Node}
 use Rattle.grounding.specs.declared.match_tree.MatchTree.{MatchTree}
-use Rattle.grounding.specs.Conditions.{may_hold_at}
+use Rattle.grounding.specs.Conditions.{can_hold_at}
 use Rattle.grounding.specs.MatchNodes.{numbers_in, AgreesWith, IsTree}
 use Rattle.grounding.specs.WatchLists.{times, filed_below, IsWantedBy}
 
@@ -34,7 +34,7 @@ pub record AreRows (width : ℕ) (conditions : List Condition) (row : ℕ → Li
 pub record AreMatched (width : ℕ) (conditions : List Condition) (tree : MatchTree) : Type 0 where
   pub wide : length tree.rows.items ≡ width
   pub few : length (filed_in tree) ≤ length conditions
-  pub each : (n : ℕ) → times n (filed_in tree) ≡ times n (filter (may_hold_at conditions) (range_with_len 0 (length conditions)))
+  pub each : (n : ℕ) → times n (filed_in tree) ≡ times n (filter (can_hold_at conditions) (range_with_len 0 (length conditions)))
   pub rows : (a : ℕ) → a < width → IsTree width conditions (λ bits. get_or bits a false ≡ true) (numbers_of tree a) (nodes_of tree a)
   pub wanted : (a : ℕ) → a < width → All (IsWantedBy conditions a) (numbers_of tree a)
   pub unwatched : IsTree width conditions (AgreesWith []) (numbers_in tree.unwatched.items) tree.unwatched.items

@@ -5,7 +5,7 @@ use Rattle.std.specs.Option.{option_map_or}
 use Rattle.std.specs.Global.{Vec}
 use Rattle.grounding.specs.declared.condition.Condition.{Condition}
 use Rattle.grounding.specs.declared.watch_lists.WatchLists.{WatchLists}
-use Rattle.grounding.specs.Conditions.{literals_in, may_hold_at}
+use Rattle.grounding.specs.Conditions.{literals_in, can_hold_at}
 use Rattle.grounding.specs.Watched.{IsWanted}
 
 -- how often a number is in a list
@@ -54,6 +54,6 @@ IsWantedBy conditions a n = (n < length conditions) × ((c : Condition) → slic
 pub record AreWatched (width : ℕ) (conditions : List Condition) (count : ℕ) (w : WatchLists) : Type 0 where
   pub wide : length w.rows.items ≡ width
   pub few : length (filed w) ≤ count
-  pub each : (n : ℕ) → times n (filed w) ≡ times n (filter (may_hold_at conditions) (range_with_len 0 count))
+  pub each : (n : ℕ) → times n (filed w) ≡ times n (filter (can_hold_at conditions) (range_with_len 0 count))
   pub rows : (a : ℕ) → All (IsWantedBy conditions a) (row_of w a)
   pub unwatched : All (λ n. n < length conditions) w.unwatched.items

@@ -2,7 +2,7 @@
 //!
 //! Mostly it is a list of literals by their numbers, as the preconditions of STRIPS are lists of atoms (Fikes & Nilsson 1971,
 //! "STRIPS: A New Approach to the Application of Theorem Proving to Problem Solving"). What a formula says beyond is not
-//! compiled: the formula itself is looked at, and only where its literals are true.
+//! compiled, unless it is of static atoms alone: the formula itself is looked at, and only where its literals are true.
 ghost use Rattle.std.specs.Prelude.{◌≡◌, ◌<◌, true, length, map, IfOk};
 ghost use Rattle.std.specs.List.{All, list_all};
 ghost use Rattle.task.specs.TaskParts.{object_of, formula_of};
@@ -14,11 +14,11 @@ ghost use Rattle.grounding_kept.specs.Numbers.{numbered_of};
 ghost use Rattle.model.specs.Meaning as meaning;
 ghost use Rattle.model.specs.NumberedLiterals as model_literals;
 ghost use Rattle.model.specs.Grounding.{state_of_bits};
-ghost use Rattle.grounding.specs.Outright as outright;
+ghost use Rattle.grounding.specs.Settled as settled;
 ghost use Rattle.grounding.specs.Unnumbered as unnumbered;
-ghost use Rattle.grounding.specs.Conditions.{literals_in, decided_by, decided_in, may_hold_in, beyond_of, IsConditionOf};
+ghost use Rattle.grounding.specs.Conditions.{literals_in, decided_by, decided_in, may_hold_in, can_hold_in, beyond_of, IsConditionOf};
 
-use crate::outright::is_outright;
+use crate::settled::beyond;
 use crate::state_view::StateView;
 use crate::unnumbered::all_may_hold;
 use faults::NoMemory;
@@ -42,8 +42,10 @@ pub(crate) struct Condition {
 enum Beyond {
     /// Nothing: the formula holds where they do.
     Nothing,
-    /// The formula holds in no packed state.
+    /// A literal of an atom without a number is true in no packed state.
     Never,
+    /// What the formula says of static atoms is false, so that it holds in no packed state.
+    Refuted,
     /// The formula itself has to be looked at.
     Formula,
 }
@@ -62,7 +64,7 @@ impl Condition {
         let outright = sure(alloc, numbering.task(), formula, binding)?;
         let outright = outright.as_slice();
         let numbered = numbering.numbered(alloc, outright)?;
-        let beyond = asked_beyond(numbering, formula, outright);
+        let beyond = asked_beyond(numbering, formula, binding, outright);
         let literals = SmallVec::from_slice(alloc, numbered.as_slice())?;
         Ok(Condition { literals, beyond })
     }
@@ -94,17 +96,31 @@ impl Condition {
         match self.beyond {
             Beyond::Nothing => Some(true),
             Beyond::Never => Some(false),
+            Beyond::Refuted => Some(false),
             Beyond::Formula => None,
         }
     }
 
-    /// Whether the formula may hold in a packed state.
+    /// Whether its literals of atoms without numbers are true in the packed states.
     pub(crate) fn may_hold(&self) -> bool
         ensures { result ≡ may_hold_in self.now }
     {
         match self.beyond {
             Beyond::Nothing => true,
             Beyond::Never => false,
+            Beyond::Refuted => true,
+            Beyond::Formula => true,
+        }
+    }
+
+    /// Whether the formula may hold in a packed state.
+    pub(crate) fn can_hold(&self) -> bool
+        ensures { result ≡ can_hold_in self.now }
+    {
+        match self.beyond {
+            Beyond::Nothing => true,
+            Beyond::Never => false,
+            Beyond::Refuted => false,
             Beyond::Formula => true,
         }
     }
@@ -134,16 +150,23 @@ pub(crate) fn holds_in(
 }
 
 /// What is to be asked of a formula beyond its numbered literals, where these are its sure literals.
-fn asked_beyond(numbering: &Numbering<'_>, formula: &Formula, literals: &[Literal]) -> Beyond
-    ensures { result ≡ beyond_of (list_all (unnumbered.may_hold (task_in numbering.now) (atoms_in numbering.now)) (map literal_of literals.now)) (outright.is_outright (formula_of formula.now)) }
+fn asked_beyond(
+    numbering: &Numbering<'_>,
+    formula: &Formula,
+    binding: &Binding,
+    literals: &[Literal],
+) -> Beyond
+    requires { FitsFormula (task_in numbering.now) (formula_of formula.now) (map object_of binding.now.items) }
+    ensures { result ≡ beyond_of (list_all (unnumbered.may_hold (task_in numbering.now) (atoms_in numbering.now)) (map literal_of literals.now)) (settled.beyond (task_in numbering.now) (map object_of binding.now.items) (formula_of formula.now)) }
 {
     if !all_may_hold(numbering, literals) {
         return Beyond::Never;
     }
-    if is_outright(formula) {
-        return Beyond::Nothing;
+    match beyond(numbering, formula, binding) {
+        Some(true) => Beyond::Nothing,
+        Some(false) => Beyond::Refuted,
+        None => Beyond::Formula,
     }
-    Beyond::Formula
 }
 
 /// Whether each of the literals is true in the packed state.

@@ -9,6 +9,7 @@ mod laws;
 mod match_tree;
 mod outright;
 mod parts;
+mod settled;
 mod state_view;
 mod steps;
 mod tree_builder;

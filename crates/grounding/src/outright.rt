@@ -35,7 +35,7 @@ fn are_outright(parts: &[Formula]) -> bool
 }
 
 /// Whether the formula is an atom or an equality.
-fn is_simple(formula: &Formula) -> bool
+pub(crate) fn is_simple(formula: &Formula) -> bool
     ensures { result ≡ outright.is_simple (formula_of formula.now) }
 {
     match formula {

@@ -39,7 +39,7 @@ impl WatchLists {
         let mut lists = WatchLists::empty(alloc, width)?;
         for number in 0..conditions.len() as u32 {
             let condition = &conditions[number as usize];
-            if condition.may_hold() {
+            if condition.can_hold() {
                 lists.file(number, rarest(condition.literals(), &wanted))?;
             }
         }

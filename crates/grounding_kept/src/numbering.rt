@@ -20,7 +20,7 @@ use faults::NoMemory;
 use formulas::{Binding, Change, Instance, Literal};
 use indexmap::IndexSet;
 use std::alloc::Global;
-use task::{Atom, Formula, Task};
+use task::{Atom, Formula, PredicateId, Task};
 
 /// The kept instances of a task and its numbered atoms, each at the place, from 0, that is its number. The atoms are of
 /// fluent predicates, and each has one number.
@@ -159,6 +159,13 @@ impl<'t> Numbering<'t> {
         ensures { result ≡ contains (initial_state (task_in self.now)) (atom_of atom.now) }
     {
         self.statics.is_initial(atom)
+    }
+
+    /// Whether some action adds or deletes an atom of the predicate.
+    pub fn is_fluent(&self, predicate: PredicateId) -> bool
+        ensures { result ≡ is_fluent (task_in self.now) predicate.0 }
+    {
+        self.statics.is_fluent(predicate)
     }
 
     /// Whether the atom is of a static predicate, and is true at the start.

@@ -1,22 +1,15 @@
 //! Classes of instances that do the same in a table.
+use crate::by_counting::places_in_order;
 use crate::reached::MAX_TABLE_VARIABLES;
-use crate::steps::{Shutters, Steps};
-use atom_groups::number_of;
+use crate::steps::{Shutters, StepUse, Steps};
+use atom_groups::{number_of, place_of};
 use faults::NoMemory;
 use std::alloc::Global;
 
 /// What an instance does to each variable of a table: the step that it takes, none where it says and does nothing of it.
-#[derive(Clone, Copy, Debug, PartialEq, Eq, PartialOrd, Ord)]
+#[derive(Clone, Copy, Debug, PartialEq, Eq)]
 pub(crate) struct TableSteps {
     pub(crate) steps: [Option<u32>; MAX_TABLE_VARIABLES],
-}
-
-/// That an instance takes a step of a variable at this place of the table.
-#[derive(Clone, Copy, Debug, PartialEq, Eq, PartialOrd, Ord)]
-struct PlacedUse {
-    instance: u32,
-    place: usize,
-    step: u32,
 }
 
 /// The instances of classes, one class after another.
@@ -59,15 +52,14 @@ impl Classes {
         variables: &[u32],
         shutters: &Shutters,
     ) -> Result<Classes, NoMemory> {
-        let mut entries = entries(alloc, steps, variables, shutters)?;
-        entries.sort_unstable();
+        let entries = entries(alloc, steps, variables, shutters)?;
         let mut classes = Classes {
             steps: Vec::new(alloc),
             ends: Vec::new(alloc),
             instances: Vec::with_capacity(alloc, entries.len())?,
         };
-        for (steps, instance) in entries {
-            classes.add(steps, instance)?;
+        for entry in &entries {
+            classes.add(entry.steps, entry.instance)?;
         }
         Ok(classes)
     }
@@ -87,45 +79,123 @@ impl Classes {
     }
 }
 
-/// The instances that say or do something of these variables and are not shut out, each with what it does.
+/// An instance, and what it does to each variable of a table.
+#[derive(Clone, Copy, Debug)]
+struct Entry {
+    instance: u32,
+    steps: TableSteps,
+}
+
+/// The uses of a variable's steps, rising by instances, of which some were gone through.
+#[derive(Clone, Copy)]
+struct Left<'a> {
+    uses: &'a [StepUse],
+}
+
+impl Left<'_> {
+    /// The next instance.
+    fn instance(&self) -> Option<u32> {
+        match self.uses.first() {
+            Some(next) => Some(next.instance),
+            None => None,
+        }
+    }
+
+    /// The step that this instance takes, if it is the next one, which is gone through then.
+    fn take(&mut self, instance: u32) -> Option<u32> {
+        let (next, rest) = self.uses.split_first()?;
+        if next.instance != instance {
+            return None;
+        }
+        self.uses = rest;
+        Some(next.step)
+    }
+}
+
+/// The instances that say or do something of these variables and are not shut out, each with what it does, by classes: those that
+/// do the same are one after another, rising.
 fn entries(
     alloc: Global,
     steps: &Steps,
     variables: &[u32],
     shutters: &Shutters,
-) -> Result<Vec<(TableSteps, u32)>, NoMemory> {
-    let mut uses: Vec<PlacedUse> = Vec::new(alloc);
-    for (place, variable) in variables.iter().enumerate() {
+) -> Result<Vec<Entry>, NoMemory> {
+    let mut left = Vec::new(alloc);
+    let mut counts = Vec::new(alloc);
+    let mut most = 0usize;
+    for variable in variables {
         if let Some(of_variable) = steps.of(*variable) {
-            for it in of_variable.uses() {
-                if !shutters.is_shut_out(it.instance) {
-                    uses.push(PlacedUse {
-                        instance: it.instance,
-                        place,
-                        step: it.step,
-                    })?;
-                }
-            }
+            let uses = of_variable.uses();
+            most = most.saturating_add(uses.len());
+            left.push(Left { uses })?;
+            counts.push(of_variable.step_count())?;
         }
     }
-    uses.sort_unstable();
-    joined(alloc, &uses)
+    let mut entries = joined(alloc, &mut left, most, shutters)?;
+    for (place, count) in counts.iter().enumerate() {
+        entries = by_step(alloc, &entries, place, *count)?;
+    }
+    Ok(entries)
 }
 
-/// What each instance does, by these uses of its, which are one after another.
-fn joined(alloc: Global, uses: &[PlacedUse]) -> Result<Vec<(TableSteps, u32)>, NoMemory> {
-    let mut entries: Vec<(TableSteps, u32)> = Vec::new(alloc);
-    for it in uses {
-        let is_same = match entries.last() {
-            Some((_, instance)) => *instance == it.instance,
-            None => false,
+/// What each instance does of which there is a use left, at most so many, that is not shut out. They rise.
+fn joined(
+    alloc: Global,
+    left: &mut [Left<'_>],
+    most: usize,
+    shutters: &Shutters,
+) -> Result<Vec<Entry>, NoMemory> {
+    let mut entries: Vec<Entry> = Vec::new(alloc);
+    for _ in 0..most {
+        let Some(instance) = least(left) else {
+            return Ok(entries);
         };
-        if !is_same {
-            entries.push((TableSteps::NONE, it.instance))?;
+        let mut steps = TableSteps::NONE;
+        for (place, uses) in left.iter_mut().enumerate() {
+            if let Some(step) = uses.take(instance) {
+                steps = steps.with(place, step);
+            }
         }
-        if let Some((steps, _)) = entries.last_mut() {
-            *steps = steps.with(it.place, it.step);
+        if !shutters.is_shut_out(instance) {
+            entries.push(Entry { instance, steps })?;
         }
     }
     Ok(entries)
+}
+
+/// The least of the next instances.
+fn least(left: &[Left<'_>]) -> Option<u32> {
+    let mut least: Option<u32> = None;
+    for uses in left {
+        if let Some(instance) = uses.instance() {
+            least = match least {
+                Some(other) => Some(other.min(instance)),
+                None => Some(instance),
+            };
+        }
+    }
+    least
+}
+
+/// The entries by the step at this place, of so many that there are; first come those without one. Others stay in their order.
+fn by_step(
+    alloc: Global,
+    entries: &[Entry],
+    place: usize,
+    step_count: usize,
+) -> Result<Vec<Entry>, NoMemory> {
+    let mut numbers: Vec<u32> = Vec::with_capacity(alloc, entries.len())?;
+    for entry in entries {
+        numbers.push(match entry.steps.at(place) {
+            Some(step) => step.saturating_add(1),
+            None => 0,
+        })?;
+    }
+    let mut sorted = Vec::with_capacity(alloc, entries.len())?;
+    for at in &places_in_order(alloc, &numbers, step_count.saturating_add(1))? {
+        if let Some(entry) = entries.get(place_of(*at)) {
+            sorted.push(*entry)?;
+        }
+    }
+    Ok(sorted)
 }

@@ -4,6 +4,7 @@
 //! left out (a projection; Edelkamp 2001, "Planning with Pattern Databases"). Nothing is claimed of what is found.
 #![tactic(auto)]
 
+mod by_counting;
 mod classes;
 mod goals;
 mod moves;

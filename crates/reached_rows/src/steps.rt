@@ -148,6 +148,11 @@ impl VariableSteps {
         &self.uses
     }
 
+    /// How many steps there are.
+    pub(crate) fn step_count(&self) -> usize {
+        self.steps.len()
+    }
+
     /// The moves of this step.
     fn moves(&self, step: u32) -> &[Move] {
         match self.steps.get(place_of(step)) {

@@ -6,7 +6,7 @@ use Rattle.model.specs.SureLiterals.{sure}
 use Rattle.model.specs.NumberedLiterals.{numbered_literal}
 use Rattle.grounding_kept.specs.Numbering.{task_in, atoms_in}
 use Rattle.grounding_kept.specs.Numbers.{numbered_of}
-use Rattle.grounding.specs.Outright.{is_outright}
+use Rattle.grounding.specs.Settled.{beyond}
 use Rattle.grounding.specs.Unnumbered.{may_hold}
 use Rattle.grounding.specs.Conditions.{beyond_of}
 use Rattle.grounding.proofs.Conditions.{condition-of}
@@ -21,4 +21,4 @@ returns c =
     let same : map literal_of c.as_slice-outright.result.now ≡ sure t f binding = ap (map literal_of) c.as_slice-outright.ensures.value ∙ c.in_ok-outright.ensures ∙ ap (λ task. sure task f binding) c.task.ensures in
     condition-of t (atoms_in n) n.distinct n.fluent f binding _
     (ap (map numbered_of) (c.in_ok-literals.ensures.ok ∙ c.as_slice.ensures.value) ∙ c.in_ok-numbered.ensures ∙ ap (filter_map (numbered_literal (atoms_in n))) same)
-    (c.asked_beyond-beyond.ensures ∙ ap (λ ls. beyond_of (list_all (may_hold t (atoms_in n)) ls) (is_outright f)) same)
+    (c.asked_beyond-beyond.ensures ∙ ap (λ ls. beyond_of (list_all (may_hold t (atoms_in n)) ls) (beyond t binding f)) same)

@@ -3,13 +3,13 @@ use Rattle.std.specs.Prelude.{IfSome}
 use Rattle.std.specs.List.{All}
 use Rattle.std.specs.Option.{option_map_or}
 use Rattle.grounding_kept.specs.Numbers.{numbered_of}
-use Rattle.grounding.specs.Conditions.{literals_in, may_hold_in}
+use Rattle.grounding.specs.Conditions.{literals_in, can_hold_in}
 use Rattle.grounding.specs.Watched.{IsWatchable}
 use Rattle.grounding.specs.WatchLists.{AreWatched}
 use Rattle.grounding.proofs.GroundLemmas.{got}
 use Rattle.grounding.proofs.WatchLemmas.{watched-none, watched-more, watched-same}
 use Rattle.model.specs.NumberedLiterals.{NumberedLiteral}
-use Rattle.grounding.proofs.watch_lists.WatchLists.new.Goals.{then-may_hold+in_ok-file, else-may_hold}
+use Rattle.grounding.proofs.watch_lists.WatchLists.new.Goals.{then-can_hold+in_ok-file, else-can_hold}
 use Rattle.grounding.proofs.watch_lists.WatchLists.new.Goals as goal
 
 pub loop-number-init : goal.loop-number-init
@@ -30,14 +30,14 @@ loop-number-preserved c =
     let number = c.loop-number.number in
     let condition = c.index-conditions-number.result in
     let at = got conditions number condition c.loop-number-test.true c.index-conditions-number.is in
-    let may = ap (λ o. option_map_or may_hold_in o false) at ∙ sym c.may_hold.ensures in
-    elim c.if-may_hold.branch [
-      | then-may_hold+in_ok-file w ↦
+    let may = ap (λ o. option_map_or can_hold_in o false) at ∙ sym c.can_hold.ensures in
+    elim c.if-can_hold.branch [
+      | then-can_hold+in_ok-file w ↦
           let many : length w.deref.result.now ≡ c.args.width = ap length w.deref.ensures.value ∙ c.in_ok-wanted.ensures in
           subst (AreWatched c.args.width conditions (number + 1)) (sym w.lists-is)
           (watched-more c.args.width conditions number w.rarest.result c.loop-number.lists w.file.new.self condition c.loop-number.invariant w.in_ok-file.ensures c.loop-number-test.true at
           (subst (λ v. IfSome w.rarest.result (IsWatchable v (literals_in condition))) many
           (subst (λ (ls : List NumberedLiteral). IfSome w.rarest.result (IsWatchable (length w.deref.result.now) ls)) w.literals.ensures w.rarest.ensures))
-          (may ∙ w.if-may_hold.true))
-      | else-may_hold w ↦ subst (AreWatched c.args.width conditions (number + 1)) (sym w.lists-is) (watched-same c.args.width conditions number c.loop-number.lists c.loop-number.invariant (may ∙ w.if-may_hold.false))
+          (may ∙ w.if-can_hold.true))
+      | else-can_hold w ↦ subst (AreWatched c.args.width conditions (number + 1)) (sym w.lists-is) (watched-same c.args.width conditions number c.loop-number.lists c.loop-number.invariant (may ∙ w.if-can_hold.false))
     ]
