@@ -1,12 +1,12 @@
 -- Names of objects that change places, two by two and all different.
-use Rattle.std.proofs.Common.{◌≡◌, ◌∙◌, ℕ, suc, ◌+◌, ◌<◌, ◌≤◌, ◌%◌, Bool, true, false, not, ◌&&◌, ◌||◌, List, [], ◌∷◌, ◌++◌, length, map, take, drop, get_or, Option, None, Some, Vec, refl, sym, ap, subst, arith}
+use Rattle.std.proofs.Common.{◌≡◌, ◌∙◌, ℕ, suc, ◌+◌, ◌<◌, ◌%◌, Bool, true, false, not, ◌&&◌, ◌||◌, List, [], ◌∷◌, ◌++◌, length, map, take, drop, get_or, None, Some, Vec, refl, sym, ap, arith}
 use Rattle.std.specs.Prelude.{◌==◌, IsTrue, nat_le, if◌then◌else◌}
 use Rattle.std.specs.declared.alloc.Global.{Global}
 use Rattle.std.specs.List.{list_all, list_any}
 use Rattle.std.specs.Cmp.{unsigned_Decides}
 use Rattle.std.specs.Cmp.Lexicographic.{pointwise, pointwise_decides}
-use Rattle.std.proofs.lemmas.Bool.{and_parts, le-leb, or_cases, or_left, or_right, true≢false, false_from_ne_true}
-use Rattle.std.proofs.lemmas.List.{take_more, take-append-drop, map-append, take_all}
+use Rattle.std.proofs.lemmas.Bool.{and_parts, le-leb, true≢false}
+use Rattle.std.proofs.lemmas.List.{take_more, take-append-drop, map-append}
 use Rattle.std.proofs.lemmas.List.Folds.{list_any-append}
 use Rattle.model.specs.Resolution.{is_same}
 use Rattle.model.specs.PlanWriting.{is_lower_name}

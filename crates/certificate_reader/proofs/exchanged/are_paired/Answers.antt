@@ -1,4 +1,4 @@
-use Rattle.std.proofs.Common.{◌≡◌, ◌∙◌, ◌%◌, length, map, sym, ap}
+use Rattle.std.proofs.Common.{◌∙◌, ◌%◌, map, sym, ap}
 use Rattle.std.specs.Prelude.{◌==◌}
 use Rattle.std.proofs.lemmas.List.{length-map}
 use Rattle.certificate_reader.specs.Lines.{name_of}

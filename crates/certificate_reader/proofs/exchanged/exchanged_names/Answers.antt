@@ -1,10 +1,6 @@
-use Rattle.std.proofs.Common.{rules, ◌≡◌, true, false, map, None, Some}
-use Rattle.std.specs.Prelude.{IsTrue}
-use Rattle.std.specs.List.{list_all}
-use Rattle.model.specs.PlanWriting.{is_lower_name}
+use Rattle.std.proofs.Common.{rules, ◌≡◌, true, false, map}
 use Rattle.certificate_definitions.specs.CertificateText.{are_paired, differ}
 use Rattle.certificate_reader.specs.Lines.{name_of}
-use Rattle.certificate_reader.specs.Words.{then_words}
 use Rattle.certificate_reader.proofs.ExchangedRead.{exchanged_from, passed_by, not_paired, not_different}
 use Rattle.certificate_reader.proofs.exchanged.exchanged_names.Goals as goal
 
