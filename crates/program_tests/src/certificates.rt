@@ -132,6 +132,7 @@ fn cert(alloc: Global, row: &Row, times: usize) -> Result<Option<Cert>, NoMemory
     let header = Header {
         version: row.0,
         claim: row.1,
+        exchanges: Vec::new(alloc),
         atoms: both_atoms(alloc)?,
         bounds,
     };

@@ -55,6 +55,7 @@ fn cert(alloc: Global, version: Version) -> Result<Option<Cert>, NoMemory> {
     let header = Header {
         version,
         claim: Claim::Bound(0),
+        exchanges: Vec::new(alloc),
         atoms,
         bounds: Bounds {
             values,

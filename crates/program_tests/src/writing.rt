@@ -53,6 +53,7 @@ fn cert(alloc: Global, count: u32) -> Result<Option<Cert>, NoMemory> {
     let header = Header {
         version: Version::Two,
         claim: Claim::Bound(0),
+        exchanges: Vec::new(alloc),
         atoms,
         bounds: Bounds {
             values,
