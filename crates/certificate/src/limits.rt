@@ -46,10 +46,7 @@ fn are_exchanges(version: Version, exchanges: &[Vec<(ObjectId, ObjectId)>]) -> b
 fn has_exchanges(version: Version) -> bool
     ensures { result ≡ has_exchanges (version_of version) }
 {
-    match version {
-        Version::One | Version::Two => false,
-        Version::Three => true,
-    }
+    version == Version::Three
 }
 
 /// Whether a certificate of this version and of this many atoms may have these bounds.
