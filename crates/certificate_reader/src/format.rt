@@ -42,8 +42,5 @@ pub(crate) fn has_tables(version: Version) -> bool
 pub(crate) fn has_exchanges(version: Version) -> bool
     ensures { result ≡ has_exchanges (version_of version) }
 {
-    match version {
-        Version::One | Version::Two => false,
-        Version::Three => true,
-    }
+    version == Version::Three
 }
