@@ -216,15 +216,23 @@ fn is_found_by_both(
     }
 }
 
-/// Whether the certificate, which has the task's numbered atoms, is of what the search over the plain store finds.
-fn is_same(alloc: Global, task: &Task, limits: Limits, cert: &Cert) -> Result<bool, NoMemory> {
-    match &Ground::new(alloc, task, &[], limits.instances()) {
-        Ok(ground) if ground.atoms().as_slice() == cert.atoms() => {
-            is_found_by_both(alloc, ground, limits.states(), cert)
-        }
-        Ok(_) | Err(GroundFault::At(_)) => Ok(false),
-        Err(GroundFault::NoMemory) => Err(NoMemory),
+/// Whether the certificate has the task's numbered atoms, and is of what the search over the plain store finds.
+fn is_same_in(
+    alloc: Global,
+    ground: &Ground<'_>,
+    most: u32,
+    cert: &Cert,
+) -> Result<bool, NoMemory> {
+    if ground.atoms().as_slice() != cert.atoms() {
+        return Ok(false);
     }
+    is_found_by_both(alloc, ground, most, cert)
+}
+
+/// The same of the task.
+fn is_same(alloc: Global, task: &Task, limits: Limits, cert: &Cert) -> Result<bool, GroundFault> {
+    let ground = Ground::new(alloc, task, &[], limits.instances())?;
+    Ok(is_same_in(alloc, &ground, limits.states(), cert)?)
 }
 
 /// The certificate of an answer, if it has one.
@@ -246,7 +254,7 @@ fn reported_of(
     task: &Task,
     limits: Limits,
     answer: &Answer,
-) -> Result<Option<Reported>, NoMemory> {
+) -> Result<Option<Reported>, GroundFault> {
     let Some(cert) = cert_of(answer) else {
         return Ok(None);
     };
@@ -256,7 +264,7 @@ fn reported_of(
     Ok(Some((found(answer), [is_same, is_wide, has_dead_ends])))
 }
 
-fn reported(alloc: Global, task: &Task, limits: Limits) -> Result<Option<Reported>, NoMemory> {
+fn reported(alloc: Global, task: &Task, limits: Limits) -> Result<Option<Reported>, GroundFault> {
     let answer = solve(alloc, task, limits)?;
     reported_of(alloc, task, limits, &answer)
 }
