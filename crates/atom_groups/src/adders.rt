@@ -18,7 +18,7 @@ pub(crate) enum Balance {
     Keeps,
     /// It may add one more than it takes away.
     Raises,
-    /// It may add several, or adds one under a `when`.
+    /// It may add several, or adds one under a `when` that takes none away.
     Unclear,
 }
 
@@ -65,6 +65,25 @@ impl Adders {
     }
 }
 
+/// Whether another change, under the same condition or none, takes a marked atom away where this one, which is under a `when`, adds
+/// one: so does a parcel that is carried along, and leaves the place where it was.
+fn moves(changes: &[CountingChange<'_>], add: &CountingChange<'_>, marked: &[bool]) -> bool {
+    changes.iter().any(|change| {
+        !change.value
+            && change.atom != add.atom
+            && is_marked(marked, change.atom)
+            && (change.is_unconditional() || have_same_condition(change, add))
+    })
+}
+
+/// Whether the literals of both conditions are the same.
+fn have_same_condition(one: &CountingChange<'_>, other: &CountingChange<'_>) -> bool {
+    let (one, other) = (one.condition(), other.condition());
+    one.len() == other.len()
+        && one.iter().zip(other).all(|(left, right)| left.atom == right.atom
+            && left.value == right.value)
+}
+
 /// Whether the change takes the atom away under no condition.
 pub(crate) fn surely_deletes(changes: &[CountingChange<'_>], atom: u32) -> bool {
     changes.iter().any(|change| change.atom == atom && !change.value && change.is_unconditional())
@@ -80,6 +99,9 @@ pub(crate) fn balance_of(ground: &Ground<'_>, number: u32, marked: &[bool]) -> B
     for change in changes {
         if change.value && is_marked(marked, change.atom) {
             if !change.is_unconditional() {
+                if moves(changes, change, marked) {
+                    continue;
+                }
                 return Balance::Unclear;
             }
             if added.is_some() && added != Some(change.atom) {

@@ -28,3 +28,4 @@ pub mod PackedListingLemmas
 pub mod ValuesLemmas
 pub mod MadeLemmas
 pub mod AcceptLemmas
+pub mod SaidLemmas

@@ -14,3 +14,4 @@ pub mod Weights
 pub mod PackedLines
 pub mod PackedListing
 pub mod OnListing
+pub mod SaidRead

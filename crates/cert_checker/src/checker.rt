@@ -18,6 +18,8 @@ ghost use Rattle.cert_checker.specs.FluentAtoms.{AreFluent};
 ghost use Rattle.cert_checker.specs.CheckedLines.{CutsAreAllowed};
 ghost use Rattle.cert_checker.specs.CertChecker.{Answers, IsFirstRefusal, IsNoFault, IsShown, IsTrueRefusal};
 ghost use Rattle.cert_checker.specs.Checking.{Accepts, Refuses};
+ghost use Rattle.cert_checker.specs.SaidRead.{IsCheckLine};
+ghost use Rattle.progress_lines.specs.Said.{AreSaid, stream};
 
 mod answer;
 mod packed;
@@ -27,9 +29,11 @@ mod weights;
 
 use crate::cert_reader::read_cert;
 use crate::refusal::Refusal;
+use crate::said::say_whole;
 use certificate::{Cert, CertReader};
-use devices::Source;
+use devices::{Sink, Source};
 use formulas::Plan;
+use progress_lines::Unheard;
 use std::alloc::Global;
 use task::Task;
 
@@ -85,7 +89,40 @@ pub fn check<R: Source>(
     ensures refused { IfErr result (Refuses R.remaining (task_of task.now) reader.old reader.new (option_map (λ p. plan_of p.now) plan.entry) max_instances) }
     ensures failures { CountsRefusal (R.failures (source_of reader.old)) (R.failures (source_of reader.new)) result }
 {
-    let cert = read_cert(alloc, task, reader)?;
+    check_and_say(alloc, task, reader, plan, max_instances, &mut Unheard)
+}
+
+/// The same, and on the way it says how much of the certificate is read: how many lines, each time that they are twice as many, from
+/// 1,024 on; and, once all of them are, how many atoms and states it lists. That the sink fails changes no answer.
+pub fn check_and_say<R: Source, E: Sink>(
+    alloc: Global,
+    task: &Task,
+    reader: &mut CertReader<R>,
+    plan: Option<&Plan>,
+    max_instances: u32,
+    err: &mut E,
+) -> Result<Accepted, Refusal>
+    requires fresh { IsFresh reader.old }
+    requires instances { ForSome plan (λ p. IsTrue (list_all (is_instance (task_of task.now)) (plan_of p.now))) }
+
+    // What is accepted is true of all lists of instances.
+    ensures shown { IfOk result (IsShown (task_of task.now) (option_map (λ p. plan_of p.now) plan.entry)) }
+
+    // It accepts exactly where the text is that of a closed certificate, and the plan, if one is given, costs no more
+    // than is claimed; the limits of the ground task, running out of memory and failures of the device aside.
+    ensures accepted { IfOk result (Accepts R.remaining (task_of task.now) reader.old reader.new (option_map (λ p. plan_of p.now) plan.entry) max_instances) }
+    ensures accepts { (text : List ℕ) → R.remaining (source_of reader.old) ≡ Some text
+        → IsAccepted (task_of task.now) text (option_map (λ p. plan_of p.now) plan.entry) → IfErr result IsNoFault }
+
+    // Each refusal is true, and nothing that comes before it is wrong.
+    ensures refused { IfErr result (Refuses R.remaining (task_of task.now) reader.old reader.new (option_map (λ p. plan_of p.now) plan.entry) max_instances) }
+    ensures failures { CountsRefusal (R.failures (source_of reader.old)) (R.failures (source_of reader.new)) result }
+
+    // What is said is so.
+    ensures said { AreSaid (IsCheckLine (task_of task.now) (R.remaining (source_of reader.old))) E.wants_memory (stream (E.failures err.old) (E.taken err.old)) (stream (E.failures err.new) (E.taken err.new)) }
+{
+    let cert = read_cert(alloc, task, reader, err)?;
+    say_whole(alloc, &cert, err);
     judge(alloc, task, cert, plan, max_instances)
 }
 

@@ -9,10 +9,11 @@ mod laws;
 mod listed_states;
 mod named_atoms;
 mod refusal;
+mod said;
 mod table_lines;
 
 pub use cert_reader::read_cert;
-pub use checker::{Accepted, check};
+pub use checker::{Accepted, check, check_and_say};
 pub use laws::{
     closed_certificates_are_accepted, closed_claim_holds, examples_are_judged,
     solving_list_stays_listed, written_certificates_read_back,

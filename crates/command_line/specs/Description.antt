@@ -23,9 +23,15 @@ option name = record (new_rule name) { long = Some name; value_names = 1 }
 abbrev pub limit : Text → Rule
 limit name = record (option name) { parser = Some (Unsigned 1 most); defaults = codes "1000000" ∷ [] }
 
--- the option `--json`, which has no value
+-- an option without a value, as `--json`
+abbrev pub flag : Text → Rule
+flag name = record (new_rule name) { long = Some name; action = Some SetTrue }
+
 abbrev pub json : Rule
-json = record (new_rule (codes "json")) { long = Some (codes "json"); action = Some SetTrue }
+json = flag (codes "json")
+
+abbrev pub progress : Rule
+progress = flag (codes "progress")
 
 -- a command of this name with these arguments
 abbrev pub subcommand : Text → List Rule → Shape
@@ -35,7 +41,7 @@ subcommand name rules = record (new_shape name) { rules = rules }
 abbrev pub solve : Shape
 solve = subcommand (codes "solve")
     (file (codes "DOMAIN") ∷ file (codes "PROBLEM") ∷ option (codes "plan") ∷ option (codes "cert")
-    ∷ limit (codes "states") ∷ limit (codes "instances") ∷ json ∷ [])
+    ∷ limit (codes "states") ∷ limit (codes "instances") ∷ json ∷ progress ∷ [])
 
 abbrev pub validate : Shape
 validate = subcommand (codes "validate")
@@ -44,7 +50,7 @@ validate = subcommand (codes "validate")
 abbrev pub check : Shape
 check = subcommand (codes "check")
     (file (codes "DOMAIN") ∷ file (codes "PROBLEM") ∷ file (codes "CERT") ∷ option (codes "plan")
-    ∷ limit (codes "instances") ∷ json ∷ [])
+    ∷ limit (codes "instances") ∷ json ∷ progress ∷ [])
 
 abbrev pub explain : Shape
 explain = subcommand (codes "explain")

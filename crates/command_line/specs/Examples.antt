@@ -16,7 +16,7 @@ words options = solve_words [] [] options
 
 -- nothing is asked for but the answer
 abbrev pub plain : Asked
-plain = record { states = 1000000; instances = 1000000; plan = None; cert = None; json = false }
+plain = record { states = 1000000; instances = 1000000; plan = None; cert = None; json = false; progress = false }
 
 -- the words ask for a plan for d and p, with this
 abbrev pub AskToSolve : List Text → Asked → Type 0
@@ -33,6 +33,7 @@ pub record AreRead : Type 0 where
   pub states : AskToSolve (words (codes "--states" ∷ codes "5" ∷ [])) (record plain { states = 5 })
   pub instances : AskToSolve (words (codes "--instances" ∷ codes "5" ∷ [])) (record plain { instances = 5 })
   pub in_json : AskToSolve (words (codes "--json" ∷ [])) (record plain { json = true })
+  pub progress : AskToSolve (words (codes "--progress" ∷ [])) (record plain { progress = true })
   -- a value may occur in the option's word, and then begin with a hyphen
   pub in_one_word : AskToSolve (words (codes "--states=5" ∷ codes "--plan=-x=y" ∷ [])) (record plain { states = 5; plan = Some (codes "-x=y") })
   -- options come before, between and after the files
@@ -45,8 +46,10 @@ pub record AreRead : Type 0 where
   -- a plus may occur before the digits, and noughts
   pub plus : AskToSolve (words (codes "--states" ∷ codes "+016777216" ∷ [])) (record plain { states = 16777216 })
   pub to_validate : Asks (codes "validate" ∷ codes "d" ∷ codes "p" ∷ codes "l" ∷ codes "--json" ∷ []) (to_validate (codes "d") (codes "p") (codes "l") true)
+  pub to_check_with_progress : Asks (codes "check" ∷ codes "--progress" ∷ codes "d" ∷ codes "p" ∷ codes "c" ∷ [])
+      (to_check (codes "d") (codes "p") (codes "c") (record { instances = 1000000; plan = None; json = false; progress = true }))
   pub to_check : Asks (codes "check" ∷ codes "d" ∷ codes "p" ∷ codes "c" ∷ codes "--plan" ∷ codes "l" ∷ codes "--instances=7" ∷ [])
-      (to_check (codes "d") (codes "p") (codes "c") (record { instances = 7; plan = Some (codes "l"); json = false }))
+      (to_check (codes "d") (codes "p") (codes "c") (record { instances = 7; plan = Some (codes "l"); json = false; progress = false }))
   pub a_task_to_explain : Asks (codes "explain" ∷ codes "d" ∷ codes "p" ∷ []) (to_explain (codes "d") (codes "p") (record { instances = 1000000; plan = None; json = false }))
   pub a_plan_to_explain : Asks (codes "explain" ∷ codes "d" ∷ codes "--instances" ∷ codes "7" ∷ codes "p" ∷ codes "l" ∷ [])
       (to_explain (codes "d") (codes "p") (record { instances = 7; plan = Some (codes "l"); json = false }))
@@ -66,6 +69,7 @@ pub record AreRead : Type 0 where
   pub no_value : AreRefused (words (codes "--plan" ∷ [])) (InvalidValue ∷ [])
   pub an_option_for_a_value : AreRefused (words (codes "--plan" ∷ codes "--json" ∷ [])) (InvalidValue ∷ [])
   pub a_value_for_none : AreRefused (words (codes "--json=true" ∷ [])) (TooManyValues ∷ [])
+  pub progress_of_validate : AreRefused (codes "validate" ∷ codes "d" ∷ codes "p" ∷ codes "l" ∷ codes "--progress" ∷ []) (UnknownArgument ∷ [])
   pub twice : AreRefused (words (codes "--plan" ∷ codes "x" ∷ codes "--plan=x" ∷ [])) (ArgumentConflict ∷ [])
   pub none : AreRefused (words (codes "--states" ∷ codes "0" ∷ [])) (ValueValidation ∷ [])
   pub one_too_many : AreRefused (words (codes "--instances=16777217" ∷ [])) (ValueValidation ∷ [])

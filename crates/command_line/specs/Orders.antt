@@ -11,19 +11,22 @@ use Rattle.command_line.specs.Description.{optplan}
 use Rattle.command_line.specs.Limit.{most}
 
 -- what `solve` is asked for: how many states and instances are allowed, the files that the plan and the certificate are to be written
--- to, if any, and whether the answer is reported as JSON
+-- to, if any, whether the answer is reported as JSON, and whether it is said on the way how far the search is
 pub record Asked : Type 0 where
   pub states : ℕ
   pub instances : ℕ
   pub plan : Option Text
   pub cert : Option Text
   pub json : Bool
+  pub progress : Bool
 
--- what `check` is asked for: how many instances are allowed, the file that the plan is read from, if any, and whether the answer is reported as JSON
+-- what `check` is asked for: how many instances are allowed, the file that the plan is read from, if any, whether the answer is reported as JSON, and
+-- whether it is said on the way how much of the certificate is read
 pub record AskedOfCheck : Type 0 where
   pub instances : ℕ
   pub plan : Option Text
   pub json : Bool
+  pub progress : Bool
 
 -- what `explain` is asked for: how many instances are allowed, the file that the plan is read from, if any, and whether the explanation is reported as JSON
 pub record AskedOfExplain : Type 0 where
@@ -68,6 +71,7 @@ solve_in rows = do
     plan = first_of (codes "plan") rows;
     cert = first_of (codes "cert") rows;
     json = is_given (codes "json") rows;
+    progress = is_given (codes "progress") rows;
   }))
 
 abbrev pub validate_in : List Row → Option Wanted
@@ -83,7 +87,12 @@ check_in rows = do
   problem ← first_of (codes "PROBLEM") rows
   cert ← first_of (codes "CERT") rows
   instances ← limit_in (codes "instances") rows
-  Some (to_check domain problem cert (record { instances = instances; plan = first_of (codes "plan") rows; json = is_given (codes "json") rows }))
+  Some (to_check domain problem cert (record {
+    instances = instances;
+    plan = first_of (codes "plan") rows;
+    json = is_given (codes "json") rows;
+    progress = is_given (codes "progress") rows;
+  }))
 
 abbrev pub explain_in : List Row → Option Wanted
 explain_in rows = do

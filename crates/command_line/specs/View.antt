@@ -19,11 +19,11 @@ texts = map (λ (word : Bor Text). word.now)
 
 -- what the order asks for
 abbrev pub wanted_of : Order → Wanted
-wanted_of (Solve domain problem plan cert states instances json) =
-    to_solve domain.now problem.now (record { states = states.number; instances = instances.number; plan = text_in plan; cert = text_in cert; json = json })
+wanted_of (Solve domain problem plan cert states instances json progress) =
+    to_solve domain.now problem.now (record { states = states.number; instances = instances.number; plan = text_in plan; cert = text_in cert; json = json; progress = progress })
 wanted_of (Validate domain problem plan json) = to_validate domain.now problem.now plan.now json
-wanted_of (Check domain problem cert plan instances json) =
-    to_check domain.now problem.now cert.now (record { instances = instances.number; plan = text_in plan; json = json })
+wanted_of (Check domain problem cert plan instances json progress) =
+    to_check domain.now problem.now cert.now (record { instances = instances.number; plan = text_in plan; json = json; progress = progress })
 wanted_of (Explain domain problem plan instances json) =
     to_explain domain.now problem.now (record { instances = instances.number; plan = text_in plan; json = json })
 

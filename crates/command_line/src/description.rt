@@ -15,9 +15,9 @@ const ABOUT: &str =
     "A cost-optimal planner, plan validator and certificate checker for classical PDDL.";
 
 const USAGE: &str =
-    "optplan solve DOMAIN PROBLEM [--plan FILE] [--cert FILE] [--states N] [--instances N] [--json]
+    "optplan solve DOMAIN PROBLEM [--plan FILE] [--cert FILE] [--states N] [--instances N] [--json] [--progress]
        optplan validate DOMAIN PROBLEM PLAN [--json]
-       optplan check DOMAIN PROBLEM CERT [--plan FILE] [--instances N] [--json]
+       optplan check DOMAIN PROBLEM CERT [--plan FILE] [--instances N] [--json] [--progress]
        optplan explain DOMAIN PROBLEM [PLAN] [--instances N] [--json]";
 
 const PROGRAM_HELP: &str = "N is a number from 1 to 16777216; the default is 1000000.
@@ -114,6 +114,7 @@ fn add_solve<'a>(alloc: Global, commands: &mut Vec<Command<'a>>) -> Result<(), A
         limit(alloc, "states", "List at most N states, 1 to 16777216",),
         limit(alloc, "instances", INSTANCES_HELP),
         json(alloc),
+        progress(alloc, "Say on the standard error how far the search is"),
     ]?;
     let about = "Find a cheapest plan, or show that there is none";
     add_command(alloc, commands, "solve", about, SOLVE_HELP, arguments)
@@ -149,6 +150,7 @@ fn add_check<'a>(alloc: Global, commands: &mut Vec<Command<'a>>) -> Result<(), A
         ),
         limit(alloc, "instances", INSTANCES_HELP),
         json(alloc),
+        progress(alloc, "Say on the standard error how much of the certificate is read"),
     ]?;
     let about = "Check a certificate, and say what it shows";
     add_command(alloc, commands, "check", about, CHECK_HELP, arguments)
@@ -229,8 +231,22 @@ fn limit<'a>(alloc: Global, name: &'a str, help: &'a str) -> Arg<'a>
 fn json<'a>(alloc: Global) -> Arg<'a>
     ensures { HasRule result description.json }
 {
-    Arg::new(alloc, "json")
-        .long("json")
+    flag(alloc, "json", "Print the answer as a line of JSON")
+}
+
+/// The option for lines that say on the way how far a command is.
+fn progress<'a>(alloc: Global, help: &'a str) -> Arg<'a>
+    ensures { HasRule result description.progress }
+{
+    flag(alloc, "progress", help)
+}
+
+/// An option without a value.
+fn flag<'a>(alloc: Global, name: &'a str, help: &'a str) -> Arg<'a>
+    ensures { HasRule result (description.flag name.entry.now) }
+{
+    Arg::new(alloc, name)
+        .long(name)
         .action(ArgAction::SetTrue)
-        .help("Print the answer as a line of JSON")
+        .help(help)
 }

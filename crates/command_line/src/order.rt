@@ -20,6 +20,8 @@ pub enum Order<'a> {
         instances: MaxCount,
         /// Whether the answer is reported as JSON.
         json: bool,
+        /// Whether it is said on the way how far the search is.
+        progress: bool,
     },
     /// Whether the plan of a file solves the task of two files.
     Validate {
@@ -46,6 +48,8 @@ pub enum Order<'a> {
         instances: MaxCount,
         /// Whether the answer is reported as JSON.
         json: bool,
+        /// Whether it is said on the way how much of the certificate is read.
+        progress: bool,
     },
     /// What is wrong with two files or with the plan of a third; without a plan, what the task holds.
     Explain {

@@ -18,9 +18,9 @@ use std::alloc::{AllocError, Global};
 /// What the words ask for: those after the program's name.
 ///
 /// ```text
-/// optplan solve DOMAIN PROBLEM [--plan FILE] [--cert FILE] [--states N] [--instances N] [--json]
+/// optplan solve DOMAIN PROBLEM [--plan FILE] [--cert FILE] [--states N] [--instances N] [--json] [--progress]
 /// optplan validate DOMAIN PROBLEM PLAN [--json]
-/// optplan check DOMAIN PROBLEM CERT [--plan FILE] [--instances N] [--json]
+/// optplan check DOMAIN PROBLEM CERT [--plan FILE] [--instances N] [--json] [--progress]
 /// optplan explain DOMAIN PROBLEM [PLAN] [--instances N] [--json]
 /// ```
 ///
@@ -88,6 +88,7 @@ fn solve_in<'a>(matches: &ArgMatches<'a>) -> Option<Order<'a>>
         states,
         instances,
         json: is_given(matches, "json"),
+        progress: is_given(matches, "progress"),
     })
 }
 
@@ -121,6 +122,7 @@ fn check_in<'a>(matches: &ArgMatches<'a>) -> Option<Order<'a>>
         plan: value_of(matches, "plan"),
         instances,
         json: is_given(matches, "json"),
+        progress: is_given(matches, "progress"),
     })
 }
 

@@ -1,7 +1,7 @@
 -- What is found out of files is what is explained of them, and the lines say it.
-use Rattle.std.proofs.Common.{◌≡◌, ℕ, ◌<◌, ◌≤◌, ◌-◌, List, [], ◌∷◌, length, map, Option, Some, None, IfSome, refl, ap, sym, ◌∙◌, subst, arith}
+use Rattle.std.proofs.Common.{◌≡◌, ℕ, ◌<◌, ◌≤◌, ◌-◌, List, [], ◌∷◌, get_or, length, map, Option, Some, None, IfSome, refl, ap, sym, ◌∙◌, subst, arith}
 use Rattle.std.proofs.lemmas.Option.{slice_get_within}
-use Rattle.std.specs.Prelude.{Result, Ok, Err, IfOk, IsSomeAnd}
+use Rattle.std.specs.Prelude.{All, Result, Ok, Err, IfOk, IsSomeAnd}
 use Rattle.std.specs.Option.{option_map}
 use Rattle.std.specs.String.{string_bytes}
 use Rattle.faults.specs.declared.code.Code.{Code}
@@ -14,9 +14,13 @@ use Rattle.source_text.specs.declared.texts.NamedTexts.{NamedTexts}
 use Rattle.validator.specs.Verdict.{verdict_of}
 use Rattle.validator.specs.declared.verdict.Verdict.{Verdict}
 use Rattle.validator.specs.declared.verdict.Verdict.TheVariants.{NotApplicable}
-use Rattle.file_answers.specs.ExplanationLines.{Files, Named, IsLocated, IsSaidOf, IsStepLocated, IsSubjectLocated, SaySubject, IsPlanSaid, IsStepAt, file_in, files_of, named_of}
+use Rattle.file_answers.specs.ExplanationLines.{Files, Named, IsLocated, IsSaidOf, IsStepLocated, IsSubjectLocated, SaySubject, IsPlanSaid, IsStepAt, IsToldIn, SayFurther, file_in, files_of, named_of}
 use Rattle.file_answers.specs.Explanations.{IsFaultExplained, IsLocatedIf, IsOfFault, IsPlanTold, IsStepFound, IsStepOf, IsTaskExplained, IsTrueOf, IsVerdictExplained, files_in, in_texts, text_in}
 use Rattle.file_answers.specs.Files.{reported_in}
+use Rattle.file_answers.specs.FurtherFaults.{IsToldOf}
+use Rattle.file_answers.specs.declared.explanation.FurtherFault.{FurtherFault}
+use Rattle.source_text.specs.Files.{name_in}
+use Rattle.source_text.specs.Files.{text_in as bytes_in}
 use Rattle.file_answers.specs.Inputs.{IsInputFault}
 use Rattle.file_answers.specs.declared.explanation.Explanation.{Explanation}
 use Rattle.file_answers.specs.declared.explanation.Location.{Location}
@@ -41,9 +45,29 @@ use Rattle.explained_plans.specs.declared.explanations.PlanExplanation.{PlanExpl
 abbrev pub AreAmong : Files → NamedTexts → Type 0
 AreAmong files texts = (file : File) → IfSome (file_in files file) (λ named. named ≡ in_texts texts file)
 
+-- no fault is told
+none_told : (files : Files) (further : List FurtherFault) → further ≡ [] → All (IsToldIn files) further
+none_told files further none = subst (All (IsToldIn files)) (sym none) (λ k f below. absurd (omega (arith, below)))
+
 -- ---- a fault
 
 module _ (texts : NamedTexts) (files : Files) (among : AreAmong files texts) where
+  -- a fault that is told of the texts is told of the files
+  told_in : (f : FurtherFault) → IsToldOf texts.domain.text.now texts.problem.text.now (name_in texts f.fault.file) (bytes_in texts f.fault.file) f → IsToldIn files f
+  told_in f told = by_file (file_in files f.fault.file) (among f.fault.file)
+    where
+      of_files : (named : Named) → named ≡ in_texts texts f.fault.file → IsToldOf files.domain.text files.problem.text named.name named.text f
+      of_files named same =
+          let domain : files.domain ≡ in_texts texts kind.Domain = among kind.Domain in
+          let problem : files.problem ≡ in_texts texts kind.Problem = among kind.Problem in
+          subst (λ (n : Named). IsToldOf files.domain.text files.problem.text n.name n.text f) (sym same)
+          (subst (λ (d : Named). IsToldOf d.text files.problem.text (name_in texts f.fault.file) (bytes_in texts f.fault.file) f) (sym domain)
+          (subst (λ (p : Named). IsToldOf texts.domain.text.now p.text (name_in texts f.fault.file) (bytes_in texts f.fault.file) f) (sym problem) told))
+
+      by_file : (o : Option Named) → IfSome o (λ named. named ≡ in_texts texts f.fault.file) → IfSome o (λ named. IsToldOf files.domain.text files.problem.text named.name named.text f)
+      by_file None same = tt
+      by_file (Some named) same = of_files named same
+
   module _ (file : File) (code : Code) (span : Span) (e : Explanation) (is : IsFaultExplained texts file code span e) where
     located : (named : Option Named) → IfSome named (λ named. named ≡ in_texts texts file) → IfSome named (λ named. IsSomeAnd e.location (IsLocated named span))
     located None same = tt
@@ -53,6 +77,8 @@ module _ (texts : NamedTexts) (files : Files) (among : AreAmong files texts) whe
     fault_said = record {
       located = subst (λ (s : Subject). IsSubjectLocated files s e.location) (sym is.subject) (located (file_in files file) (among file));
       lines = subst (λ (s : Subject). SaySubject files s e.location (map string_bytes e.notes.items) (string_bytes e.text)) (sym is.subject) is.says;
+      further = λ k f below. told_in (get_or e.further.items k f) (is.further k f below);
+      further_lines = subst (λ (s : Subject). SayFurther s e.further.items (string_bytes e.text)) (sym is.subject) is.says_further;
     }
 
   of_fault_said : (fault : FileFault) (e : Explanation) → IsOfFault texts fault e → IsSaidOf files e
@@ -186,6 +212,8 @@ module _ (task : model.Task) (names : VariableNames) (steps : List model.Instanc
           (subst (λ (v : runs.Verdict). IsStepLocated (named_of texts.plan) v e.location) (sym told.same) told.located);
       lines = subst (λ (s : Subject). SaySubject (files_in texts) s e.location (map string_bytes e.notes.items) (string_bytes e.text)) (sym told.subject)
           (plan_said explained e is_explained told);
+      further = none_told (files_in texts) e.further.items told.no_further;
+      further_lines = subst (λ (s : Subject). SayFurther s e.further.items (string_bytes e.text)) (sym told.subject) told.no_further;
     }
 
     pub steps_said : (r : Result Explanation NoMemory) → IfOk r (IsVerdictExplained task names steps (named_of texts.plan)) → IfOk r (IsSaidOf (files_in texts))
@@ -214,6 +242,8 @@ module _ (task : model.Task) (most : ℕ) where
   summary_said files e is = record {
     located = subst (λ (s : Subject). IsSubjectLocated files s e.location) (sym is.subject) tt;
     lines = subst (λ (s : Subject). SaySubject files s e.location (map string_bytes e.notes.items) (string_bytes e.text)) (sym is.subject) is.says;
+    further = none_told files e.further.items is.no_further;
+    further_lines = subst (λ (s : Subject). SayFurther s e.further.items (string_bytes e.text)) (sym is.subject) is.no_further;
   }
 
   pub task_said : (files : Files) (r : Result Explanation NoMemory) → IfOk r (IsTaskExplained task most) → IfOk r (IsSaidOf files)

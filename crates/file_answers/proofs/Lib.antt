@@ -1,4 +1,5 @@
 pub mod CheckedLemmas
 mod ExplanationLemmas
+mod FurtherLemmas
 pub mod FilesRead
 mod QuantifiedLemmas

@@ -1,5 +1,5 @@
 -- What the lines of an explanation say of its subject, and which place its location is.
-use Rattle.std.specs.Prelude.{◌≡◌, ℕ, ◌-◌, List, [], ◌++◌, codes, flat_map, map, unwrap_or, Option, Some, IfSome, IsSomeAnd}
+use Rattle.std.specs.Prelude.{◌≡◌, ℕ, ◌-◌, List, [], ◌++◌, codes, flat_map, map, unwrap_or, All, Option, Some, IfSome, IsSomeAnd}
 use Rattle.std.specs.Fmt.{decimal}
 use Rattle.std.specs.Option.{option_map}
 use Rattle.std.specs.Str.Lossy.{utf8_lossy}
@@ -21,6 +21,8 @@ use Rattle.explained_plans.specs.declared.explanations.PlanExplanation.TheVarian
 use Rattle.grounding_kept.specs.declared.fault.GroundLimit.TheVariants as limit
 use Rattle.validator.specs.Verdict.{verdict_of}
 use Rattle.file_answers.specs.declared.explanation.Explanation.{Explanation}
+use Rattle.file_answers.specs.FurtherFaults.{EndsWith, IsToldOf, further_text}
+use Rattle.file_answers.specs.declared.explanation.FurtherFault.{FurtherFault}
 use Rattle.file_answers.specs.declared.explanation.Location.{Location}
 use Rattle.file_answers.specs.declared.explanation.Subject.{Subject}
 use Rattle.file_answers.specs.declared.explanation.Subject.TheVariants.{Fault, Plan, Task}
@@ -132,7 +134,19 @@ SaySubject files (Fault file code span) at notes lines =
 SaySubject files (Plan verdict) at notes lines = IfSome files.plan (λ named. IsPlanSaid files named.text (verdict_of verdict) at lines)
 SaySubject files (Task holds grounded) at notes lines = lines ≡ summary_text holds ++ (grounded_line grounded ++ on_lines notes)
 
--- the location is the subject's, and the lines say it
+-- a fault beside the first is one of the domain and the problem, and its lines say it
+abbrev pub IsToldIn : Files → FurtherFault → Type 0
+IsToldIn files f = IfSome (file_in files f.fault.file) (λ named. IsToldOf files.domain.text files.problem.text named.name named.text f)
+
+-- the lines of a fault end with theirs; of what is no fault, none are told
+abbrev pub SayFurther : Subject → List FurtherFault → (lines : List ℕ) → Type 0
+SayFurther (Fault file code span) further lines = EndsWith lines (further_text further)
+SayFurther (Plan verdict) further lines = further ≡ []
+SayFurther (Task holds grounded) further lines = further ≡ []
+
+-- The location is the subject's, and the lines say it. The faults that are told beside a first one are of the files.
 pub record IsSaidOf (files : Files) (e : Explanation) : Type 0 where
   pub located : IsSubjectLocated files e.subject e.location
   pub lines : SaySubject files e.subject e.location (map string_bytes e.notes.items) (string_bytes e.text)
+  pub further : All (IsToldIn files) e.further.items
+  pub further_lines : SayFurther e.subject e.further.items (string_bytes e.text)

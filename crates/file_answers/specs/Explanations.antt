@@ -21,6 +21,7 @@ use Rattle.validator.specs.Verdict.{verdict_of}
 use Rattle.validator.specs.declared.verdict.Verdict.{Verdict}
 use Rattle.file_answers.specs.ExplanationLines.{Files, Named, IsLocated, IsStepAt, IsStepLocated, SayPlan, files_of, grounded_line, on_lines, place_in}
 use Rattle.file_answers.specs.Files.{fault_at}
+use Rattle.file_answers.specs.FurtherFaults.{AreFurther, EndsWith, further_text}
 use Rattle.file_answers.specs.Inputs.{IsInputFault}
 use Rattle.file_answers.specs.declared.explanation.Explanation.{Explanation}
 use Rattle.file_answers.specs.declared.explanation.Grounded.{Grounded}
@@ -77,10 +78,18 @@ abbrev pub files_in : NamedTexts → Files
 files_in texts = files_of texts.domain texts.problem (Some texts.plan)
 
 -- the fault is what is explained, at its place
+pub record IsExplainedAlone (texts : NamedTexts) (file : File) (code : Code) (span : Span) (e : Explanation) : Type 0 where
+  pub subject : e.subject ≡ Fault file code span
+  pub located : IsSomeAnd e.location (IsLocated (in_texts texts file) span)
+  pub says : IfSome e.location (λ at. BeginsWith (string_bytes e.text) (heading (string_bytes at.file) (place_in at) code))
+
+-- and after it the other faults are
 pub record IsFaultExplained (texts : NamedTexts) (file : File) (code : Code) (span : Span) (e : Explanation) : Type 0 where
   pub subject : e.subject ≡ Fault file code span
   pub located : IsSomeAnd e.location (IsLocated (in_texts texts file) span)
   pub says : IfSome e.location (λ at. BeginsWith (string_bytes e.text) (heading (string_bytes at.file) (place_in at) code))
+  pub further : AreFurther texts e.further.items
+  pub says_further : EndsWith (string_bytes e.text) (further_text e.further.items)
 
 -- running out of memory is not
 abbrev pub IsOfFault : NamedTexts → FileFault → Explanation → Type 0
@@ -94,6 +103,7 @@ pub record IsPlanTold (task : model.Task) (steps : List model.Instance) (file : 
   pub same : verdict_of code ≡ plans.verdict_of explained
   pub located : IsStepLocated file (plans.verdict_of explained) e.location
   pub says : SayPlan e.location task steps explained (string_bytes e.text)
+  pub no_further : e.further.items ≡ []
 
 -- and it is true
 abbrev pub IsVerdictExplained : model.Task → VariableNames → List model.Instance → (file : Named) → Explanation → Type 0
@@ -125,3 +135,4 @@ pub record IsTaskExplained (task : model.Task) (most : ℕ) (e : Explanation) : 
   pub subject : e.subject ≡ Task holds grounded
   pub is_held : IsHeld task most holds grounded
   pub says : string_bytes e.text ≡ summary_text holds ++ (grounded_line grounded ++ on_lines (map string_bytes e.notes.items))
+  pub no_further : e.further.items ≡ []

@@ -4,3 +4,5 @@ pub mod Explanations
 pub mod Files
 pub mod Inputs
 pub mod QuantifiedNames
+pub mod FurtherFaults
+pub mod SaidOf

@@ -1,6 +1,9 @@
 //! From the bytes of a domain file and a problem file, and the text of a certificate, to what the certificate shows.
 ghost use Rattle.std.specs.Prelude.{◌≡◌, ℕ, List, Option, IfOk, IfErr, IfSome, IsErr, IsTrue, None};
 ghost use Rattle.task.specs.Task.{task_of};
+ghost use Rattle.cert_checker.specs.SaidRead.{IsCheckLine};
+ghost use Rattle.progress_lines.specs.Said.{AreSaid, stream};
+ghost use Rattle.file_answers.specs.SaidOf.{IsCheckLineOf};
 ghost use Rattle.cert_checker.specs.Reading.{CountsRefusal, IsFresh};
 ghost use Rattle.certificate_reader.specs.Reader.{source_of};
 ghost use Rattle.file_answers.specs.Checked.{IsChecked};
@@ -11,9 +14,10 @@ ghost use Rattle.model.specs.Files.{IsTaskOf};
 ghost use Rattle.model.specs.PlanWriting.{has_names};
 
 use crate::files::{FileFault, plan_of_file, task_of_files};
-use cert_checker::{Accepted, Refusal, check};
+use cert_checker::{Accepted, Refusal, check_and_say};
 use certificate::CertReader;
-use devices::Source;
+use devices::{Sink, Source};
+use progress_lines::Unheard;
 use std::alloc::Global;
 use task::Task;
 
@@ -64,17 +68,48 @@ pub fn check_files<R: Source>(
     ensures taken { (task : model.Task) (steps : Option (List model.Instance)) → IsTaskOf domain.now problem.now task
         → IsGiven task (text_in plan.entry) steps → IfErr result (λ fault. reported_in fault ≡ None) }
 {
+    check_files_and_say(alloc, domain, problem, cert, plan, max_instances, &mut Unheard)
+}
+
+/// The same, and on the way it says how much of the certificate is read, as `check_and_say` does.
+pub fn check_files_and_say<R: Source, E: Sink>(
+    alloc: Global,
+    domain: &[u8],
+    problem: &[u8],
+    cert: &mut CertReader<R>,
+    plan: Option<&[u8]>,
+    max_instances: u32,
+    err: &mut E,
+) -> Result<Checked, FileFault>
+    requires { IsFresh cert.old }
+
+    // The task is that of the two texts, and the answer is true of it and of what came of the certificate.
+    ensures task { IfOk result (λ c. IsTaskOf domain.now problem.now (task_of c.task)) }
+    ensures answer { IfOk result (λ c. IsChecked R.remaining (task_of c.task) cert.old cert.new (text_in plan.entry) max_instances c.answer) }
+    ensures names { IfOk result (λ c. IsTrue (has_names (task_of c.task))) }
+    ensures failures { IfOk result (λ c. CountsRefusal (R.failures (source_of cert.old)) (R.failures (source_of cert.new)) c.answer) }
+    ensures refused { IfErr result (λ fault. IfSome (reported_in fault) (IsInputFault domain.now problem.now (text_in plan.entry))) }
+    ensures unread { IsErr result → cert.new ≡ cert.old }
+
+    // Where the texts are a task, and a plan for it if one is given, there is an answer: the only error is running out of memory.
+    ensures taken { (task : model.Task) (steps : Option (List model.Instance)) → IsTaskOf domain.now problem.now task
+        → IsGiven task (text_in plan.entry) steps → IfErr result (λ fault. reported_in fault ≡ None) }
+
+    // What is said is so, of the task of the two texts.
+    ensures said { AreSaid (IsCheckLineOf domain.now problem.now (R.remaining (source_of cert.old))) E.wants_memory (stream (E.failures err.old) (E.taken err.old)) (stream (E.failures err.new) (E.taken err.new)) }
+{
     let task = task_of_files(alloc, domain, problem)?;
-    check_task(alloc, task, cert, plan, max_instances)
+    check_task(alloc, task, cert, plan, max_instances, err)
 }
 
 /// The task with what is reported for the certificate.
-fn check_task<R: Source>(
+fn check_task<R: Source, E: Sink>(
     alloc: Global,
     task: Task,
     cert: &mut CertReader<R>,
     plan: Option<&[u8]>,
     max_instances: u32,
+    err: &mut E,
 ) -> Result<Checked, FileFault>
     requires fresh { IsFresh cert.old }
     requires names { IsTrue (has_names (task_of task)) }
@@ -84,20 +119,23 @@ fn check_task<R: Source>(
     ensures refused { (domain problem : List ℕ) → IsTaskOf domain problem (task_of task)
         → IfErr result (λ fault. IfSome (reported_in fault) (IsInputFault domain problem (text_in plan.entry))) }
     ensures unread { IsErr result → cert.new ≡ cert.old }
+    ensures said { (domain problem : List ℕ) → IsTaskOf domain problem (task_of task)
+        → AreSaid (IsCheckLineOf domain problem (R.remaining (source_of cert.old))) E.wants_memory (stream (E.failures err.old) (E.taken err.old)) (stream (E.failures err.new) (E.taken err.new)) }
 {
-    match answer_on(alloc, &task, cert, plan, max_instances) {
+    match answer_on(alloc, &task, cert, plan, max_instances, err) {
         Ok(answer) => Ok(Checked { task, answer }),
         Err(fault) => Err(fault),
     }
 }
 
 /// What is reported for the certificate for this task, and for the plan of this text, if one is given.
-fn answer_on<R: Source>(
+fn answer_on<R: Source, E: Sink>(
     alloc: Global,
     task: &Task,
     cert: &mut CertReader<R>,
     plan: Option<&[u8]>,
     max_instances: u32,
+    err: &mut E,
 ) -> Result<Result<Accepted, Refusal>, FileFault>
     requires { IsFresh cert.old }
     ensures answer { IfOk result (IsChecked R.remaining (task_of task.now) cert.old cert.new (text_in plan.entry) max_instances) }
@@ -105,10 +143,11 @@ fn answer_on<R: Source>(
     ensures refused { (domain problem : List ℕ) → IsTaskOf domain problem (task_of task.now)
         → IfErr result (λ fault. IfSome (reported_in fault) (IsInputFault domain problem (text_in plan.entry))) }
     ensures unread { IsErr result → cert.new ≡ cert.old }
+    ensures said { AreSaid (IsCheckLine (task_of task.now) (R.remaining (source_of cert.old))) E.wants_memory (stream (E.failures err.old) (E.taken err.old)) (stream (E.failures err.new) (E.taken err.new)) }
 {
     let Some(text) = plan else {
-        return Ok(check(alloc, task, cert, None, max_instances));
+        return Ok(check_and_say(alloc, task, cert, None, max_instances, err));
     };
     let plan = plan_of_file(alloc, task, text)?;
-    Ok(check(alloc, task, cert, Some(&plan), max_instances))
+    Ok(check_and_say(alloc, task, cert, Some(&plan), max_instances, err))
 }

@@ -3,6 +3,7 @@ ghost use Rattle.std.specs.Prelude.{◌≡◌, IfOk, IfSome};
 ghost use Rattle.file_answers.specs.ExplanationLines.{IsSaidOf, files_of};
 ghost use Rattle.file_answers.specs.Explanations.{IsTrueOf, text_in};
 
+mod further;
 mod of_fault;
 mod of_plan;
 mod of_task;

@@ -3,6 +3,7 @@ ghost use Rattle.std.specs.Prelude.{◌≡◌, ◌-◌, IfOk};
 ghost use Rattle.std.specs.String.{string_bytes};
 ghost use Rattle.file_answers.specs.ExplanationLines.{place_in};
 
+use explained_faults::FileRefusal;
 use explained_plans::Summary;
 use faults::{Code, Span};
 use grounding_kept::GroundLimit;
@@ -21,8 +22,19 @@ pub struct Explanation {
     pub location: Option<Location>,
     /// What is said of a fault beside its sentence, a text each, without LF.
     pub hints: Vec<String>,
+    /// The faults of the domain and the problem that are told after the one that the explanation is about.
+    pub further: Vec<FurtherFault>,
     /// What is quietly wrong with a task, a line each, without LF.
     pub notes: Vec<String>,
+}
+
+/// A fault beside the first.
+#[derive(Drop)]
+pub struct FurtherFault {
+    /// What is refused, and where.
+    pub fault: FileRefusal,
+    /// The lines that say it, each with LF.
+    pub text: String,
 }
 
 /// A place in a file, as an editor shows it.

@@ -1,11 +1,13 @@
 //! From the bytes of files to their task and their plan, and the faults of files.
-ghost use Rattle.std.specs.Prelude.{◌≡◌, ℕ, List, IfOk, IfErr, IfSome, IsTrue};
+ghost use Rattle.std.specs.Prelude.{◌≡◌, ℕ, All, List, IfOk, IfErr, IfSome, IsTrue};
 ghost use Rattle.std.specs.List.{list_all};
 ghost use Rattle.tokens.specs.Reported.{reported_by};
 ghost use Rattle.syntax_tree.specs.Tree.{domain_of, problem_of};
 ghost use Rattle.task.specs.Task.{task_of};
 ghost use Rattle.formulas.specs.State.{plan_of};
 ghost use Rattle.file_answers.specs.Files.{reported_in};
+ghost use Rattle.file_answers.specs.FurtherFaults.{IsFaultOfTexts};
+ghost use Rattle.typing.specs.Task.{refusal_of};
 ghost use Rattle.explained_plans.specs.NamesView.{names_of};
 ghost use Rattle.file_answers.specs.QuantifiedNames.{IsNamedTask};
 ghost use Rattle.model.specs.Task as model;
@@ -17,6 +19,7 @@ ghost use Rattle.model.specs.PlanText.{IsPlanText};
 
 use crate::quantifiers::variable_names;
 use explained_plans::VariableNames;
+use fault_lists::{FoundFaults, listed_faults};
 use faults::{Code, Fault, NoMemory, Refused, Span, TextRefusal};
 use formulas::Plan;
 use plan_file::read_plan;
@@ -128,6 +131,21 @@ pub(crate) fn named_task_of_files<'a>(
     let names = variable_names(alloc, &domain, &problem)?;
     let task = Task::new(alloc, domain, problem)?;
     Ok(NamedTask { task, names })
+}
+
+/// The faults of two files that do not follow from one another, where the first is one of typing; else none.
+pub(crate) fn faults_of_files(
+    alloc: Global,
+    domain: &[u8],
+    problem: &[u8],
+) -> Result<FoundFaults, NoMemory>
+    ensures { IfOk result (λ found. All (λ r. IsFaultOfTexts domain.now problem.now (refusal_of r)) found.gathered.items) }
+{
+    match trees_of_files(alloc, domain, problem) {
+        Ok(trees) => listed_faults(alloc, &trees.domain, &trees.problem),
+        Err(FileFault::At { .. }) => Ok(FoundFaults::new(alloc)),
+        Err(FileFault::NoMemory) => Err(NoMemory),
+    }
 }
 
 /// The trees of a domain file and a problem file.

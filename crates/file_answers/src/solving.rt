@@ -1,15 +1,20 @@
 //! From the bytes of a domain file and a problem file to a cheapest plan.
 ghost use Rattle.std.specs.Prelude.{◌≡◌, ℕ, List, IfOk, IfErr, IfSome, IsTrue, None};
 ghost use Rattle.task.specs.Task.{task_of};
+ghost use Rattle.progress_lines.specs.Said.{GoesOn};
+ghost use Rattle.solver.specs.Said.{HasEnded};
 ghost use Rattle.solver.specs.Solver.{IsTrueAnswer};
+ghost use Rattle.file_answers.specs.SaidOf.{IsTrueLineOf};
 ghost use Rattle.file_answers.specs.Files.{reported_in};
 ghost use Rattle.model.specs.Task as model;
 ghost use Rattle.model.specs.Files.{IsTaskOf, IsTaskFault};
 ghost use Rattle.model.specs.PlanWriting.{has_names};
 
 use crate::files::{FileFault, task_of_files};
+use devices::Sink;
 use faults::NoMemory;
-use solver::{Answer, Limits, solve};
+use progress_lines::Unheard;
+use solver::{Answer, Limits, solve_and_say};
 use std::alloc::Global;
 use task::Task;
 
@@ -53,18 +58,48 @@ pub fn solve_files(
     // Where the two are a task, there is an answer: the only error is running out of memory.
     ensures taken { (task : model.Task) → IsTaskOf domain.now problem.now task → IfErr result (λ fault. reported_in fault ≡ None) }
 {
+    solve_files_and_say(alloc, domain, problem, limits, &mut Unheard)
+}
+
+/// The same, and on the way it says how far it is, as `solve_and_say` does: each line is true of the task of the two files, and where
+/// the answer has a certificate, the last one says what this lists. Where a text is refused, nothing is said.
+pub fn solve_files_and_say<E: Sink>(
+    alloc: Global,
+    domain: &[u8],
+    problem: &[u8],
+    limits: Limits,
+    err: &mut E,
+) -> Result<Solved, FileFault>
+    ensures task { IfOk result (λ s. IsTaskOf domain.now problem.now (task_of s.task)) }
+    ensures answer { IfOk result (λ s. IsTrueAnswer (task_of s.task) limits.states limits.instances s.answer) }
+    ensures names { IfOk result (λ s. IsTrue (has_names (task_of s.task))) }
+    ensures refused { IfErr result (λ fault. IfSome (reported_in fault) (IsTaskFault domain.now problem.now)) }
+    ensures taken { (task : model.Task) → IsTaskOf domain.now problem.now task → IfErr result (λ fault. reported_in fault ≡ None) }
+
+    // What is said is true of the task of the two texts.
+    ensures said { GoesOn (IsTrueLineOf domain.now problem.now) E.wants_memory (E.failures err.old) (E.taken err.old) (E.failures err.new) (E.taken err.new) }
+    ensures ended { IfOk result (λ s. HasEnded E.wants_memory (E.failures err.new) (E.taken err.new) s.answer) }
+{
     let task = task_of_files(alloc, domain, problem)?;
-    solve_task(alloc, task, limits)
+    solve_task(alloc, task, limits, err)
 }
 
 /// The task with what is found out of it. The only error is running out of memory.
-fn solve_task(alloc: Global, task: Task, limits: Limits) -> Result<Solved, FileFault>
+fn solve_task<E: Sink>(
+    alloc: Global,
+    task: Task,
+    limits: Limits,
+    err: &mut E,
+) -> Result<Solved, FileFault>
     requires { IsTrue (has_names (task_of task)) }
     ensures task { (domain problem : List ℕ) → IsTaskOf domain problem (task_of task) → IfOk result (λ s. IsTaskOf domain problem (task_of s.task)) }
     ensures answer { IfOk result (λ s. IsTrueAnswer (task_of s.task) limits.states limits.instances s.answer) }
     ensures memory { IfErr result (λ fault. reported_in fault ≡ None) }
+    ensures said { (domain problem : List ℕ) → IsTaskOf domain problem (task_of task)
+        → GoesOn (IsTrueLineOf domain problem) E.wants_memory (E.failures err.old) (E.taken err.old) (E.failures err.new) (E.taken err.new) }
+    ensures ended { IfOk result (λ s. HasEnded E.wants_memory (E.failures err.new) (E.taken err.new) s.answer) }
 {
-    match solve(alloc, &task, limits) {
+    match solve_and_say(alloc, &task, limits, err) {
         Ok(answer) => Ok(Solved { task, answer }),
         Err(NoMemory) => Err(FileFault::NoMemory),
     }

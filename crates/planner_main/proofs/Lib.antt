@@ -6,3 +6,4 @@ pub mod ProgramWords
 pub mod ProgramReported
 pub mod CertificateReported
 pub mod OrderWanted
+pub mod ProgressReported

@@ -10,23 +10,24 @@ use Rattle.command_line.specs.declared.order.Order.{Order}
 use Rattle.command_line.specs.declared.order.Order.TheVariants.{Solve, Check, Explain}
 
 -- this is asked for, with these numbers
-abbrev asked_with : (plan cert : Option (Bor (List ℕ))) (json : Bool) (states instances : ℕ) → Asked
-asked_with plan cert json states instances = record { states = states; instances = instances; plan = text_in plan; cert = text_in cert; json = json }
+abbrev asked_with : (plan cert : Option (Bor (List ℕ))) (json progress : Bool) (states instances : ℕ) → Asked
+asked_with plan cert json progress states instances =
+    record { states = states; instances = instances; plan = text_in plan; cert = text_in cert; json = json; progress = progress }
 
-pub wanted_of_solve : (order : Order) (domain problem : Bor (List ℕ)) (plan cert : Option (Bor (List ℕ))) (states instances : MaxCount) (json : Bool) (limits : Limits)
-    → order ≡ Solve domain problem plan cert states instances json → limits.states ≡ states.number → limits.instances ≡ instances.number
-    → to_solve domain.now problem.now (record { states = limits.states; instances = limits.instances; plan = text_in plan; cert = text_in cert; json = json }) ≡ wanted_of order
-wanted_of_solve order domain problem plan cert states instances json limits is same_states same_instances =
-    ap (to_solve domain.now problem.now) (ap₂ (asked_with plan cert json) same_states same_instances) ∙ sym (ap wanted_of is)
+pub wanted_of_solve : (order : Order) (domain problem : Bor (List ℕ)) (plan cert : Option (Bor (List ℕ))) (states instances : MaxCount) (json progress : Bool) (limits : Limits)
+    → order ≡ Solve domain problem plan cert states instances json progress → limits.states ≡ states.number → limits.instances ≡ instances.number
+    → to_solve domain.now problem.now (record { states = limits.states; instances = limits.instances; plan = text_in plan; cert = text_in cert; json = json; progress = progress }) ≡ wanted_of order
+wanted_of_solve order domain problem plan cert states instances json progress limits is same_states same_instances =
+    ap (to_solve domain.now problem.now) (ap₂ (asked_with plan cert json progress) same_states same_instances) ∙ sym (ap wanted_of is)
 
-abbrev asked_of_check : (plan : Option (Bor (List ℕ))) (json : Bool) (instances : ℕ) → AskedOfCheck
-asked_of_check plan json instances = record { instances = instances; plan = text_in plan; json = json }
+abbrev asked_of_check : (plan : Option (Bor (List ℕ))) (json progress : Bool) (instances : ℕ) → AskedOfCheck
+asked_of_check plan json progress instances = record { instances = instances; plan = text_in plan; json = json; progress = progress }
 
-pub wanted_of_check : (order : Order) (domain problem cert : Bor (List ℕ)) (plan : Option (Bor (List ℕ))) (instances : MaxCount) (json : Bool) (number : ℕ)
-    → order ≡ Check domain problem cert plan instances json → number ≡ instances.number
-    → to_check domain.now problem.now cert.now (record { instances = number; plan = text_in plan; json = json }) ≡ wanted_of order
-wanted_of_check order domain problem cert plan instances json number is same =
-    ap (λ (n : ℕ). to_check domain.now problem.now cert.now (asked_of_check plan json n)) same ∙ sym (ap wanted_of is)
+pub wanted_of_check : (order : Order) (domain problem cert : Bor (List ℕ)) (plan : Option (Bor (List ℕ))) (instances : MaxCount) (json progress : Bool) (number : ℕ)
+    → order ≡ Check domain problem cert plan instances json progress → number ≡ instances.number
+    → to_check domain.now problem.now cert.now (record { instances = number; plan = text_in plan; json = json; progress = progress }) ≡ wanted_of order
+wanted_of_check order domain problem cert plan instances json progress number is same =
+    ap (λ (n : ℕ). to_check domain.now problem.now cert.now (asked_of_check plan json progress n)) same ∙ sym (ap wanted_of is)
 
 abbrev asked_of_explain : (plan : Option (Bor (List ℕ))) (json : Bool) (instances : ℕ) → AskedOfExplain
 asked_of_explain plan json instances = record { instances = instances; plan = text_in plan; json = json }

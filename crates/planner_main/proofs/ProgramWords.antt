@@ -173,6 +173,12 @@ module _ (fault : WordsFault) (Says : List ℕ → Type 0) (status : ℕ) where
   words_memory (inl (is, of_words, says)) same = absurd (omega arith)
   words_memory (inr (is, said)) same = said
 
+  pub words_no_answer : IsReportedOfWords fault Says status → (status ≡ 0) ⊎ (status ≡ 10) → ⊥
+  words_no_answer (inl (is, of_words, says)) (inl same) = absurd (omega arith)
+  words_no_answer (inl (is, of_words, says)) (inr same) = absurd (omega arith)
+  words_no_answer (inr (is, said)) (inl same) = absurd (omega arith)
+  words_no_answer (inr (is, said)) (inr same) = absurd (omega arith)
+
   pub words_refuse_no_text : IsReportedOfWords fault Says status → status ≡ 20 → ⊥
   words_refuse_no_text (inl (is, of_words, says)) same = absurd (omega arith)
   words_refuse_no_text (inr (is, said)) same = absurd (omega arith)

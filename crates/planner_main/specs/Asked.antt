@@ -11,13 +11,15 @@ pub record Outputs : Type 0 where
   pub json : Bool
   pub cert : Option (List ℕ)
   pub plan : Option (List ℕ)
+  -- whether it is said which of them fails
+  pub progress : Bool
 
 -- what the words ask for
 abbrev pub outputs_of : Wanted → Outputs
-outputs_of (to_validate domain problem plan json) = record { json = json; cert = None; plan = None }
-outputs_of (to_solve domain problem asked) = record { json = asked.json; cert = asked.cert; plan = asked.plan }
-outputs_of (to_check domain problem cert asked) = record { json = asked.json; cert = None; plan = None }
-outputs_of (to_explain domain problem asked) = record { json = asked.json; cert = None; plan = None }
+outputs_of (to_validate domain problem plan json) = record { json = json; cert = None; plan = None; progress = false }
+outputs_of (to_solve domain problem asked) = record { json = asked.json; cert = asked.cert; plan = asked.plan; progress = asked.progress }
+outputs_of (to_check domain problem cert asked) = record { json = asked.json; cert = None; plan = None; progress = false }
+outputs_of (to_explain domain problem asked) = record { json = asked.json; cert = None; plan = None; progress = false }
 
 -- what the code has
 abbrev pub is_json : Format → Bool
@@ -25,4 +27,4 @@ is_json Text = false
 is_json Json = true
 
 abbrev pub outputs_in : Code → Outputs
-outputs_in outputs = record { json = is_json outputs.format; cert = text_in outputs.cert; plan = text_in outputs.plan }
+outputs_in outputs = record { json = is_json outputs.format; cert = text_in outputs.cert; plan = text_in outputs.plan; progress = outputs.progress }

@@ -5,6 +5,7 @@ use Rattle.faults.specs.Fault.{number_of, name_in, names}
 use Rattle.faults.specs.declared.code.Code.{Code}
 use Rattle.explained_plans.specs.declared.summary.Summary.{Summary}
 use Rattle.file_answers.specs.declared.explanation.Explanation.{Explanation}
+use Rattle.file_answers.specs.declared.explanation.FurtherFault.{FurtherFault}
 use Rattle.file_answers.specs.declared.explanation.Location.{Location}
 use Rattle.file_answers.specs.declared.explanation.Subject.{Subject}
 use Rattle.file_answers.specs.declared.explanation.Subject.TheVariants as subject
@@ -33,18 +34,18 @@ abbrev name_member : Code → Member
 name_member code = member (codes "name") (text (name_in names (number_of code)))
 
 -- a fault at this place of the file of this name
-abbrev pub of_located_fault : Code → (name : List ℕ) → (line column length : ℕ) → (hints : List (List ℕ)) → (lines : List ℕ) → List Member
-of_located_fault code name line column length hints lines =
-    code_member code ∷ numbered (codes "column") column ∷ explain ∷ member (codes "file") (text name) ∷ member (codes "hints") (texts hints)
-    ∷ numbered (codes "length") length ∷ numbered (codes "line") line ∷ name_member code ∷ result (codes "fault") ∷ told lines ∷ []
+abbrev pub of_located_fault : Code → (name : List ℕ) → (line column length : ℕ) → (further hints : List (List ℕ)) → (lines : List ℕ) → List Member
+of_located_fault code name line column length further hints lines =
+    code_member code ∷ numbered (codes "column") column ∷ explain ∷ member (codes "file") (text name) ∷ member (codes "further") (texts further)
+    ∷ member (codes "hints") (texts hints) ∷ numbered (codes "length") length ∷ numbered (codes "line") line ∷ name_member code ∷ result (codes "fault") ∷ told lines ∷ []
 
-abbrev pub of_plain_fault : Code → (hints : List (List ℕ)) → (lines : List ℕ) → List Member
-of_plain_fault code hints lines =
-    code_member code ∷ explain ∷ member (codes "hints") (texts hints) ∷ name_member code ∷ result (codes "fault") ∷ told lines ∷ []
+abbrev pub of_plain_fault : Code → (further hints : List (List ℕ)) → (lines : List ℕ) → List Member
+of_plain_fault code further hints lines =
+    code_member code ∷ explain ∷ member (codes "further") (texts further) ∷ member (codes "hints") (texts hints) ∷ name_member code ∷ result (codes "fault") ∷ told lines ∷ []
 
-abbrev pub of_fault : Code → Option Location → (hints : List (List ℕ)) → (lines : List ℕ) → List Member
-of_fault code (Some at) hints lines = of_located_fault code (string_bytes at.file) at.line at.column at.length hints lines
-of_fault code None hints lines = of_plain_fault code hints lines
+abbrev pub of_fault : Code → Option Location → (further hints : List (List ℕ)) → (lines : List ℕ) → List Member
+of_fault code (Some at) further hints lines = of_located_fault code (string_bytes at.file) at.line at.column at.length further hints lines
+of_fault code None further hints lines = of_plain_fault code further hints lines
 
 -- a plan that solves the task, or misses the goal
 abbrev pub of_valid : (cost : ℕ) → (lines : List ℕ) → List Member
@@ -93,11 +94,15 @@ abbrev pub of_task : Summary → Grounded → (notes : List (List ℕ)) → (lin
 of_task holds (Within instances atoms) notes lines = of_grounded holds instances atoms notes lines
 of_task holds (Beyond limit) notes lines = of_beyond holds (limit_name limit) notes lines
 
-abbrev of_subject : Subject → Option Location → (hints notes : List (List ℕ)) → (lines : List ℕ) → List Member
-of_subject (subject.Fault file code span) location hints notes lines = of_fault code location hints lines
-of_subject (subject.Plan verdict) location hints notes lines = of_plan (verdict_of verdict) location lines
-of_subject (subject.Task holds grounded) location hints notes lines = of_task holds grounded notes lines
+-- the lines of a fault beside the first
+abbrev pub lines_of : FurtherFault → List ℕ
+lines_of fault = string_bytes fault.text
+
+abbrev of_subject : Subject → Option Location → (further hints notes : List (List ℕ)) → (lines : List ℕ) → List Member
+of_subject (subject.Fault file code span) location further hints notes lines = of_fault code location further hints lines
+of_subject (subject.Plan verdict) location further hints notes lines = of_plan (verdict_of verdict) location lines
+of_subject (subject.Task holds grounded) location further hints notes lines = of_task holds grounded notes lines
 
 abbrev pub of_explanation : Explanation → List Member
 of_explanation e =
-    of_subject e.subject e.location (map string_bytes e.hints.items) (map string_bytes e.notes.items) (string_bytes e.text)
+    of_subject e.subject e.location (map lines_of e.further.items) (map string_bytes e.hints.items) (map string_bytes e.notes.items) (string_bytes e.text)

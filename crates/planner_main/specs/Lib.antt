@@ -13,3 +13,4 @@ pub mod Solution
 pub mod Asked
 pub mod Reported
 pub mod Program
+pub mod Progress

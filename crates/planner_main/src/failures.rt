@@ -114,7 +114,7 @@ pub fn report_no_memory<E: Sink>(err: &mut E) -> u8
 }
 
 /// Writes these bytes, as far as the stream takes them.
-fn say<E: Sink>(err: &mut E, bytes: &[u8])
+pub(crate) fn say<E: Sink>(err: &mut E, bytes: &[u8])
     ensures { IsWritten E.wants_memory (E.failures err.old) (E.failures err.new) (E.taken err.old) (E.taken err.new) bytes.now }
 {
     let _ = write_all(err, bytes);

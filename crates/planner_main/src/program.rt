@@ -6,6 +6,8 @@ ghost use Rattle.planner_main.specs.Failures.{device_line, is_failure, no_memory
 ghost use Rattle.planner_main.specs.Program.{Reports, ReportsFor, ReportsPartly, ReportsPartlyFor, Refuses, HasFailed, HasNotFailed, CountsEither, CountsFailure, NamesInput, NamesText, IsFaultFor, IsFound, IsOneOf, IsUnread, SaysOfWords, fault_in, inputs_of, texts_of};
 ghost use Rattle.devices.specs.Texts.{AreKept};
 ghost use Rattle.devices.specs.Devices.{IsWritten};
+ghost use Rattle.planner_main.specs.Progress.{AsksForProgress, AsksForSearchProgress, EndsByEnd, HasEndedFor, HasSaidEnd, IsProgress, IsProgressOn, SaysAfter};
+ghost use Rattle.progress_lines.specs.Said.{AreSaid, stream};
 
 mod acceptance;
 mod explaining;
@@ -17,12 +19,12 @@ mod writing;
 
 use crate::failures::{Failure, report_failure, report_words};
 use crate::printing::Report;
-use acceptance::{InputNames, report_of_check};
+use acceptance::{CheckAsked, InputNames, report_of_check};
 use command_line::{MaxCount, Order, read_words};
 use devices::{Files, Sink};
 use explaining::report_of_explain;
 use outputs::outputs_of;
-use solution::report_of_solve;
+use solution::{PairNames, report_of_solve};
 use solver::Limits;
 use std::alloc::Global;
 use validation::report_of_validate;
@@ -83,7 +85,11 @@ pub fn run<F: Files, O: Sink, E: Sink>(
     // What the words ask for is reported, or the status says why not.
     ensures status { IsTrue (is_failure result)
         ⊎ Reports (texts words.now) F.is_known (F.contents files.old) (F.contents files.new) (O.taken out.old) (O.taken out.new) result }
-    ensures quiet { is_failure result ≡ false → E.taken err.new ≡ E.taken err.old }
+    // Without `--progress` the standard error stays as it is beside an answer. With it, it takes lines first, each of them true: of what every
+    // plan costs at least, and how large the task and the search are; and beside the answer of a search the last one is that of the end.
+    ensures quiet { (AsksForProgress (texts words.now) → ⊥) → is_failure result ≡ false → E.taken err.new ≡ E.taken err.old }
+    ensures progress { is_failure result ≡ false → AreSaid (IsProgress (F.contents files.old) (texts words.now)) E.wants_memory (stream (E.failures err.old) (E.taken err.old)) (stream (E.failures err.new) (E.taken err.new)) }
+    ensures ended { AsksForSearchProgress (texts words.now) → (result ≡ 0) ⊎ (result ≡ 10) → EndsByEnd E.wants_memory (E.failures err.new) (E.taken err.new) }
 
     // The status of words that are no command is reported exactly of these, unless memory for reading them is refused; and that of
     // texts only where they are refused: `explain` reports the fault on the standard output, as what was asked for, and of the other
@@ -93,14 +99,14 @@ pub fn run<F: Files, O: Sink, E: Sink>(
     ensures usage { result ≡ 2 → (O.taken out.new ≡ O.taken out.old) × AreKept (F.contents files.old) (F.contents files.new)
         × SaysOfWords (IsWritten E.wants_memory (E.failures err.old) (E.failures err.new) (E.taken err.old) (E.taken err.new)) }
     ensures refused { result ≡ 20 → Refuses (texts words.now) (F.contents files.old) (F.contents files.new)
-        (O.taken out.old) (O.taken out.new) (IsWritten E.wants_memory (E.failures err.old) (E.failures err.new) (E.taken err.old) (E.taken err.new))
-        ⊎ (Reports (texts words.now) F.is_known (F.contents files.old) (F.contents files.new) (O.taken out.old) (O.taken out.new) result × (E.taken err.new ≡ E.taken err.old)) }
+        (O.taken out.old) (O.taken out.new) (SaysAfter (IsProgress (F.contents files.old) (texts words.now)) E.wants_memory (E.failures err.old) (E.failures err.new) (E.taken err.old) (E.taken err.new))
+        ⊎ (Reports (texts words.now) F.is_known (F.contents files.old) (F.contents files.new) (O.taken out.old) (O.taken out.new) result × AreSaid (IsProgress (F.contents files.old) (texts words.now)) E.wants_memory (stream (E.failures err.old) (E.taken err.old)) (stream (E.failures err.new) (E.taken err.new))) }
 
     // The status of a device is reported exactly where one failed. An answer may have been reported in part.
     ensures unfailed { (result ≡ 21 → ⊥) → HasNotFailed (F.failures files.old) (F.failures files.new) (O.failures out.old) (O.failures out.new) }
     ensures device { result ≡ 21 → HasFailed (F.failures files.old) (F.failures files.new) (O.failures out.old) (O.failures out.new)
         × ReportsPartly (texts words.now) F.is_known (F.contents files.old) (F.contents files.new) (O.taken out.old) (O.taken out.new)
-        × IsWritten E.wants_memory (E.failures err.old) (E.failures err.new) (E.taken err.old) (E.taken err.new) device_line }
+        × SaysAfter (IsProgress (F.contents files.old) (texts words.now)) E.wants_memory (E.failures err.old) (E.failures err.new) (E.taken err.old) (E.taken err.new) device_line }
     // All files are opened before any fault of their texts is reported.
     ensures unread { (name : List ℕ) → NamesInput (texts words.now) name → IsTrue (F.is_missing files.old name)
         → (result ≡ 21) ⊎ (result ≡ 22) }
@@ -108,11 +114,11 @@ pub fn run<F: Files, O: Sink, E: Sink>(
     ensures unreadable { (name : List ℕ) → NamesText (texts words.now) name → IsTrue (F.is_unreadable files.old name)
         → (result ≡ 21) ⊎ (result ≡ 22) }
     ensures memory { result ≡ 22 → ReportsPartly (texts words.now) F.is_known (F.contents files.old) (F.contents files.new) (O.taken out.old) (O.taken out.new)
-        × IsWritten E.wants_memory (E.failures err.old) (E.failures err.new) (E.taken err.old) (E.taken err.new) no_memory_line }
+        × SaysAfter (IsProgress (F.contents files.old) (texts words.now)) E.wants_memory (E.failures err.old) (E.failures err.new) (E.taken err.old) (E.taken err.new) no_memory_line }
 {
     match read_words(alloc, words) {
         Err(fault) => report_words(alloc, fault, err),
-        Ok(order) => match carry_out(alloc, order, files, out) {
+        Ok(order) => match carry_out(alloc, order, files, out, err) {
             Ok(status) => status,
             Err(failure) => report_failure(alloc, failure, err),
         },
@@ -120,11 +126,12 @@ pub fn run<F: Files, O: Sink, E: Sink>(
 }
 
 /// Does what is asked for: it is found out, and then reported. The status.
-fn carry_out<F: Files, O: Sink>(
+fn carry_out<F: Files, O: Sink, E: Sink>(
     alloc: Global,
     order: Order<'_>,
     files: &mut F,
     out: &mut O,
+    err: &mut E,
 ) -> Result<u8, Failure>
     ensures said { IfOk result (ReportsFor (wanted_of order.entry) F.is_known (F.contents files.old) (F.contents files.new) (O.taken out.old) (O.taken out.new)) }
     ensures refused { IfErr result (λ failure. IfSome (fault_in failure) (λ fault. IsFaultFor (F.contents files.old) (wanted_of order.entry) fault
@@ -134,17 +141,26 @@ fn carry_out<F: Files, O: Sink>(
     ensures failures { IfErr result (CountsEither (F.failures files.old) (F.failures files.new) (O.failures out.old) (O.failures out.new)) }
     ensures unread { (name : List ℕ) → IsOneOf (inputs_of (wanted_of order.entry)) name → IsTrue (F.is_missing files.old name) → IsUnread result }
     ensures unreadable { (name : List ℕ) → IsOneOf (texts_of (wanted_of order.entry)) name → IsTrue (F.is_unreadable files.old name) → IsUnread result }
+    ensures progress { AreSaid (IsProgressOn (F.contents files.old) (wanted_of order.entry)) E.wants_memory (stream (E.failures err.old) (E.taken err.old)) (stream (E.failures err.new) (E.taken err.new)) }
+    ensures ended { IfOk result (HasSaidEnd (wanted_of order.entry) E.wants_memory (E.failures err.new) (E.taken err.new)) }
 {
-    let report = report_of(alloc, order, files)?;
-    write_report(alloc, &report, outputs_of(order), files, out)
+    let report = report_of(alloc, order, files, err)?;
+    write_report(alloc, &report, outputs_of(order), files, out, err)
 }
 
 /// What is found out of what is asked for.
-fn report_of<F: Files>(alloc: Global, order: Order<'_>, files: &mut F) -> Result<Report, Failure>
+fn report_of<F: Files, E: Sink>(
+    alloc: Global,
+    order: Order<'_>,
+    files: &mut F,
+    err: &mut E,
+) -> Result<Report, Failure>
     ensures found { IsFound (F.contents files.old) (F.is_missing files.old) (F.is_unreadable files.old) (wanted_of order.entry) result }
     ensures kept { AreKept (F.contents files.old) (F.contents files.new) }
     ensures unfailed { IfOk result (λ _. F.failures files.new ≡ F.failures files.old) }
     ensures failures { IfErr result (CountsFailure (F.failures files.old) (F.failures files.new)) }
+    ensures progress { AreSaid (IsProgressOn (F.contents files.old) (wanted_of order.entry)) E.wants_memory (stream (E.failures err.old) (E.taken err.old)) (stream (E.failures err.new) (E.taken err.new)) }
+    ensures ended { IfOk result (HasEndedFor (wanted_of order.entry) E.wants_memory (E.failures err.new) (E.taken err.new)) }
 {
     match order {
         Order::Validate {
@@ -158,10 +174,12 @@ fn report_of<F: Files>(alloc: Global, order: Order<'_>, files: &mut F) -> Result
             problem,
             states,
             instances,
+            progress,
             ..
         } => {
             let limits = limits_of(states, instances);
-            report_of_solve(alloc, domain, problem, limits, files)
+            let pair = PairNames { domain, problem };
+            report_of_solve(alloc, pair, limits, progress, files, err)
         }
         Order::Check {
             domain,
@@ -169,15 +187,21 @@ fn report_of<F: Files>(alloc: Global, order: Order<'_>, files: &mut F) -> Result
             cert,
             plan,
             instances,
+            progress,
             ..
         } => {
+            let instances = instances.number();
+            let asked = CheckAsked {
+                instances,
+                progress,
+            };
             let names = InputNames {
                 domain,
                 problem,
                 cert,
                 plan,
             };
-            report_of_check(alloc, names, instances.number(), files)
+            report_of_check(alloc, names, asked, files, err)
         }
         Order::Explain {
             domain,

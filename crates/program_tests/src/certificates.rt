@@ -106,7 +106,7 @@ fn potential(alloc: Global, weights: &Weights) -> Result<Potential, AllocError> 
 }
 
 /// The two atoms of each certificate.
-fn both_atoms(alloc: Global) -> Result<IndexSet<Atom>, NoMemory> {
+pub(crate) fn both_atoms(alloc: Global) -> Result<IndexSet<Atom>, NoMemory> {
     let mut atoms = IndexSet::new(alloc);
     atoms.insert(atom(0, &[]))?;
     atoms.insert(atom(1, &[]))?;
@@ -120,26 +120,47 @@ fn line(alloc: Global, line: &Line) -> Result<StateLine, AllocError> {
     Ok(StateLine { cost, mark, atoms })
 }
 
-/// The certificate of these parts that lists the state so many times, and `None` where they exceed its limits.
-fn cert(alloc: Global, row: &Row, times: usize) -> Result<Option<Cert>, NoMemory> {
+/// What values and dead ends weigh.
+fn bounds(alloc: Global, row: &Row) -> Result<Bounds, NoMemory> {
     let mut values = Vec::new(alloc);
     values.push(potential(alloc, &row.2)?)?;
-    let bounds = Bounds {
+    Ok(Bounds {
         values,
         dead_ends: potential(alloc, &row.3)?,
         tables: Vec::new(alloc),
-    };
-    let header = Header {
+    })
+}
+
+/// What comes before the states.
+fn header(alloc: Global, row: &Row) -> Result<Header, NoMemory> {
+    let atoms = both_atoms(alloc)?;
+    Ok(Header {
         version: row.0,
         claim: row.1,
-        atoms: both_atoms(alloc)?,
-        bounds,
-    };
+        atoms,
+        bounds: bounds(alloc, row)?,
+    })
+}
+
+/// The state of this line, so many times.
+fn lines(alloc: Global, row: &Row, times: usize) -> Result<Vec<StateLine>, AllocError> {
     let mut lines = Vec::new(alloc);
     for _ in 0..times {
         lines.push(line(alloc, &row.4)?)?;
     }
-    Cert::new(alloc, header, &lines)
+    Ok(lines)
+}
+
+/// The certificate of these parts that lists the state so many times, and `None` where they exceed its limits.
+fn cert(alloc: Global, row: &Row, times: usize) -> Result<Option<Cert>, NoMemory> {
+    let lines = lines(alloc, row, times)?;
+    Cert::new(alloc, header(alloc, row)?, &lines)
+}
+
+/// Whether there is one.
+fn is_there(alloc: Global, row: &Row, times: usize) -> Result<bool, NoMemory> {
+    let cert = cert(alloc, row, times)?;
+    Ok(cert.is_some())
 }
 
 /// Whether the potential function has this constant and these weights.
@@ -212,8 +233,8 @@ fn versions_keep_their_limits(rt: HostRuntime) -> Result<(), Fail> {
 
 #[test]
 fn no_state_is_listed_twice(rt: HostRuntime) -> Result<(), Fail> {
-    let is_once = cert(rt.alloc(), &VERSIONS[0], 1)?.is_some();
-    let is_twice = cert(rt.alloc(), &VERSIONS[0], 2)?.is_some();
+    let is_once = is_there(rt.alloc(), &VERSIONS[0], 1)?;
+    let is_twice = is_there(rt.alloc(), &VERSIONS[0], 2)?;
     assert_eq!(rt; (is_once, is_twice), (true, false));
     Ok(())
 }

@@ -2,19 +2,19 @@
 ghost use Rattle.std.specs.Prelude.{IsTrue};
 ghost use Rattle.table_rows.specs.Rows.{are_rising};
 
+use crate::certificates::both_atoms;
 use crate::helpers::{Answer, Reported, check_source, check_text};
 use cert_checker::{Accepted, RefusalCode};
 use certificate::{Bounds, Cert, Claim, Header, Mark, Potential, StateLine, Version, write_cert};
 use devices::Memory;
 use faults::NoMemory;
-use indexmap::IndexSet;
-use std::alloc::Global;
+use std::alloc::{AllocError, Global};
 use std::process::Abort;
 use std::test::Fail;
 use table_rows::Table;
 use task::{SchemaId, Task};
 use test_devices::{FailsAt, InPieces};
-use test_texts::{GO, HOP, atom, on_task};
+use test_texts::{GO, HOP, on_task};
 
 /// The potential function of this constant and these weights.
 fn potential(alloc: Global, constant: i64, weights: [i64; 2]) -> Result<Potential, NoMemory> {
@@ -42,33 +42,56 @@ fn table(alloc: Global) -> Result<Table, NoMemory> {
     Ok(table)
 }
 
-/// A certificate of two atoms, two values and a table, if one of this version may have them.
-fn cert(alloc: Global, version: Version) -> Result<Option<Cert>, NoMemory> {
-    let mut atoms = IndexSet::new(alloc);
-    atoms.insert(atom(0, &[]))?;
-    atoms.insert(atom(1, &[]))?;
+/// Two values.
+fn values(alloc: Global) -> Result<Vec<Potential>, NoMemory> {
     let mut values = Vec::new(alloc);
     values.push(potential(alloc, 1, [0, 3])?)?;
     values.push(potential(alloc, 2, [-1, 0])?)?;
+    Ok(values)
+}
+
+/// The table alone.
+fn tables(alloc: Global) -> Result<Vec<Table>, NoMemory> {
     let mut tables = Vec::new(alloc);
     tables.push(table(alloc)?)?;
-    let header = Header {
+    Ok(tables)
+}
+
+/// Two values, what dead ends weigh, and a table.
+fn bounds(alloc: Global) -> Result<Bounds, NoMemory> {
+    let values = values(alloc)?;
+    let tables = tables(alloc)?;
+    Ok(Bounds {
+        values,
+        dead_ends: potential(alloc, 0, [0, 4])?,
+        tables,
+    })
+}
+
+/// What comes before the state.
+fn header(alloc: Global, version: Version) -> Result<Header, NoMemory> {
+    let atoms = both_atoms(alloc)?;
+    Ok(Header {
         version,
         claim: Claim::Bound(0),
         atoms,
-        bounds: Bounds {
-            values,
-            dead_ends: potential(alloc, 0, [0, 4])?,
-            tables,
-        },
-    };
-    let mut lines = Vec::new(alloc);
-    lines.push(StateLine {
+        bounds: bounds(alloc)?,
+    })
+}
+
+/// The line of the state.
+fn line(alloc: Global) -> Result<StateLine, AllocError> {
+    Ok(StateLine {
         cost: 0,
         mark: Mark::Open,
         atoms: vec![in alloc; 0]?,
-    })?;
-    Cert::new(alloc, header, &lines)
+    })
+}
+
+/// A certificate of two atoms, two values and a table, if one of this version may have them.
+fn cert(alloc: Global, version: Version) -> Result<Option<Cert>, NoMemory> {
+    let lines = vec![in alloc; line(alloc)?]?;
+    Cert::new(alloc, header(alloc, version)?, &lines)
 }
 
 /// Its text.
@@ -133,10 +156,19 @@ fn another_row_of_its_scope_is_taken(rt: HostRuntime) -> Result<(), Fail> {
     })
 }
 
+/// Whether a certificate of this version may have them.
+fn is_there(alloc: Global, version: Version) -> Result<bool, NoMemory> {
+    let cert = cert(alloc, version)?;
+    Ok(cert.is_some())
+}
+
 #[test]
 fn tables_are_of_version_3(rt: HostRuntime) -> Result<(), Fail> {
-    assert!(rt; cert(rt.alloc(), Version::One)?.is_none());
-    assert!(rt; cert(rt.alloc(), Version::Two)?.is_none());
+    let are_there = [
+        is_there(rt.alloc(), Version::One)?,
+        is_there(rt.alloc(), Version::Two)?,
+    ];
+    assert_eq!(rt; are_there, [false, false]);
     Ok(())
 }
 

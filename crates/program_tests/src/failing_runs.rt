@@ -122,6 +122,40 @@ fn a_file_may_fail_where_it_is_made_or_closed(rt: HostRuntime) -> Result<(), Fai
     Ok(())
 }
 
+/// The same is asked for, and to be told on the way how far the search is.
+const SOLVE_AND_SAY: [&str; 6] = [
+    "solve",
+    "domain",
+    "problem",
+    "--plan",
+    "out",
+    "--progress",
+];
+
+/// Whether the standard error ends by the file that fails, where this fails of it.
+fn says_which(alloc: Global, failing: Failing) -> Result<bool, NoMemory> {
+    let mut files = FailingFiles::new(table(alloc)?, failing);
+    let (mut out, mut err) = (Memory::empty(alloc), Memory::empty(alloc));
+    let status = run(alloc, &SOLVE_AND_SAY, &mut files, &mut out, &mut err);
+    let last = b"\nprogress=failed file=out\nfault 61 Device\n".as_slice();
+    Ok(status == 21 && err.as_slice().ends_with(last))
+}
+
+/// Whether it says so where the file cannot be made, cannot be closed, and where its first write fails.
+fn says_which_of_each(alloc: Global) -> Result<[bool; 3], NoMemory> {
+    Ok([
+        says_which(alloc, Failing::Creating)?,
+        says_which(alloc, Failing::Closing)?,
+        says_which(alloc, Failing::Write(0))?,
+    ])
+}
+
+#[test]
+fn the_file_that_fails_is_named(rt: HostRuntime) -> Result<(), Fail> {
+    assert_eq!(rt; says_which_of_each(rt.alloc())?, [true, true, true]);
+    Ok(())
+}
+
 /// The status of a run over files without an end, and whether it says that the domain is too long, and nothing else.
 fn run_without_an_end(alloc: Global) -> (u8, bool) {
     let mut files = EndlessFiles::new(alloc);

@@ -8,7 +8,7 @@ use indexmap::IndexSet;
 use std::alloc::{AllocError, Global};
 use std::process::Abort;
 use std::test::Fail;
-use task::Task;
+use task::{Atom, Task};
 use test_devices::{FailsAt, InPieces};
 use test_texts::{GO, atom, on_task};
 
@@ -26,8 +26,8 @@ fn atoms_of(alloc: Global, state: u32) -> Result<Vec<u32>, AllocError> {
     Ok(atoms)
 }
 
-/// The certificate that lists the first so many states as dead ends.
-fn cert(alloc: Global, count: u32) -> Result<Option<Cert>, NoMemory> {
+/// The lines of the first so many states, which are dead ends.
+fn lines(alloc: Global, count: u32) -> Result<Vec<StateLine>, AllocError> {
     let mut lines = Vec::new(alloc);
     for state in 0..count {
         lines.push(StateLine {
@@ -36,46 +36,76 @@ fn cert(alloc: Global, count: u32) -> Result<Option<Cert>, NoMemory> {
             atoms: atoms_of(alloc, state)?,
         })?;
     }
+    Ok(lines)
+}
+
+/// The atoms, each of a predicate of its own.
+fn atoms(alloc: Global) -> Result<IndexSet<Atom>, NoMemory> {
     let mut atoms = IndexSet::new(alloc);
     for predicate in 0..ATOMS {
         atoms.insert(atom(predicate as usize, &[]))?;
     }
-    let value = Potential {
-        constant: 0,
-        weights: vec![in alloc; 0; ATOMS as usize]?,
-    };
-    let mut values = Vec::new(alloc);
-    values.push(value)?;
-    let dead_ends = Potential {
-        constant: 1,
-        weights: vec![in alloc; -1; ATOMS as usize]?,
-    };
-    let header = Header {
+    Ok(atoms)
+}
+
+/// The potential function of this constant, in which each atom has this weight.
+fn potential(alloc: Global, constant: i64, weight: i64) -> Result<Potential, AllocError> {
+    Ok(Potential {
+        constant,
+        weights: vec![in alloc; weight; ATOMS as usize]?,
+    })
+}
+
+/// A value of 0, and no state without an atom is a dead end.
+fn bounds(alloc: Global) -> Result<Bounds, AllocError> {
+    let values = vec![in alloc; potential(alloc, 0, 0)?]?;
+    Ok(Bounds {
+        values,
+        dead_ends: potential(alloc, 1, -1)?,
+        tables: Vec::new(alloc),
+    })
+}
+
+/// What comes before the states.
+fn header(alloc: Global) -> Result<Header, NoMemory> {
+    let atoms = atoms(alloc)?;
+    Ok(Header {
         version: Version::Two,
         claim: Claim::Bound(0),
         atoms,
-        bounds: Bounds {
-            values,
-            dead_ends,
-            tables: Vec::new(alloc),
-        },
-    };
-    Cert::new(alloc, header, &lines)
+        bounds: bounds(alloc)?,
+    })
+}
+
+/// The certificate that lists the first so many states as dead ends.
+fn cert(alloc: Global, count: u32) -> Result<Option<Cert>, NoMemory> {
+    let lines = lines(alloc, count)?;
+    Cert::new(alloc, header(alloc)?, &lines)
+}
+
+/// Adds the line of the state.
+fn add_line(alloc: Global, state: u32, text: &mut Vec<u8>) -> Result<(), AllocError> {
+    text.extend_from_slice(b"dead 0")?;
+    for atom in &atoms_of(alloc, state)? {
+        text.extend_from_slice(format!(in alloc; " {atom}")?.as_bytes())?;
+    }
+    text.extend_from_slice(b"\n")
+}
+
+/// Adds what comes after the atoms that have names.
+fn add_lines(alloc: Global, count: u32, text: &mut Vec<u8>) -> Result<(), AllocError> {
+    text.extend_from_slice(b"atom 0 -1 ()\n".repeat(alloc, 10)?.as_slice())?;
+    for state in 0..count {
+        add_line(alloc, state, text)?;
+    }
+    text.extend_from_slice(format!(in alloc; "end {count}\n")?.as_bytes())
 }
 
 /// Its text.
 fn text(alloc: Global, count: u32) -> Result<Vec<u8>, AllocError> {
     let mut text =
         b"pddl-cert 2\nclaim bound 0\nconstant 0 1\natom 0 -1 (p)\natom 0 -1 (q)\n".to_vec(alloc)?;
-    text.extend_from_slice(b"atom 0 -1 ()\n".repeat(alloc, 10)?.as_slice())?;
-    for state in 0..count {
-        text.extend_from_slice(b"dead 0")?;
-        for atom in &atoms_of(alloc, state)? {
-            text.extend_from_slice(format!(in alloc; " {atom}")?.as_bytes())?;
-        }
-        text.extend_from_slice(b"\n")?;
-    }
-    text.extend_from_slice(format!(in alloc; "end {count}\n")?.as_bytes())?;
+    add_lines(alloc, count, &mut text)?;
     Ok(text)
 }
 
@@ -119,8 +149,8 @@ fn fails_at_each_byte(rt: &impl Abort, alloc: Global, task: &Task, cert: &Cert, 
 
 #[test]
 fn a_certificate_is_begun_where_a_write_fails(rt: HostRuntime) -> Result<(), Fail> {
-    let cert = cert(rt.alloc(), 2)?.ok_or("beyond the limits")?;
     let text = text(rt.alloc(), 2)?;
+    let cert = cert(rt.alloc(), 2)?.ok_or("beyond the limits")?;
     on_task(&rt, rt.alloc(), &GO, |rt, alloc, task| {
         fails_at_each_byte(rt, alloc, task, &cert, &text);
         Ok(())
@@ -130,33 +160,51 @@ fn a_certificate_is_begun_where_a_write_fails(rt: HostRuntime) -> Result<(), Fai
 /// How many states are listed of which the text has more bytes than are held before they are written.
 const MANY: u32 = 4_000;
 
-/// Whether the sink that takes a thousand bytes at a write, of which the one after so many fails, takes a beginning of the
-/// text, and no less than it was given but for one piece that was shorter, and what is reported is so.
-fn is_begun(alloc: Global, task: &Task, cert: &Cert, text: &[u8], writes: u64) -> bool {
-    let (written, taken) = taken(alloc, task, cert, 1_000, writes);
+/// How many bytes are held.
+const HELD: usize = 65_536;
+
+/// Whether this is a beginning of the text, and no less than the sink was given that takes a thousand bytes at a write, and
+/// of which the write after so many fails, but for one piece that was shorter; and what is reported is so.
+fn is_beginning(written: Result<(), IoFault>, taken: &[u8], text: &[u8], writes: u64) -> bool {
     let most = writes.saturating_mul(1_000);
     let count = taken.len() as u64;
-    text.starts_with(&taken)
-        && written == reported_of(&taken, text)
+    text.starts_with(taken)
+        && written == reported_of(taken, text)
         && (written.is_ok() || count <= most && most < count.saturating_add(1_000))
 }
 
-/// It fails at each write, and at none where the one that fails would come after the text.
+/// Whether this sink takes such a beginning.
+fn is_begun(alloc: Global, task: &Task, cert: &Cert, text: &[u8], writes: u64) -> bool {
+    let (written, taken) = taken(alloc, task, cert, 1_000, writes);
+    is_beginning(written, &taken, text, writes)
+}
+
+/// More writes than the text takes.
+const MOST_WRITES: u64 = 90;
+
+/// It fails at each write.
 fn fails_at_each_piece(rt: &impl Abort, alloc: Global, task: &Task, cert: &Cert, text: &[u8]) {
-    for writes in 0..90 {
+    for writes in 0..MOST_WRITES {
         assert!(rt; is_begun(alloc, task, cert, text, writes), "{writes}");
     }
-    let (written, whole) = taken(alloc, task, cert, 1_000, 90);
-    assert_eq!(rt; (written, whole.as_slice()), (Ok(()), text));
+}
+
+/// It fails at none where the one that fails would come after the text, which is longer than what is held.
+fn is_taken_whole(rt: &impl Abort, alloc: Global, task: &Task, cert: &Cert, text: &[u8]) {
+    let (written, whole) = taken(alloc, task, cert, 1_000, MOST_WRITES);
+    assert_eq!(rt;
+        (written, whole.as_slice(), text.len() > HELD),
+        (Ok(()), text, true)
+    );
 }
 
 #[test]
 fn a_long_certificate_is_begun_where_a_write_fails(rt: HostRuntime) -> Result<(), Fail> {
-    let cert = cert(rt.alloc(), MANY)?.ok_or("beyond the limits")?;
     let text = text(rt.alloc(), MANY)?;
-    assert!(rt; text.len() > 65_536);
+    let cert = cert(rt.alloc(), MANY)?.ok_or("beyond the limits")?;
     on_task(&rt, rt.alloc(), &GO, |rt, alloc, task| {
         fails_at_each_piece(rt, alloc, task, &cert, &text);
+        is_taken_whole(rt, alloc, task, &cert, &text);
         Ok(())
     })
 }

@@ -9,3 +9,5 @@ pub mod LimitLemmas
 pub mod AnswerLemmas
 pub mod ByCost
 pub mod LoopLemmas
+pub mod PauseLemmas
+pub mod EndLemmas

@@ -11,3 +11,4 @@ pub mod Reachable
 pub mod Solver
 pub mod Stopped
 pub mod Stretches
+pub mod Said

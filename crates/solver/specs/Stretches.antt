@@ -1,10 +1,12 @@
 -- How far a search of the ground task by an estimate and a test for dead ends came, of as many states as may be listed.
-use Rattle.std.specs.Prelude.{ℕ, Bool, List, length}
+use Rattle.std.specs.Prelude.{ℕ, ◌≤◌, Bool, List, length}
 use Rattle.grounding.specs.declared.ground.Ground.{Ground}
 use Rattle.grounding.specs.Ground.{task_in, atoms_in}
 use Rattle.model.specs.Grounding.{ground_system}
 use Rattle.packed_state.specs.PooledView.{pooled_states, pooled_width}
 use Rattle.packed_state.specs.declared.pooled.PooledStore.{PooledStore}
+use Rattle.search.specs.Nodes.{AreOpen}
+use Rattle.search.specs.Progress.{IsSearch, nodes_in}
 use Rattle.search.specs.UnderWay as under_way
 use Rattle.search.specs.declared.under_way.Search.{Search}
 use Rattle.solver.specs.declared.searched.Stretch.{Stretch}
@@ -24,9 +26,15 @@ module _ {R : Type 0} (g : Ground) (estimate : List Bool → ℕ) (is_dead : Lis
       under_way.IsUnderWay (ground_system (task_in g) (atoms_in g)) estimate is_dead fits pooled_states pooled_width (length (atoms_in g)) max_states s
 
   -- to its end, or to a pause
-  abbrev pub IsStretch : ℕ → Stretch R → Type 0
-  IsStretch max_states (Ended searched) = IsSearched g estimate is_dead max_states searched.outcome searched.marks.items
-  IsStretch max_states (Paused s) = IsUnderWay max_states s
+  abbrev pub IsStretch : (pause max_states : ℕ) → Stretch R → Type 0
+  IsStretch pause max_states (Ended searched) = IsSearched g estimate is_dead max_states searched.outcome searched.marks.items
+  IsStretch pause max_states (Paused s) = IsUnderWay max_states s × (pause ≤ length (pooled_states (under_way.store_in s)))
+
+-- what such a search keeps true of what it found: the successors of each expanded state are found, and each state that waits is in the open list
+abbrev pub AreOpenIn : {R : Type 0} (g : Ground) (estimate : List Bool → ℕ) (is_dead : List Bool → Bool) → Search PooledStore R → Type 0
+AreOpenIn g estimate is_dead s =
+    IsSearch (ground_system (task_in g) (atoms_in g)) estimate is_dead pooled_states s.progress
+    × AreOpen (ground_system (task_in g) (atoms_in g)) (nodes_in pooled_states s.progress)
 
 -- an answer by tables, or what the search came to
 abbrev pub IsTrueEnd : (g : Ground) (estimate : List Bool → ℕ) (is_dead : List Bool → Bool) → Limits → Parts → Type 0

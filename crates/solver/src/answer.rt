@@ -1,13 +1,20 @@
 //! The answer to a task.
-ghost use Rattle.std.specs.Prelude.{◌≡◌, [], IfOk, IsTrue};
+ghost use Rattle.std.specs.Prelude.{◌≡◌, [], count_by, IfOk, IsTrue, OnOk, map, ℕ};
 ghost use Rattle.task.specs.Task.{task_of};
 ghost use Rattle.grounding.specs.Ground.{task_in, atoms_in, IsGroundOf};
 ghost use Rattle.potentials_improved.specs.FairPotentials.{potentials_in, ground_in};
 ghost use Rattle.solver.specs.Guidance.{estimate_by, reports_dead};
 ghost use Rattle.solver.specs.Guided.{IsGuidanceFor, IsSearched};
 ghost use Rattle.solver.specs.Improved.{AreSettledOrHigh, AreDeadSettledOrHigh};
+ghost use Rattle.progress_lines.specs.Said.{GoesOn};
+ghost use Rattle.solver.specs.Said.{HasEnded, IsTrueLine, IsTrueReport, is_open, report_of};
+ghost use Rattle.model.specs.NumberedAtoms.{numbered_atoms};
 ghost use Rattle.solver.specs.Solver.{IsTrueAnswer};
 ghost use Rattle.solver.specs.Written.{guidance_of};
+ghost use Rattle.solver.specs.declared.answer.Answer.TheVariants.{Unknown};
+ghost use Rattle.certificate.specs.Certificate.{certificate_of};
+ghost use Rattle.certificate.specs.CertificateParts.{listed_of};
+ghost use Rattle.model.specs.Task as model;
 ghost use Rattle.model.specs.WellTyped.{is_task};
 
 use crate::guidance::{Guidance, potential_of};
@@ -15,13 +22,16 @@ use crate::improved::improved;
 use crate::limits::Limits;
 use crate::listing::cert_of;
 use crate::parts::{Given, Parts, search_in_parts};
+use crate::reports::{RaisedBy, Report, say};
 use crate::searched::Searched;
 use crate::steps::plan_of;
-use certificate::{Cert, Claim};
+use certificate::{Cert, Claim, Listed, Mark};
+use devices::Sink;
 use faults::{NoMemory, Refused};
 use formulas::Plan;
 use grounding::{Ground, GroundLimit};
 use potentials_improved::{DeadFair, Fair, Groundwork};
+use progress_lines::Unheard;
 use search::{EstimateWithDeadEnds, Outcome};
 use std::alloc::Global;
 use task::Task;
@@ -89,34 +99,145 @@ pub enum Exceeded {
 pub fn solve(alloc: Global, task: &Task, limits: Limits) -> Result<Answer, NoMemory>
     ensures { IfOk result (IsTrueAnswer (task_of task.now) limits.states limits.instances) }
 {
+    solve_and_say(alloc, task, limits, &mut Unheard)
+}
+
+/// The same, and on the way it says how far it is, in lines of `key=value` (`Report`): how large the ground task is; what every plan
+/// costs at least, and how many states are listed and expanded, at the beginning of a search and each time that it lists twice as
+/// many states, from 1,024 on; and at the end how many the certificate lists. Each line is true, of this task. That the sink fails
+/// changes no answer.
+///
+/// # Errors
+/// Memory is refused, for a line too.
+pub fn solve_and_say<E: Sink>(
+    alloc: Global,
+    task: &Task,
+    limits: Limits,
+    err: &mut E,
+) -> Result<Answer, NoMemory>
+    ensures answer { IfOk result (IsTrueAnswer (task_of task.now) limits.states limits.instances) }
+    ensures said { GoesOn (IsTrueLine (task_of task.now)) E.wants_memory (E.failures err.old) (E.taken err.old) (E.failures err.new) (E.taken err.new) }
+    ensures ended { IfOk result (HasEnded E.wants_memory (E.failures err.new) (E.taken err.new)) }
+{
     match Ground::new(alloc, task, &[], limits.instances()) {
-        Ok(ground) => solve_ground(alloc, &ground, limits),
-        Err(Refused::At(GroundLimit::Instances)) => Ok(Answer::Unknown(Exceeded::Instances)),
+        Ok(ground) => solve_ground(alloc, &ground, limits, err),
+        Err(Refused::At(GroundLimit::Instances)) => {
+            say(alloc, Report::Limit(RaisedBy::Instances), err)?;
+            Ok(Answer::Unknown(Exceeded::Instances))
+        }
         Err(Refused::At(GroundLimit::Atoms)) => Ok(Answer::Unknown(Exceeded::Atoms)),
         Err(Refused::NoMemory) => Err(NoMemory),
     }
 }
 
+/// Says how many states the certificate of an answer lists, if it has one, and how many of them are open; and before it which option
+/// raises the limit that is exceeded, if one does.
+fn say_end<E: Sink>(alloc: Global, answer: &Answer, err: &mut E) -> Result<(), NoMemory>
+    ensures said { (task : model.Task) (states instances : ℕ) → IsTrueAnswer task states instances answer.now → GoesOn (IsTrueLine task) E.wants_memory (E.failures err.old) (E.taken err.old) (E.failures err.new) (E.taken err.new) }
+    ensures ended { OnOk result (HasEnded E.wants_memory (E.failures err.new) (E.taken err.new) answer.now) }
+{
+    match answer {
+        Answer::Plan { cert, .. } => say(alloc, end_of(cert), err),
+        Answer::Unsolvable { cert } => say(alloc, end_of(cert), err),
+        Answer::Unknown(limit) => say_limit(alloc, limit, err),
+    }
+}
+
+/// Says which option raises the limit that is exceeded, if one does, and then what its certificate lists, if it has one.
+fn say_limit<E: Sink>(alloc: Global, limit: &Exceeded, err: &mut E) -> Result<(), NoMemory>
+    ensures said { (task : model.Task) (states instances : ℕ) → IsTrueAnswer task states instances (Unknown limit.now) → GoesOn (IsTrueLine task) E.wants_memory (E.failures err.old) (E.taken err.old) (E.failures err.new) (E.taken err.new) }
+    ensures ended { OnOk result (HasEnded E.wants_memory (E.failures err.new) (E.taken err.new) (Unknown limit.now)) }
+{
+    match limit {
+        Exceeded::States { cert, .. } => {
+            say(alloc, Report::Limit(RaisedBy::States), err)?;
+            say(alloc, end_of(cert), err)
+        }
+        Exceeded::Instances => say(alloc, Report::Limit(RaisedBy::Instances), err),
+        Exceeded::Atoms => Ok(()),
+    }
+}
+
+/// How many states the certificate lists, and how many of them are open.
+fn end_of(cert: &Cert) -> Report
+    ensures { result ≡ report_of (certificate_of cert.now) }
+{
+    Report::End {
+        listed: cert.line_count(),
+        expanded: open_in(cert.marks()),
+    }
+}
+
+/// How many of these are open.
+fn open_in(marks: &[Listed]) -> usize
+    ensures { result ≡ count_by is_open (map listed_of marks.now) }
+{
+    let mut count = 0;
+    for listed in marks {
+        if matches!(listed.mark, Mark::Open) {
+            count += 1;
+        }
+    }
+    count
+}
+
 /// The same of the ground task.
-fn solve_ground(alloc: Global, ground: &Ground<'_>, limits: Limits) -> Result<Answer, NoMemory>
+fn solve_ground<E: Sink>(
+    alloc: Global,
+    ground: &Ground<'_>,
+    limits: Limits,
+    err: &mut E,
+) -> Result<Answer, NoMemory>
     requires typed { IsTrue (is_task (task_in ground.now)) }
     requires ground { IsGroundOf (task_in ground.now) [] limits.instances ground.now }
-    ensures { IfOk result (IsTrueAnswer (task_in ground.now) limits.states limits.instances) }
+    ensures answer { IfOk result (IsTrueAnswer (task_in ground.now) limits.states limits.instances) }
+    ensures said { GoesOn (IsTrueLine (task_in ground.now)) E.wants_memory (E.failures err.old) (E.taken err.old) (E.failures err.new) (E.taken err.new) }
+    ensures ended { IfOk result (HasEnded E.wants_memory (E.failures err.new) (E.taken err.new)) }
+{
+    say(alloc, ground_report(ground), err)?;
+    let answer = solve_said(alloc, ground, limits, err)?;
+    say_end(alloc, &answer, err)?;
+    Ok(answer)
+}
+
+/// How large the ground task is.
+fn ground_report(ground: &Ground<'_>) -> Report
+    requires { atoms_in ground.now ≡ numbered_atoms (task_in ground.now) [] }
+    ensures { IsTrueReport (task_in ground.now) result }
+{
+    Report::Ground {
+        instances: ground.instances().len(),
+        atoms: ground.width() as usize,
+    }
+}
+
+/// The same once it is said how large the ground task is, but for the end.
+fn solve_said<E: Sink>(
+    alloc: Global,
+    ground: &Ground<'_>,
+    limits: Limits,
+    err: &mut E,
+) -> Result<Answer, NoMemory>
+    requires typed { IsTrue (is_task (task_in ground.now)) }
+    requires ground { IsGroundOf (task_in ground.now) [] limits.instances ground.now }
+    ensures answer { IfOk result (IsTrueAnswer (task_in ground.now) limits.states limits.instances) }
+    ensures said { GoesOn (IsTrueLine (task_in ground.now)) E.wants_memory (E.failures err.old) (E.taken err.old) (E.failures err.new) (E.taken err.new) }
 {
     let groundwork = Groundwork::new(alloc, ground)?;
     let estimate: Fair<'_, '_> = improved(alloc, ground, &groundwork)?;
     let dead_ends: DeadFair<'_, '_> = improved(alloc, ground, &groundwork)?;
     drop(groundwork);
-    solve_by_potentials(alloc, ground, &estimate, &dead_ends, limits)
+    solve_by_potentials(alloc, ground, &estimate, &dead_ends, limits, err)
 }
 
 /// The same by these potentials, or by tables if such are found on the way that are better.
-fn solve_by_potentials(
+fn solve_by_potentials<E: Sink>(
     alloc: Global,
     ground: &Ground<'_>,
     estimate: &Fair<'_, '_>,
     dead_ends: &DeadFair<'_, '_>,
     limits: Limits,
+    err: &mut E,
 ) -> Result<Answer, NoMemory>
     requires typed { IsTrue (is_task (task_in ground.now)) }
     requires ground { IsGroundOf (task_in ground.now) [] limits.instances ground.now }
@@ -124,14 +245,15 @@ fn solve_by_potentials(
     requires improved { AreSettledOrHigh (task_in ground.now) (atoms_in ground.now) (potentials_in estimate.now) }
     requires dead_ends { ground_in dead_ends.now ≡ ground.now }
     requires dead_ends_improved { AreDeadSettledOrHigh (task_in ground.now) (atoms_in ground.now) (potentials_in dead_ends.now) }
-    ensures { IfOk result (IsTrueAnswer (task_in ground.now) limits.states limits.instances) }
+    ensures answer { IfOk result (IsTrueAnswer (task_in ground.now) limits.states limits.instances) }
+    ensures said { GoesOn (IsTrueLine (task_in ground.now)) E.wants_memory (E.failures err.old) (E.taken err.old) (E.failures err.new) (E.taken err.new) }
 {
     let guide = EstimateWithDeadEnds::new(estimate, dead_ends);
     let given = Given {
         potentials: estimate.potentials(),
         dead_ends: dead_ends.potentials(),
     };
-    match search_in_parts(alloc, ground, &guide, given, limits)? {
+    match search_in_parts(alloc, ground, &guide, given, limits, err)? {
         Parts::ByTables(answer) => Ok(answer),
         Parts::ByGuide(searched) => {
             let guidance = Guidance::Potentials {

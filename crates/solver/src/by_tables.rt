@@ -19,6 +19,8 @@ ghost use Rattle.solver.specs.Guidance.{by_tables, estimate_by, first_value, rep
 ghost use Rattle.solver.specs.Guided.{IsSearched};
 ghost use Rattle.solver.specs.Improved.{AreSettledOrHigh, AreDeadSettledOrHigh};
 ghost use Rattle.solver.specs.SeveralOver.{several_over};
+ghost use Rattle.progress_lines.specs.Said.{GoesOn};
+ghost use Rattle.solver.specs.Said.{IsTrueLine};
 ghost use Rattle.solver.specs.Solver.{IsTrueAnswer};
 ghost use Rattle.solver.specs.Stopped.{IsStopped};
 ghost use Rattle.table_functions.specs.FairTables.{AreFair};
@@ -34,6 +36,7 @@ use crate::limits::Limits;
 use crate::searched::{Searched, search_by};
 use crate::stopped::Stopped;
 use certificate::{Bounds, Potential, Version};
+use devices::Sink;
 use faults::NoMemory;
 use grounding::Ground;
 use potentials::Potentials;
@@ -44,11 +47,12 @@ use tables::{IndexedTables, TableFunctions, ValuesFairness};
 use tables_drafted::{DraftedTables, Wanted, drafted_tables};
 
 /// The answer by tables, if such are found that are better than the potentials of a search that pauses so.
-pub(crate) fn solve_by_tables(
+pub(crate) fn solve_by_tables<E: Sink>(
     alloc: Global,
     ground: &Ground<'_>,
     stopped: &Stopped<'_>,
     limits: Limits,
+    err: &mut E,
 ) -> Result<Attempt<Answer>, NoMemory>
     requires typed { IsTrue (is_task (task_in ground.now)) }
     requires ground { IsGroundOf (task_in ground.now) [] limits.instances ground.now }
@@ -57,7 +61,8 @@ pub(crate) fn solve_by_tables(
     requires width { length (potentials_of stopped.now.potentials.now).weights ≡ length (atoms_in ground.now) }
     requires improved { AreSettledOrHigh (task_in ground.now) (atoms_in ground.now) (potentials_of stopped.now.potentials.now) }
     requires dead_ends_improved { AreDeadSettledOrHigh (task_in ground.now) (atoms_in ground.now) (potentials_of stopped.now.dead_ends.now) }
-    ensures { IfOk result (IfDone (IsTrueAnswer (task_in ground.now) limits.states limits.instances)) }
+    ensures answer { IfOk result (IfDone (IsTrueAnswer (task_in ground.now) limits.states limits.instances)) }
+    ensures said { GoesOn (IsTrueLine (task_in ground.now)) E.wants_memory (E.failures err.old) (E.taken err.old) (E.failures err.new) (E.taken err.new) }
 {
     let Some(draft) = drafted(alloc, ground, stopped)? else {
         return Ok(Attempt::InVain);
@@ -75,7 +80,7 @@ pub(crate) fn solve_by_tables(
     if !bounds.keep_limits(Version::Three, ground.width() as usize) {
         return Ok(Attempt::InVain);
     }
-    answer_by_tables(alloc, ground, bounds, values, dead_ends, stopped, limits)
+    answer_by_tables(alloc, ground, bounds, values, dead_ends, stopped, limits, err)
 }
 
 /// Tables that may be better than the potentials of a search that pauses so.
@@ -112,7 +117,7 @@ fn written(alloc: Global, values: &[Potentials]) -> Result<Vec<Potential>, NoMem
 
 /// The answer by these values, which are given as potentials too, over their tables, if they are fair, and better than what the
 /// search that pauses goes by.
-fn answer_by_tables(
+fn answer_by_tables<E: Sink>(
     alloc: Global,
     ground: &Ground<'_>,
     bounds: Bounds,
@@ -120,6 +125,7 @@ fn answer_by_tables(
     dead_ends: Potentials,
     stopped: &Stopped<'_>,
     limits: Limits,
+    err: &mut E,
 ) -> Result<Attempt<Answer>, NoMemory>
     requires typed { IsTrue (is_task (task_in ground.now)) }
     requires ground { IsGroundOf (task_in ground.now) [] limits.instances ground.now }
@@ -132,9 +138,10 @@ fn answer_by_tables(
     requires width { length (potentials_of stopped.now.potentials.now).weights ≡ length (atoms_in ground.now) }
     requires improved { AreSettledOrHigh (task_in ground.now) (atoms_in ground.now) (potentials_of stopped.now.potentials.now) }
     requires dead_ends_improved { AreDeadSettledOrHigh (task_in ground.now) (atoms_in ground.now) (bounds_of bounds).dead_ends }
-    ensures { IfOk result (IfDone (IsTrueAnswer (task_in ground.now) limits.states limits.instances)) }
+    ensures answer { IfOk result (IfDone (IsTrueAnswer (task_in ground.now) limits.states limits.instances)) }
+    ensures said { GoesOn (IsTrueLine (task_in ground.now)) E.wants_memory (E.failures err.old) (E.taken err.old) (E.failures err.new) (E.taken err.new) }
 {
-    let attempt = search_by_tables(alloc, ground, &bounds, values, dead_ends, stopped, limits)?;
+    let attempt = search_by_tables(alloc, ground, &bounds, values, dead_ends, stopped, limits, err)?;
     match attempt {
         Attempt::Done(searched) => {
             let guidance = Guidance::Tables(bounds);
@@ -148,7 +155,7 @@ fn answer_by_tables(
 
 /// What a search by these values comes to, if they are fair, and better. Whether they are better is asked first, as it takes less
 /// time than the test of fairness.
-fn search_by_tables(
+fn search_by_tables<E: Sink>(
     alloc: Global,
     ground: &Ground<'_>,
     bounds: &Bounds,
@@ -156,6 +163,7 @@ fn search_by_tables(
     dead_ends: Potentials,
     stopped: &Stopped<'_>,
     limits: Limits,
+    err: &mut E,
 ) -> Result<Attempt<Searched>, NoMemory>
     requires atoms { atoms_in ground.now ≡ numbered_atoms (task_in ground.now) [] }
     requires within_limits { IsTrue (are_bounds three (length (atoms_in ground.now)) (bounds_of bounds.now)) }
@@ -167,6 +175,7 @@ fn search_by_tables(
     ensures fair { IfOk result (IfDone (λ _. AreFair (task_in ground.now) (atoms_in ground.now) (bounds_of bounds.now))) }
     ensures no_lower { IfOk result (IfDone (λ _. initial_value (task_in ground.now) (atoms_in ground.now) (potentials_of stopped.now.potentials.now) ≤ estimate_by (by_tables (bounds_of bounds.now)) (ground_system (task_in ground.now) (atoms_in ground.now)).initial)) }
     ensures searched { IfOk result (IfDone (λ s. IsSearched ground.now (estimate_by (by_tables (bounds_of bounds.now))) (reports_dead (by_tables (bounds_of bounds.now))) limits.states s.outcome s.marks.items)) }
+    ensures said { GoesOn (IsTrueLine (task_in ground.now)) E.wants_memory (E.failures err.old) (E.taken err.old) (E.failures err.new) (E.taken err.new) }
 {
     let Some(functions) = functions_over(alloc, ground, &bounds.tables, values, dead_ends)? else {
         return Ok(Attempt::InVain);
@@ -176,7 +185,7 @@ fn search_by_tables(
     }
     let saving = stopped.saving_by(alloc, &functions)?;
     if saving.is_worth(bounds.tables.len()) {
-        return search_if_fair(alloc, ground, functions, limits);
+        return search_if_fair(alloc, ground, functions, limits, err);
     }
     if saving.is_promising() {
         return Ok(Attempt::Promising);
@@ -202,21 +211,23 @@ fn starts_no_lower(
 }
 
 /// What a search by these values comes to, if they are fair.
-fn search_if_fair(
+fn search_if_fair<E: Sink>(
     alloc: Global,
     ground: &Ground<'_>,
     functions: TableFunctions<'_>,
     limits: Limits,
+    err: &mut E,
 ) -> Result<Attempt<Searched>, NoMemory>
     requires atoms { atoms_in ground.now ≡ numbered_atoms (task_in ground.now) [] }
     requires width { width_of functions ≡ length (atoms_in ground.now) }
     ensures fair { IfOk result (IfDone (λ _. AreFair (task_in ground.now) (atoms_in ground.now) (several_of functions.entry))) }
     ensures searched { IfOk result (IfDone (λ s. IsSearched ground.now (estimate_by (by_tables (several_of functions.entry))) (reports_dead (by_tables (several_of functions.entry))) limits.states s.outcome s.marks.items)) }
+    ensures said { GoesOn (IsTrueLine (task_in ground.now)) E.wants_memory (E.failures err.old) (E.taken err.old) (E.failures err.new) (E.taken err.new) }
 {
     match functions.fairness(alloc, ground)? {
         ValuesFairness::Fair => {
             let guide = FairTables::new(alloc, functions, ground)?;
-            let searched = search_by(alloc, ground, &guide, limits)?;
+            let searched = search_by(alloc, ground, &guide, limits, err)?;
             Ok(Attempt::Done(searched))
         }
         _ => Ok(Attempt::InVain),

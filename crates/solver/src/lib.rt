@@ -9,11 +9,13 @@ mod improved;
 mod limits;
 mod listing;
 mod parts;
+mod reports;
 mod searched;
 mod steps;
 mod stopped;
 mod system;
 
-pub use answer::{Answer, Exceeded, solve};
+pub use answer::{Answer, Exceeded, solve, solve_and_say};
+pub use reports::{RaisedBy, Report};
 pub use limits::{Limits, MAX_LIMIT};
 pub use system::GroundSystem;

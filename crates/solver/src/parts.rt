@@ -2,12 +2,15 @@
 ghost use Rattle.std.specs.Prelude.{◌≡◌, [], IfOk, IsTrue, length};
 ghost use Rattle.grounding.specs.Ground.{task_in, atoms_in, IsGroundOf};
 ghost use Rattle.model.specs.Grounding.{ground_system};
+ghost use Rattle.model.specs.NumberedAtoms.{numbered_atoms};
 ghost use Rattle.model.specs.WellTyped.{is_task};
 ghost use Rattle.packed_state.specs.PooledView.{pooled_width};
 ghost use Rattle.potentials.specs.Potentials.{potentials_of};
 ghost use Rattle.search.specs.UnderWay.{store_in, nodes_of};
 ghost use Rattle.solver.specs.Attempts.{IfDone};
 ghost use Rattle.solver.specs.Improved.{AreSettledOrHigh, AreDeadSettledOrHigh};
+ghost use Rattle.progress_lines.specs.Said.{GoesOn};
+ghost use Rattle.solver.specs.Said.{IsTrueLine};
 ghost use Rattle.solver.specs.Solver.{IsTrueAnswer};
 ghost use Rattle.solver.specs.Stopped.{IsStopped};
 ghost use Rattle.solver.specs.Stretches.{IsTrueEnd, IsTruePart, IsUnderWay};
@@ -18,6 +21,7 @@ use crate::by_tables::solve_by_tables;
 use crate::limits::Limits;
 use crate::searched::{Searched, Stretch, begin_by, finish_by, go_on_by};
 use crate::stopped::Stopped;
+use devices::Sink;
 use faults::NoMemory;
 use grounding::Ground;
 use packed_state::PooledStore;
@@ -76,12 +80,13 @@ enum Part<R> {
 
 /// What a search of the ground task by the guide comes to, which goes by these potentials; or the answer by tables, if such are
 /// found at a pause that are better.
-pub(crate) fn search_in_parts<G: Guide>(
+pub(crate) fn search_in_parts<G: Guide, E: Sink>(
     alloc: Global,
     ground: &Ground<'_>,
     guide: &G,
     given: Given<'_>,
     limits: Limits,
+    err: &mut E,
 ) -> Result<Parts, NoMemory>
     requires typed { IsTrue (is_task (task_in ground.now)) }
     requires ground { IsGroundOf (task_in ground.now) [] limits.instances ground.now }
@@ -90,24 +95,26 @@ pub(crate) fn search_in_parts<G: Guide>(
     requires width { length (potentials_of given.potentials.now).weights ≡ length (atoms_in ground.now) }
     requires improved { AreSettledOrHigh (task_in ground.now) (atoms_in ground.now) (potentials_of given.potentials.now) }
     requires dead_ends_improved { AreDeadSettledOrHigh (task_in ground.now) (atoms_in ground.now) (potentials_of given.dead_ends.now) }
-    ensures { IfOk result (IsTrueEnd ground.now (G.estimate_of guide.now) (G.is_dead guide.now) limits) }
+    ensures end { IfOk result (IsTrueEnd ground.now (G.estimate_of guide.now) (G.is_dead guide.now) limits) }
+    ensures said { GoesOn (IsTrueLine (task_in ground.now)) E.wants_memory (E.failures err.old) (E.taken err.old) (E.failures err.new) (E.taken err.new) }
 {
     let search = begin_by(alloc, ground, guide, limits)?;
-    match search_to_pause(alloc, ground, guide, search, given, QUICK, limits)? {
+    match search_to_pause(alloc, ground, guide, search, given, QUICK, limits, err)? {
         Part::Ended(parts) => Ok(parts),
-        Part::Promising(search) => search_on(alloc, ground, guide, search, given, limits),
-        Part::InVain(search) => search_to_end(alloc, ground, guide, search, limits),
+        Part::Promising(search) => search_on(alloc, ground, guide, search, given, limits, err),
+        Part::InVain(search) => search_to_end(alloc, ground, guide, search, limits, err),
     }
 }
 
 /// The same after the first pause.
-fn search_on<G: Guide>(
+fn search_on<G: Guide, E: Sink>(
     alloc: Global,
     ground: &Ground<'_>,
     guide: &G,
     search: Search<PooledStore, G::Room>,
     given: Given<'_>,
     limits: Limits,
+    err: &mut E,
 ) -> Result<Parts, NoMemory>
     requires typed { IsTrue (is_task (task_in ground.now)) }
     requires ground { IsGroundOf (task_in ground.now) [] limits.instances ground.now }
@@ -117,34 +124,38 @@ fn search_on<G: Guide>(
     requires width { length (potentials_of given.potentials.now).weights ≡ length (atoms_in ground.now) }
     requires improved { AreSettledOrHigh (task_in ground.now) (atoms_in ground.now) (potentials_of given.potentials.now) }
     requires dead_ends_improved { AreDeadSettledOrHigh (task_in ground.now) (atoms_in ground.now) (potentials_of given.dead_ends.now) }
-    ensures { IfOk result (IsTrueEnd ground.now (G.estimate_of guide.now) (G.is_dead guide.now) limits) }
+    ensures end { IfOk result (IsTrueEnd ground.now (G.estimate_of guide.now) (G.is_dead guide.now) limits) }
+    ensures said { GoesOn (IsTrueLine (task_in ground.now)) E.wants_memory (E.failures err.old) (E.taken err.old) (E.failures err.new) (E.taken err.new) }
 {
-    match search_to_pause(alloc, ground, guide, search, given, THOROUGH, limits)? {
+    match search_to_pause(alloc, ground, guide, search, given, THOROUGH, limits, err)? {
         Part::Ended(parts) => Ok(parts),
-        Part::Promising(search) => search_to_end(alloc, ground, guide, search, limits),
-        Part::InVain(search) => search_to_end(alloc, ground, guide, search, limits),
+        Part::Promising(search) => search_to_end(alloc, ground, guide, search, limits, err),
+        Part::InVain(search) => search_to_end(alloc, ground, guide, search, limits, err),
     }
 }
 
 /// The same after the last pause.
-fn search_to_end<G: Guide>(
+fn search_to_end<G: Guide, E: Sink>(
     alloc: Global,
     ground: &Ground<'_>,
     guide: &G,
     search: Search<PooledStore, G::Room>,
     limits: Limits,
+    err: &mut E,
 ) -> Result<Parts, NoMemory>
+    requires atoms { atoms_in ground.now ≡ numbered_atoms (task_in ground.now) [] }
     requires system { G.system_of guide.now ≡ ground_system (task_in ground.now) (atoms_in ground.now) }
     requires guide_width { G.width_of guide.now ≡ length (atoms_in ground.now) }
     requires under_way { IsUnderWay ground.now (G.estimate_of guide.now) (G.is_dead guide.now) (G.fits guide.now) limits.states search }
-    ensures { IfOk result (IsTrueEnd ground.now (G.estimate_of guide.now) (G.is_dead guide.now) limits) }
+    ensures end { IfOk result (IsTrueEnd ground.now (G.estimate_of guide.now) (G.is_dead guide.now) limits) }
+    ensures said { GoesOn (IsTrueLine (task_in ground.now)) E.wants_memory (E.failures err.old) (E.taken err.old) (E.failures err.new) (E.taken err.new) }
 {
-    let searched = finish_by(alloc, ground, guide, search, limits)?;
+    let searched = finish_by(alloc, ground, guide, search, limits, err)?;
     Ok(Parts::ByGuide(searched))
 }
 
 /// The search up to a pause, and a look for tables there. There is no pause where no more states may be listed.
-fn search_to_pause<G: Guide>(
+fn search_to_pause<G: Guide, E: Sink>(
     alloc: Global,
     ground: &Ground<'_>,
     guide: &G,
@@ -152,6 +163,7 @@ fn search_to_pause<G: Guide>(
     given: Given<'_>,
     pause: Pause,
     limits: Limits,
+    err: &mut E,
 ) -> Result<Part<G::Room>, NoMemory>
     requires typed { IsTrue (is_task (task_in ground.now)) }
     requires ground { IsGroundOf (task_in ground.now) [] limits.instances ground.now }
@@ -161,15 +173,16 @@ fn search_to_pause<G: Guide>(
     requires width { length (potentials_of given.potentials.now).weights ≡ length (atoms_in ground.now) }
     requires improved { AreSettledOrHigh (task_in ground.now) (atoms_in ground.now) (potentials_of given.potentials.now) }
     requires dead_ends_improved { AreDeadSettledOrHigh (task_in ground.now) (atoms_in ground.now) (potentials_of given.dead_ends.now) }
-    ensures { IfOk result (IsTruePart ground.now (G.estimate_of guide.now) (G.is_dead guide.now) (G.fits guide.now) limits) }
+    ensures part { IfOk result (IsTruePart ground.now (G.estimate_of guide.now) (G.is_dead guide.now) (G.fits guide.now) limits) }
+    ensures said { GoesOn (IsTrueLine (task_in ground.now)) E.wants_memory (E.failures err.old) (E.taken err.old) (E.failures err.new) (E.taken err.new) }
 {
     if pause.states >= limits.states() {
         return Ok(Part::InVain(search));
     }
-    match go_on_by(alloc, ground, guide, search, pause.states, limits)? {
+    match go_on_by(alloc, ground, guide, search, pause.states, limits, err)? {
         Stretch::Ended(searched) => Ok(Part::Ended(Parts::ByGuide(searched))),
         Stretch::Paused(search) => {
-            match solve_at_pause(alloc, ground, &search, given, pause.effort, limits)? {
+            match solve_at_pause(alloc, ground, &search, given, pause.effort, limits, err)? {
                 Attempt::Done(answer) => Ok(Part::Ended(Parts::ByTables(answer))),
                 Attempt::Promising => Ok(Part::Promising(search)),
                 Attempt::InVain => Ok(Part::InVain(search)),
@@ -179,13 +192,14 @@ fn search_to_pause<G: Guide>(
 }
 
 /// The answer by tables, if such are found that are better than the potentials of this search.
-fn solve_at_pause<R>(
+fn solve_at_pause<R, E: Sink>(
     alloc: Global,
     ground: &Ground<'_>,
     search: &Search<PooledStore, R>,
     given: Given<'_>,
     effort: Effort,
     limits: Limits,
+    err: &mut E,
 ) -> Result<Attempt<Answer>, NoMemory>
     requires typed { IsTrue (is_task (task_in ground.now)) }
     requires ground { IsGroundOf (task_in ground.now) [] limits.instances ground.now }
@@ -194,7 +208,8 @@ fn solve_at_pause<R>(
     requires width { length (potentials_of given.potentials.now).weights ≡ length (atoms_in ground.now) }
     requires improved { AreSettledOrHigh (task_in ground.now) (atoms_in ground.now) (potentials_of given.potentials.now) }
     requires dead_ends_improved { AreDeadSettledOrHigh (task_in ground.now) (atoms_in ground.now) (potentials_of given.dead_ends.now) }
-    ensures { IfOk result (IfDone (IsTrueAnswer (task_in ground.now) limits.states limits.instances)) }
+    ensures answer { IfOk result (IfDone (IsTrueAnswer (task_in ground.now) limits.states limits.instances)) }
+    ensures said { GoesOn (IsTrueLine (task_in ground.now)) E.wants_memory (E.failures err.old) (E.taken err.old) (E.failures err.new) (E.taken err.new) }
 {
     let Some(bound) = search.bound() else {
         return Ok(Attempt::InVain);
@@ -207,5 +222,5 @@ fn solve_at_pause<R>(
         dead_ends: given.dead_ends,
         effort,
     };
-    solve_by_tables(alloc, ground, &stopped, limits)
+    solve_by_tables(alloc, ground, &stopped, limits, err)
 }

@@ -2,26 +2,31 @@
 //!
 //! What is said of the states is asked of the guide where the search ends, so that what the guide works with, as the tables of
 //! values, can go into the certificate and is in memory once.
-ghost use Rattle.std.specs.Prelude.{◌≡◌, if◌then◌else◌, length, IfOk};
+ghost use Rattle.std.specs.Prelude.{◌≡◌, ◌<◌, ◌≤◌, [], count_by, if◌then◌else◌, length, IfOk};
 ghost use Rattle.certificate.specs.CertificateParts as parts;
 ghost use Rattle.certificate_reader.specs.Lines as lines;
 ghost use Rattle.grounding.specs.Ground.{task_in, atoms_in};
 ghost use Rattle.model.specs.Claims as model;
 ghost use Rattle.model.specs.Grounding.{ground_system};
+ghost use Rattle.model.specs.NumberedAtoms.{numbered_atoms};
 ghost use Rattle.packed_state.specs.Packed.{bits_of};
-ghost use Rattle.search.specs.Outcome.{is_marked_dead, line_of};
+ghost use Rattle.search.specs.Outcome.{is_expanded, is_marked_dead, line_of};
 ghost use Rattle.solver.specs.Guided as guided;
 ghost use Rattle.solver.specs.Guided.{AreMarksOf, CanBeMarked, IsSearched};
-ghost use Rattle.solver.specs.Stretches.{IsStretch, IsUnderWay};
+ghost use Rattle.progress_lines.specs.Said.{GoesOn};
+ghost use Rattle.solver.specs.Said.{IsTrueLine};
+ghost use Rattle.solver.specs.Stretches.{AreOpenIn, IsStretch, IsUnderWay};
 ghost use Rattle.solver.specs.Listing.{mark_of_line};
 
 use crate::limits::Limits;
+use crate::reports::{Report, say};
 use crate::system::GroundSystem;
 use certificate::{Listed, Mark};
+use devices::Sink;
 use faults::NoMemory;
 use grounding::Ground;
 use packed_state::{Packed, PooledStore, StateStore};
-use search::{FoundStates, Guide, Halt, Node, NodeStatus, Outcome, Search, begin, finish, go_on};
+use search::{FoundStates, Guide, Halt, Node, NodeStatus, Outcome, Search, begin, go_on};
 use std::alloc::Global;
 
 /// What a search came to, and what its certificate says of each state that it found, in order.
@@ -30,6 +35,9 @@ pub(crate) struct Searched {
     pub(crate) outcome: Outcome<PooledStore>,
     pub(crate) marks: Vec<Listed>,
 }
+
+/// How many states are listed where a search says for the second time how far it is.
+const FIRST_REPORT: u32 = 1_024;
 
 /// How far a search came.
 #[derive(Drop)]
@@ -55,7 +63,7 @@ pub(crate) fn begin_by<G: Guide>(
 }
 
 /// Goes on with it until it ends, or so many states are listed.
-pub(crate) fn go_on_by<G: Guide>(
+fn stretch_by<G: Guide>(
     alloc: Global,
     ground: &Ground<'_>,
     guide: &G,
@@ -66,7 +74,7 @@ pub(crate) fn go_on_by<G: Guide>(
     requires system { G.system_of guide.now ≡ ground_system (task_in ground.now) (atoms_in ground.now) }
     requires width { G.width_of guide.now ≡ length (atoms_in ground.now) }
     requires under_way { IsUnderWay ground.now (G.estimate_of guide.now) (G.is_dead guide.now) (G.fits guide.now) limits.states search }
-    ensures { IfOk result (IsStretch ground.now (G.estimate_of guide.now) (G.is_dead guide.now) (G.fits guide.now) limits.states) }
+    ensures { IfOk result (IsStretch ground.now (G.estimate_of guide.now) (G.is_dead guide.now) (G.fits guide.now) pause limits.states) }
 {
     let system = GroundSystem(ground);
     match go_on(alloc, &system, guide, search, pause, limits.states())? {
@@ -78,38 +86,125 @@ pub(crate) fn go_on_by<G: Guide>(
     }
 }
 
+/// Goes on with it until it ends, or so many states are listed. It says how far it is, and again each time that twice as many
+/// states are listed.
+pub(crate) fn go_on_by<G: Guide, E: Sink>(
+    alloc: Global,
+    ground: &Ground<'_>,
+    guide: &G,
+    search: Search<PooledStore, G::Room>,
+    pause: u32,
+    limits: Limits,
+    err: &mut E,
+) -> Result<Stretch<G::Room>, NoMemory>
+    requires atoms { atoms_in ground.now ≡ numbered_atoms (task_in ground.now) [] }
+    requires system { G.system_of guide.now ≡ ground_system (task_in ground.now) (atoms_in ground.now) }
+    requires width { G.width_of guide.now ≡ length (atoms_in ground.now) }
+    requires under_way { IsUnderWay ground.now (G.estimate_of guide.now) (G.is_dead guide.now) (G.fits guide.now) limits.states search }
+    ensures stretch { IfOk result (IsStretch ground.now (G.estimate_of guide.now) (G.is_dead guide.now) (G.fits guide.now) pause limits.states) }
+    ensures said { GoesOn (IsTrueLine (task_in ground.now)) E.wants_memory (E.failures err.old) (E.taken err.old) (E.failures err.new) (E.taken err.new) }
+{
+    let mut search = search;
+    'stretches: while search.store().len() < pause as usize {
+        let next = next_pause(search.store().len(), pause);
+        say_progress(alloc, ground, guide, &search, err)?;
+        match stretch_by(alloc, ground, guide, search, next, limits)? {
+            Stretch::Ended(searched) => return Ok(Stretch::Ended(searched)),
+            Stretch::Paused(paused) => search = paused,
+        }
+    }
+    Ok(Stretch::Paused(search))
+}
+
+/// Where a search pauses that lists so many states: where it lists twice as many, but not before the first report, and no later
+/// than this.
+fn next_pause(listed: usize, last: u32) -> u32
+    requires { listed < last }
+    ensures after { listed < result }
+    ensures within { result ≤ last }
+{
+    let twice = (listed as u32).saturating_mul(2);
+    twice.max(FIRST_REPORT).min(last).max(listed as u32 + 1)
+}
+
+/// Says how far a search is: what every plan costs at least, how many states it lists, and how many of them it expanded. Where none
+/// waits, nothing is said, as the search is about to end.
+fn say_progress<G: Guide, E: Sink>(
+    alloc: Global,
+    ground: &Ground<'_>,
+    guide: &G,
+    search: &Search<PooledStore, G::Room>,
+    err: &mut E,
+) -> Result<(), NoMemory>
+    requires atoms { atoms_in ground.now ≡ numbered_atoms (task_in ground.now) [] }
+    requires system { G.system_of guide.now ≡ ground_system (task_in ground.now) (atoms_in ground.now) }
+    requires open { AreOpenIn ground.now (G.estimate_of guide.now) (G.is_dead guide.now) search.now }
+    ensures { GoesOn (IsTrueLine (task_in ground.now)) E.wants_memory (E.failures err.old) (E.taken err.old) (E.failures err.new) (E.taken err.new) }
+{
+    let Some(bound) = search.bound() else {
+        return Ok(());
+    };
+    let listed = search.store().len();
+    let expanded = expanded_in(search.nodes());
+    let report = Report::Search {
+        bound,
+        listed,
+        expanded,
+    };
+    say(alloc, report, err)
+}
+
+/// How many of these were expanded.
+fn expanded_in(nodes: &[Node]) -> usize
+    ensures { result ≡ count_by is_expanded nodes.now }
+{
+    let mut count = 0;
+    for node in nodes {
+        if node.is_expanded() {
+            count += 1;
+        }
+    }
+    count
+}
+
 /// Goes on with it until it ends.
-pub(crate) fn finish_by<G: Guide>(
+pub(crate) fn finish_by<G: Guide, E: Sink>(
     alloc: Global,
     ground: &Ground<'_>,
     guide: &G,
     search: Search<PooledStore, G::Room>,
     limits: Limits,
+    err: &mut E,
 ) -> Result<Searched, NoMemory>
+    requires atoms { atoms_in ground.now ≡ numbered_atoms (task_in ground.now) [] }
     requires system { G.system_of guide.now ≡ ground_system (task_in ground.now) (atoms_in ground.now) }
     requires width { G.width_of guide.now ≡ length (atoms_in ground.now) }
     requires under_way { IsUnderWay ground.now (G.estimate_of guide.now) (G.is_dead guide.now) (G.fits guide.now) limits.states search }
-    ensures { IfOk result (λ s. IsSearched ground.now (G.estimate_of guide.now) (G.is_dead guide.now) limits.states s.outcome s.marks.items) }
+    ensures searched { IfOk result (λ s. IsSearched ground.now (G.estimate_of guide.now) (G.is_dead guide.now) limits.states s.outcome s.marks.items) }
+    ensures said { GoesOn (IsTrueLine (task_in ground.now)) E.wants_memory (E.failures err.old) (E.taken err.old) (E.failures err.new) (E.taken err.new) }
 {
-    let system = GroundSystem(ground);
-    let outcome = finish(alloc, &system, guide, search, limits.states())?;
-    let marks = marks(alloc, guide, found_in(&outcome))?;
-    Ok(Searched { outcome, marks })
+    match go_on_by(alloc, ground, guide, search, u32::MAX, limits, err)? {
+        Stretch::Ended(searched) => Ok(searched),
+        Stretch::Paused(_) => unreachable!(),
+    }
 }
 
 /// What a search of the ground task by the guide comes to.
-pub(crate) fn search_by<G: Guide>(
+pub(crate) fn search_by<G: Guide, E: Sink>(
     alloc: Global,
     ground: &Ground<'_>,
     guide: &G,
     limits: Limits,
+    err: &mut E,
 ) -> Result<Searched, NoMemory>
+    requires atoms { atoms_in ground.now ≡ numbered_atoms (task_in ground.now) [] }
     requires system { G.system_of guide.now ≡ ground_system (task_in ground.now) (atoms_in ground.now) }
     requires width { G.width_of guide.now ≡ length (atoms_in ground.now) }
-    ensures { IfOk result (λ s. IsSearched ground.now (G.estimate_of guide.now) (G.is_dead guide.now) limits.states s.outcome s.marks.items) }
+    ensures searched { IfOk result (λ s. IsSearched ground.now (G.estimate_of guide.now) (G.is_dead guide.now) limits.states s.outcome s.marks.items) }
+    ensures said { GoesOn (IsTrueLine (task_in ground.now)) E.wants_memory (E.failures err.old) (E.taken err.old) (E.failures err.new) (E.taken err.new) }
 {
     let search = begin_by(alloc, ground, guide, limits)?;
-    finish_by(alloc, ground, guide, search, limits)
+    finish_by(alloc, ground, guide, search, limits, err)
 }
 
 /// The states that were found.

@@ -123,7 +123,7 @@ fn filled(
 }
 
 /// The types that a domain declares, where the problem is for it.
-pub(crate) fn types(
+pub fn types(
     alloc: Global,
     domain: &Domain<'_>,
     problem: &Problem<'_>,

@@ -107,7 +107,7 @@ pub(crate) fn declared(
 }
 
 /// The domain's predicates.
-pub(crate) fn predicates(
+pub fn predicates(
     alloc: Global,
     types: &TypeTable,
     domain: &Domain<'_>,

@@ -32,7 +32,7 @@ fn check_metric(walk: &mut Walk, has_cost: bool, metric: Option<&Name<'_>>)
 }
 
 /// The domain's functions, where these are its types, and where the problem's metric is right.
-pub(crate) fn functions(
+pub fn functions(
     alloc: Global,
     types: &TypeTable,
     domain: &Domain<'_>,
@@ -132,7 +132,7 @@ fn first_amount(
 }
 
 /// What an action increases the total cost by: what its first increase is by, and 0 where it has none.
-pub(crate) fn increase(
+pub fn increase(
     alloc: Global,
     walk: &mut Walk,
     globals: &Globals<'_>,

@@ -3,16 +3,17 @@
 #![tactic(auto)]
 
 mod actions;
-mod chains;
-mod declarations;
+pub mod chains;
+pub mod declarations;
 mod effects;
-mod functions;
+pub mod functions;
 mod laws;
 mod names;
-mod objects;
+pub mod objects;
 mod resolver;
 mod statements;
 
 pub use laws::{examples_are_typed, supertypes_are_those_above};
+pub use names::DeclaredObjects;
 pub use resolver::FromTrees;
 pub use task_parts::{TaskFault, TaskFile, TaskRefusal};

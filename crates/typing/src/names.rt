@@ -10,9 +10,11 @@ use task_parts::{Globals, TypeTable};
 
 /// The constants alone, and all objects, the constants first.
 #[derive(Drop)]
-pub(crate) struct DeclaredObjects {
-    pub(crate) constants: IndexMap<Vec<u8>, TypeId>,
-    pub(crate) all: IndexMap<Vec<u8>, TypeId>,
+pub struct DeclaredObjects {
+    /// The constants by name, each with its type.
+    pub constants: IndexMap<Vec<u8>, TypeId>,
+    /// All objects by name, each with its type.
+    pub all: IndexMap<Vec<u8>, TypeId>,
     ghost few_constants: { length constants.entries ≤ 65535 },
     ghost few: { length all.entries ≤ 65535 },
 }

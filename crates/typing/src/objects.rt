@@ -95,7 +95,7 @@ fn of_lists<'t>(
 }
 
 /// The constants and the objects of a domain and a problem.
-pub(crate) fn of_pair(
+pub fn of_pair(
     alloc: Global,
     types: &TypeTable,
     domain: &Domain<'_>,

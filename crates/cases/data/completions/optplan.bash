@@ -8,9 +8,9 @@ _optplan() {
         return
     fi
     case $command in
-        solve) options='--plan --cert --states --instances --json --help' ;;
+        solve) options='--plan --cert --states --instances --json --progress --help' ;;
         validate) options='--json --help' ;;
-        check) options='--plan --instances --json --help' ;;
+        check) options='--plan --instances --json --progress --help' ;;
         explain) options='--instances --json --help' ;;
         help) COMPREPLY=($(compgen -W 'solve validate check explain' -- "$current")); return ;;
         *) return ;;

@@ -13,12 +13,14 @@ complete -c optplan -n '__fish_seen_subcommand_from solve' -r -l cert -d 'Write 
 complete -c optplan -n '__fish_seen_subcommand_from solve' -x -l states -d 'List at most this many states'
 complete -c optplan -n '__fish_seen_subcommand_from solve' -x -l instances -d 'Keep at most this many action instances'
 complete -c optplan -n '__fish_seen_subcommand_from solve' -l json -d 'Print the answer as a line of JSON'
+complete -c optplan -n '__fish_seen_subcommand_from solve' -l progress -d 'Say on the standard error how far the search is'
 
 complete -c optplan -n '__fish_seen_subcommand_from validate' -l json -d 'Print the answer as a line of JSON'
 
 complete -c optplan -n '__fish_seen_subcommand_from check' -r -l plan -d 'Check that the plan in this file is a cheapest one'
 complete -c optplan -n '__fish_seen_subcommand_from check' -x -l instances -d 'Keep at most this many action instances'
 complete -c optplan -n '__fish_seen_subcommand_from check' -l json -d 'Print the answer as a line of JSON'
+complete -c optplan -n '__fish_seen_subcommand_from check' -l progress -d 'Say on the standard error how much of the certificate is read'
 
 complete -c optplan -n '__fish_seen_subcommand_from explain' -x -l instances -d 'Keep at most this many action instances'
 complete -c optplan -n '__fish_seen_subcommand_from explain' -l json -d 'Print the answer as a line of JSON'

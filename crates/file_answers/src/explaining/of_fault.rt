@@ -1,7 +1,8 @@
 //! What is said of a file that is refused.
 ghost use Rattle.std.specs.Prelude.{IfOk};
-ghost use Rattle.file_answers.specs.Explanations.{IsFaultExplained, IsOfFault};
+ghost use Rattle.file_answers.specs.Explanations.{IsExplainedAlone, IsOfFault};
 
+use crate::explaining::further::with_further;
 use crate::explanation::{Explanation, Location, Subject};
 use crate::files::FileFault;
 use explained_faults::{FileRefusal, explain_fault};
@@ -18,12 +19,16 @@ pub(super) fn explain_refused(
     ensures { IfOk result (IsOfFault texts.now fault) }
 {
     match fault {
-        FileFault::At { file, code, span } => explain_at(alloc, texts, file, code, span),
+        FileFault::At { file, code, span } => {
+            let first = FileRefusal { file, code, span };
+            let alone = explain_at(alloc, texts, file, code, span)?;
+            with_further(alloc, texts, first, alone)
+        }
         FileFault::NoMemory => Err(NoMemory),
     }
 }
 
-/// The same of the fault at this place.
+/// The same of the fault at this place alone.
 fn explain_at(
     alloc: Global,
     texts: &NamedTexts<'_>,
@@ -31,7 +36,7 @@ fn explain_at(
     code: Code,
     span: Span,
 ) -> Result<Explanation, NoMemory>
-    ensures { IfOk result (IsFaultExplained texts.now file code span) }
+    ensures { IfOk result (IsExplainedAlone texts.now file code span) }
 {
     let fault = FileRefusal { file, code, span };
     let explained = explain_fault(alloc, texts, fault)?;
@@ -43,6 +48,7 @@ fn explain_at(
         text,
         location: Some(location),
         hints,
+        further: Vec::new(alloc),
         notes: Vec::new(alloc),
     })
 }

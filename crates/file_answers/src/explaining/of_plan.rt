@@ -78,6 +78,7 @@ fn explain_verdict(
         text,
         location,
         hints: Vec::new(alloc),
+        further: Vec::new(alloc),
         notes: Vec::new(alloc),
     })
 }
@@ -153,7 +154,7 @@ fn text_of(
 }
 
 /// One text and then another.
-fn joined(first: String, second: &str) -> Result<String, NoMemory>
+pub(super) fn joined(first: String, second: &str) -> Result<String, NoMemory>
     ensures { IfOk result (λ text. string_bytes text ≡ string_bytes first ++ second.now) }
 {
     let mut text = first;

@@ -38,6 +38,7 @@ pub(super) fn explain_task(
         text,
         location: None,
         hints: Vec::new(alloc),
+        further: Vec::new(alloc),
         notes,
     })
 }

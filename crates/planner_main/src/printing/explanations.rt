@@ -7,7 +7,7 @@ ghost use Rattle.planner_main.specs.JsonText.{object_text};
 
 use crate::printing::members::{Member, object_text};
 use faults::Code;
-use file_answers::{Explanation, Grounded, Location, Subject, Summary};
+use file_answers::{Explanation, FurtherFault, Grounded, Location, Subject, Summary};
 use grounding_kept::GroundLimit;
 use std::alloc::{AllocError, Global};
 use validator::Verdict;
@@ -23,7 +23,15 @@ pub(crate) fn explanation_object(
     match explanation.subject {
         Subject::Fault { code, .. } => {
             let hints = explanation.hints.as_slice();
-            fault_object(alloc, code, &explanation.location, hints, lines)
+            let further = further_texts(alloc, &explanation.further)?;
+            fault_object(
+                alloc,
+                code,
+                &explanation.location,
+                further.as_slice(),
+                hints,
+                lines,
+            )
         }
         Subject::Plan(verdict) => plan_object(alloc, verdict, &explanation.location, lines),
         Subject::Task { holds, grounded } => {
@@ -32,19 +40,34 @@ pub(crate) fn explanation_object(
     }
 }
 
+/// The lines of each of some faults.
+fn further_texts(alloc: Global, further: &[FurtherFault]) -> Result<Vec<String>, AllocError>
+    ensures { IfOk result (λ texts. map string_bytes texts.items ≡ map defined.lines_of further.now) }
+{
+    let mut texts = Vec::new(alloc);
+    'faults: for fault in further {
+        texts.push(String::from_str(alloc, fault.text.as_str())?)?;
+    }
+    Ok(texts)
+}
+
 /// The object of a fault.
 fn fault_object(
     alloc: Global,
     code: Code,
     location: &Option<Location>,
+    further: &[String],
     hints: &[String],
     lines: &str,
 ) -> Result<String, AllocError>
-    ensures { IfOk result (λ text. string_bytes text ≡ object_text (defined.of_fault code location.now (map string_bytes hints.now) lines.now)) }
+    ensures { IfOk result (λ text. string_bytes text ≡ object_text (defined.of_fault code location.now (map string_bytes further.now) (map string_bytes hints.now) lines.now)) }
 {
     match location {
-        Some(at) => located_fault_object(alloc, code, at.file.as_str(), at, hints, lines),
-        None => plain_fault_object(alloc, code, hints, lines),
+        Some(at) => {
+            let name = at.file.as_str();
+            located_fault_object(alloc, code, name, at, further, hints, lines)
+        }
+        None => plain_fault_object(alloc, code, further, hints, lines),
     }
 }
 
@@ -54,15 +77,17 @@ fn located_fault_object(
     code: Code,
     name: &str,
     at: &Location,
+    further: &[String],
     hints: &[String],
     lines: &str,
 ) -> Result<String, AllocError>
-    ensures { IfOk result (λ text. string_bytes text ≡ object_text (defined.of_located_fault code name.now at.now.line at.now.column at.now.length (map string_bytes hints.now) lines.now)) }
+    ensures { IfOk result (λ text. string_bytes text ≡ object_text (defined.of_located_fault code name.now at.now.line at.now.column at.now.length (map string_bytes further.now) (map string_bytes hints.now) lines.now)) }
 {
     let numbered = Member::number("code", u64::from(code.number()));
     let column = Member::number("column", at.column as u64);
     let command = Member::text("command", "explain");
     let file = Member::text("file", name);
+    let others = Member::texts("further", further);
     let told = Member::texts("hints", hints);
     let length = Member::number("length", at.length as u64);
     let line = Member::number("line", at.line as u64);
@@ -70,7 +95,7 @@ fn located_fault_object(
     let result = Member::text("result", "fault");
     let text = Member::text("text", lines);
     let members = [
-        numbered, column, command, file, told, length, line, named, result, text,
+        numbered, column, command, file, others, told, length, line, named, result, text,
     ];
     object_text(alloc, &members)
 }
@@ -79,18 +104,23 @@ fn located_fault_object(
 fn plain_fault_object(
     alloc: Global,
     code: Code,
+    further: &[String],
     hints: &[String],
     lines: &str,
 ) -> Result<String, AllocError>
-    ensures { IfOk result (λ text. string_bytes text ≡ object_text (defined.of_plain_fault code (map string_bytes hints.now) lines.now)) }
+    ensures { IfOk result (λ text. string_bytes text ≡ object_text (defined.of_plain_fault code (map string_bytes further.now) (map string_bytes hints.now) lines.now)) }
 {
     let numbered = Member::number("code", u64::from(code.number()));
     let command = Member::text("command", "explain");
+    let others = Member::texts("further", further);
     let told = Member::texts("hints", hints);
     let named = Member::text("name", code.name());
     let result = Member::text("result", "fault");
     let text = Member::text("text", lines);
-    object_text(alloc, &[numbered, command, told, named, result, text])
+    object_text(
+        alloc,
+        &[numbered, command, others, told, named, result, text],
+    )
 }
 
 /// The object of a verdict on a plan.

@@ -52,7 +52,7 @@ pub(crate) enum Format {
 /// | it does not | `{"command":"validate","result":"not applicable","step":1}`, or `"goal missed"` and no step |
 /// | the certificate is accepted | `{"command":"check","cost":6,"result":"optimal"}`, or `"at least"`, or `"unsolvable"` and no cost |
 /// | it is refused | `{"code":50,"command":"check","name":"SuccessorDearer","result":"not accepted"}` |
-/// | `explain`: a fault | `{"code":17,"column":58,"command":"explain","file":"domain.pddl","hints":[],"length":9,"line":15,"name":"UnknownName","result":"fault","text":".."}` |
+/// | `explain`: a fault | `{"code":17,"column":58,"command":"explain","file":"domain.pddl","further":[],"hints":[],"length":9,"line":15,"name":"UnknownName","result":"fault","text":".."}` |
 /// | `explain`: a verdict | `{"command":"explain","cost":6,"result":"valid","text":".."}`, or `"goal missed"` and no cost, or `"not applicable"` with its `step` and where this is, as of a fault |
 /// | `explain`: a task | `{"actions":1,"atoms":2,"command":"explain","functions":0,"instances":1,"notes":[],"objects":0,"predicates":2,"result":"task","text":"..","types":1}`, or `"unknown"` with the `reason` `"instances"` or `"atoms"` in place of both |
 pub fn json_line(alloc: Global, report: &Report) -> Result<String, NoMemory>

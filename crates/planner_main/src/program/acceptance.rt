@@ -1,10 +1,15 @@
 //! `check`: what a certificate shows, from files.
-ghost use Rattle.std.specs.Prelude.{◌≡◌, ℕ, IfErr, IfOk, IfSome, IsTrue, List, ◌∷◌, Option};
-ghost use Rattle.cert_checker.specs.Reading.{IsFresh};
+ghost use Rattle.std.specs.Prelude.{◌≡◌, ℕ, IfErr, IfOk, IfSome, IsErr, IsTrue, List, ◌∷◌, Option};
+ghost use Rattle.cert_checker.specs.Reading.{CountsRefusal, IsFresh};
+ghost use Rattle.file_answers.specs.Checked.{IsChecked};
+ghost use Rattle.file_answers.specs.SaidOf.{IsCheckLineOf};
+ghost use Rattle.model.specs.Files.{IsTaskOf};
+ghost use Rattle.progress_lines.specs.Said.{AreSaid, stream};
+ghost use Rattle.planner_main.specs.Progress.{IsCheckingLine};
 ghost use Rattle.task.specs.Task.{task_of};
 ghost use Rattle.certificate_reader.specs.Reader.{source_of};
 ghost use Rattle.file_answers.specs.Inputs.{IsInputFault};
-ghost use Rattle.file_answers.specs.Files.{text_in};
+ghost use Rattle.file_answers.specs.Files.{text_in, reported_in};
 ghost use Rattle.file_answers.specs.declared.checking.Checked.{Checked};
 ghost use Rattle.planner_main.specs.declared.printing.reports.Report.TheVariants.{Check};
 ghost use Rattle.devices.specs.Texts.{AreKept, items_in};
@@ -15,8 +20,8 @@ use crate::failures::Failure;
 use crate::printing::{Report, failure_of};
 use crate::program::inputs::{TaskTexts, read_named, read_pair};
 use certificate::CertReader;
-use devices::{Files, Source};
-use file_answers::check_files;
+use devices::{Files, Sink, Source};
+use file_answers::{Checked, FileFault, check_files, check_files_and_say};
 use std::alloc::Global;
 
 /// The names of the files that are read.
@@ -32,6 +37,15 @@ pub(super) struct InputNames<'a> {
     pub(super) plan: Option<&'a str>,
 }
 
+/// How a certificate is to be checked.
+#[derive(Clone, Copy)]
+pub(super) struct CheckAsked {
+    /// How many instances may be kept.
+    pub(super) instances: u32,
+    /// Whether it is said on the way how much of it is read.
+    pub(super) progress: bool,
+}
+
 /// The texts of the files that are read before the certificate.
 #[derive(Drop)]
 struct InputTexts {
@@ -41,13 +55,16 @@ struct InputTexts {
 
 /// What the certificate of a file shows of the task of two files, and of the plan of a third, if it is named. The certificate is
 /// opened before the plan is read, and read last.
-pub(super) fn report_of_check<F: Files>(
+///
+/// Where progress is asked for, it says on the way how much of the certificate is read.
+pub(super) fn report_of_check<F: Files, E: Sink>(
     alloc: Global,
     names: InputNames<'_>,
-    instances: u32,
+    asked: CheckAsked,
     files: &mut F,
+    err: &mut E,
 ) -> Result<Report, Failure>
-    ensures report { IfOk result (IsCheckOn (F.contents files.old) names.entry.domain.now names.entry.problem.now names.entry.cert.now (text_in names.entry.plan) instances) }
+    ensures report { IfOk result (IsCheckOn (F.contents files.old) names.entry.domain.now names.entry.problem.now names.entry.cert.now (text_in names.entry.plan) asked.instances) }
     ensures refused { IfErr result (λ failure. IfSome (fault_in failure) (λ fault.
         OnInputs (F.contents files.old) names.entry.domain.now names.entry.problem.now (text_in names.entry.plan) (λ d p l. IsInputFault d p l fault))) }
     ensures kept { AreKept (F.contents files.old) (F.contents files.new) }
@@ -57,38 +74,64 @@ pub(super) fn report_of_check<F: Files>(
         → IsTrue (F.is_missing files.old name) → IsUnread result }
     ensures unreadable { (name : List ℕ) → IsOneOf (names.entry.domain.now ∷ names.entry.problem.now ∷ if_named (text_in names.entry.plan)) name
         → IsTrue (F.is_unreadable files.old name) → IsUnread result }
+    ensures progress { AreSaid (IsCheckingLine (F.contents files.old) names.entry.domain.now names.entry.problem.now names.entry.cert.now asked.progress) E.wants_memory (stream (E.failures err.old) (E.taken err.old)) (stream (E.failures err.new) (E.taken err.new)) }
 {
     let pair = read_pair(alloc, files, names.domain, names.problem)?;
     let input = files.open(names.cert)?;
     let plan = read_named(alloc, files, names.plan)?;
     let texts = InputTexts { pair, plan };
     let mut cert = CertReader::new(alloc, input);
-    let report = check_texts(alloc, &texts, &mut cert, instances);
+    let report = check_texts(alloc, &texts, &mut cert, asked, err);
     files.finish(cert.into_source());
     report
 }
 
 /// What the certificate that comes to a new reader shows.
-fn check_texts<R: Source>(
+fn check_texts<R: Source, E: Sink>(
     alloc: Global,
     texts: &InputTexts,
     cert: &mut CertReader<R>,
-    instances: u32,
+    asked: CheckAsked,
+    err: &mut E,
 ) -> Result<Report, Failure>
     requires { IsFresh cert.old }
     ensures report { (known : Option (List ℕ)) → IsKept known (R.remaining (source_of cert.old))
         → IfOk result (λ found. (c : Checked) × (found ≡ Check c)
-        × IsCheckedIn known texts.now.pair.domain.items texts.now.pair.problem.items (items_in texts.now.plan) instances (task_of c.task) c.answer) }
+        × IsCheckedIn known texts.now.pair.domain.items texts.now.pair.problem.items (items_in texts.now.plan) asked.instances (task_of c.task) c.answer) }
     ensures refused { IfErr result (λ failure. IfSome (fault_in failure) (IsInputFault texts.now.pair.domain.items texts.now.pair.problem.items (items_in texts.now.plan))) }
     ensures unfailed { IfOk result (λ _. R.failures (source_of cert.new) ≡ R.failures (source_of cert.old)) }
     ensures failures { IfErr result (CountsFailure (R.failures (source_of cert.old)) (R.failures (source_of cert.new))) }
+    ensures progress { AreSaid (λ line. IsTrue asked.progress × IsCheckLineOf texts.now.pair.domain.items texts.now.pair.problem.items (R.remaining (source_of cert.old)) line) E.wants_memory (stream (E.failures err.old) (E.taken err.old)) (stream (E.failures err.new) (E.taken err.new)) }
 {
-    let plan = slice_in(&texts.plan);
-    let (domain, problem) = (&texts.pair.domain, &texts.pair.problem);
-    let checked = check_files(alloc, domain, problem, cert, plan, instances)?;
+    let checked = checked(alloc, texts, cert, asked, err)?;
     match failure_of(&checked.answer) {
         Some(fault) => Err(Failure::Device(fault)),
         None => Ok(Report::Check(checked)),
+    }
+}
+
+/// What is reported for the certificate.
+fn checked<R: Source, E: Sink>(
+    alloc: Global,
+    texts: &InputTexts,
+    cert: &mut CertReader<R>,
+    asked: CheckAsked,
+    err: &mut E,
+) -> Result<Checked, FileFault>
+    requires { IsFresh cert.old }
+    ensures task { IfOk result (λ c. IsTaskOf texts.now.pair.domain.items texts.now.pair.problem.items (task_of c.task)) }
+    ensures answer { IfOk result (λ c. IsChecked R.remaining (task_of c.task) cert.old cert.new (items_in texts.now.plan) asked.instances c.answer) }
+    ensures failures { IfOk result (λ c. CountsRefusal (R.failures (source_of cert.old)) (R.failures (source_of cert.new)) c.answer) }
+    ensures refused { IfErr result (λ fault. IfSome (reported_in fault) (IsInputFault texts.now.pair.domain.items texts.now.pair.problem.items (items_in texts.now.plan))) }
+    ensures unread { IsErr result → cert.new ≡ cert.old }
+    ensures progress { AreSaid (λ line. IsTrue asked.progress × IsCheckLineOf texts.now.pair.domain.items texts.now.pair.problem.items (R.remaining (source_of cert.old)) line) E.wants_memory (stream (E.failures err.old) (E.taken err.old)) (stream (E.failures err.new) (E.taken err.new)) }
+{
+    let plan = slice_in(&texts.plan);
+    let (domain, problem) = (&texts.pair.domain, &texts.pair.problem);
+    if asked.progress {
+        check_files_and_say(alloc, domain, problem, cert, plan, asked.instances, err)
+    } else {
+        check_files(alloc, domain, problem, cert, plan, asked.instances)
     }
 }
 

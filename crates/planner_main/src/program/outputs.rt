@@ -1,5 +1,5 @@
 //! How a report is reported, and which files are written of it.
-ghost use Rattle.std.specs.Prelude.{◌≡◌, None};
+ghost use Rattle.std.specs.Prelude.{◌≡◌, None, false};
 ghost use Rattle.command_line.specs.View.{wanted_of};
 ghost use Rattle.planner_main.specs.Asked.{is_json, outputs_in, outputs_of};
 
@@ -15,6 +15,8 @@ pub(super) struct Outputs<'a> {
     pub(super) cert: Option<&'a str>,
     /// The file that the plan is written to, if any.
     pub(super) plan: Option<&'a str>,
+    /// Whether it is said which file fails.
+    pub(super) progress: bool,
 }
 
 /// How the order wants its report reported.
@@ -26,11 +28,14 @@ pub(super) fn outputs_of(order: Order<'_>) -> Outputs<'_>
             plan,
             cert,
             json,
+            progress,
             ..
-        } => {
-            let format = format_of(json);
-            Outputs { format, cert, plan }
-        }
+        } => Outputs {
+            format: format_of(json),
+            cert,
+            plan,
+            progress,
+        },
         Order::Validate { json, .. } | Order::Check { json, .. } | Order::Explain { json, .. } =>
             only_reported(format_of(json)),
     }
@@ -38,12 +43,13 @@ pub(super) fn outputs_of(order: Order<'_>) -> Outputs<'_>
 
 /// A report of which no file is written.
 fn only_reported<'a>(format: Format) -> Outputs<'a>
-    ensures { outputs_in result ≡ record { json = is_json format; cert = None; plan = None } }
+    ensures { outputs_in result ≡ record { json = is_json format; cert = None; plan = None; progress = false } }
 {
     Outputs {
         format,
         cert: None,
         plan: None,
+        progress: false,
     }
 }
 

@@ -8,27 +8,33 @@ ghost use Rattle.file_answers.specs.Files.{text_in};
 ghost use Rattle.planner_main.specs.Solution.{IsBegun, WritesReport, cert_of, cert_text, in_file, plan_text};
 ghost use Rattle.devices.specs.Written.{AreWritten};
 ghost use Rattle.devices.specs.Devices.{CountsDevice};
+ghost use Rattle.planner_main.specs.Progress.{IsFailedLine, IsFailedLineOf, failed_line};
+ghost use Rattle.progress_lines.specs.Said.{AreSaid, stream};
+ghost use Rattle.std.specs.String.{string_bytes};
 ghost use Rattle.task.specs.Task.{task_of};
 ghost use Rattle.certificate.specs.Certificate.{certificate_of};
 ghost use Rattle.certificate_definitions.specs.CertificateNames.{certificate_text};
 
-use crate::failures::Failure;
+use crate::failures::{Failure, say};
 use crate::printing::{Report, json_text, report_text, said, status_of};
 use crate::program::outputs::Outputs;
 use certificate::{Cert, write_cert};
 use devices::{Bytes, Document, Files, IoFault, Sink, write_all, write_file};
 use solver::{Answer, Exceeded};
-use std::alloc::Global;
+use std::alloc::{AllocError, Global};
 use task::Task;
 
 /// Writes the files that are wanted of a report, first that of the certificate, and then what it is reported as to the standard output:
 /// the status. What is reported is made before any file is written.
-pub(super) fn write_report<F: Files, O: Sink>(
+///
+/// Where progress is asked for, and a file fails, it is said which one.
+pub(super) fn write_report<F: Files, O: Sink, E: Sink>(
     alloc: Global,
     report: &Report,
     outputs: Outputs<'_>,
     files: &mut F,
     out: &mut O,
+    err: &mut E,
 ) -> Result<u8, Failure>
     requires { reported.IsReported report.now }
     ensures said { IfOk result (IsReported (WritesReport report.now (outputs_in outputs.entry))
@@ -38,15 +44,62 @@ pub(super) fn write_report<F: Files, O: Sink>(
     ensures unfailed { IfOk result (λ _. HasNotFailed (F.failures files.old) (F.failures files.new) (O.failures out.old) (O.failures out.new)) }
     ensures failures { IfErr result (CountsEither (F.failures files.old) (F.failures files.new) (O.failures out.old) (O.failures out.new)) }
     ensures no_text { IfErr result (λ failure. fault_in failure ≡ None) }
+    ensures progress { AreSaid (IsFailedLine (outputs_in outputs.entry)) E.wants_memory (stream (E.failures err.old) (E.taken err.old)) (stream (E.failures err.new) (E.taken err.new)) }
+    ensures quiet { IfOk result (λ _. stream (E.failures err.new) (E.taken err.new) ≡ stream (E.failures err.old) (E.taken err.old)) }
 {
     let text = report_text(alloc, report)?;
     let json = json_text(alloc, report, outputs.format)?;
     let cert = cert_text(alloc, report);
-    save(files, outputs.cert, &cert)?;
+    save_or_say(alloc, outputs.cert, &cert, outputs.progress, files, err)?;
     let plan = plan_text(report, &text);
-    save(files, outputs.plan, &plan)?;
+    save_or_say(alloc, outputs.plan, &plan, outputs.progress, files, err)?;
     write_all(out, said(&json, &text))?;
     Ok(status_of(report))
+}
+
+/// Writes the document as `save` does. Where that fails and progress is asked for, it says so of this name.
+fn save_or_say<F: Files, D: Document, E: Sink>(
+    alloc: Global,
+    name: Option<&str>,
+    document: &Option<D>,
+    progress: bool,
+    files: &mut F,
+    err: &mut E,
+) -> Result<(), IoFault>
+    ensures written { OnOk result (IsTrue F.is_known
+        → AreWritten (F.contents files.old) (F.contents files.new) (in_file (text_in name.entry) (option_map D.text document.now))) }
+    ensures partly { IsErr result → IsBegun F.is_known (F.contents files.old) (F.contents files.new) (in_file (text_in name.entry) (option_map D.text document.now)) }
+    ensures failures { CountsDevice (F.failures files.old) (F.failures files.new) result }
+    ensures progress { AreSaid (IsFailedLineOf progress (text_in name.entry)) E.wants_memory (stream (E.failures err.old) (E.taken err.old)) (stream (E.failures err.new) (E.taken err.new)) }
+    ensures quiet { OnOk result (stream (E.failures err.new) (E.taken err.new) ≡ stream (E.failures err.old) (E.taken err.old)) }
+{
+    match save(files, name, document) {
+        Ok(()) => Ok(()),
+        Err(fault) => {
+            say_failed(alloc, name, progress, err);
+            Err(fault)
+        }
+    }
+}
+
+/// Says that the file of this name fails, if progress is asked for. Where memory for the line is refused, nothing is said.
+fn say_failed<E: Sink>(alloc: Global, name: Option<&str>, progress: bool, err: &mut E)
+    ensures { AreSaid (IsFailedLineOf progress (text_in name.entry)) E.wants_memory (stream (E.failures err.old) (E.taken err.old)) (stream (E.failures err.new) (E.taken err.new)) }
+{
+    let Some(name) = name else { return };
+    if !progress {
+        return;
+    }
+    if let Ok(line) = failed_line(alloc, name) {
+        say(err, line.as_bytes());
+    }
+}
+
+/// The line of a file that fails.
+fn failed_line(alloc: Global, name: &str) -> Result<String, AllocError>
+    ensures { IfOk result (λ line. string_bytes line ≡ failed_line name.now) }
+{
+    format!(in alloc; "progress=failed file={name}\n")
 }
 
 /// Writes the document, if there is one, to the file of this name, if one is named.

@@ -1,5 +1,5 @@
-use Rattle.std.proofs.Common.{◌≡◌, ◌∙◌, ◌+◌, ◌<◌, ◌-◌, ◌∷◌, ◌++◌, [], length, map, refl, sym, ap, subst, arith}
-use Rattle.std.proofs.lemmas.List.{length-map}
+use Rattle.std.proofs.Common.{◌≡◌, ◌∙◌, ◌+◌, ◌<◌, ◌-◌, ◌∷◌, ◌++◌, [], List, length, map, refl, sym, ap, subst, arith}
+use Rattle.std.proofs.lemmas.List.{length-append, length-map}
 use Rattle.faults.proofs.Results.{passed_on}
 use Rattle.task.specs.Task.{task_of}
 use Rattle.task.specs.TaskParts.{atom_of}
@@ -19,7 +19,14 @@ use Rattle.cert_checker.proofs.ReadingLemmas.{fault_reported, one_read, wrong_co
 use Rattle.cert_checker.proofs.ListingLemmas.{as_many_listed, few_begun, fewer_left, fit_next, none_listed, read_whole, so_far_next}
 use Rattle.certificate.specs.CertificateParts.{certificate_with}
 use Rattle.cert_checker.proofs.LimitsLemmas.{limits_kept}
+use Rattle.cert_checker.proofs.SaidLemmas.{read_said}
+use Rattle.certificate_definitions.specs.CertificateText.{TextLine}
+use Rattle.progress_lines.specs.Said.{nothing}
+use Rattle.progress_lines.proofs.SaidLemmas.{said_after, said_of_more}
 use Rattle.cert_checker.proofs.cert_reader.read_cert.Goals as goal
+
+length-push : (before : List TextLine) (line : TextLine) → length (before ++ line ∷ []) ≡ length before + 1
+length-push before line = length-append before (line ∷ [])
 
 pub overflow_cast-len : goal.overflow_cast-len
 overflow_cast-len g c =
@@ -35,6 +42,7 @@ states-init g c =
           (ap (map listed_of) c.in_ok-states.ensures.none.0) c.in_ok-states.ensures.none.1 c.in_ok-header.next c.in_ok-header.ensures.begun;
       width = c.in_ok-states.ensures.width ∙ c.len.ensures.len;
       failures = c.in_ok-header.ensures.failures;
+      said = nothing;
     }
 
 pub take_line-requires : goal.take_line-requires
@@ -54,7 +62,7 @@ returns-in_err-take_line-clause-refused g c =
     let (before, at, reported, have, body) = rw c.in-Some.is at c.states.invariant.so_far in
     passed_on (IsLineRefusal g.R.Source.remaining task c.args.reader.now c.states.reader) c.from_residual-in_err-take_line.result c.in_err-take_line.field-0.0 c.from_residual-in_err-take_line.ensures.1
     (wrong_reported g.R.Source.remaining c.args.reader.now c.states.reader task before line at reported.right c.in_err-take_line.field-0.0
-    (c.in_err-take_line.ensures.wrong task before (heading_of c.in_ok-header.header) refl (c.lines.ensures ∙ one_read c.states.reader before line at.read) reported have))
+    (c.in_err-take_line.ensures.wrong task before (heading_of c.in_ok-header.header) refl (c.lines-number.ensures ∙ one_read c.states.reader before line at.read) reported have))
 
 pub returns-in_err-take_line-clause-failures : goal.returns-in_err-take_line-clause-failures
 returns-in_err-take_line-clause-failures g c =
@@ -63,7 +71,7 @@ returns-in_err-take_line-clause-failures g c =
     let (before, at, reported, have, body) = rw c.in-Some.is at c.states.invariant.so_far in
     wrong_counts task before line (g.R.Source.failures (source_of c.args.reader.now)) (g.R.Source.failures (source_of c.states.reader))
     c.from_residual-in_err-take_line.result c.in_err-take_line.field-0.0 c.from_residual-in_err-take_line.ensures.1
-    (c.in_err-take_line.ensures.wrong task before (heading_of c.in_ok-header.header) refl (c.lines.ensures ∙ one_read c.states.reader before line at.read) reported have)
+    (c.in_err-take_line.ensures.wrong task before (heading_of c.in_ok-header.header) refl (c.lines-number.ensures ∙ one_read c.states.reader before line at.read) reported have)
     c.states.invariant.failures
 
 pub returns-in_err-next-clause-refused : goal.returns-in_err-next-clause-refused
@@ -104,6 +112,10 @@ states-preserved g c =
           before line at taken.0 taken.1 body c.next_line.new.self c.in_ok-next.ensures.failed c.in_ok-next.next (c.in_ok-next.ensures.reported (before ++ line ∷ []) at.read at.going));
       width = c.in_ok-take_line.ensures.width ∙ c.states.invariant.width;
       failures = c.in_ok-next.ensures.failures ∙ c.states.invariant.failures;
+      said = said_after c.states.invariant.said (said_of_more
+          (λ l is. read_said g.R.Source.remaining c.args.reader.now c.states.reader (before ++ line ∷ []) at c.lines-number.result
+          (c.lines-number.ensures ∙ one_read c.states.reader before line at.read ∙ sym (length-push before line)) l is)
+          c.say_if_due-due.ensures);
     }
 
 pub from_parts-requires-clause-limits : goal.from_parts-requires-clause-limits
@@ -135,3 +147,27 @@ returns-clause-read g c =
     subst (IsRead g.R.Source.remaining task c.args.reader.now c.states.reader) (sym c.from_parts.ensures.certificate)
     (read_whole g.R.Source.remaining task c.args.reader.now c.states.reader c.in_ok-header.header
     (pooled_width states.sets) (map listed_of states.marks.items) (pooled_states states.sets) (rw c.in_default.is at c.states.invariant.so_far))
+
+pub returns-in_err-take_line-clause-said : goal.returns-in_err-take_line-clause-said
+returns-in_err-take_line-clause-said g c =
+    let line = text_line_of c.in-Some.line in
+    let (before, at, reported, have, body) = rw c.in-Some.is at c.states.invariant.so_far in
+    said_after c.states.invariant.said (said_of_more
+    (λ l is. read_said g.R.Source.remaining c.args.reader.now c.states.reader (before ++ line ∷ []) at c.lines-number.result
+    (c.lines-number.ensures ∙ one_read c.states.reader before line at.read ∙ sym (length-push before line)) l is)
+    c.say_if_due-due.ensures)
+
+pub returns-in_err-next-clause-said : goal.returns-in_err-next-clause-said
+returns-in_err-next-clause-said g c =
+    let line = text_line_of c.in-Some.line in
+    let (before, at, reported, have, body) = rw c.in-Some.is at c.states.invariant.so_far in
+    said_after c.states.invariant.said (said_of_more
+    (λ l is. read_said g.R.Source.remaining c.args.reader.now c.states.reader (before ++ line ∷ []) at c.lines-number.result
+    (c.lines-number.ensures ∙ one_read c.states.reader before line at.read ∙ sym (length-push before line)) l is)
+    c.say_if_due-due.ensures)
+
+pub returns-in_err-header-clause-said : goal.returns-in_err-header-clause-said
+returns-in_err-header-clause-said g c = nothing
+
+pub returns-in_err-states-clause-said : goal.returns-in_err-states-clause-said
+returns-in_err-states-clause-said g c = nothing

@@ -8,6 +8,9 @@ use Rattle.planner_main.specs.Program.{HasNotFailed, IsAnswerTo, IsFaultFor, fau
 use Rattle.planner_main.specs.Solution.{WritesReport}
 use Rattle.planner_main.proofs.ProgramWords.{can_be_reported, either_since, refused_and, without_fault}
 use Rattle.planner_main.proofs.ProgramReported.{reported_as, partly_as, report_written}
+use Rattle.planner_main.specs.Asked.{outputs_in}
+use Rattle.progress_lines.specs.Said.{stream}
+use Rattle.planner_main.proofs.ProgressReported.{said_of_both, ended_written}
 use Rattle.planner_main.proofs.program.carry_out.Goals as goal
 
 pub write_report-requires : goal.write_report-requires
@@ -76,3 +79,15 @@ pub returns-in_err-report-clause-unreadable : goal.returns-in_err-report-clause-
 returns-in_err-report-clause-unreadable g c =
     let p = err_from_is_err_and c.from_residual.result c.from_residual.ensures.1 in
     rw (p.1, p.2) (λ name named failing. c.in_err-report.ensures.found.unreadable name named failing)
+
+pub returns-clause-progress : goal.returns-clause-progress
+returns-clause-progress g c =
+    said_of_both (g.F.Files.contents c.args.files.now) (wanted_of c.args.order) (outputs_in c.outputs_of.result) c.outputs_of.ensures g.E.Sink.wants_memory
+    (stream (g.E.Sink.failures c.args.err.now) (g.E.Sink.taken c.args.err.now)) (stream (g.E.Sink.failures c.report_of.new.err) (g.E.Sink.taken c.report_of.new.err))
+    (stream (g.E.Sink.failures c.write_report.new.err) (g.E.Sink.taken c.write_report.new.err)) c.in_ok-report.ensures.progress c.write_report.ensures.progress
+
+pub returns-clause-ended : goal.returns-clause-ended
+returns-clause-ended g c =
+    ended_written g.E.Sink.wants_memory (stream (g.E.Sink.failures c.report_of.new.err) (g.E.Sink.taken c.report_of.new.err)) (stream (g.E.Sink.failures c.write_report.new.err) (g.E.Sink.taken c.write_report.new.err))
+    (g.F.Files.contents c.args.files.now) (wanted_of c.args.order) c.in_ok-report.report c.in_ok-report.ensures.found.report c.in_ok-report.ensures.ended _ _ _ _ _ (outputs_in c.outputs_of.result) c.write_report.result
+    c.write_report.ensures.said c.write_report.ensures.quiet

@@ -1,11 +1,21 @@
-use Rattle.std.proofs.Common.{ap, sym, subst}
+use Rattle.std.proofs.Common.{ap, sym, subst, inl}
 use Rattle.command_line.specs.Orders.{Wanted}
 use Rattle.command_line.specs.View.{wanted_of}
 use Rattle.planner_main.specs.Program.{IsFound}
 use Rattle.std.proofs.lemmas.Result.{IfErr-weaker}
 use Rattle.planner_main.proofs.OrderWanted.{wanted_of_check, wanted_of_explain, wanted_of_solve}
 use Rattle.planner_main.proofs.ProgramWords.{without_fault}
+use Rattle.std.specs.Prelude.{IfOk, Result, Ok, Err, ⊤}
+use Rattle.progress_lines.specs.Said.{AreSaid, nothing, stream}
+use Rattle.progress_lines.proofs.SaidLemmas.{said_of_more}
+use Rattle.planner_main.specs.Progress.{HasEndedFor, IsProgressOn}
+use Rattle.planner_main.specs.declared.failures.Failure.{Failure}
+use Rattle.planner_main.specs.declared.printing.reports.Report.{Report}
 use Rattle.planner_main.proofs.program.report_of.Goals as goal
+
+whatever : (result : Result Report Failure) → IfOk result (λ _. ⊤)
+whatever (Ok found) = tt
+whatever (Err failure) = tt
 
 pub returns-in-Validate-clause-found : goal.returns-in-Validate-clause-found
 returns-in-Validate-clause-found g c = subst
@@ -16,22 +26,63 @@ returns-in-Validate-clause-found g c = subst
 pub returns-in-Solve-clause-found : goal.returns-in-Solve-clause-found
 returns-in-Solve-clause-found g c = subst
     (λ (wanted : Wanted). IsFound (g.F.Files.contents c.args.files.now) (g.F.Files.is_missing c.args.files.now) (g.F.Files.is_unreadable c.args.files.now) wanted c.report_of_solve.result)
-    (wanted_of_solve c.args.order c.in-Solve.domain c.in-Solve.problem _ _ c.in-Solve.states c.in-Solve.instances _ c.limits_of-limits.result c.in-Solve.is c.limits_of-limits.ensures.states c.limits_of-limits.ensures.instances)
+    (wanted_of_solve c.args.order c.in-Solve.domain c.in-Solve.problem _ _ c.in-Solve.states c.in-Solve.instances _ c.in-Solve.progress c.limits_of-limits.result c.in-Solve.is c.limits_of-limits.ensures.states c.limits_of-limits.ensures.instances)
     (let said = c.report_of_solve.ensures in record { report = said.report; refused = said.refused; unread = said.unread; unreadable = said.unreadable })
 
 pub returns-in-Check-clause-found : goal.returns-in-Check-clause-found
 returns-in-Check-clause-found g c = subst
     (λ (wanted : Wanted). IsFound (g.F.Files.contents c.args.files.now) (g.F.Files.is_missing c.args.files.now) (g.F.Files.is_unreadable c.args.files.now) wanted c.report_of_check.result)
-    (wanted_of_check c.args.order c.in-Check.domain c.in-Check.problem c.in-Check.cert c.in-Check.plan c.in-Check.instances _ c.number.result c.in-Check.is c.number.ensures.number)
+    (wanted_of_check c.args.order c.in-Check.domain c.in-Check.problem c.in-Check.cert c.in-Check.plan c.in-Check.instances _ c.in-Check.progress c.number-instances.result c.in-Check.is c.number-instances.ensures.number)
     (let said = c.report_of_check.ensures in record { report = said.report; refused = said.refused; unread = said.unread; unreadable = said.unreadable })
 
 pub returns-in-Explain-clause-found : goal.returns-in-Explain-clause-found
 returns-in-Explain-clause-found g c = subst
     (λ (wanted : Wanted). IsFound (g.F.Files.contents c.args.files.now) (g.F.Files.is_missing c.args.files.now) (g.F.Files.is_unreadable c.args.files.now) wanted c.report_of_explain.result)
-    (wanted_of_explain c.args.order c.in-Explain.domain c.in-Explain.problem c.in-Explain.plan c.in-Explain.instances _ c.number-in-Explain.result c.in-Explain.is c.number-in-Explain.ensures.number)
+    (wanted_of_explain c.args.order c.in-Explain.domain c.in-Explain.problem c.in-Explain.plan c.in-Explain.instances _ c.number.result c.in-Explain.is c.number.ensures.number)
     (let said = c.report_of_explain.ensures in record {
       report = said.report;
       refused = IfErr-weaker c.report_of_explain.result _ _ (λ failure is. without_fault failure _ is) said.no_text;
       unread = said.unread;
       unreadable = said.unreadable;
     })
+
+pub returns-in-Validate-clause-progress : goal.returns-in-Validate-clause-progress
+returns-in-Validate-clause-progress g c = nothing
+
+pub returns-in-Check-clause-progress : goal.returns-in-Check-clause-progress
+returns-in-Check-clause-progress g c =
+    subst (λ (wanted : Wanted). AreSaid (IsProgressOn (g.F.Files.contents c.args.files.now) wanted) g.E.Sink.wants_memory (stream (g.E.Sink.failures c.args.err.now) (g.E.Sink.taken c.args.err.now))
+    (stream (g.E.Sink.failures c.report_of_check.new.err) (g.E.Sink.taken c.report_of_check.new.err)))
+    (wanted_of_check c.args.order c.in-Check.domain c.in-Check.problem c.in-Check.cert c.in-Check.plan c.in-Check.instances _ c.in-Check.progress c.number-instances.result c.in-Check.is c.number-instances.ensures.number)
+    c.report_of_check.ensures.progress
+
+pub returns-in-Explain-clause-progress : goal.returns-in-Explain-clause-progress
+returns-in-Explain-clause-progress g c = nothing
+
+pub returns-in-Solve-clause-progress : goal.returns-in-Solve-clause-progress
+returns-in-Solve-clause-progress g c =
+    subst (λ (wanted : Wanted). AreSaid (IsProgressOn (g.F.Files.contents c.args.files.now) wanted) g.E.Sink.wants_memory (stream (g.E.Sink.failures c.args.err.now) (g.E.Sink.taken c.args.err.now))
+    (stream (g.E.Sink.failures c.report_of_solve.new.err) (g.E.Sink.taken c.report_of_solve.new.err)))
+    (wanted_of_solve c.args.order c.in-Solve.domain c.in-Solve.problem _ _ c.in-Solve.states c.in-Solve.instances _ c.in-Solve.progress c.limits_of-limits.result c.in-Solve.is c.limits_of-limits.ensures.states c.limits_of-limits.ensures.instances)
+    (said_of_more (λ line is. inl is) c.report_of_solve.ensures.progress)
+
+pub returns-in-Validate-clause-ended : goal.returns-in-Validate-clause-ended
+returns-in-Validate-clause-ended g c =
+    subst (λ (wanted : Wanted). IfOk c.report_of_validate.result (HasEndedFor wanted g.E.Sink.wants_memory (g.E.Sink.failures c.args.err.now) (g.E.Sink.taken c.args.err.now)))
+    (sym (ap wanted_of c.in-Validate.is)) (whatever c.report_of_validate.result)
+
+pub returns-in-Check-clause-ended : goal.returns-in-Check-clause-ended
+returns-in-Check-clause-ended g c =
+    subst (λ (wanted : Wanted). IfOk c.report_of_check.result (HasEndedFor wanted g.E.Sink.wants_memory (g.E.Sink.failures c.report_of_check.new.err) (g.E.Sink.taken c.report_of_check.new.err)))
+    (sym (ap wanted_of c.in-Check.is)) (whatever c.report_of_check.result)
+
+pub returns-in-Explain-clause-ended : goal.returns-in-Explain-clause-ended
+returns-in-Explain-clause-ended g c =
+    subst (λ (wanted : Wanted). IfOk c.report_of_explain.result (HasEndedFor wanted g.E.Sink.wants_memory (g.E.Sink.failures c.args.err.now) (g.E.Sink.taken c.args.err.now)))
+    (sym (ap wanted_of c.in-Explain.is)) (whatever c.report_of_explain.result)
+
+pub returns-in-Solve-clause-ended : goal.returns-in-Solve-clause-ended
+returns-in-Solve-clause-ended g c =
+    subst (λ (wanted : Wanted). IfOk c.report_of_solve.result (HasEndedFor wanted g.E.Sink.wants_memory (g.E.Sink.failures c.report_of_solve.new.err) (g.E.Sink.taken c.report_of_solve.new.err)))
+    (wanted_of_solve c.args.order c.in-Solve.domain c.in-Solve.problem _ _ c.in-Solve.states c.in-Solve.instances _ c.in-Solve.progress c.limits_of-limits.result c.in-Solve.is c.limits_of-limits.ensures.states c.limits_of-limits.ensures.instances)
+    c.report_of_solve.ensures.ended

@@ -22,19 +22,19 @@ abbrev width_of : Ground → ℕ
 width_of g = length (atoms_in g)
 
 pub new-guide-requires-clause-system : goal.new-guide-requires-clause-system
-new-guide-requires-clause-system c = ap system_of (c.requires.dead_ends ∙ sym c.requires.estimate)
+new-guide-requires-clause-system g c = ap system_of (c.requires.dead_ends ∙ sym c.requires.estimate)
 
 pub new-guide-requires-clause-width : goal.new-guide-requires-clause-width
-new-guide-requires-clause-width c = ap width_of (c.requires.dead_ends ∙ sym c.requires.estimate)
+new-guide-requires-clause-width g c = ap width_of (c.requires.dead_ends ∙ sym c.requires.estimate)
 
 pub search_in_parts-requires-clause-system : goal.search_in_parts-requires-clause-system
-search_in_parts-requires-clause-system c = ap (λ f. system_of (ground_in f)) c.new-guide.ensures.estimate ∙ ap system_of c.requires.estimate
+search_in_parts-requires-clause-system g c = ap (λ f. system_of (ground_in f)) c.new-guide.ensures.estimate ∙ ap system_of c.requires.estimate
 
 pub search_in_parts-requires-clause-guide_width : goal.search_in_parts-requires-clause-guide_width
-search_in_parts-requires-clause-guide_width c = ap (λ f. width_of (ground_in f)) c.new-guide.ensures.estimate ∙ ap width_of c.requires.estimate
+search_in_parts-requires-clause-guide_width g c = ap (λ f. width_of (ground_in f)) c.new-guide.ensures.estimate ∙ ap width_of c.requires.estimate
 
 pub answer_of-requires-clause-guidance : goal.answer_of-requires-clause-guidance
-answer_of-requires-clause-guidance c =
+answer_of-requires-clause-guidance g c =
     let known = c.args.ground.now in
     let f = c.args.estimate.now in
     let d = c.args.dead_ends.now in
@@ -59,7 +59,7 @@ answer_of-requires-clause-guidance c =
     (subst (λ (r : PotentialFunction). IsGuidanceFor known (by_potentials p r)) dead_ends made)
 
 pub answer_of-requires-clause-searched : goal.answer_of-requires-clause-searched
-answer_of-requires-clause-searched c =
+answer_of-requires-clause-searched g c =
     let known = c.args.ground.now in
     let guide = c.new-guide.result in
     let outcome = c.in-ByGuide.searched.outcome in
@@ -72,4 +72,4 @@ answer_of-requires-clause-searched c =
     let reports = ap (λ f. is_dead_by (potentials_in f)) c.new-guide.ensures.dead_ends ∙ ap is_dead_by (sym dead_ends) in
     subst (λ (e : List Bool → ℕ). IsSearched known e (is_dead_by q) c.args.limits.states outcome marks) estimates
     (subst (λ (r : List Bool → Bool). IsSearched known (value_by (score (potentials_in guide.estimate.now))) r c.args.limits.states outcome marks) reports
-    (subst (IsTrueEnd known (value_by (score (potentials_in guide.estimate.now))) (is_dead_by (potentials_in guide.dead_ends.now)) c.args.limits) c.in-ByGuide.is c.in_ok-answer.ensures))
+    (subst (IsTrueEnd known (value_by (score (potentials_in guide.estimate.now))) (is_dead_by (potentials_in guide.dead_ends.now)) c.args.limits) c.in-ByGuide.is c.in_ok-answer.ensures.end))

@@ -16,7 +16,7 @@ use Rattle.solver.proofs.TablesLemmas.{tables-written}
 use Rattle.solver.proofs.by_tables.answer_by_tables.Goals as goal
 
 pub answer_of-requires-clause-guidance : goal.answer_of-requires-clause-guidance
-answer_of-requires-clause-guidance c =
+answer_of-requires-clause-guidance g c =
     let known = c.args.ground.now in
     let task = task_in known in
     let atoms = atoms_in known in
@@ -32,6 +32,6 @@ answer_of-requires-clause-guidance c =
     }
 
 pub answer_of-requires-clause-searched : goal.answer_of-requires-clause-searched
-answer_of-requires-clause-searched c =
+answer_of-requires-clause-searched g c =
     let guidance = by_tables (bounds_of c.args.bounds) in
     subst (IfDone (λ (s : Searched). IsSearched c.args.ground.now (estimate_by guidance) (reports_dead guidance) c.args.limits.states s.outcome s.marks.items)) c.in-Done.is c.in_ok-attempt.ensures.searched

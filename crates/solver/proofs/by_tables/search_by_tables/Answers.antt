@@ -20,35 +20,36 @@ use Rattle.solver.specs.Guidance.{by_tables, estimate_by, reports_dead}
 use Rattle.solver.specs.Guided.{IsSearched}
 use Rattle.solver.specs.SeveralOver.{several_over}
 use Rattle.solver.proofs.TablesLemmas.{dead_ends_weighed}
+use Rattle.solver.proofs.by_tables.search_by_tables.Given.{Over}
 use Rattle.solver.proofs.by_tables.search_by_tables.Goals as goal
 use Rattle.solver.proofs.by_tables.search_by_tables.Goals.{After-deref, In-Some}
 
 -- the values are those of the bounds
-same : (c : After-deref) → several_over c.args.values.items c.args.dead_ends c.deref.result.now ≡ bounds_of c.args.bounds.now
-same c = λ i. record { values = c.requires.values i; dead_ends = c.requires.dead_ends i; tables = map table_of (c.deref.ensures.value i) }
+same : (g : Over) (c : After-deref g) → several_over c.args.values.items c.args.dead_ends c.deref.result.now ≡ bounds_of c.args.bounds.now
+same g c = λ i. record { values = c.requires.values i; dead_ends = c.requires.dead_ends i; tables = map table_of (c.deref.ensures.value i) }
 
 pub functions_over-requires : goal.functions_over-requires
-functions_over-requires c = record {
-  within_limits = subst (λ (s : SeveralValues). IsTrue (are_bounds three (length (atoms_in c.args.ground.now)) s)) (sym (same (goal.at.functions_over-requires c).After-deref)) c.requires.within_limits;
+functions_over-requires g c = record {
+  within_limits = subst (λ (s : SeveralValues). IsTrue (are_bounds three (length (atoms_in c.args.ground.now)) s)) (sym (same g (goal.at.functions_over-requires g c).After-deref)) c.requires.within_limits;
 }
 
 -- and so are those in memory
-in_memory : (c : In-Some) → several_of c.in-Some.functions ≡ bounds_of c.args.bounds.now
-in_memory c =
+in_memory : (g : Over) (c : In-Some g) → several_of c.in-Some.functions ≡ bounds_of c.args.bounds.now
+in_memory g c =
     subst (λ (o : Option TableFunctions). IfSome o (λ (f : TableFunctions). several_of f ≡ several_over c.args.values.items c.args.dead_ends c.deref.result.now)) c.in-Some.is c.in_ok-functions.ensures
     ∙ (λ i. record { values = c.requires.values i; dead_ends = c.requires.dead_ends i; tables = map table_of (c.deref.ensures.value i) })
 
-width : (c : In-Some) → width_of c.in-Some.functions ≡ length (atoms_in c.args.ground.now)
-width c = ap (λ (s : SeveralValues). length s.dead_ends.weights) (in_memory c) ∙ dead_ends_weighed (length (atoms_in c.args.ground.now)) (bounds_of c.args.bounds.now) c.requires.within_limits
+width : (g : Over) (c : In-Some g) → width_of c.in-Some.functions ≡ length (atoms_in c.args.ground.now)
+width g c = ap (λ (s : SeveralValues). length s.dead_ends.weights) (in_memory g c) ∙ dead_ends_weighed (length (atoms_in c.args.ground.now)) (bounds_of c.args.bounds.now) c.requires.within_limits
 
 pub starts_no_lower-requires-clause-functions : goal.starts_no_lower-requires-clause-functions
-starts_no_lower-requires-clause-functions c = width (goal.at.starts_no_lower-requires-clause-functions c).In-Some
+starts_no_lower-requires-clause-functions g c = width g (goal.at.starts_no_lower-requires-clause-functions g c).In-Some
 
 pub saving_by-requires-clause-width : goal.saving_by-requires-clause-width
-saving_by-requires-clause-width c = width (goal.at.saving_by-requires-clause-width c).In-Some ∙ sym c.requires.store_width
+saving_by-requires-clause-width g c = width g (goal.at.saving_by-requires-clause-width g c).In-Some ∙ sym c.requires.store_width
 
 pub search_if_fair-requires-clause-width : goal.search_if_fair-requires-clause-width
-search_if_fair-requires-clause-width c = width (goal.at.search_if_fair-requires-clause-width c).In-Some
+search_if_fair-requires-clause-width g c = width g (goal.at.search_if_fair-requires-clause-width g c).In-Some
 
 -- what is so is so of whatever is done
 whatever : {P : Type 0} (result : Result (Attempt Searched) NoMemory) → P → IfOk result (IfDone (λ (s : Searched). P))
@@ -58,19 +59,19 @@ whatever (Ok InVain) is = tt
 whatever (Err e) is = tt
 
 pub returns-then-is_worth-clause-no_lower : goal.returns-then-is_worth-clause-no_lower
-returns-then-is_worth-clause-no_lower c =
+returns-then-is_worth-clause-no_lower g c =
     let known = c.args.ground.now in
     let start = (ground_system (task_in known) (atoms_in known)).initial in
     whatever c.search_if_fair.result
     (subst (λ (s : SeveralValues). initial_value (task_in known) (atoms_in known) (potentials_of c.args.stopped.now.potentials.now) ≤ estimate_by (by_tables s) start)
-    (in_memory (goal.at.returns-then-is_worth-clause-no_lower c).In-Some) (c.in_ok-starts_no_lower.ensures c.if-not-branch.false))
+    (in_memory g (goal.at.returns-then-is_worth-clause-no_lower g c).In-Some) (c.in_ok-starts_no_lower.ensures c.if-not-branch.false))
 
 pub returns-then-is_worth-clause-fair : goal.returns-then-is_worth-clause-fair
-returns-then-is_worth-clause-fair c =
+returns-then-is_worth-clause-fair g c =
     subst (λ (s : SeveralValues). IfOk c.search_if_fair.result (IfDone (λ (_ : Searched). AreFair (task_in c.args.ground.now) (atoms_in c.args.ground.now) s)))
-    (in_memory (goal.at.returns-then-is_worth-clause-fair c).In-Some) c.search_if_fair.ensures.fair
+    (in_memory g (goal.at.returns-then-is_worth-clause-fair g c).In-Some) c.search_if_fair.ensures.fair
 
 pub returns-then-is_worth-clause-searched : goal.returns-then-is_worth-clause-searched
-returns-then-is_worth-clause-searched c =
+returns-then-is_worth-clause-searched g c =
     subst (λ (s : SeveralValues). IfOk c.search_if_fair.result (IfDone (λ (f : Searched). IsSearched c.args.ground.now (estimate_by (by_tables s)) (reports_dead (by_tables s)) c.args.limits.states f.outcome f.marks.items)))
-    (in_memory (goal.at.returns-then-is_worth-clause-searched c).In-Some) c.search_if_fair.ensures.searched
+    (in_memory g (goal.at.returns-then-is_worth-clause-searched g c).In-Some) c.search_if_fair.ensures.searched

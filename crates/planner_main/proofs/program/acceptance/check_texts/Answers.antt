@@ -6,14 +6,12 @@ use Rattle.planner_main.proofs.program.acceptance.check_texts.Goals as goal
 
 pub returns-in-None-clause-report : goal.returns-in-None-clause-report
 returns-in-None-clause-report g c = λ known kept.
-    let checked = c.in_ok-checked.checked in
-    let is_task = rw (c.deref.ensures.value, c.deref-2.ensures.value) at c.in_ok-checked.ensures.task in
-    let is_checked = rw (c.slice_in-plan.ensures) at c.in_ok-checked.ensures.answer in (
+    let checked = c.in_ok-checked.checked in (
       checked,
       refl,
-      checked_in g.R.Source.remaining (task_of checked.task) c.args.cert.now c.check_files.new.cert known kept
-          c.args.texts.now.pair.domain.items c.args.texts.now.pair.problem.items (items_in c.args.texts.now.plan) c.args.instances checked.answer
-          is_task is_checked (sym c.failure_of.ensures ∙ c.in-None.is),
+      checked_in g.R.Source.remaining (task_of checked.task) c.args.cert.now c.checked.new.cert known kept
+          c.args.texts.now.pair.domain.items c.args.texts.now.pair.problem.items (items_in c.args.texts.now.plan) c.args.asked.instances checked.answer
+          c.in_ok-checked.ensures.task c.in_ok-checked.ensures.answer (sym c.failure_of.ensures ∙ c.in-None.is),
     )
 
 pub returns-in-None-clause-unfailed : goal.returns-in-None-clause-unfailed

@@ -1,0 +1,196 @@
+//! The faults of a pair, by the phases of typing.
+ghost use Rattle.std.specs.Prelude.{IfOk};
+ghost use Rattle.syntax_tree.specs.Tree.{domain_of, problem_of};
+ghost use Rattle.fault_lists.specs.FaultLists.{AreDeclarationsOf, AreFaultsOf, ArePredicatesOf};
+ghost use Rattle.typing.specs.Declarations.{AreTypesOf};
+ghost use Rattle.typing.specs.DeclaredObjects.{AreObjectsOf};
+
+use crate::actions::of_actions;
+use crate::declarations::{of_declarations, of_names, of_objects};
+use crate::found::FoundFaults;
+use crate::statements::{of_goal, of_init};
+use faults::{NoMemory, Refused};
+use indexmap::IndexMap;
+use std::alloc::Global;
+use syntax_tree::{Domain, Problem};
+use task::Predicate;
+use task_parts::{Globals, TypeTable};
+use typing::{DeclaredObjects, TaskFile, chains, declarations, functions, objects};
+
+/// The faults of actions, of the initial state and of the goal, where these are the declarations of the pair.
+fn of_uses(
+    alloc: Global,
+    types: &TypeTable,
+    objects: &DeclaredObjects,
+    predicates: &IndexMap<Vec<u8>, Predicate>,
+    functions: &IndexMap<Vec<u8>, Predicate>,
+    domain: &Domain<'_>,
+    problem: &Problem<'_>,
+) -> Result<FoundFaults, NoMemory>
+    requires { AreDeclarationsOf (domain_of domain.now) (problem_of problem.now) types.now objects.now predicates.now.entries functions.now.entries }
+    ensures { IfOk result (AreFaultsOf (domain_of domain.now) (problem_of problem.now)) }
+{
+    let in_domain = Globals {
+        file: TaskFile::Domain,
+        types,
+        predicates,
+        functions,
+        objects: &objects.constants,
+    };
+    let in_problem = Globals {
+        file: TaskFile::Problem,
+        types,
+        predicates,
+        functions,
+        objects: &objects.all,
+    };
+    let mut found = FoundFaults::new(alloc);
+    of_actions(alloc, &mut found, &in_domain, &domain.actions)?;
+    of_init(alloc, &mut found, &in_problem, problem)?;
+    of_goal(alloc, &mut found, &in_problem, problem)?;
+    Ok(found)
+}
+
+/// The faults of the functions, or where they have none, those of what comes after them.
+fn from_functions(
+    alloc: Global,
+    types: &TypeTable,
+    objects: &DeclaredObjects,
+    predicates: &IndexMap<Vec<u8>, Predicate>,
+    domain: &Domain<'_>,
+    problem: &Problem<'_>,
+) -> Result<FoundFaults, NoMemory>
+    requires types { AreTypesOf (domain_of domain.now) types.now }
+    requires objects { AreObjectsOf (domain_of domain.now) (problem_of problem.now) objects.now }
+    requires predicates { ArePredicatesOf (domain_of domain.now) predicates.now.entries }
+    ensures { IfOk result (AreFaultsOf (domain_of domain.now) (problem_of problem.now)) }
+{
+    match functions::functions(alloc, types, domain, problem) {
+        Ok(functions) => of_uses(
+            alloc, types, objects, predicates, &functions, domain, problem,
+        ),
+        Err(Refused::At(_)) => of_functions(alloc, types, domain, problem),
+        Err(Refused::NoMemory) => Err(NoMemory),
+    }
+}
+
+/// The faults of the declarations of functions.
+fn of_functions(
+    alloc: Global,
+    types: &TypeTable,
+    domain: &Domain<'_>,
+    problem: &Problem<'_>,
+) -> Result<FoundFaults, NoMemory>
+    requires { AreTypesOf (domain_of domain.now) types.now }
+    ensures { IfOk result (AreFaultsOf (domain_of domain.now) (problem_of problem.now)) }
+{
+    let mut found = FoundFaults::new(alloc);
+    of_declarations(alloc, &mut found, types, &domain.functions)?;
+    Ok(found)
+}
+
+/// The faults of the predicates, or where they have none, those of what comes after them.
+fn from_predicates(
+    alloc: Global,
+    types: &TypeTable,
+    objects: &DeclaredObjects,
+    domain: &Domain<'_>,
+    problem: &Problem<'_>,
+) -> Result<FoundFaults, NoMemory>
+    requires types { AreTypesOf (domain_of domain.now) types.now }
+    requires objects { AreObjectsOf (domain_of domain.now) (problem_of problem.now) objects.now }
+    ensures { IfOk result (AreFaultsOf (domain_of domain.now) (problem_of problem.now)) }
+{
+    match declarations::predicates(alloc, types, domain) {
+        Ok(predicates) => from_functions(alloc, types, objects, &predicates, domain, problem),
+        Err(Refused::At(_)) => of_predicates(alloc, types, domain, problem),
+        Err(Refused::NoMemory) => Err(NoMemory),
+    }
+}
+
+/// The faults of the declarations of predicates.
+fn of_predicates(
+    alloc: Global,
+    types: &TypeTable,
+    domain: &Domain<'_>,
+    problem: &Problem<'_>,
+) -> Result<FoundFaults, NoMemory>
+    requires { AreTypesOf (domain_of domain.now) types.now }
+    ensures { IfOk result (AreFaultsOf (domain_of domain.now) (problem_of problem.now)) }
+{
+    let mut found = FoundFaults::new(alloc);
+    of_declarations(alloc, &mut found, types, &domain.predicates)?;
+    Ok(found)
+}
+
+/// The faults of the constants and the objects, or where they have none, those of what comes after them.
+fn from_objects(
+    alloc: Global,
+    types: &TypeTable,
+    domain: &Domain<'_>,
+    problem: &Problem<'_>,
+) -> Result<FoundFaults, NoMemory>
+    requires { AreTypesOf (domain_of domain.now) types.now }
+    ensures { IfOk result (AreFaultsOf (domain_of domain.now) (problem_of problem.now)) }
+{
+    match objects::of_pair(alloc, types, domain, problem) {
+        Ok(objects) => from_predicates(alloc, types, &objects, domain, problem),
+        Err(Refused::At(_)) => of_all_objects(alloc, types, domain, problem),
+        Err(Refused::NoMemory) => Err(NoMemory),
+    }
+}
+
+/// The faults of the constants and the objects.
+fn of_all_objects(
+    alloc: Global,
+    types: &TypeTable,
+    domain: &Domain<'_>,
+    problem: &Problem<'_>,
+) -> Result<FoundFaults, NoMemory>
+    requires { AreTypesOf (domain_of domain.now) types.now }
+    ensures { IfOk result (AreFaultsOf (domain_of domain.now) (problem_of problem.now)) }
+{
+    let mut found = FoundFaults::new(alloc);
+    of_objects(alloc, &mut found, types, domain, problem)?;
+    Ok(found)
+}
+
+/// The faults of the domain's name and of the types.
+fn of_types(
+    alloc: Global,
+    domain: &Domain<'_>,
+    problem: &Problem<'_>,
+) -> Result<FoundFaults, NoMemory>
+    ensures { IfOk result (AreFaultsOf (domain_of domain.now) (problem_of problem.now)) }
+{
+    let mut found = FoundFaults::new(alloc);
+    of_names(alloc, &mut found, domain, problem)?;
+    Ok(found)
+}
+
+/// The faults of a pair that do not follow from one another. They are those of the first phase of typing that has any, where the
+/// actions, the initial state and the goal are one phase, since none of them rests on another:
+///
+/// - of each declaration the first type that is not known, and each name that is declared again;
+/// - of the parameters of an action or the variables of a quantifier the first fault, and of each of them the first type that is not
+///   known; what is wrong below them only where they have none;
+/// - of each atom, equality and fact the first fault, and one of the increases of an action.
+///
+/// Left out, though they may be the fault that is reported first, are cycles of types, what is one too many, the metric, and in
+/// the initial state a second start of the total cost and another value of a function. At most [`MOST`](crate::MOST) are gathered.
+///
+/// # Errors
+/// Memory was refused.
+pub fn listed_faults(
+    alloc: Global,
+    domain: &Domain<'_>,
+    problem: &Problem<'_>,
+) -> Result<FoundFaults, NoMemory>
+    ensures { IfOk result (AreFaultsOf (domain_of domain.now) (problem_of problem.now)) }
+{
+    match chains::types(alloc, domain, problem) {
+        Ok(types) => from_objects(alloc, &types, domain, problem),
+        Err(Refused::At(_)) => of_types(alloc, domain, problem),
+        Err(Refused::NoMemory) => Err(NoMemory),
+    }
+}

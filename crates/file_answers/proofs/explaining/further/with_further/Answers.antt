@@ -1,0 +1,20 @@
+use Rattle.std.proofs.Common.{◌≡◌, ◌∙◌, ◌++◌, ap}
+use Rattle.std.specs.String.{string_bytes}
+use Rattle.explained_faults.specs.Explained.{heading}
+use Rattle.file_answers.specs.ExplanationLines.{place_in}
+use Rattle.file_answers.specs.FurtherFaults.{further_text}
+use Rattle.file_answers.specs.declared.explanation.Location.{Location}
+use Rattle.file_answers.proofs.FurtherLemmas.{says_before}
+use Rattle.file_answers.proofs.explaining.further.with_further.Goals as goal
+
+pub returns : goal.returns
+returns c =
+    let old = string_bytes c.args.alone.text in let new = string_bytes c.in_ok-text.text in let more = further_text c.in_ok-further.further.items in
+    let is : new ≡ old ++ more = c.in_ok-text.ensures ∙ ap (λ t. old ++ t) (c.as_str.ensures.value ∙ c.in_ok-more.ensures ∙ ap further_text c.deref.ensures.value) in
+    record {
+      subject = c.requires.subject;
+      located = c.requires.located;
+      says = says_before c.args.alone.location (λ (at : Location). heading (string_bytes at.file) (place_in at) c.args.first.code) new old more is c.requires.says;
+      further = c.in_ok-further.ensures;
+      says_further = (old, is);
+    }

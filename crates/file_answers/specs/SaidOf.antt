@@ -1,0 +1,14 @@
+-- What is said of two texts while their task is solved, or a certificate for it is checked.
+use Rattle.std.specs.Prelude.{ℕ, List, Option}
+use Rattle.cert_checker.specs.SaidRead.{IsCheckLine}
+use Rattle.model.specs.Task.{Task}
+use Rattle.model.specs.Files.{IsTaskOf}
+use Rattle.solver.specs.Said.{IsTrueLine}
+
+-- the texts are a task, and the line is true of it
+abbrev pub IsTrueLineOf : (domain problem : List ℕ) → List ℕ → Type 0
+IsTrueLineOf domain problem line = (task : Task) × IsTaskOf domain problem task × IsTrueLine task line
+
+-- the same of a certificate of which this text is known
+abbrev pub IsCheckLineOf : (domain problem : List ℕ) → (known : Option (List ℕ)) → List ℕ → Type 0
+IsCheckLineOf domain problem known line = (task : Task) × IsTaskOf domain problem task × IsCheckLine task known line

@@ -1,0 +1,165 @@
+//! The faults of two files beside the first.
+ghost use Rattle.std.specs.Prelude.{◌≡◌, IfOk, OnOk};
+ghost use Rattle.std.specs.String.{string_bytes};
+ghost use Rattle.typing.specs.Task.{file_of, refusal_of};
+ghost use Rattle.file_answers.specs.FurtherFaults.{AreFurther, IsFaultOfTexts, IsReportedAt, SayFault, further_text};
+ghost use Rattle.file_answers.specs.Explanations.{IsExplainedAlone, IsFaultExplained};
+ghost use Rattle.source_text.specs.Files.{file_view, name_in, text_in};
+ghost use Rattle.model.specs.Files.{of_task};
+
+use crate::explaining::of_plan::joined;
+use crate::explanation::{Explanation, FurtherFault};
+use crate::files::faults_of_files;
+use explained_faults::{FileRefusal, explain_fault};
+use faults::NoMemory;
+use source_text::{File, NamedTexts};
+use std::alloc::Global;
+use typing::{TaskFile, TaskRefusal};
+
+/// The most faults that are told beside the first.
+const MOST: usize = 20;
+
+/// The explanation of a fault, and after its lines those of the other faults of the two files.
+pub(super) fn with_further(
+    alloc: Global,
+    texts: &NamedTexts<'_>,
+    first: FileRefusal,
+    alone: Explanation,
+) -> Result<Explanation, NoMemory>
+    requires { IsExplainedAlone texts.now first.file first.code first.span alone }
+    ensures { IfOk result (IsFaultExplained texts.now first.file first.code first.span) }
+{
+    let further = further_faults(alloc, texts, first)?;
+    let more = further_text(alloc, &further)?;
+    let text = joined(alone.text, more.as_str())?;
+    Ok(Explanation {
+        subject: alone.subject,
+        text,
+        location: alone.location,
+        hints: alone.hints,
+        further,
+        notes: alone.notes,
+    })
+}
+
+/// The lines of the faults, an empty line before each; of the most that are told, a line that there may be more.
+fn further_text(alloc: Global, further: &[FurtherFault]) -> Result<String, NoMemory>
+    ensures { IfOk result (λ text. string_bytes text ≡ further_text further.now) }
+{
+    let mut text = String::new(alloc);
+    'faults: for fault in further {
+        text.push_str("\n")?;
+        text.push_str(fault.text.as_str())?;
+    }
+    if further.len() < MOST {
+        return Ok(text);
+    }
+    joined(text, "\nthere may be more faults: mend these first\n")
+}
+
+/// The faults of the two files beside this one, where that is a fault of typing: each with its lines.
+fn further_faults(
+    alloc: Global,
+    texts: &NamedTexts<'_>,
+    first: FileRefusal,
+) -> Result<Vec<FurtherFault>, NoMemory>
+    ensures { IfOk result (λ further. AreFurther texts.now further.items) }
+{
+    let found = faults_of_files(alloc, texts.domain.text, texts.problem.text)?;
+    let mut further = Vec::new(alloc);
+    'faults: for refusal in &found.gathered {
+        add_fault(alloc, texts, first, &mut further, *refusal)?;
+    }
+    Ok(further)
+}
+
+/// Adds a fault with its lines, unless it is told already or so many are.
+fn add_fault(
+    alloc: Global,
+    texts: &NamedTexts<'_>,
+    first: FileRefusal,
+    further: &mut Vec<FurtherFault>,
+    refusal: TaskRefusal,
+) -> Result<(), NoMemory>
+    requires { IsFaultOfTexts texts.now.domain.text.now texts.now.problem.text.now (refusal_of refusal) }
+    ensures { OnOk result (AreFurther texts.now further.old.items → AreFurther texts.now further.new.items) }
+{
+    let fault = in_file(refusal);
+    if further.len() >= MOST || is_told(texts, first, further, fault) {
+        return Ok(());
+    }
+    let text = text_of(alloc, texts, fault)?;
+    further.push(FurtherFault { fault, text })?;
+    Ok(())
+}
+
+/// A fault of a pair as one of a file.
+fn in_file(refusal: TaskRefusal) -> FileRefusal
+    ensures { IsReportedAt (refusal_of refusal) result }
+{
+    FileRefusal {
+        file: one_of_files(refusal.file),
+        code: refusal.code,
+        span: refusal.span,
+    }
+}
+
+/// A file of a task as one of the files that are given.
+fn one_of_files(file: TaskFile) -> File
+    ensures { file_view result ≡ of_task (file_of file) }
+{
+    match file {
+        TaskFile::Domain => File::Domain,
+        TaskFile::Problem => File::Problem,
+    }
+}
+
+/// The lines of a fault.
+fn text_of(alloc: Global, texts: &NamedTexts<'_>, fault: FileRefusal) -> Result<String, NoMemory>
+    ensures { IfOk result (λ text. SayFault (name_in texts.now fault.file) (text_in texts.now fault.file) fault (string_bytes text)) }
+{
+    let explained = explain_fault(alloc, texts, fault)?;
+    explained.text(alloc, texts)
+}
+
+/// Whether a fault is this one, or one of those that are told, or comes of the same mistake.
+fn is_told(
+    texts: &NamedTexts<'_>,
+    first: FileRefusal,
+    further: &[FurtherFault],
+    fault: FileRefusal,
+) -> bool {
+    comes_of(texts, fault, first)
+        || further
+            .iter()
+            .any(|other| comes_of(texts, fault, other.fault))
+}
+
+/// Whether a fault may come of the same mistake as another: it is the same, or the same word is refused by the same number, and if that
+/// is a variable, in the same action or in the problem.
+fn comes_of(texts: &NamedTexts<'_>, fault: FileRefusal, other: FileRefusal) -> bool {
+    let (word, told) = (word_of(texts, fault), word_of(texts, other));
+    let is_again = fault.code == other.code && word.eq_ignore_ascii_case(told);
+    is_again && (!word.starts_with(b"?") || are_in_one_scope(texts, fault, other))
+}
+
+/// The bytes that a fault is reported for.
+fn word_of<'a>(texts: &NamedTexts<'a>, fault: FileRefusal) -> &'a [u8] {
+    let text = texts.text(fault.file);
+    text.get(fault.span.start..fault.span.end).unwrap_or(b"")
+}
+
+/// Whether two faults are in the problem, or in the domain with no action that begins between them.
+fn are_in_one_scope(texts: &NamedTexts<'_>, fault: FileRefusal, other: FileRefusal) -> bool {
+    let start = fault.span.start.min(other.span.start);
+    let end = fault.span.start.max(other.span.start);
+    let between = texts.domain.text.get(start..end).unwrap_or(b"");
+    fault.file == other.file && (fault.file == File::Problem || !has_action(between))
+}
+
+/// Whether an action begins in a piece of a domain.
+fn has_action(piece: &[u8]) -> bool {
+    piece
+        .windows(b":action".len())
+        .any(|word| word.eq_ignore_ascii_case(b":action"))
+}

@@ -1,0 +1,28 @@
+//! What a command says on the way: lines, one after another, on a sink. That the sink fails changes nothing else.
+#![tactic(auto)]
+ghost use Rattle.devices.specs.Devices.{IsWritten};
+
+use devices::{IoFault, Sink, write_all};
+
+/// Writes a line, as far as the sink takes it.
+pub fn say_line<E: Sink>(err: &mut E, line: &[u8])
+    ensures { IsWritten E.wants_memory (E.failures err.old) (E.failures err.new) (E.taken err.old) (E.taken err.new) line.now }
+{
+    let _ = write_all(err, line);
+}
+
+/// A sink that hears nothing: whatever is said is dropped.
+#[derive(Drop)]
+pub struct Unheard;
+
+impl Sink for Unheard {
+    ghost use Rattle.std.specs.Prelude.{None};
+
+    ghost failures = { λ _. 0 };
+
+    ghost taken = { λ _. None };
+
+    fn write(&mut self, piece: &[u8]) -> Result<usize, IoFault> {
+        Ok(piece.len())
+    }
+}

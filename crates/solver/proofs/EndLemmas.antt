@@ -1,0 +1,15 @@
+-- What is said of a certificate at the end.
+use Rattle.std.proofs.Common.{◌≡◌, ℕ, Bool, List, subst}
+use Rattle.std.specs.Prelude.{Option, Result, Ok, Err, OnOk}
+use Rattle.devices.specs.Devices.{IsWritten}
+use Rattle.certificate_definitions.specs.Certificates.{Certificate}
+use Rattle.progress_lines.specs.Said.{stream}
+use Rattle.solver.specs.Said.{EndsBy, line_of, report_of}
+use Rattle.solver.specs.declared.reports.Report.{Report}
+
+-- the last line is that of the certificate
+pub ends_by : {T E : Type 0} (result : Result T E) (wants_memory : Bool) (failures : ℕ) (taken : Option (List ℕ)) (failures_after : ℕ) (taken_after : Option (List ℕ)) (report : Report) (certificate : Certificate)
+    → report ≡ report_of certificate → OnOk result (IsWritten wants_memory failures failures_after taken taken_after (line_of report)) → OnOk result (EndsBy wants_memory failures_after taken_after certificate)
+ends_by (Ok done) wants_memory failures taken failures_after taken_after report certificate same written =
+    (stream failures taken, subst (λ (r : Report). IsWritten wants_memory failures failures_after taken taken_after (line_of r)) same written)
+ends_by (Err refused) wants_memory failures taken failures_after taken_after report certificate same written = tt

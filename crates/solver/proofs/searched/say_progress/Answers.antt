@@ -1,0 +1,43 @@
+use Rattle.std.proofs.Common.{◌≡◌, ◌∙◌, ◌≤◌, ℕ, Bool, List, length, sym, ap, subst, arith}
+use Rattle.std.proofs.lemmas.List.Sums.{count_by-le-length}
+use Rattle.grounding.specs.Ground.{task_in, atoms_in}
+use Rattle.model.specs.Task.{Atom}
+use Rattle.model.specs.Runs.{System}
+use Rattle.model.specs.Claims.{IsLowerBound, AreDeadEnds}
+use Rattle.model.specs.Grounding.{ground_system}
+use Rattle.packed_state.specs.PooledView.{pooled_states}
+use Rattle.packed_state.specs.declared.pooled.PooledStore.{PooledStore}
+use Rattle.search.proofs.Consistent.{lower_bound}
+use Rattle.search.proofs.DeadEnds.{are_dead_ends}
+use Rattle.search.specs.OpenList.{IsLeastSum}
+use Rattle.search.specs.Outcome.{is_expanded}
+use Rattle.solver.specs.Said.{AreReachable}
+use Rattle.solver.proofs.AnswerLemmas.{task_costs_at_least}
+use Rattle.solver.proofs.PauseLemmas.{bound_holds, distinct, reachable}
+use Rattle.solver.proofs.searched.say_progress.Goals as goal
+
+pub returns : goal.returns
+returns g c =
+    let known = c.args.ground.now in
+    let guide = c.args.guide.now in
+    let task = task_in known in
+    let estimate = g.G.Guide.estimate_of guide in
+    let is_dead = g.G.Guide.is_dead guide in
+    let t = ground_system task (atoms_in known) in
+    let p = c.args.search.now.progress in
+    let search = c.requires.open.0 in
+    let guided = g.G.Guide.system_of guide in
+    let lower = subst (λ (u : System (List Bool) ℕ). IsLowerBound u estimate) c.requires.system (lower_bound guided estimate (g.met.G.Guide.is_consistent guide)) in
+    let dead_ends = subst (λ (u : System (List Bool) ℕ). AreDeadEnds u is_dead) c.requires.system (are_dead_ends guided is_dead (g.met.G.Guide.detects_dead_ends guide)) in
+    let least = subst (IsLeastSum p.open_list) c.in-Some.is c.bound.ensures in
+    let costs = bound_holds t estimate is_dead pooled_states p search lower dead_ends c.requires.open.1 c.in-Some.bound least in
+    let count : length (pooled_states p.store) ≡ c.len-listed.result = ap (λ (s : PooledStore). length (pooled_states s)) (sym c.store.ensures) ∙ sym c.len-listed.ensures in
+    let found : AreReachable t c.len-listed.result =
+        (pooled_states p.store, distinct t estimate is_dead pooled_states p search, reachable t estimate is_dead pooled_states p search, count) in
+    let few : c.expanded_in-expanded.result ≤ c.len-listed.result =
+        omega (arith, c.expanded_in-expanded.ensures, count_by-le-length is_expanded c.nodes.result.now, ap length c.nodes.ensures, search.one_each, count) in
+    c.say.ensures.said task (
+      task_costs_at_least task (atoms_in known) c.requires.atoms c.in-Some.bound costs,
+      subst (λ (atoms : List Atom). AreReachable (ground_system task atoms) c.len-listed.result) c.requires.atoms found,
+      few,
+    )

@@ -1,0 +1,97 @@
+//! What is said of a search while it goes on: lines of `key=value`, for scripts.
+ghost use Rattle.std.specs.Prelude.{◌≡◌, IfOk, OnOk};
+ghost use Rattle.std.specs.String.{string_bytes};
+ghost use Rattle.devices.specs.Devices.{IsWritten};
+ghost use Rattle.progress_lines.specs.Said.{GoesOn};
+ghost use Rattle.solver.specs.Said.{IsTrueLine, IsTrueReport, line_of};
+ghost use Rattle.model.specs.Task.{Task};
+
+use devices::Sink;
+use faults::NoMemory;
+use progress_lines::say_line;
+use std::alloc::{AllocError, Global};
+
+/// How far a task is solved.
+#[derive(Clone, Copy, Debug, PartialEq, Eq)]
+pub enum Report {
+    /// The ground task is made.
+    Ground {
+        /// How many instances are kept.
+        instances: usize,
+        /// How many atoms have numbers.
+        atoms: usize,
+    },
+    /// A search is under way.
+    Search {
+        /// Every plan costs at least this.
+        bound: u64,
+        /// How many states it lists.
+        listed: usize,
+        /// How many of them it expanded.
+        expanded: usize,
+    },
+    /// A limit is exceeded that an option raises.
+    Limit(RaisedBy),
+    /// There is an answer with a certificate.
+    End {
+        /// How many states the certificate lists.
+        listed: usize,
+        /// How many of them are open: these were expanded.
+        expanded: usize,
+    },
+}
+
+/// The option that raises a limit.
+#[derive(Clone, Copy, Debug, PartialEq, Eq)]
+pub enum RaisedBy {
+    /// That of the listed states.
+    States,
+    /// That of the kept instances.
+    Instances,
+}
+
+impl Report {
+    /// Its line.
+    fn line(self, alloc: Global) -> Result<String, AllocError>
+        ensures { IfOk result (λ line. string_bytes line ≡ line_of self) }
+    {
+        match self {
+            Report::Ground { instances, atoms } => {
+                format!(in alloc; "progress=ground instances={instances} atoms={atoms}\n")
+            }
+            Report::Search {
+                bound,
+                listed,
+                expanded,
+            } => {
+                format!(in alloc; "progress=search bound={bound} listed={listed} expanded={expanded}\n")
+            }
+            Report::Limit(RaisedBy::States) => {
+                format!(in alloc; "progress=limit raise=--states\n")
+            }
+            Report::Limit(RaisedBy::Instances) => {
+                format!(in alloc; "progress=limit raise=--instances\n")
+            }
+            Report::End { listed, expanded } => {
+                format!(in alloc; "progress=end listed={listed} expanded={expanded}\n")
+            }
+        }
+    }
+}
+
+/// Writes the report's line. That the sink fails changes nothing else; it may then have taken a beginning of the line.
+///
+/// # Errors
+/// Memory for the line is refused. Then nothing is written.
+pub(crate) fn say<E: Sink>(alloc: Global, report: Report, err: &mut E) -> Result<(), NoMemory>
+    ensures said { (task : Task) → IsTrueReport task report → GoesOn (IsTrueLine task) E.wants_memory (E.failures err.old) (E.taken err.old) (E.failures err.new) (E.taken err.new) }
+    ensures written { OnOk result (IsWritten E.wants_memory (E.failures err.old) (E.failures err.new) (E.taken err.old) (E.taken err.new) (line_of report)) }
+{
+    match report.line(alloc) {
+        Ok(line) => {
+            say_line(err, line.as_bytes());
+            Ok(())
+        }
+        Err(AllocError) => Err(NoMemory),
+    }
+}
