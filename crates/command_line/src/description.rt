@@ -150,7 +150,10 @@ fn add_check<'a>(alloc: Global, commands: &mut Vec<Command<'a>>) -> Result<(), A
         ),
         limit(alloc, "instances", INSTANCES_HELP),
         json(alloc),
-        progress(alloc, "Say on the standard error how much of the certificate is read"),
+        progress(
+            alloc,
+            "Say on the standard error how much of the certificate is read"
+        ),
     ]?;
     let about = "Check a certificate, and say what it shows";
     add_command(alloc, commands, "check", about, CHECK_HELP, arguments)

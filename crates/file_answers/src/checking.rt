@@ -68,7 +68,15 @@ pub fn check_files<R: Source>(
     ensures taken { (task : model.Task) (steps : Option (List model.Instance)) → IsTaskOf domain.now problem.now task
         → IsGiven task (text_in plan.entry) steps → IfErr result (λ fault. reported_in fault ≡ None) }
 {
-    check_files_and_say(alloc, domain, problem, cert, plan, max_instances, &mut Unheard)
+    check_files_and_say(
+        alloc,
+        domain,
+        problem,
+        cert,
+        plan,
+        max_instances,
+        &mut Unheard,
+    )
 }
 
 /// The same, and on the way it says how much of the certificate is read, as `check_and_say` does.

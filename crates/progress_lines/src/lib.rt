@@ -1,5 +1,6 @@
 //! What a command says on the way: lines, one after another, on a sink. That the sink fails changes nothing else.
 #![tactic(auto)]
+
 ghost use Rattle.devices.specs.Devices.{IsWritten};
 
 use devices::{IoFault, Sink, write_all};

@@ -60,9 +60,11 @@ returns-in-Ok-carry_out-clause-usage g c =
 
 pub returns-in-Ok-carry_out-clause-refused : goal.returns-in-Ok-carry_out-clause-refused
 returns-in-Ok-carry_out-clause-refused g c =
-    λ same. inr (reported_of_words (texts c.args.words.now) (wanted_of c.in-Ok.order) c.in-Ok.ensures.asks g.F.Files.is_known (g.F.Files.contents c.args.files.now) (g.F.Files.contents c.carry_out.new.files) (g.O.Sink.taken c.args.out.now) (g.O.Sink.taken c.carry_out.new.out) _ c.in-Ok-carry_out.ensures.said,
-    said_of_words (g.F.Files.contents c.args.files.now) (texts c.args.words.now) (wanted_of c.in-Ok.order) c.in-Ok.ensures.asks g.E.Sink.wants_memory
-    (stream (g.E.Sink.failures c.args.err.now) (g.E.Sink.taken c.args.err.now)) (stream (g.E.Sink.failures c.carry_out.new.err) (g.E.Sink.taken c.carry_out.new.err)) c.in-Ok-carry_out.ensures.progress)
+    λ same. inr (
+      reported_of_words (texts c.args.words.now) (wanted_of c.in-Ok.order) c.in-Ok.ensures.asks g.F.Files.is_known (g.F.Files.contents c.args.files.now) (g.F.Files.contents c.carry_out.new.files) (g.O.Sink.taken c.args.out.now) (g.O.Sink.taken c.carry_out.new.out) _ c.in-Ok-carry_out.ensures.said,
+      said_of_words (g.F.Files.contents c.args.files.now) (texts c.args.words.now) (wanted_of c.in-Ok.order) c.in-Ok.ensures.asks g.E.Sink.wants_memory
+          (stream (g.E.Sink.failures c.args.err.now) (g.E.Sink.taken c.args.err.now)) (stream (g.E.Sink.failures c.carry_out.new.err) (g.E.Sink.taken c.carry_out.new.err)) c.in-Ok-carry_out.ensures.progress,
+    )
 
 pub returns-in-Ok-carry_out-clause-device : goal.returns-in-Ok-carry_out-clause-device
 returns-in-Ok-carry_out-clause-device g c =
