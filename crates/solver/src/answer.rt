@@ -103,9 +103,9 @@ pub fn solve(alloc: Global, task: &Task, limits: Limits) -> Result<Answer, NoMem
 }
 
 /// The same, and on the way it says how far it is, in lines of `key=value` (`Report`): how large the ground task is; what every plan
-/// costs at least, and how many states are listed and expanded, at the beginning of a search and each time that it lists twice as
-/// many states, from 1,024 on; and at the end how many the certificate lists. Each line is true, of this task. That the sink fails
-/// changes no answer.
+/// costs at least, and how many states are listed and expanded, at the beginning of a search and, from 1,024 listed states on, where
+/// that bound is greater or twice as many states are listed; and at the end how many the certificate lists. Each line is true, of
+/// this task. That the sink fails changes no answer.
 ///
 /// # Errors
 /// Memory is refused, for a line too.

@@ -9,6 +9,7 @@ mod improved;
 mod limits;
 mod listing;
 mod parts;
+mod pauses;
 mod reports;
 mod searched;
 mod steps;

@@ -19,6 +19,7 @@ ghost use Rattle.solver.specs.Stretches.{AreOpenIn, IsStretch, IsUnderWay};
 ghost use Rattle.solver.specs.Listing.{mark_of_line};
 
 use crate::limits::Limits;
+use crate::pauses::{Milestone, is_news, next_pause};
 use crate::reports::{Report, say};
 use crate::system::GroundSystem;
 use certificate::{Listed, Mark};
@@ -35,9 +36,6 @@ pub(crate) struct Searched {
     pub(crate) outcome: Outcome<PooledStore>,
     pub(crate) marks: Vec<Listed>,
 }
-
-/// How many states are listed where a search says for the second time how far it is.
-const FIRST_REPORT: u32 = 1_024;
 
 /// How far a search came.
 #[derive(Drop)]
@@ -86,8 +84,8 @@ fn stretch_by<G: Guide>(
     }
 }
 
-/// Goes on with it until it ends, or so many states are listed. It says how far it is, and again each time that twice as many
-/// states are listed.
+/// Goes on with it until it ends, or so many states are listed. It says how far it is, and again where the bound is greater than
+/// was said, or twice as many states are listed.
 pub(crate) fn go_on_by<G: Guide, E: Sink>(
     alloc: Global,
     ground: &Ground<'_>,
@@ -105,9 +103,10 @@ pub(crate) fn go_on_by<G: Guide, E: Sink>(
     ensures said { GoesOn (IsTrueLine (task_in ground.now)) E.wants_memory (E.failures err.old) (E.taken err.old) (E.failures err.new) (E.taken err.new) }
 {
     let mut search = search;
+    let mut said = None;
     'stretches: while search.store().len() < pause as usize {
         let next = next_pause(search.store().len(), pause);
-        say_progress(alloc, ground, guide, &search, err)?;
+        said = say_news(alloc, ground, guide, &search, said, err)?;
         match stretch_by(alloc, ground, guide, search, next, limits)? {
             Stretch::Ended(searched) => return Ok(Stretch::Ended(searched)),
             Stretch::Paused(paused) => search = paused,
@@ -116,15 +115,26 @@ pub(crate) fn go_on_by<G: Guide, E: Sink>(
     Ok(Stretch::Paused(search))
 }
 
-/// Where a search pauses that lists so many states: where it lists twice as many, but not before the first report, and no later
-/// than this.
-fn next_pause(listed: usize, last: u32) -> u32
-    requires { listed < last }
-    ensures after { listed < result }
-    ensures within { result ≤ last }
+/// Says how far a search is, if there is anything new to say after what was said last: what was said last from now on.
+fn say_news<G: Guide, E: Sink>(
+    alloc: Global,
+    ground: &Ground<'_>,
+    guide: &G,
+    search: &Search<PooledStore, G::Room>,
+    last: Option<Milestone>,
+    err: &mut E,
+) -> Result<Option<Milestone>, NoMemory>
+    requires atoms { atoms_in ground.now ≡ numbered_atoms (task_in ground.now) [] }
+    requires system { G.system_of guide.now ≡ ground_system (task_in ground.now) (atoms_in ground.now) }
+    requires open { AreOpenIn ground.now (G.estimate_of guide.now) (G.is_dead guide.now) search.now }
+    ensures { GoesOn (IsTrueLine (task_in ground.now)) E.wants_memory (E.failures err.old) (E.taken err.old) (E.failures err.new) (E.taken err.new) }
 {
-    let twice = (listed as u32).saturating_mul(2);
-    twice.max(FIRST_REPORT).min(last).max(listed as u32 + 1)
+    let now = Milestone::of(search);
+    if !is_news(last, now) {
+        return Ok(last);
+    }
+    say_progress(alloc, ground, guide, search, err)?;
+    Ok(now)
 }
 
 /// Says how far a search is: what every plan costs at least, how many states it lists, and how many of them it expanded. Where none

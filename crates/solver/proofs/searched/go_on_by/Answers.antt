@@ -9,5 +9,5 @@ stretches-preserved g c =
     c.in-Paused.is c.in_ok-searched.ensures in
     record {
       under_way = stretch.0;
-      said = λ origin said. c.say_progress.ensures origin (c.stretches.invariant.said origin said);
+      said = λ origin said. c.say_news.ensures origin (c.stretches.invariant.said origin said);
     }
