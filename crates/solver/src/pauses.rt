@@ -2,7 +2,7 @@
 //!
 //! A search with many bounds would be slowed by a line for each. So it is looked at a sixteenth more states later whether the
 //! bound is a greater one, and there are at most some dozen lines until twice as many states are listed.
-ghost use Rattle.std.specs.Prelude.{◌<◌, ◌≤◌, ◌*◌, ◌⊎◌, IsTrue};
+ghost use Rattle.std.specs.Prelude.{◌<◌, ◌≤◌, ◌*◌, ◌⊎◌, ◌↔◌, IsTrue};
 
 use packed_state::{PooledStore, StateStore};
 use search::Search;
