@@ -29,7 +29,7 @@ made c =
     let atoms = c.in_ok-copied.ensures ∙ ap (map atom_of) c.as_slice.ensures.keys ∙ c.atoms.ensures in
     let lines = ap (λ ms. lines_with ms states) c.requires.marks ∙ lines_of_marks (estimate_by guidance) (reports_dead guidance) states nodes in
     let bounds = c.in_ok-into_bounds.ensures in
-    λ i. record { version = c.version.ensures i; claim = claim_of c.args.claim; atoms = atoms i; values = (bounds i).values; dead_ends = (bounds i).dead_ends; tables = (bounds i).tables; lines = lines i }
+    λ i. record { version = c.version.ensures i; claim = claim_of c.args.claim; exchanges = []; atoms = atoms i; values = (bounds i).values; dead_ends = (bounds i).dead_ends; tables = (bounds i).tables; lines = lines i }
 
 pub from_parts-requires-clause-limits : goal.from_parts-requires-clause-limits
 from_parts-requires-clause-limits c =
