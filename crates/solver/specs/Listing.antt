@@ -30,6 +30,7 @@ abbrev pub found_certificate : Claim → List Atom → Guidance → List (List B
 found_certificate claim atoms guidance states nodes = record {
   version = version_by guidance;
   claim = claim;
+  exchanges = [];
   atoms = atoms;
   values = (values_by guidance).values;
   dead_ends = (values_by guidance).dead_ends;

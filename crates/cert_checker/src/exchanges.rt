@@ -1,0 +1,41 @@
+//! Exchanges of objects by their names.
+ghost use Rattle.std.specs.Prelude.{◌≡◌, IfOk, map};
+ghost use Rattle.task.specs.Task.{task_of};
+ghost use Rattle.task.specs.TaskParts.{object_of};
+ghost use Rattle.task_symmetries.specs.Pairs.{pairs_in};
+ghost use Rattle.certificate_reader.specs.Lines.{name_of};
+ghost use Rattle.certificate_definitions.specs.CertificateNames as names;
+
+use faults::NoMemory;
+use std::alloc::Global;
+use task::{ObjectId, Task};
+
+/// The objects of these names, two by two.
+///
+/// # Errors
+/// Where memory is refused.
+pub(crate) fn exchange_said(
+    alloc: Global,
+    task: &Task,
+    objects: &[Vec<u8>],
+) -> Result<Vec<(ObjectId, ObjectId)>, NoMemory>
+    ensures { IfOk result (λ pairs. pairs_in pairs.items ≡ names.exchange_said (task_of task.now) (map name_of objects.now)) }
+{
+    let mut pairs = Vec::new(alloc);
+    for pair in 0..objects.len() / 2 {
+        let first = object_said(task, &objects[2 * pair]);
+        let second = object_said(task, &objects[2 * pair + 1]);
+        pairs.push((first, second))?;
+    }
+    Ok(pairs)
+}
+
+/// The object of this name. Where none has it, what is named is no object of the task: its number is the count of objects.
+fn object_said(task: &Task, name: &[u8]) -> ObjectId
+    ensures { object_of result ≡ names.object_said (task_of task.now) name.now }
+{
+    match task.object_named(name) {
+        Some(object) => object,
+        None => ObjectId(task.object_count() as u32),
+    }
+}
