@@ -1,4 +1,5 @@
 pub mod NamesLemmas
+pub mod ExchangesLemmas
 pub mod LimitsLemmas
 pub mod GivenLemmas
 pub mod ListedLemmas
@@ -21,6 +22,8 @@ pub mod OrderLemmas
 pub mod TablesLemmas
 pub mod ReportedLemmas
 pub mod FirstLemmas
+pub mod SymmetriesLemmas
+pub mod RepresentedLemmas
 pub mod StaysLemmas
 pub mod GroundSuccessors
 pub mod PackedLinesLemmas

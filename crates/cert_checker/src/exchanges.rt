@@ -22,10 +22,11 @@ pub(crate) fn exchange_said(
     ensures { IfOk result (λ pairs. pairs_in pairs.items ≡ names.exchange_said (task_of task.now) (map name_of objects.now)) }
 {
     let mut pairs = Vec::new(alloc);
-    for pair in 0..objects.len() / 2 {
-        let first = object_said(task, &objects[2 * pair]);
-        let second = object_said(task, &objects[2 * pair + 1]);
-        pairs.push((first, second))?;
+    let mut left = objects;
+    'pairs: while let [first, second, others @ ..] = left {
+        let pair = (object_said(task, first), object_said(task, second));
+        pairs.push(pair)?;
+        left = others;
     }
     Ok(pairs)
 }
