@@ -11,6 +11,7 @@ pub mod CertChecker
 pub mod Checking
 pub mod FluentAtoms
 pub mod Exchanged
+pub mod Represented
 pub mod CheckedLines
 pub mod Weights
 pub mod PackedLines

@@ -5,7 +5,7 @@ ghost use Rattle.certificate.specs.Certificate.{certificate_of, store_in};
 ghost use Rattle.cert_checker.specs.PackedLines.{IsPackedListing};
 ghost use Rattle.cert_checker.specs.Weights.{HaveTheirWeights};
 ghost use Rattle.cert_checker.specs.CheckedLines.{AreSymmetries};
-ghost use Rattle.cert_checker.specs.Exchanged.{Represents};
+ghost use Rattle.cert_checker.specs.Represented.{Represents};
 ghost use Rattle.std.specs.Prelude.{length};
 ghost use Rattle.tables.specs.Several as values_in_memory;
 ghost use Rattle.certificate_definitions.specs.Certificates as certificates;
