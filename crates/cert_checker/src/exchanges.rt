@@ -23,7 +23,7 @@ pub(crate) fn exchange_said(
 {
     let mut pairs = Vec::new(alloc);
     let mut left = objects;
-    'pairs: while let [first, second, others @ ..] = left {
+    while let [first, second, others @ ..] = left {
         let pair = (object_said(task, first), object_said(task, second));
         pairs.push(pair)?;
         left = others;
