@@ -50,7 +50,7 @@ past [] k long = refl
 past (x ∷ xs) zero long = absurd (omega (arith, long))
 past (x ∷ xs) (suc k) long = past xs k (omega (arith, long))
 
-within : {X : Type 0} (xs : List X) (k : ℕ) → k < length xs → (x : X) × (slice_get xs k ≡ Some x)
+pub within : {X : Type 0} (xs : List X) (k : ℕ) → k < length xs → (x : X) × (slice_get xs k ≡ Some x)
 within [] k below = absurd (omega (arith, below))
 within (x ∷ xs) zero below = (x, refl)
 within (x ∷ xs) (suc k) below = within xs k (omega (arith, below))

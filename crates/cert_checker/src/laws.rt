@@ -9,8 +9,9 @@ ghost use Rattle.certificate_definitions.specs.CertificateExamples.{AreJudged};
 ghost use Rattle.certificate_definitions.specs.Certificates.{Certificate, is_dead_end_of, lines_of, listed_system, value_of, IsClosedFor, keeps_limits};
 ghost use Rattle.symmetries.specs.Laws.{SolveAtSameCost};
 ghost use Rattle.certificate_definitions.specs.CertificateRefusals.{IsPlanWithin};
-ghost use Rattle.certificate_definitions.specs.CertificateNames.{IsTextOf, are_atoms_of, certificate_text, has_atom_names};
+ghost use Rattle.certificate_definitions.specs.CertificateNames.{IsTextOf, are_atoms_of, are_exchanges_of, certificate_text, has_atom_names};
 ghost use Rattle.certificate_definitions.specs.CertificateChecking.{IsAccepted};
+ghost use Rattle.cert_checker.specs.Exchanged.{are_short};
 ghost use Rattle.cert_checker.specs.OnListing.{StaysListed};
 
 /// What a certificate that is closed for a well-typed task claims is true of all lists of instances, whatever their length; the
@@ -39,14 +40,15 @@ pub fn examples_are_judged()
     ensures { AreJudged }
 {}
 
-/// What is written of a certificate within the limits, for a well-typed task, is a text that says this certificate.
+/// What is written of a certificate within the limits, for a well-typed task, is a text that says this certificate, if its exchanges are
+/// of the task's objects and no line of one is too long.
 pub fn written_certificates_read_back()
     ensures { (task : Task) (c : Certificate) → IsTrue (is_task task) → IsTrue (has_atom_names task) → IsTrue (are_atoms_of task c)
-        → IsTrue (keeps_limits c) → IsTextOf task (certificate_text task c) c }
+        → IsTrue (are_exchanges_of task c) → IsTrue (are_short task c) → IsTrue (keeps_limits c) → IsTextOf task (certificate_text task c) c }
 {}
 
 /// Where the certificate is closed for the task, that text is accepted, with any plan that is within its claim.
 pub fn closed_certificates_are_accepted()
     ensures { (task : Task) (c : Certificate) (plan : Option (List Instance)) → IsTrue (is_task task) → IsTrue (has_atom_names task)
-        → IsTrue (keeps_limits c) → IsClosedFor task c → IsPlanWithin task c.claim plan → IsAccepted task (certificate_text task c) plan }
+        → IsTrue (are_exchanges_of task c) → IsTrue (are_short task c) → IsTrue (keeps_limits c) → IsClosedFor task c → IsPlanWithin task c.claim plan → IsAccepted task (certificate_text task c) plan }
 {}
