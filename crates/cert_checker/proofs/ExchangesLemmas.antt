@@ -3,7 +3,6 @@ use Rattle.std.proofs.Common.{◌≡◌, ℕ, suc, ◌+◌, ◌≤◌, Bool, tru
 use Rattle.std.specs.Prelude.{◌&&◌, nat_le, nat_lt, not, IsTrue}
 use Rattle.std.specs.List.{list_all, position}
 use Rattle.std.proofs.lemmas.Bool.{and_parts, leb-true, le-leb, ltb-false}
-use Rattle.std.proofs.lemmas.Option.{same_Some}
 use Rattle.std.proofs.lemmas.List.{length-map}
 use Rattle.std.proofs.lemmas.List.Sums.{prefix_len-le-length}
 use Rattle.model.specs.Task.{Object, Task}
@@ -50,15 +49,7 @@ said_within task name =
     let long : length (object_names task) ≡ length task.objects = length-map task.objects (λ (o : Object). o.name) in
     omega (arith, long, prefix_len-le-length (λ other. not (is_same name other)) (object_names task))
 
--- the number that is found is the one that is said, and where none is found it is the count
-pub said_some : (task : Task) (name : List ℕ) (n : ℕ) → position (is_same name) (object_names task) ≡ Some n → n ≡ object_said task name
-said_some task name n =
-    let place = object_said task name in
-    elim (nat_lt place (length (object_names task))) as (λ b. cond b (Some place) None ≡ Some n → n ≡ place) [
-      | true ↦ λ some. same_Some n place (sym some)
-      | false ↦ λ none. absurd (cc none)
-    ]
-
+-- where none is found it is the count
 pub said_none : (task : Task) (name : List ℕ) → position (is_same name) (object_names task) ≡ None → length task.objects ≡ object_said task name
 said_none task name =
     let place = object_said task name in

@@ -87,7 +87,7 @@ module _ (before : List TextLine) (claim : Claim) (width : ℕ) (marks : List Ma
 
     pub state_reported_more : (Contains sets (set_of width l.atoms) → ⊥) → ((claim ≡ none) × IsCut l.mark → ⊥) → HaveGiven task (before ++ listed l ∷ []) heading
     state_reported_more new allowed =
-        reported_else task before heading reported (listed l) (λ v same. cc same) (λ d same. cc same) (λ k same. cc same) refl refl (λ number wrong. right_state new allowed (listed l) number wrong refl)
+        reported_else task before heading reported (listed l) (λ v same. cc same) (λ d same. cc same) (λ k same. cc same) refl refl refl (λ number wrong. right_state new allowed (listed l) number wrong refl)
 
     pub state_again : Contains sets (set_of width l.atoms) → IsWrongAfter task before (listed l) 44
     state_again there = repeated_state l (set_was_listed there)

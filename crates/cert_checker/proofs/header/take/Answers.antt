@@ -1,10 +1,13 @@
-use Rattle.std.proofs.Common.{◌≡◌, ◌+◌, List, [], ◌∷◌, ◌++◌, length, map, None, refl, sym, ap, ◌∙◌, subst}
+use Rattle.std.proofs.Common.{◌≡◌, ℕ, ◌+◌, List, [], ◌∷◌, ◌++◌, length, map, None, refl, sym, ap, ◌∙◌, subst}
 use Rattle.std.specs.Prelude.{ℤ}
+use Rattle.std.specs.Global.{Vec}
 use Rattle.faults.proofs.Results.{passed_on}
 use Rattle.task.specs.Task.{task_of}
 use Rattle.task.specs.TaskParts.{atom_of}
-use Rattle.certificate_reader.specs.Lines.{claim_of, named_atom_of, text_line_of, version_of}
-use Rattle.certificate_definitions.specs.CertificateText.{TextLine, BeginCertificate, atom, constant, tabled, scope, row}
+use Rattle.certificate_reader.specs.Lines.{claim_of, name_of, named_atom_of, text_line_of, version_of}
+use Rattle.certificate_definitions.specs.CertificateText.{TextLine, BeginCertificate, atom, constant, swapped, tabled, scope, row}
+use Rattle.symmetries.specs.Exchanges.{Exchange}
+use Rattle.certificate_definitions.specs.CertificateNames.{exchange_said}
 use Rattle.model.specs.Task.{Task}
 use Rattle.table_functions.specs.TableFunctions.{Row, SeveralValues}
 use Rattle.table_rows.specs.Tables.{table_of}
@@ -14,7 +17,7 @@ use Rattle.certificate.specs.CertificateParts.{bounds_of, exchange_in}
 use Rattle.cert_checker.specs.Given.{Heading, HaveGiven, begun_with}
 use Rattle.cert_checker.specs.Tabled.{AreWeighed, IsFitHead, IsFitRow, IsRowRefused, IsRowTaken}
 use Rattle.cert_checker.specs.Taking.{HasTaken, IsTaken, IsWrongNow, heading_of}
-use Rattle.cert_checker.proofs.GivenLemmas.{reported_version, reported_claim, reported_constant}
+use Rattle.cert_checker.proofs.GivenLemmas.{reported_version, reported_claim, reported_constant, reported_exchange}
 use Rattle.cert_checker.proofs.TabledLemmas.{reported_row, reported_scope, row_is_wrong, weighed_early}
 use Rattle.cert_checker.proofs.header.take.Goals as goal
 
@@ -44,6 +47,23 @@ returns-in_ok-take_constants-in-Constant-clause-taken c =
     → IsTaken task before (text_line_of line) (record { version = header.version; claim = header.claim; exchanges = header.exchanges; atoms = header.atoms; bounds = after }) None)
     (sym c.in-Constant.is) (λ before begun reported. (
       constants_taken task header c.in-Constant.constants.items c.deref.result.now after c.deref.ensures.value c.in_ok-take_constants-in-Constant.ensures before begun reported,
+      refl,
+    ))
+
+pub returns-in_ok-take_exchange-in-Swap-clause-taken : goal.returns-in_ok-take_exchange-in-Swap-clause-taken
+returns-in_ok-take_exchange-in-Swap-clause-taken c =
+    let task = task_of c.args.task.now in
+    let header = c.args.header.now in
+    let old : List Exchange = map exchange_in header.exchanges.items in
+    let names : List (List ℕ) = map name_of c.in-Swap.objects.items in
+    let heading : List Exchange → Heading =
+    λ exchanges. record { version = version_of header.version; claim = claim_of header.claim; exchanges = exchanges; atoms = map atom_of header.atoms.keys; bounds = bounds_of header.bounds } in
+    subst (λ line. (before : List TextLine) → BeginCertificate (before ++ text_line_of line ∷ []) → HasTaken task before header
+    → IsTaken task before (text_line_of line) (record { version = header.version; claim = header.claim; exchanges = c.take_exchange.new.exchanges; atoms = header.atoms; bounds = header.bounds }) None)
+    (sym c.in-Swap.is) (λ before begun reported. (
+      subst (λ exchanges. HaveGiven task (before ++ swapped names ∷ []) (heading exchanges))
+          (sym (c.in_ok-take_exchange-in-Swap.ensures ∙ ap (λ (objects : List (Vec ℕ)). old ++ exchange_said task (map name_of objects) ∷ []) c.deref-in-Swap.ensures.value))
+          (reported_exchange task before (heading_of header) reported names),
       refl,
     ))
 
