@@ -1,15 +1,19 @@
 -- Exchanges that are symmetries of the task.
-use Rattle.std.proofs.Common.{◌≡◌, ◌∙◌, ℕ, zero, suc, ◌+◌, ◌<◌, ◌≤◌, ◌⊎◌, inl, inr, Bool, true, false, not, true≢false, List, [], ◌∷◌, ◌++◌, length, map, take, Option, None, Some, refl, sym, ap, subst, cond, arith}
+use Rattle.std.proofs.Common.{◌≡◌, ◌∙◌, ℕ, zero, suc, ◌+◌, ◌<◌, ◌≤◌, inl, inr, Bool, true, false, not, true≢false, List, [], ◌∷◌, ◌++◌, length, map, take, get_or, Option, None, Some, refl, sym, ap, append_assoc, arith}
 use Rattle.std.specs.Prelude.{All, IsTrue, ◌&&◌, ◌||◌, ◌==◌, nat_eq, nat_le, nat_lt, slice_get, if◌then◌else◌}
 use Rattle.std.specs.List.{list_all, list_any}
 use Rattle.std.specs.Option.{option_eq, option_map}
 use Rattle.std.proofs.lemmas.Bool.{and_parts, cases_order, eq-eqb, false≢true, leb-true, lt-ltb}
 use Rattle.std.proofs.lemmas.Option.{same_Some}
+use Rattle.std.proofs.lemmas.List.{map-append, take_more}
+use Rattle.std.proofs.lemmas.Grind.{flat_map-append}
+use Rattle.task.specs.declared.atoms.ObjectId.{ObjectId}
+use Rattle.task.specs.TaskParts.{object_of}
 use Rattle.model.specs.Task.{Atom, Object, Task}
 use Rattle.symmetries.specs.Exchanges.{Exchange, image_of_object, objects_in, are_different}
 use Rattle.symmetries.specs.Symmetries.{declared_type, is_symmetry, keeps_types, keeps_actions, keeps_values, keeps_statics, keeps_goal}
 use Rattle.symmetries.specs.Quotients.{keeps_atoms}
-use Rattle.task_symmetries.specs.Pairs.{exchange_among, is_object, two_by_two}
+use Rattle.task_symmetries.specs.Pairs.{exchange_among, is_object, pair_of, pairs_in, two_by_two}
 use Rattle.model.specs.NumberedAtoms.{numbered_atoms}
 use Rattle.certificate_definitions.specs.Certificates.{Certificate, is_symmetry_for}
 use Rattle.cert_checker.specs.CheckedLines.{AreSymmetries}
@@ -175,3 +179,24 @@ module _ (task : Task) where
           | true ↦ λ some. absurd (cc some)
           | false ↦ λ none. refl
         ]
+
+-- ---- the code's exchanges
+
+-- the objects of the pairs so far, and of one pair more
+pub objects_more : (pairs : List (ObjectId × ObjectId)) (k : ℕ) (objects : List ObjectId) (pair : ObjectId × ObjectId) → k < length pairs → pair ≡ get_or pairs k pair
+    → map object_of objects ≡ objects_in (pairs_in (take k pairs)) → map object_of ((objects ++ pair.0 ∷ []) ++ pair.1 ∷ []) ≡ objects_in (pairs_in (take (k + 1) pairs))
+objects_more pairs k objects pair lt at before =
+    let both : (e : Exchange) (p : ℕ × ℕ) → objects_in (e ++ p ∷ []) ≡ objects_in e ++ p.0 ∷ p.1 ∷ [] = λ e p. flat_map-append (λ (pair : ℕ × ℕ). pair.0 ∷ pair.1 ∷ []) e (p ∷ []) in
+    map-append object_of (objects ++ pair.0 ∷ []) (pair.1 ∷ []) ∙ ap (λ l. l ++ object_of pair.1 ∷ []) (map-append object_of objects (pair.0 ∷ []))
+    ∙ append_assoc (map object_of objects) (object_of pair.0 ∷ []) (object_of pair.1 ∷ []) ∙ ap (λ l. l ++ object_of pair.0 ∷ object_of pair.1 ∷ []) before
+    ∙ sym (ap (λ l. objects_in (pairs_in l)) (take_more pairs k pair lt ∙ ap (λ p. take k pairs ++ p ∷ []) (sym at))
+    ∙ ap objects_in (map-append pair_of (take k pairs) (pair ∷ [])) ∙ both (pairs_in (take k pairs)) (pair_of pair))
+
+-- what the test of one task says is so of the same task
+pub fails_by : (tested task : Task) (atoms : List Atom) (e : Exchange) (b : Bool) → tested ≡ task → b ≡ is_symmetry tested e → b ≡ false → false ≡ is_symmetry_by task atoms e
+fails_by tested task atoms e b same is fails = ap (λ x. x && keeps_atoms atoms e) (sym fails ∙ is ∙ ap (λ t. is_symmetry t e) same)
+
+pub keeps_by : (tested task : Task) (those atoms : List Atom) (e : Exchange) (b keeps : Bool) → tested ≡ task → those ≡ atoms → b ≡ is_symmetry tested e → b ≡ true → keeps ≡ keeps_atoms those e
+    → keeps ≡ is_symmetry_by task atoms e
+keeps_by tested task those atoms e b keeps same numbered is holds kept =
+    kept ∙ ap (λ l. keeps_atoms l e) numbered ∙ ap (λ x. x && keeps_atoms atoms e) (sym holds ∙ is ∙ ap (λ t. is_symmetry t e) same)
