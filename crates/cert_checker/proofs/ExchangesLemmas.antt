@@ -9,9 +9,9 @@ use Rattle.model.specs.Task.{Object, Task}
 use Rattle.model.specs.Resolution.{is_same}
 use Rattle.model.specs.PlanText.{object_names}
 use Rattle.symmetries.specs.Exchanges.{Exchange, objects_in}
-use Rattle.certificate_definitions.specs.Certificates.{are_exchanges, has_exchanges}
+use Rattle.certificate_definitions.specs.Certificates.{Certificate, are_exchanges, has_exchanges}
 use Rattle.certificate_definitions.specs.CertificateText.{Format, TextLine, swapped, are_exchanged, are_paired, differ, is_line, line_text, longest_line}
-use Rattle.certificate_definitions.specs.CertificateNames.{exchange_said, object_said, two_by_two}
+use Rattle.certificate_definitions.specs.CertificateNames.{IsTextOf, exchange_said, object_said, two_by_two}
 use Rattle.model.specs.PlanWriting.{is_lower_name}
 use Rattle.cert_checker.specs.Exchanged.{is_said}
 
@@ -77,8 +77,12 @@ pairs_pass test (m ∷ n ∷ numbers) all =
     let (second, more) = and_parts (test n) (list_all test numbers) rest in
     λ i. first i && (second i && pairs_pass test numbers more i)
 
-pub all_said : (task : Task) (swaps : List (List (List ℕ))) → IsTrue (list_all (is_said task) (map (exchange_said task) swaps))
+all_said : (task : Task) (swaps : List (List (List ℕ))) → IsTrue (list_all (is_said task) (map (exchange_said task) swaps))
 all_said task [] = refl
 all_said task (names ∷ swaps) =
     let here = pairs_pass (is_within task) (map (object_said task) names) (all_within task names) in
     λ i. here i && all_said task swaps i
+
+-- so it is of a certificate that a text says
+pub exchanges_of_text : (task : Task) (text : List ℕ) (c : Certificate) → IsTextOf task text c → IsTrue (list_all (is_said task) c.exchanges)
+exchanges_of_text task text c is = subst (λ exchanges. IsTrue (list_all (is_said task) exchanges)) (sym is.exchanges) (all_said task is.said.swaps)
