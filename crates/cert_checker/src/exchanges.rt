@@ -1,9 +1,10 @@
 //! Exchanges of objects by their names.
-ghost use Rattle.std.specs.Prelude.{◌≡◌, IfOk, map};
+ghost use Rattle.std.specs.Prelude.{◌≡◌, ◌++◌, ◌∷◌, [], IfOk, OnOk, map};
 ghost use Rattle.task.specs.Task.{task_of};
 ghost use Rattle.task.specs.TaskParts.{object_of};
 ghost use Rattle.task_symmetries.specs.Pairs.{pairs_in};
 ghost use Rattle.certificate_reader.specs.Lines.{name_of};
+ghost use Rattle.certificate.specs.CertificateParts.{exchange_in};
 ghost use Rattle.certificate_definitions.specs.CertificateNames as names;
 
 use faults::NoMemory;
@@ -11,10 +12,7 @@ use std::alloc::Global;
 use task::{ObjectId, Task};
 
 /// The objects of these names, two by two.
-///
-/// # Errors
-/// Where memory is refused.
-pub(crate) fn exchange_said(
+fn exchange_said(
     alloc: Global,
     task: &Task,
     objects: &[Vec<u8>],
@@ -22,12 +20,27 @@ pub(crate) fn exchange_said(
     ensures { IfOk result (λ pairs. pairs_in pairs.items ≡ names.exchange_said (task_of task.now) (map name_of objects.now)) }
 {
     let mut pairs = Vec::new(alloc);
-    for pair in 0..objects.len() / 2 {
-        let first = object_said(task, &objects[2 * pair]);
-        let second = object_said(task, &objects[2 * pair + 1]);
-        pairs.push((first, second))?;
+    let mut left = objects;
+    while let [first, second, others @ ..] = left {
+        let pair = (object_said(task, first), object_said(task, second));
+        pairs.push(pair)?;
+        left = others;
     }
     Ok(pairs)
+}
+
+/// Puts the exchange of the objects of these names after the others.
+pub(crate) fn take_exchange(
+    alloc: Global,
+    task: &Task,
+    exchanges: &mut Vec<Vec<(ObjectId, ObjectId)>>,
+    objects: &[Vec<u8>],
+) -> Result<(), NoMemory>
+    ensures { OnOk result (map exchange_in exchanges.new.items ≡ map exchange_in exchanges.old.items ++ names.exchange_said (task_of task.now) (map name_of objects.now) ∷ []) }
+{
+    let exchange = exchange_said(alloc, task, objects)?;
+    exchanges.push(exchange)?;
+    Ok(())
 }
 
 /// The object of this name. Where none has it, what is named is no object of the task: its number is the count of objects.

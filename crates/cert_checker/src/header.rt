@@ -13,7 +13,7 @@ ghost use Rattle.certificate_reader.specs.Reader.{source_of};
 ghost use Rattle.certificate.specs.CertificateParts.{bounds_of, potential_of};
 ghost use Rattle.cert_checker.specs.Reading.{CountsRefusal, IsBegun, IsFresh, IsLineRefusal};
 
-use crate::exchanges::exchange_said;
+use crate::exchanges::take_exchange;
 use crate::named_atoms::fluent_atom_named;
 use crate::refusal::{Refusal, RefusalCode};
 use crate::table_lines::{take_row, take_scope};
@@ -144,9 +144,7 @@ fn take(
             Ok(None)
         }
         CertLine::Swap { objects } => {
-            header
-                .exchanges
-                .push(exchange_said(alloc, task, &objects)?)?;
+            take_exchange(alloc, task, &mut header.exchanges, &objects)?;
             Ok(None)
         }
         CertLine::Weight {
