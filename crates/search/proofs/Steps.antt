@@ -23,13 +23,13 @@ use Rattle.search.specs.Nodes.{Waiting, place_of, sum_of, estimate_of, entry, Is
 use Rattle.search.specs.declared.open_list.OpenList.{OpenList}
 use Rattle.search.specs.OpenList.{waiting_in, IsOpenList, JoinsBy}
 use Rattle.search.specs.Progress.{Continues, IsListed, TakesNext}
-use Rattle.search.proofs.Lists.{get-set_here, get-set_other, get_exists}
+use Rattle.search.proofs.Lists.{get-set_here, get-set_other}
 use Rattle.search.proofs.Linked.{length-found_of, found_of-get, get-found_of, found_of-push, found_of-set, updates-push, updates-set}
 use Rattle.search.proofs.Closed.{no_plan_cheaper}
 use Rattle.search.proofs.Marked.{nodes_marked, turn_marked, open_but_marked}
 use Rattle.search.proofs.Ways.{cheapest_way}
 use Rattle.search.proofs.Work.{work_marked}
-use Rattle.search.proofs.NodesLemmas.{IsJoined, Stepped, stepped, reachable-push}
+use Rattle.search.proofs.NodesLemmas.{IsJoined, Stepped, stepped}
 
 module _ {S : Type 0} (t : System S ℕ) (value : S → ℕ) (is_dead : S → Bool) (states : List S) (all : List Node) (open_list : List Waiting) (i : ℕ)
     (one_each : length all ≡ length states)

@@ -1,6 +1,7 @@
 -- What the found states prove where a search stops at the limit, once the state whose turn it is waits again.
-use Rattle.std.proofs.Common.{◌≡◌, ℕ, ◌≤◌, ◌∷◌, inl, inr, List, length, Bool, Some, refl, sym, ap, ◌∙◌, arith}
-use Rattle.std.specs.Prelude.{slice_get, Contains}
+use Rattle.std.proofs.Common.{◌≡◌, ℕ, ◌≤◌, ◌∷◌, inl, inr, List, length, Bool, Some, sym, ap, ◌∙◌, arith}
+use Rattle.std.specs.Prelude.{slice_get, All}
+use Rattle.std.proofs.lemmas.List.Elements.{All-tail}
 use Rattle.model.proofs.ListLemmas.{Contains-cases, Contains-there}
 use Rattle.model.specs.Runs.{System}
 use Rattle.model.specs.Claims.{bound}
@@ -12,10 +13,10 @@ use Rattle.search.specs.DeadEnds.{ReportsDeadEnds}
 use Rattle.search.specs.Outcome.{IsAtLimit}
 use Rattle.search.specs.OpenList.{waiting_in}
 use Rattle.search.specs.Progress.{IsStopped, IsLeastWith}
-use Rattle.search.specs.Nodes.{Waiting, sum_of, place_of, entry, Found, found_of, IsWaiting, total_of, AreNodes, AreOpen}
+use Rattle.search.specs.Nodes.{Waiting, sum_of, place_of, entry, IsEntry, Found, found_of, IsWaiting, total_of, AreNodes, AreOpen}
 use Rattle.search.proofs.Linked.{found_of-get}
 use Rattle.search.proofs.Closed.{are_listed, node_at, closed, found_states, claimed}
-use Rattle.search.proofs.Steps.{current_entry, entry_waits}
+use Rattle.search.proofs.Steps.{entries_of, current_entry, entry_waits}
 
 module _ {S : Type 0} (t : System S ℕ) (value : S → ℕ) (is_dead : S → Bool) (states : List S) (all : List Node) (open_list : List Waiting)
     (one_each : length all ≡ length states) (nodes : AreNodes t value is_dead (found_of states all) open_list) (are_open : AreOpen t (found_of states all)) where
@@ -44,19 +45,25 @@ module _ {S Store : Type 0} (t : System S ℕ) (value : S → ℕ) (is_dead : S 
   abbrev first : Waiting
   first = entry stopped.found.node.cost (value stopped.found.state) turn.id.0
 
+  -- the entries of the open list are of the nodes
+  pub entries_stopped : All (IsEntry (length p.nodes.items)) (waiting_in p.open_list)
+  entries_stopped =
+      All-tail (IsEntry (length p.nodes.items)) first (waiting_in p.open_list)
+      (entries_of t value is_dead (states_of p.store) p.nodes.items (first ∷ waiting_in p.open_list) stopped.one_each stopped.nodes)
+
   pub at_limit : IsAdmissible t value → ReportsDeadEnds t is_dead → (least : ℕ) → IsLeastWith turn.sum (waiting_in p.open_list) p.nodes.items least
       → IsAtLimit t value is_dead max_states least (states_of p.store) p.nodes.items
   at_limit admissible reports least is =
       let all = p.nodes.items in
       let open_list = first ∷ waiting_in p.open_list in
       let waiting : (k : ℕ) (n : Found S) → slice_get (found_of (states_of p.store) all) k ≡ Some n → IsWaiting is_dead n → total_of value n ≡ least → IsAtLimit t value is_dead max_states least (states_of p.store) all =
-          at_least t value is_dead (states_of p.store) all open_list stopped.one_each stopped.nodes stopped.are_open admissible reports max_states least stopped.full
-          (λ k n at waits.
-          let w = entry n.node.cost (value n.state) k in
-          elim (Contains-cases first (waiting_in p.open_list) w (stopped.nodes.queued k n at waits)) [
-            | inl same ↦ omega (arith, ap sum_of same, stopped.sum, is.no_greater)
-            | inr among ↦ is.at_most_each w among (current_entry t value is_dead (states_of p.store) all open_list stopped.one_each stopped.nodes k n at waits)
-          ]) in
+      at_least t value is_dead (states_of p.store) all open_list stopped.one_each stopped.nodes stopped.are_open admissible reports max_states least stopped.full
+      (λ k n at waits.
+      let w = entry n.node.cost (value n.state) k in
+      elim (Contains-cases first (waiting_in p.open_list) w (stopped.nodes.queued k n at waits)) [
+        | inl same ↦ omega (arith, ap sum_of same, stopped.sum, is.no_greater)
+        | inr among ↦ is.at_most_each w among (current_entry t value is_dead (states_of p.store) all open_list stopped.one_each stopped.nodes k n at waits)
+      ]) in
       elim is.of_one [
         | inl same ↦ waiting turn.id.0 stopped.found stopped.occurs stopped.waits (sym stopped.sum ∙ same)
         | inr (w, among, current, same) ↦

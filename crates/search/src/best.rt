@@ -56,26 +56,25 @@ pub enum Outcome<S> {
 ///
 /// What differs from these: the states are in a store, in the order in which they were found, and are named by
 /// their places there; actions are the system's numbers. Where a cheaper way to a waiting state is found, the old entry
-/// stays in the open list beside the new one, and is passed over when it comes up (lazy deletion). A state that waits again stays
-/// among the found ones, and so do the states that were reached from it, at what they cost to reach by its dearer way until it is
-/// expanded again; along the parents of the answered state the actions may cost less than was paid, but then there is no
-/// cheaper way, so that they cost the same. Whether a state is a dead end is asked where it is found, and where a cheaper way to it
-/// is. At most `max_states` states are listed: where one more would have to be, the answer is `States`, with the least sum
-/// of a state that waits then as the bound; the state whose turn it is is one of these, though some of its successors
-/// may be listed. Each turn writes into the same buffers, so that a state takes no memory but its place in the store, among
-/// the nodes and in the open list.
+/// stays in the open list beside the new one, and is passed over when it comes up (lazy deletion). Where one to an expanded
+/// state is found, the states that were reached from it keep their costs until it is expanded again, so that the actions along
+/// the parents may cost less than a state's node says; those to the state that is answered do not, since no list costs less.
+/// Whether a state is a dead end is asked where it is found, and where a cheaper way to it is. At most `max_states` states are
+/// listed: where one more would have to be, the answer is `States`, with the least sum of the states that wait then as the
+/// bound. The state whose turn it is is one of them: it is not expanded, though some of its successors may be listed. Each turn
+/// writes into the same buffers, so that a state takes no memory but its place in the store, among the nodes and in the open list.
 ///
 /// The clause promises what costs decide. A plan that is found is a cheapest one. `States` is reported only where more states
 /// than the limit are next to one that is not reported dead and, with its estimate, no dearer than any plan (`PrecedesPlans`):
 /// where there are no more of these, the answer is a plan, or that there is none. Its bound is the least sum of cost and
 /// estimate over the found states that are neither expanded nor reported dead, and the found states prove it (`IsAtLimit`). No
-/// state that is reported dead is expanded, and exactly these are marked dead among the found states. No list that solves costs
-/// less than an expanded state with its estimate. Of a consistent estimate the clause says more: an expanded state was reached by
-/// a cheapest way, and at the limit none has a greater sum than the bound. The clause leaves open
-/// which of several cheapest plans is answered, which states whose sum is as much as these cost are expanded before, and the
-/// order of the states in the store. Of that order, the contract of `next_waiting` says that it gives the state found first of
-/// those of the least estimate of those of the least sum; that this is the one to be expanded or answered, and that states are
-/// found in the order of the successors, is shown by tests alone.
+/// state that is reported dead is expanded, and exactly these are marked dead among the found states. No plan costs less than an
+/// expanded state with its estimate. Where the estimate is consistent, and what follows a state that is reported dead is reported
+/// dead too, an expanded state was reached by a cheapest way, and at the limit none has a greater sum than the bound. The clause
+/// leaves open which of several cheapest plans is answered, which states whose sum is as much as these cost are expanded before,
+/// and the order of the states in the store. Of that order, the contract of `next_waiting` says that it gives the state found first
+/// of those of the least estimate of those of the least sum; that this is the one to be expanded or answered, and that states
+/// are found in the order of the successors, is shown by tests alone.
 ///
 /// ```text
 /// let store = PooledStore::new(alloc, system.width())?;

@@ -1,7 +1,6 @@
-use Rattle.std.proofs.Common.{List, Bool, ◌≡◌, ℕ, ◌+◌, length, ap, sym, ◌∙◌, subst, arith, Some, get_or, true, false}
+use Rattle.std.proofs.Common.{List, Bool, ◌≡◌, ℕ, length, ap, sym, ◌∙◌, subst, arith, Some, get_or, true, false}
 use Rattle.std.specs.Prelude.{slice_get}
 use Rattle.search.specs.OpenList.{waiting_in}
-use Rattle.std.proofs.lemmas.List.Elements.{All-tail}
 use Rattle.std.proofs.lemmas.Option.{same_Some, get_or_from_slice_get, slice_get_within}
 use Rattle.packed_state.specs.Packed.{bits_of}
 use Rattle.model.specs.Claims.{bound}
@@ -9,11 +8,11 @@ use Rattle.model.specs.Runs.{System}
 use Rattle.search.specs.Estimates.{IsAdmissible}
 use Rattle.search.specs.DeadEnds.{ReportsDeadEnds}
 use Rattle.search.specs.Outcome.{AreFound, AreExpandedWithin}
-use Rattle.search.specs.Nodes.{found_of, IsEntry, IsEntryOf}
+use Rattle.search.specs.Nodes.{found_of, IsEntryOf}
 use Rattle.search.proofs.Closed.{reached_in, optimal, unsolvable}
 use Rattle.search.proofs.OpenList.{All-among}
 use Rattle.search.proofs.Steps.{entries_of, at_turn, none_waits}
-use Rattle.search.proofs.Stopped.{at_limit}
+use Rattle.search.proofs.Stopped.{entries_stopped, at_limit}
 use Rattle.search.proofs.under_way.go_on.Goals as goal
 
 pub turns-init : goal.turns-init
@@ -123,8 +122,8 @@ least_with-bound-requires-clause-heap g c =
 pub least_with-bound-requires-clause-entries : goal.least_with-bound-requires-clause-entries
 least_with-bound-requires-clause-entries g c =
     let not_listed : c.in_ok-expand.field-0 ≡ false = c.if-not-branch.true in
-    let stopped = rw not_listed at c.in_ok-expand.ensures.listed in
-    All-tail (IsEntry (length c.expand.new.self.nodes.items)) _ (waiting_in c.expand.new.self.open_list) (entries_of _ _ _ _ _ _ stopped.one_each stopped.nodes)
+    entries_stopped (g.T.TransitionSystem.means c.args.system.now) (g.G.Guide.estimate_of c.args.guide.now) (g.G.Guide.is_dead c.args.guide.now) g.S.StateStore.states
+    c.expand.new.self c.in-Some.turn c.args.max_states (rw not_listed at c.in_ok-expand.ensures.listed)
 
 pub turns-smaller : goal.turns-smaller
 turns-smaller g c =

@@ -12,7 +12,7 @@ invariant_of-result g c =
     let d = c.args.dead_ends.now in
     let t = g.E.Estimate.system_of e in
     let detects : DetectsDeadEnds t (g.D.DeadEnd.is_dead d) =
-        subst (λ (u : System (List Bool) ℕ). DetectsDeadEnds u (g.D.DeadEnd.is_dead d)) c.requires.system (g.met.D.DeadEnd.detects_dead_ends d) in
+    subst (λ (u : System (List Bool) ℕ). DetectsDeadEnds u (g.D.DeadEnd.is_dead d)) c.requires.system (g.met.D.DeadEnd.detects_dead_ends d) in
     record {
       width = c.requires.width;
       detects = detects;

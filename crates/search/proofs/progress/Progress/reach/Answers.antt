@@ -1,4 +1,4 @@
-use Rattle.std.proofs.Common.{◌≡◌, ℕ, ◌+◌, ◌<◌, ◌≤◌, List, [], ◌∷◌, length, get_or, Bool, ap, sym, subst, refl, ◌∙◌, arith, vec_len, Some, false}
+use Rattle.std.proofs.Common.{◌≡◌, ℕ, ◌+◌, ◌<◌, ◌≤◌, List, [], ◌∷◌, length, get_or, ap, sym, subst, refl, ◌∙◌, arith, vec_len, Some, false}
 use Rattle.std.specs.Prelude.{Contains, slice_get}
 use Rattle.search.specs.declared.open_list.OpenList.{OpenList}
 use Rattle.search.specs.OpenList.{waiting_in}
