@@ -93,7 +93,8 @@ impl Guide for FarSigns {
     ghost reports_dead_ends = { λ guide. none_dead (rooms guide.rooms.width guide.rooms.first.now guide.rooms.second.now guide.rooms.first_cost guide.rooms.second_cost guide.rooms.goal) };
 
     fn room(&self, alloc: Global) -> Result<Packed, NoMemory> {
-        Packed::empty(alloc, self.rooms.width)
+        let next = Packed::empty(alloc, self.rooms.width)?;
+        Ok(next)
     }
 
     fn value_in(&self, state: &Packed, next: &mut Packed) -> Option<u64> {
