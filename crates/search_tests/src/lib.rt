@@ -9,6 +9,8 @@ mod dear_doors;
 #[cfg(test)]
 mod fairness;
 #[cfg(test)]
+mod far_signs;
+#[cfg(test)]
 mod laws;
 #[cfg(test)]
 mod packed_states;
@@ -20,6 +22,8 @@ mod plain_certificates;
 mod plain_tasks;
 #[cfg(test)]
 mod refused_inserts;
+#[cfg(test)]
+mod reopened;
 #[cfg(test)]
 mod rooms;
 #[cfg(test)]
