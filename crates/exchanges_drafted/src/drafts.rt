@@ -1,0 +1,51 @@
+//! The exchanges that are given.
+ghost use Rattle.std.specs.Prelude.{◌≤◌, IfOk, IsTrue, length, map};
+ghost use Rattle.std.specs.List.{list_all};
+ghost use Rattle.task.specs.Task.{task_of};
+ghost use Rattle.task_symmetries.specs.Exchange.{exchange_of};
+ghost use Rattle.task_symmetries.specs.SymmetryTest.{task_tested};
+ghost use Rattle.symmetries.specs.Symmetries.{is_symmetry};
+
+use crate::finder::found_exchanges;
+use faults::NoMemory;
+use std::alloc::Global;
+use task::Task;
+use task_symmetries::{Exchange, SymmetryTest};
+
+/// The most exchanges that are given: as many as a certificate may have.
+pub const MAX_EXCHANGES: usize = 1_048_576;
+
+/// Exchanges of objects that are symmetries of the task: of neighbours in each class of objects of one type that are alike, and of
+/// objects together with those that belong to them. The same task has the same ones in the same order.
+///
+/// # Errors
+/// Memory was refused, which says nothing of the task.
+pub fn drafted_exchanges(alloc: Global, task: &Task) -> Result<Vec<Exchange>, NoMemory>
+    ensures symmetries { IfOk result (λ found. IsTrue (list_all (is_symmetry (task_of task.now)) (map exchange_of found.items))) }
+    ensures few { IfOk result (λ found. length found.items ≤ MAX_EXCHANGES) }
+{
+    let test = SymmetryTest::new(alloc, task)?;
+    let drafts = found_exchanges(alloc, task, &test)?;
+    tested(alloc, &test, drafts)
+}
+
+/// Those of the exchanges that pass the test, in order, as many as may be given.
+fn tested(
+    alloc: Global,
+    test: &SymmetryTest<'_>,
+    drafts: Vec<Exchange>,
+) -> Result<Vec<Exchange>, NoMemory>
+    ensures symmetries { IfOk result (λ found. IsTrue (list_all (is_symmetry (task_tested test.now)) (map exchange_of found.items))) }
+    ensures few { IfOk result (λ found. length found.items ≤ MAX_EXCHANGES) }
+{
+    let mut passed = Vec::new(alloc);
+    for exchange in drafts {
+        if passed.len() == MAX_EXCHANGES {
+            break;
+        }
+        if test.is_symmetry(&exchange) {
+            passed.push(exchange)?;
+        }
+    }
+    Ok(passed)
+}
