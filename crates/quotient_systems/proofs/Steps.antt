@@ -33,7 +33,7 @@ run-push {S} {A} t s (b ∷ actions) a middle end runs leads =
       | Some next ↦ λ rest. run-push t next actions a middle end rest leads
     ] runs
 
-module _ (task : Task) (atoms : List Atom) (exchanges : List Exchange) (well : IsTrue (is_task task)) where
+module _ (task : Task) (atoms : List Atom) (exchanges : List Exchange) where
   abbrev t : System State Instance
   t = system_of task
 
@@ -51,7 +51,7 @@ module _ (task : Task) (atoms : List Atom) (exchanges : List Exchange) (well : I
     pub stands : image_of_state (undone made) (state_of_bits task atoms bits) ≡ real
     pub cost : cost_of_all t plan ≡ cost_of_all q numbers
 
-  module _ (both : IsBisimulation (ground_system task atoms) t (StandsFor task atoms) (NamesKept task)) where
+  module _ (well : IsTrue (is_task task)) (both : IsBisimulation (ground_system task atoms) t (StandsFor task atoms) (NamesKept task)) where
     pub starts : (first names : ℕ → ℕ) (bits : List Bool) → ((o : ℕ) → first o ≡ o) → IsRenamedBy task atoms first (ground_system task atoms).initial names bits
         → AreOnTheWay [] [] names bits
     starts first names bits itself (made, passed, is, named) = record {
