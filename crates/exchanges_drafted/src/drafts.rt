@@ -1,10 +1,11 @@
 //! The exchanges that are given.
-ghost use Rattle.std.specs.Prelude.{◌≤◌, IfOk, IsTrue, length, map};
+ghost use Rattle.std.specs.Prelude.{◌≤◌, IfOk, IsTrue, OnOk, length, map};
 ghost use Rattle.std.specs.List.{list_all};
 ghost use Rattle.task.specs.Task.{task_of};
 ghost use Rattle.task_symmetries.specs.Exchange.{exchange_of};
 ghost use Rattle.task_symmetries.specs.SymmetryTest.{task_tested};
 ghost use Rattle.symmetries.specs.Symmetries.{is_symmetry};
+ghost use Rattle.exchanges_drafted.specs.Drafts.{AreTested};
 
 use crate::finder::found_exchanges;
 use faults::NoMemory;
@@ -35,17 +36,29 @@ fn tested(
     test: &SymmetryTest<'_>,
     drafts: Vec<Exchange>,
 ) -> Result<Vec<Exchange>, NoMemory>
-    ensures symmetries { IfOk result (λ found. IsTrue (list_all (is_symmetry (task_tested test.now)) (map exchange_of found.items))) }
-    ensures few { IfOk result (λ found. length found.items ≤ MAX_EXCHANGES) }
+    ensures { IfOk result (λ found. AreTested (task_tested test.now) found.items) }
 {
     let mut passed = Vec::new(alloc);
     for exchange in drafts {
-        if passed.len() == MAX_EXCHANGES {
-            break;
-        }
-        if test.is_symmetry(&exchange) {
-            passed.push(exchange)?;
-        }
+        add_tested(test, exchange, &mut passed)?;
     }
     Ok(passed)
+}
+
+/// Adds the exchange, if it passes the test and one more may be given.
+fn add_tested(
+    test: &SymmetryTest<'_>,
+    exchange: Exchange,
+    passed: &mut Vec<Exchange>,
+) -> Result<(), NoMemory>
+    ensures { OnOk result (AreTested (task_tested test.now) passed.old.items → AreTested (task_tested test.now) passed.new.items) }
+{
+    if passed.len() >= MAX_EXCHANGES {
+        return Ok(());
+    }
+    if !test.is_symmetry(&exchange) {
+        return Ok(());
+    }
+    passed.push(exchange)?;
+    Ok(())
 }
