@@ -5,7 +5,8 @@ use Rattle.std.specs.FinSet.{contains}
 use Rattle.std.specs.List.{list_all}
 use Rattle.std.specs.Option.{option_map, option_and_then}
 use Rattle.std.proofs.lemmas.List.{take_more, drop_more, take_all, drop_all, map-append, length-map}
-use Rattle.std.proofs.lemmas.Option.{slice_get_within}
+use Rattle.std.proofs.lemmas.Option.{same_Some, slice_get-map, slice_get_read, slice_get_within}
+use Rattle.task.specs.TaskParts.{object_of}
 use Rattle.formulas.specs.State.{instance_of}
 use Rattle.formulas.specs.declared.instance.Instance as code
 use Rattle.model.specs.Task.{Atom, Task, Instance}
@@ -131,3 +132,15 @@ module _ (r : Representatives) where
     walk_ends past =
         way_ends numbers (map instance_of steps) names bits (subst (λ done. AreOnTheWayBy done (map instance_of steps) names bits) (take_all index numbers past) walked.way)
         (walked.left ∙ ap (run (quotient_by r) bits) (drop_all index numbers past))
+
+-- ---- the instances
+
+-- one with the names of its objects in their places
+pub step_is : (instances : List code.Instance) (kept : List Instance) (number : ℕ) (one : code.Instance) (objects : List ℕ) (names : ℕ → ℕ) → map instance_of instances ≡ kept
+    → number < length instances → one ≡ get_or instances number one → objects ≡ map names (map object_of one.objects.items)
+    → (i : Instance) → slice_get kept number ≡ Some i → record { schema = one.schema.0; objects = objects } ≡ image_of_instance names i
+step_is instances kept number one objects names made inside at named i got =
+    let same : instance_of one ≡ i =
+    same_Some (instance_of one) i (sym (ap (λ l. slice_get l number) (sym made) ∙ slice_get-map instance_of instances number
+    ∙ ap (option_map instance_of) (slice_get_read instances (length instances) number one refl inside at)) ∙ got) in
+    (λ k. record { schema = one.schema.0; objects = named k }) ∙ ap (image_of_instance names) same

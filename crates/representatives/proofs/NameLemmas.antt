@@ -39,15 +39,16 @@ stays ((p, q) ∷ rest) o none =
 
 -- the first pair changes places, and then the others do
 image_of_pair : (p q : ℕ) (rest : Exchange) → are_different (objects_in ((p, q) ∷ rest)) ≡ true → (o : ℕ) → image_of_object rest (swapped p q o) ≡ image_of_object ((p, q) ∷ rest) o
-image_of_pair p q rest different o = by_place (p == o) (q == o)
+image_of_pair p q rest different o =
+    let parts = and_parts (not ((q == p) || list_any (λ other. other == p) (objects_in rest))) (not (list_any (λ other. other == q) (objects_in rest)) && are_different (objects_in rest)) different in
+    by_place (or_parts (q == p) (list_any (λ other. other == p) (objects_in rest)) (not-true _ parts.0)).1
+    (not-true _ (and_parts (not (list_any (λ other. other == q) (objects_in rest))) (are_different (objects_in rest)) parts.1).0) (p == o) (q == o)
   where
-    abbrev parts : (not ((q == p) || list_any (λ other. other == p) (objects_in rest)) ≡ true) × ((not (list_any (λ other. other == q) (objects_in rest)) && are_different (objects_in rest)) ≡ true)
-    parts = and_parts (not ((q == p) || list_any (λ other. other == p) (objects_in rest))) (not (list_any (λ other. other == q) (objects_in rest)) && are_different (objects_in rest)) different
-
-    by_place : (here there : Bool) → image_of_object rest (cond here q (cond there p o)) ≡ cond here q (cond there p (image_of_object rest o))
-    by_place true there = stays rest q (not-true _ (and_parts (not (list_any (λ other. other == q) (objects_in rest))) (are_different (objects_in rest)) parts.1).0)
-    by_place false true = stays rest p (or_parts (q == p) (list_any (λ other. other == p) (objects_in rest)) (not-true _ parts.0)).1
-    by_place false false = refl
+    by_place : list_any (λ other. other == p) (objects_in rest) ≡ false → list_any (λ other. other == q) (objects_in rest) ≡ false
+        → (here there : Bool) → image_of_object rest (cond here q (cond there p o)) ≡ cond here q (cond there p (image_of_object rest o))
+    by_place first second true there = stays rest q second
+    by_place first second false true = stays rest p first
+    by_place first second false false = refl
 
 -- the last pairs are of different objects too
 different_dropped : (pairs : List (ObjectId × ObjectId)) (n : ℕ) → are_different (objects_in (pairs_in pairs)) ≡ true → are_different (objects_in (pairs_in (drop n pairs))) ≡ true
