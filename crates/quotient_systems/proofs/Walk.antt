@@ -11,7 +11,7 @@ use Rattle.formulas.specs.State.{instance_of}
 use Rattle.formulas.specs.declared.instance.Instance as code
 use Rattle.model.specs.Task.{Atom, Task, Instance}
 use Rattle.model.specs.Runs.{run}
-use Rattle.model.specs.Meaning.{system_of}
+use Rattle.model.specs.Meaning.{initial_state, system_of}
 use Rattle.model.specs.WellTyped.{is_task}
 use Rattle.model.specs.Fluents.{is_fluent}
 use Rattle.model.specs.StaticallyFalse.{kept_instances}
@@ -29,7 +29,10 @@ use Rattle.representatives.specs.NewNames.{IsRenamedBy}
 use Rattle.quotient_systems.specs.RealPlans.{IsRealPlan, quotient_by, start_by}
 use Rattle.quotient_systems.proofs.Steps.{AreOnTheWay, starts, goes_on, comes_to, runs_on, has_number}
 
--- representatives are as wide as all states are
+-- the start, and representatives, are as wide as all states are
+pub initial-wide : (task : Task) (atoms : List Atom) (bits : List Bool) → bits ≡ (ground_system task atoms).initial → length bits ≡ length atoms
+initial-wide task atoms bits is = ap length is ∙ length-map atoms (contains (initial_state task))
+
 pub represented-wide : (task : Task) (atoms : List Atom) (all : List exchanges.Exchange) (bits new : List Bool) → new ≡ packed_representative task atoms all bits → length new ≡ length atoms
 represented-wide task atoms all bits new is = ap length is ∙ length-map atoms (contains (representative atoms all (state_of_bits task atoms bits)))
 

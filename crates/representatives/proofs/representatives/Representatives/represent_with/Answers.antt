@@ -1,5 +1,7 @@
-use Rattle.std.proofs.Common.{◌∙◌, subst, arith}
+use Rattle.std.proofs.Common.{◌∙◌, sym, ap, subst, arith}
 use Rattle.packed_state.specs.Packed.{bits_of}
+use Rattle.task_symmetries.specs.declared.exchange.Exchange as code
+use Rattle.task_symmetries.specs.Exchange.{image}
 use Rattle.representatives.specs.Places.{FindsFrom}
 use Rattle.representatives.specs.Names.{name_in}
 use Rattle.representatives.specs.Representatives.{swaps_of}
@@ -27,7 +29,8 @@ images-preserved c =
       come = turn.come;
       passed = still_none r now c.images.from c.in-Some.number c.index-from.result.now c.images.invariant.passed found new c.exchange.ensures (noted_at r now c.in-Some.number c.index-from.result.now found.0 c.index-from.ensures);
       named = names_changed r start now new (name_in c.args.names.now) (name_in c.images.names) (name_in c.exchange-in-Some.new.self) c.in-Some.number c.index-self-number.result
-          c.images.invariant.named c.images.invariant.wide found.0 c.index-self-number.is c.exchange.ensures c.in_ok-exchange.ensures;
+          c.images.invariant.named c.images.invariant.wide found.0 c.index-self-number.is c.exchange.ensures
+          (λ o. c.in_ok-exchange.ensures o ∙ ap (λ (e : code.Exchange). name_in c.images.names (image e o)) (sym c.index-self-number.is));
     }
 
 pub images-smaller : goal.images-smaller
