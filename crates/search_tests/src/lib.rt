@@ -1,4 +1,4 @@
-//! Tests of packed states and both stores of them, of the search over a system that is here alone, of potentials, and of
+//! Tests of packed states and both stores of them, of the search over a system that is here alone, of potentials, of quotients, and of
 //! the certificates of answers over either store.
 #![tactic(auto)]
 
@@ -20,6 +20,8 @@ mod pauses;
 mod plain_certificates;
 #[cfg(test)]
 mod plain_tasks;
+#[cfg(test)]
+mod quotients;
 #[cfg(test)]
 mod refused_inserts;
 #[cfg(test)]
