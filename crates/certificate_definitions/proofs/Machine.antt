@@ -176,7 +176,7 @@ module _ (g : Beginning) (keeps : Keeps g) where
           states_are = keeps.states_are;
           scope_first = keeps.scope_first;
           few_swaps = omega (arith, below, one_longer g.swaps names);
-      few_atoms = keeps.few_atoms;
+          few_atoms = keeps.few_atoms;
           few_tables = keeps.few_tables;
           few_rows = keeps.few_rows;
           few_states = keeps.few_states;

@@ -43,10 +43,7 @@ fn atoms(alloc: Global) -> Result<IndexSet<Atom>, NoMemory> {
 }
 
 /// The exchanges of these objects.
-fn exchanges(
-    alloc: Global,
-    all: &[Pairs],
-) -> Result<Vec<Vec<(ObjectId, ObjectId)>>, AllocError> {
+fn exchanges(alloc: Global, all: &[Pairs]) -> Result<Vec<Vec<(ObjectId, ObjectId)>>, AllocError> {
     let mut exchanges = Vec::new(alloc);
     for pairs in all {
         exchanges.push(pairs.to_vec(alloc)?)?;
