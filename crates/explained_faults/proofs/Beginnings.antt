@@ -59,11 +59,10 @@ pub refused_begins : {E : Type 0} (file : TaskFile) (words : List Word) (fault :
     → IsTrue (list_all has_bytes words) → IfSome (reported.reported_by fault) (IsRefused file words) → IfOk r (ReportsEnd fault)
     → IfOk r (λ answer. Decides answer (Begins file (tokens_of words)))
 refused_begins file words fault (Err e) full refused reports = tt
-refused_begins file words (At refusal) (Ok answer) full refused reports =
-    (
-      λ is. runs_out file words (reported.refusal_of refusal) full refused (eqb-true refusal.span.start refusal.span.end (sym reports ∙ is)),
-      λ begins. reports ∙ eq-eqb refusal.span.start refusal.span.end (is_without_bytes file words (reported.refusal_of refusal) refused begins),
-    )
+refused_begins file words (At refusal) (Ok answer) full refused reports = (
+  λ is. runs_out file words (reported.refusal_of refusal) full refused (eqb-true refusal.span.start refusal.span.end (sym reports ∙ is)),
+  λ begins. reports ∙ eq-eqb refusal.span.start refusal.span.end (is_without_bytes file words (reported.refusal_of refusal) refused begins),
+)
 refused_begins file words NoMemory (Ok answer) full refused reports = absurd reports
 
 -- what decides a claim answers it
@@ -83,13 +82,12 @@ follows file before words word (Err e) are answers = tt
 follows file before words word (Ok answer) are answers =
     let tokens : tokens_of (map word_of words) ≡ tokens_of (map word_of before) ++ token_of (word_of word) ∷ [] =
     ap (λ (w : List code.Word). tokens_of (map word_of w)) are ∙ one_more_token before word in
-    let test : code.Word → Bool = λ w. has_bytes (word_of w) in
-    (
+    let test : code.Word → Bool = λ w. has_bytes (word_of w) in (
       λ is. subst (λ (w : List Token). Begins file w) tokens (answers.0 is),
       λ have holds.
-      answers.1
-      (ap (list_all test) are ∙ list_all-append test before (word ∷ []) ∙ and_from (list_all test before) (test word && true) have.0 (and_from (test word) true have.1 refl))
-      (subst (λ (w : List Token). Begins file w) (sym tokens) holds),
+          answers.1
+          (ap (list_all test) are ∙ list_all-append test before (word ∷ []) ∙ and_from (list_all test before) (test word && true) have.0 (and_from (test word) true have.1 refl))
+          (subst (λ (w : List Token). Begins file w) (sym tokens) holds),
     )
 
 -- words each of which has bytes, in the model's terms

@@ -37,8 +37,7 @@ module _ {E : Type 0} (texts : NamedTexts) (fault : FileRefusal) (reported : Lis
       → IfOk r (λ wanted. AreWhole texts fault wanted.items)
   whole_in_domain (Ok wanted) is told =
       let bytes : reported ≡ reported_in (text_in texts Domain) fault.span.start fault.span.end =
-      same ∙ ap (λ (f : File). reported_in (text_in texts f) fault.span.start fault.span.end) is in
-      (
+      same ∙ ap (λ (f : File). reported_in (text_in texts f) fault.span.start fault.span.end) is in (
         λ here reads. subst (λ (b : List ℕ). AreToldIn domain_file (text_in texts Domain) fault.span.start b wanted.items) bytes (told reads),
         λ other. absurd (let both : Domain ≡ Problem = sym is ∙ other in cc),
       )
@@ -49,8 +48,7 @@ module _ {E : Type 0} (texts : NamedTexts) (fault : FileRefusal) (reported : Lis
       → IfOk r (λ wanted. AreWhole texts fault wanted.items)
   whole_in_problem (Ok wanted) is told =
       let bytes : reported ≡ reported_in (text_in texts Problem) fault.span.start fault.span.end =
-      same ∙ ap (λ (f : File). reported_in (text_in texts f) fault.span.start fault.span.end) is in
-      (
+      same ∙ ap (λ (f : File). reported_in (text_in texts f) fault.span.start fault.span.end) is in (
         λ other. absurd (let both : Problem ≡ Domain = sym is ∙ other in cc),
         λ here reads. subst (λ (b : List ℕ). AreToldIn problem_file (text_in texts Problem) fault.span.start b wanted.items) bytes (told reads),
       )

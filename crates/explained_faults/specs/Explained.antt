@@ -47,9 +47,9 @@ reported_in text start end = slice_range text (min start (min end (length text))
 abbrev pub AreWhole : NamedTexts → FileRefusal → List Word → Type 0
 AreWhole texts fault wanted =
     (fault.file ≡ Domain → Reads (text_in texts Domain)
-        → AreToldIn domain_file (text_in texts Domain) fault.span.start (reported_in (text_in texts Domain) fault.span.start fault.span.end) wanted)
+    → AreToldIn domain_file (text_in texts Domain) fault.span.start (reported_in (text_in texts Domain) fault.span.start fault.span.end) wanted)
     × (fault.file ≡ Problem → Reads (text_in texts Problem)
-        → AreToldIn problem_file (text_in texts Problem) fault.span.start (reported_in (text_in texts Problem) fault.span.start fault.span.end) wanted)
+    → AreToldIn problem_file (text_in texts Problem) fault.span.start (reported_in (text_in texts Problem) fault.span.start fault.span.end) wanted)
 
 -- it is reported for this fault, the place is that of the first byte of its span, and the words that are reported may occur there,
 -- and none is left out
