@@ -22,11 +22,14 @@ word_has start part word is = let long : length word.text ≡ suc (length part.o
 parts_have : (start : ℕ) (parts : List Part) (words : List text.Word) → AreGapsAndWords start parts words → list_all has_bytes words ≡ true
 parts_have start [] words are = ap (list_all has_bytes) are
 parts_have start (part ∷ parts) [] are = refl
-parts_have start (part ∷ parts) (word ∷ words) are = in_turn are
+parts_have start (part ∷ parts) (word ∷ words) are =
+    in_turn are (parts_have (start + size part) parts (word ∷ words)) (parts_have (start + size part) parts words)
   where
-    in_turn : AreGapsAndWords start (part ∷ parts) (word ∷ words) → list_all has_bytes (word ∷ words) ≡ true
-    in_turn (inl gap) = parts_have (start + size part) parts (word ∷ words) gap.1
-    in_turn (inr here) = and_from (has_bytes word) (list_all has_bytes words) (word_has start part word here.0) (parts_have (start + size part) parts words here.1)
+    in_turn : AreGapsAndWords start (part ∷ parts) (word ∷ words)
+        → (AreGapsAndWords (start + size part) parts (word ∷ words) → list_all has_bytes (word ∷ words) ≡ true)
+        → (AreGapsAndWords (start + size part) parts words → list_all has_bytes words ≡ true) → list_all has_bytes (word ∷ words) ≡ true
+    in_turn (inl gap) same fewer = same gap.1
+    in_turn (inr here) same fewer = and_from (has_bytes word) (list_all has_bytes words) (word_has start part word here.0) (fewer here.1)
 
 pub read_have : (text : List ℕ) (words : List Word) → ReadsAs text (map word_of words) → HaveBytes words
 read_have text words reads = sym (list_all-map has_bytes word_of words) ∙ parts_have 0 reads.parts (map word_of words) reads.in_turn

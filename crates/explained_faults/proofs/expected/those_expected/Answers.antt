@@ -2,13 +2,23 @@ use Rattle.std.proofs.Common.{◌≡◌, ◌+◌, ◌<◌, ◌≤◌, List, [], 
 use Rattle.std.specs.List.{All}
 use Rattle.std.proofs.lemmas.Bool.{true≢false}
 use Rattle.std.proofs.lemmas.List.{take_all}
+use Rattle.std.proofs.lemmas.List.Elements.{All-nil}
 use Rattle.tokens.specs.declared.word.Word.{Word}
 use Rattle.syntax_tree.specs.Tree.{file_of}
-use Rattle.explained_faults.specs.Expected.{AreThose, MayFollow}
+use Rattle.explained_faults.specs.Expected.{AreThose, none, MayFollow}
 use Rattle.explained_faults.proofs.Beginnings.{one_more}
 use Rattle.explained_faults.proofs.Candidates.{has_at, told_so_far, left_out_so_far}
 use Rattle.explained_faults.proofs.expected.those_expected.Goals as goal
 use Rattle.explained_faults.proofs.expected.those_expected.Goals.{then-follows+in_ok-push, else-follows}
+
+pub loop-word-init : goal.loop-word-init
+loop-word-init c =
+    let P : Word → Type 0 = MayFollow (file_of c.args.file) c.args.before.now in
+    let items : c.new-found.result.items ≡ [] = c.new-found.ensures.items in
+    record {
+      follow = subst (λ (items : List Word). All P items) (sym items) (All-nil P);
+      those = λ before candidates. subst (λ (items : List Word). AreThose P [] items) (sym items) none;
+    }
 
 pub loop-word-preserved : goal.loop-word-preserved
 loop-word-preserved c =

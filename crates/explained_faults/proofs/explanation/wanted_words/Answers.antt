@@ -7,4 +7,4 @@ returns-in-Domain-clause-whole c = λ of_words.
 
 pub returns-in-Problem-clause-whole : goal.returns-in-Problem-clause-whole
 returns-in-Problem-clause-whole c = λ of_words.
-    whole_in_problem c.args.texts.now c.args.fault c.reported_bytes-reported.result.now c.reported_bytes-reported.ensures c.words_at-2.result c.in-Problem.is c.words_at-2.ensures.told
+    whole_in_problem c.args.texts.now c.args.fault c.reported_bytes-reported.result.now c.reported_bytes-reported.ensures c.words_at-in-Problem.result c.in-Problem.is c.words_at-in-Problem.ensures.told

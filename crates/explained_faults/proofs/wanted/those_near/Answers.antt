@@ -1,10 +1,15 @@
-use Rattle.std.proofs.Common.{◌≡◌, ◌<◌, List, [], ◌∷◌, ◌++◌, length, subst, rules}
+use Rattle.std.proofs.Common.{◌≡◌, ◌<◌, List, [], ◌∷◌, ◌++◌, length, sym, subst, rules}
 use Rattle.std.proofs.lemmas.List.{take_all}
 use Rattle.tokens.specs.declared.word.Word.{Word}
-use Rattle.explained_faults.specs.Expected.{AreSome}
+use Rattle.explained_faults.specs.Expected.{AreSome, no_more}
 use Rattle.explained_faults.proofs.Candidates.{taken_so_far, passed_so_far}
 use Rattle.explained_faults.proofs.wanted.those_near.Goals as goal
 use Rattle.explained_faults.proofs.wanted.those_near.Goals.{then-is_like+in_ok-push, else-is_like}
+
+pub loop-word-init : goal.loop-word-init
+loop-word-init c =
+    let items : c.new-near.result.items ≡ [] = c.new-near.ensures.items in
+    subst (λ (items : List Word). AreSome [] items) (sym items) no_more
 
 pub loop-word-preserved : goal.loop-word-preserved
 loop-word-preserved c =
