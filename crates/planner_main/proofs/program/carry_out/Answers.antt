@@ -22,7 +22,7 @@ returns-clause-said g c =
     let wanted = wanted_of c.args.order in
     let found = c.in_ok-report.report in
     IfOk-weaker c.write_report.result _ _
-    (reported_as (WritesReport found _) (IsAnswerTo contents wanted) (report_written contents wanted found c.in_ok-report.ensures.found.report _ c.outputs_of.ensures)
+    (reported_as (WritesReport found (outputs_in c.outputs_of.result)) (IsAnswerTo contents wanted) (report_written contents wanted found c.in_ok-report.ensures.found.report _ c.outputs_of.ensures)
     g.F.Files.is_known contents _ _ c.in_ok-report.ensures.kept _ _)
     c.write_report.ensures.said
 
@@ -32,7 +32,7 @@ returns-clause-partly g c =
     let wanted = wanted_of c.args.order in
     let found = c.in_ok-report.report in
     IfErr-weaker c.write_report.result _ _
-    (λ _. partly_as (WritesReport found _) (IsAnswerTo contents wanted) (report_written contents wanted found c.in_ok-report.ensures.found.report _ c.outputs_of.ensures)
+    (λ _. partly_as (WritesReport found (outputs_in c.outputs_of.result)) (IsAnswerTo contents wanted) (report_written contents wanted found c.in_ok-report.ensures.found.report _ c.outputs_of.ensures)
     g.F.Files.is_known contents _ _ c.in_ok-report.ensures.kept _ _)
     c.write_report.ensures.partly
 

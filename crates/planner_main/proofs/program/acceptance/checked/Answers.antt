@@ -1,6 +1,19 @@
+use Rattle.std.proofs.Common.{ℕ, List, subst}
+use Rattle.certificate_reader.specs.Reader.{source_of}
+use Rattle.file_answers.specs.SaidOf.{IsCheckLineOf}
 use Rattle.progress_lines.specs.Said.{nothing}
 use Rattle.progress_lines.proofs.SaidLemmas.{said_of_more}
 use Rattle.planner_main.proofs.program.acceptance.checked.Goals as goal
 
-pub returns-else-clause-progress : goal.returns-else-clause-progress
-returns-else-clause-progress g c = nothing
+pub returns-then-asked-clause-progress : goal.returns-then-asked-clause-progress
+returns-then-asked-clause-progress g c =
+    let domain = c.args.texts.now.pair.domain.items in
+    let came = g.R.Source.remaining (source_of c.args.cert.now) in
+    said_of_more (λ line is. (
+      c.if-asked.true,
+      subst (λ (problem : List ℕ). IsCheckLineOf domain problem came line) c.deref-then-asked.ensures.value
+          (subst (λ (text : List ℕ). IsCheckLineOf text c.deref-then-asked.result.now came line) c.deref.ensures.value is),
+    )) c.check_files_and_say.ensures.said
+
+pub returns-else-asked-clause-progress : goal.returns-else-asked-clause-progress
+returns-else-asked-clause-progress g c = nothing

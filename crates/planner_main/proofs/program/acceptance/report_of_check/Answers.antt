@@ -4,6 +4,7 @@ use Rattle.certificate_reader.specs.Reader.{source_of}
 use Rattle.file_answers.specs.Files.{text_in}
 use Rattle.planner_main.proofs.ProgramWords.{text_if_named_kept}
 use Rattle.planner_main.proofs.CertificateReported.{check_on_inputs}
+use Rattle.progress_lines.specs.Said.{nothing}
 use Rattle.progress_lines.proofs.SaidLemmas.{said_of_more}
 use Rattle.planner_main.proofs.ProgressReported.{known_of_kept}
 use Rattle.planner_main.proofs.program.acceptance.report_of_check.Goals as goal
@@ -27,3 +28,12 @@ returns-clause-progress g c =
     said_of_more
     (λ line so. (so.0, (_, _, c.in_ok-pair.ensures.domain, c.in_ok-pair.ensures.problem, known_of_kept (contents names.cert.now) _ kept _ _ line so.1)))
     c.check_texts-report.ensures.progress
+
+pub returns-in_err-pair-clause-progress : goal.returns-in_err-pair-clause-progress
+returns-in_err-pair-clause-progress g c = nothing
+
+pub returns-in_err-input-clause-progress : goal.returns-in_err-input-clause-progress
+returns-in_err-input-clause-progress g c = nothing
+
+pub returns-in_err-plan-clause-progress : goal.returns-in_err-plan-clause-progress
+returns-in_err-plan-clause-progress g c = nothing

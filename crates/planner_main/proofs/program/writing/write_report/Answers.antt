@@ -1,4 +1,4 @@
-use Rattle.std.proofs.Common.{refl, ◌∙◌, inl, inr, subst}
+use Rattle.std.proofs.Common.{refl, sym, ◌∙◌, inl, inr, subst}
 use Rattle.std.specs.String.{string_bytes}
 use Rattle.std.specs.Option.{option_map}
 use Rattle.std.proofs.lemmas.Result.{err_from_is_err_and}
@@ -7,7 +7,7 @@ use Rattle.planner_main.specs.Program.{on_the_output}
 use Rattle.planner_main.specs.Reported.{status_of}
 use Rattle.planner_main.specs.Solution.{files_for}
 use Rattle.planner_main.proofs.ProgramReported.{both_written, partly_in_cert, partly_in_plan, reported_is}
-use Rattle.progress_lines.specs.Said.{AreSaid, Stream, stream}
+use Rattle.progress_lines.specs.Said.{AreSaid, Stream, nothing, stream}
 use Rattle.progress_lines.proofs.SaidLemmas.{said_of_more}
 use Rattle.planner_main.specs.Progress.{IsFailedLine}
 use Rattle.planner_main.proofs.program.writing.write_report.Goals as goal
@@ -56,3 +56,20 @@ pub returns-in_err-save_or_say-2-clause-progress : goal.returns-in_err-save_or_s
 returns-in_err-save_or_say-2-clause-progress g c =
     subst (λ (s : Stream). AreSaid (IsFailedLine (outputs_in c.args.outputs)) g.E.Sink.wants_memory s (stream (g.E.Sink.failures c.save_or_say-2.new.err) (g.E.Sink.taken c.save_or_say-2.new.err)))
     c.in_ok-save_or_say.ensures.quiet (said_of_more (λ line is. inr is) c.in_err-save_or_say-2.ensures.progress)
+
+pub returns-in_err-text-clause-progress : goal.returns-in_err-text-clause-progress
+returns-in_err-text-clause-progress g c = nothing
+
+pub returns-in_err-json-clause-progress : goal.returns-in_err-json-clause-progress
+returns-in_err-json-clause-progress g c = nothing
+
+-- nothing is said where both files are written
+pub returns-in_err-write_all-clause-progress : goal.returns-in_err-write_all-clause-progress
+returns-in_err-write_all-clause-progress g c =
+    subst (λ (s : Stream). AreSaid (IsFailedLine (outputs_in c.args.outputs)) g.E.Sink.wants_memory (stream (g.E.Sink.failures c.args.err.now) (g.E.Sink.taken c.args.err.now)) s)
+    (sym (c.in_ok-save_or_say-2.ensures.quiet ∙ c.in_ok-save_or_say.ensures.quiet)) nothing
+
+pub returns-clause-progress : goal.returns-clause-progress
+returns-clause-progress g c =
+    subst (λ (s : Stream). AreSaid (IsFailedLine (outputs_in c.args.outputs)) g.E.Sink.wants_memory (stream (g.E.Sink.failures c.args.err.now) (g.E.Sink.taken c.args.err.now)) s)
+    (sym (c.in_ok-save_or_say-2.ensures.quiet ∙ c.in_ok-save_or_say.ensures.quiet)) nothing
