@@ -81,7 +81,7 @@ fn cert(alloc: Global, version: Version, all: &[Pairs]) -> Result<Option<Cert>, 
 
 /// The text of the one with both.
 const TEXT: &[u8] =
-    b"pddl-cert 3\nclaim bound 0\nconstant 1 0\nswap a b\nswap c d p a\natom -1 0 (on a)\nopen 0\nend 1\n";
+    b"pddl-cert 3\nclaim bound 0\nconstant 1 0\nswap a b\nswap c d p a\natom -1 0 (on a)\nopen 0 0\nend 1\n";
 
 #[test]
 fn a_certificate_with_exchanges_is_written(rt: HostRuntime) -> Result<(), Fail> {
