@@ -22,8 +22,9 @@ use task::{ObjectId, Task};
 /// From how many bytes on what is held is written.
 const PIECE: usize = 65_536;
 
-/// Writes the text of a certificate of the task, a line at a time: the version, the claim and the constants, a line for
-/// each exchange and each atom, by its names, the lines of each table, a line for each listed state, and last how many states are listed.
+/// Writes the text of a certificate of the task, a line at a time: the version, the claim and the constants, a line for each
+/// exchange, by its objects' names, and for each atom, by its names, the lines of each table, a line for each listed state, and
+/// last how many states are listed.
 ///
 /// # Errors
 /// The device failed, or memory was refused. It has then taken a beginning of the text.

@@ -123,14 +123,7 @@ fn a_file_may_fail_where_it_is_made_or_closed(rt: HostRuntime) -> Result<(), Fai
 }
 
 /// The same is asked for, and to be told on the way how far the search is.
-const SOLVE_AND_SAY: [&str; 6] = [
-    "solve",
-    "domain",
-    "problem",
-    "--plan",
-    "out",
-    "--progress",
-];
+const SOLVE_AND_SAY: [&str; 6] = ["solve", "domain", "problem", "--plan", "out", "--progress"];
 
 /// Whether the standard error ends by the file that fails, where this fails of it.
 fn says_which(alloc: Global, failing: Failing) -> Result<bool, NoMemory> {

@@ -80,7 +80,9 @@ pub(crate) fn solve_by_tables<E: Sink>(
     if !bounds.keep_limits(Version::Three, ground.width() as usize) {
         return Ok(Attempt::InVain);
     }
-    answer_by_tables(alloc, ground, bounds, values, dead_ends, stopped, limits, err)
+    answer_by_tables(
+        alloc, ground, bounds, values, dead_ends, stopped, limits, err,
+    )
 }
 
 /// Tables that may be better than the potentials of a search that pauses so.
@@ -141,7 +143,9 @@ fn answer_by_tables<E: Sink>(
     ensures answer { IfOk result (IfDone (IsTrueAnswer (task_in ground.now) limits.states limits.instances)) }
     ensures said { GoesOn (IsTrueLine (task_in ground.now)) E.wants_memory (E.failures err.old) (E.taken err.old) (E.failures err.new) (E.taken err.new) }
 {
-    let attempt = search_by_tables(alloc, ground, &bounds, values, dead_ends, stopped, limits, err)?;
+    let attempt = search_by_tables(
+        alloc, ground, &bounds, values, dead_ends, stopped, limits, err,
+    )?;
     match attempt {
         Attempt::Done(searched) => {
             let guidance = Guidance::Tables(bounds);

@@ -16,6 +16,6 @@ mod stopped;
 mod system;
 
 pub use answer::{Answer, Exceeded, solve, solve_and_say};
-pub use reports::{RaisedBy, Report};
 pub use limits::{Limits, MAX_LIMIT};
+pub use reports::{RaisedBy, Report};
 pub use system::GroundSystem;

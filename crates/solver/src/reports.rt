@@ -64,7 +64,9 @@ impl Report {
                 listed,
                 expanded,
             } => {
-                format!(in alloc; "progress=search bound={bound} listed={listed} expanded={expanded}\n")
+                format!(in alloc;
+                    "progress=search bound={bound} listed={listed} expanded={expanded}\n"
+                )
             }
             Report::Limit(RaisedBy::States) => {
                 format!(in alloc; "progress=limit raise=--states\n")

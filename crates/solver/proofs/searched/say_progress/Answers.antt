@@ -33,9 +33,9 @@ returns g c =
     let costs = bound_holds t estimate is_dead pooled_states p search lower dead_ends c.requires.open.1 c.in-Some.bound least in
     let count : length (pooled_states p.store) ≡ c.len-listed.result = ap (λ (s : PooledStore). length (pooled_states s)) (sym c.store.ensures) ∙ sym c.len-listed.ensures in
     let found : AreReachable t c.len-listed.result =
-        (pooled_states p.store, distinct t estimate is_dead pooled_states p search, reachable t estimate is_dead pooled_states p search, count) in
+    (pooled_states p.store, distinct t estimate is_dead pooled_states p search, reachable t estimate is_dead pooled_states p search, count) in
     let few : c.expanded_in-expanded.result ≤ c.len-listed.result =
-        omega (arith, c.expanded_in-expanded.ensures, count_by-le-length is_expanded c.nodes.result.now, ap length c.nodes.ensures, search.one_each, count) in
+    omega (arith, c.expanded_in-expanded.ensures, count_by-le-length is_expanded c.nodes.result.now, ap length c.nodes.ensures, search.one_each, count) in
     c.say.ensures.said task (
       task_costs_at_least task (atoms_in known) c.requires.atoms c.in-Some.bound costs,
       subst (λ (atoms : List Atom). AreReachable (ground_system task atoms) c.len-listed.result) c.requires.atoms found,
