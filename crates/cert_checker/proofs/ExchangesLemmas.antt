@@ -1,6 +1,7 @@
 -- Exchanges that a text says.
-use Rattle.std.proofs.Common.{◌≡◌, ℕ, suc, ◌+◌, ◌≤◌, Bool, true, false, cond, List, [], ◌∷◌, map, length, None, Some, refl, sym, ap, ◌∙◌, subst, arith}
+use Rattle.std.proofs.Common.{◌≡◌, ℕ, suc, ◌+◌, ◌<◌, ◌≤◌, Bool, true, false, cond, List, [], ◌∷◌, map, length, None, Some, refl, sym, ap, ◌∙◌, subst, arith}
 use Rattle.std.specs.Prelude.{◌&&◌, nat_le, nat_lt, not, IsTrue}
+use Rattle.std.specs.Global.{Vec}
 use Rattle.std.specs.List.{list_all, position}
 use Rattle.std.proofs.lemmas.Bool.{and_parts, leb-true, le-leb, ltb-false}
 use Rattle.std.proofs.lemmas.List.{length-map}
@@ -8,7 +9,8 @@ use Rattle.std.proofs.lemmas.List.Sums.{prefix_len-le-length}
 use Rattle.model.specs.Task.{Object, Task}
 use Rattle.model.specs.Resolution.{is_same}
 use Rattle.model.specs.PlanText.{object_names}
-use Rattle.symmetries.specs.Exchanges.{Exchange, objects_in}
+use Rattle.certificate_reader.specs.Lines.{name_of}
+use Rattle.symmetries.specs.Exchanges.{objects_in}
 use Rattle.certificate_definitions.specs.Certificates.{Certificate, are_exchanges, has_exchanges}
 use Rattle.certificate_definitions.specs.CertificateText.{Format, TextLine, swapped, are_exchanged, are_paired, differ, is_line, line_text, longest_line}
 use Rattle.certificate_definitions.specs.CertificateNames.{IsTextOf, exchange_said, object_said, two_by_two}
@@ -48,6 +50,12 @@ said_within : (task : Task) (name : List ℕ) → object_said task name ≤ leng
 said_within task name =
     let long : length (object_names task) ≡ length task.objects = length-map task.objects (λ (o : Object). o.name) in
     omega (arith, long, prefix_len-le-length (λ other. not (is_same name other)) (object_names task))
+
+-- of fewer than two names there is no pair
+pub none_left : (task : Task) (names : List (Vec ℕ)) → length names < 2 → exchange_said task (map name_of names) ≡ []
+none_left task [] few = refl
+none_left task (a ∷ []) few = refl
+none_left task (a ∷ b ∷ names) few = absurd (omega (arith, few))
 
 -- where none is found it is the count
 pub said_none : (task : Task) (name : List ℕ) → position (is_same name) (object_names task) ≡ None → length task.objects ≡ object_said task name

@@ -1,10 +1,11 @@
 -- Exchanges that are symmetries of the task.
-use Rattle.std.proofs.Common.{◌≡◌, ◌∙◌, ℕ, zero, suc, ◌+◌, ◌<◌, ◌≤◌, inl, inr, Bool, true, false, not, true≢false, List, [], ◌∷◌, ◌++◌, length, map, take, get_or, Option, None, Some, refl, sym, ap, append_assoc, arith}
+use Rattle.std.proofs.Common.{◌≡◌, ◌∙◌, ℕ, zero, suc, ◌+◌, ◌<◌, ◌≤◌, inl, inr, Bool, true, false, not, true≢false, List, [], ◌∷◌, ◌++◌, length, map, take, get_or, Option, None, Some, refl, sym, ap, subst, append_assoc, arith}
 use Rattle.std.specs.Prelude.{All, IsTrue, ◌&&◌, ◌||◌, ◌==◌, nat_eq, nat_le, nat_lt, slice_get, if◌then◌else◌}
 use Rattle.std.specs.List.{list_all, list_any}
 use Rattle.std.specs.Option.{option_eq, option_map}
 use Rattle.std.proofs.lemmas.Bool.{and_parts, cases_order, eq-eqb, false≢true, leb-true, lt-ltb}
-use Rattle.std.proofs.lemmas.Option.{same_Some}
+use Rattle.std.specs.Global.{Vec}
+use Rattle.std.proofs.lemmas.Option.{get_or_from_slice_get, same_Some, slice_get-get_or, slice_get_within}
 use Rattle.std.proofs.lemmas.List.{map-append, take_more}
 use Rattle.std.proofs.lemmas.Grind.{flat_map-append}
 use Rattle.task.specs.declared.atoms.ObjectId.{ObjectId}
@@ -16,7 +17,11 @@ use Rattle.symmetries.specs.Quotients.{keeps_atoms}
 use Rattle.task_symmetries.specs.Pairs.{exchange_among, is_object, pair_of, pairs_in, two_by_two}
 use Rattle.model.specs.NumberedAtoms.{numbered_atoms}
 use Rattle.certificate_definitions.specs.Certificates.{Certificate, is_symmetry_for}
+use Rattle.task_symmetries.specs.declared.exchange.Exchange as code
+use Rattle.task_symmetries.specs.Exchange.{exchange_of}
+use Rattle.certificate.specs.CertificateParts.{exchange_in}
 use Rattle.cert_checker.specs.CheckedLines.{AreSymmetries}
+use Rattle.cert_checker.proofs.NamesLemmas.{got}
 use Rattle.cert_checker.specs.Exchanged.{is_said, is_symmetry_by}
 
 -- ---- tests of two parts
@@ -145,7 +150,7 @@ module _ (task : Task) where
       ] is
 
   module _ (atoms : List Atom) where
-    abbrev only_symmetry : Exchange → Option Exchange
+    abbrev pub only_symmetry : Exchange → Option Exchange
     only_symmetry e = if is_symmetry_by task atoms e then Some e else None
 
     -- where there is none, it is no symmetry
@@ -200,3 +205,36 @@ pub keeps_by : (tested task : Task) (those atoms : List Atom) (e : Exchange) (b 
     → keeps ≡ is_symmetry_by task atoms e
 keeps_by tested task those atoms e b keeps same numbered is holds kept =
     kept ∙ ap (λ l. keeps_atoms l e) numbered ∙ ap (λ x. x && keeps_atoms atoms e) (sym holds ∙ is ∙ ap (λ t. is_symmetry t e) same)
+
+-- the exchange at a place
+pub exchange_at : (c : Certificate) (xs : List (Vec (ObjectId × ObjectId))) (k : ℕ) (v : Vec (ObjectId × ObjectId)) (items : List (ObjectId × ObjectId)) → map exchange_in xs ≡ c.exchanges → k < length xs
+    → v ≡ get_or xs k v → items ≡ v.items → slice_get c.exchanges k ≡ Some (pairs_in items)
+exchange_at c xs k v items are lt at same =
+    subst (λ l. slice_get l k ≡ Some (pairs_in items)) are (got exchange_in xs k v lt at ∙ ap (λ l. Some (pairs_in l)) (sym same))
+
+pub made_more : (exchanges : List Exchange) (place : ℕ) (e : Exchange) (made : List code.Exchange) (x : code.Exchange) → slice_get exchanges place ≡ Some e → exchange_of x ≡ e
+    → map exchange_of made ≡ take place exchanges → map exchange_of (made ++ x ∷ []) ≡ take (place + 1) exchanges
+made_more exchanges place e made x at same before =
+    map-append exchange_of made (x ∷ []) ∙ (λ i. before i ++ same i ∷ [])
+    ∙ sym (take_more exchanges place e (slice_get_within exchanges place e at) ∙ ap (λ y. take place exchanges ++ y ∷ []) (get_or_from_slice_get exchanges place e e at))
+
+module _ (task : Task) (c : Certificate) where
+  -- each of the first so many exchanges is a symmetry
+  abbrev AreSymmetricTo : ℕ → Type 0
+  AreSymmetricTo count = (k : ℕ) (e : Exchange) → k < count → slice_get c.exchanges k ≡ Some e → is_symmetry_for task c e ≡ true
+
+  pub symmetric_more : (place : ℕ) (e : Exchange) → slice_get c.exchanges place ≡ Some e → is_symmetry_for task c e ≡ true → AreSymmetricTo place → AreSymmetricTo (place + 1)
+  symmetric_more place e at is before k other lt at_k =
+      elim (cases_order k place) [
+        | inl same ↦
+            let there : slice_get c.exchanges place ≡ Some other = subst (λ n. slice_get c.exchanges n ≡ Some other) same at_k in
+            subst (λ (x : Exchange). is_symmetry_for task c x ≡ true) (same_Some e other (sym at ∙ there)) is
+        | inr (inl earlier) ↦ before k other earlier at_k
+        | inr (inr later) ↦ absurd (omega (arith, lt, later))
+      ]
+
+  pub symmetric_all : (place : ℕ) → length c.exchanges ≤ place → AreSymmetricTo place → AreSymmetries task c
+  symmetric_all place past each = λ k d below. each k (get_or c.exchanges k d) (omega (arith, below, past)) (slice_get-get_or c.exchanges k d below)
+
+  pub for_numbered : (atoms : List Atom) (e : Exchange) (b : Bool) → atoms ≡ numbered_atoms task c.atoms → is_symmetry_by task atoms e ≡ b → is_symmetry_for task c e ≡ b
+  for_numbered atoms e b numbered is = ap (λ those. is_symmetry_by task those e) (sym numbered) ∙ is

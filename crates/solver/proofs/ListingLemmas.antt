@@ -243,6 +243,7 @@ module _ (task : Task) (claim : Claim) (most : ℕ) (guidance : Guidance) (state
             same_listing found.closed)));
       };
       within_limit = omega (arith, length-made found.one_for_each);
+      exchanges = refl;
       atoms = refl;
       within_limits = kept;
       version = known_version guidance;
@@ -303,6 +304,7 @@ more_allowed given le = record {
   claims = given.claims;
   closed = given.closed;
   within_limit = omega (arith, given.within_limit, le);
+  exchanges = given.exchanges;
   atoms = given.atoms;
   within_limits = given.within_limits;
   version = given.version;

@@ -12,5 +12,5 @@ use Rattle.cert_checker.proofs.checker.symmetry.exchange_with.Goals as goal
 pub returns : goal.returns
 returns c =
     let pairs = c.args.pairs.now in
-    subst (λ objects. IfOk c.new-2.result (λ made. option_map exchange_of made ≡ exchange_among (task_of c.args.task.now) objects))
-    (ap (map object_of) c.as_slice.ensures.value ∙ c.loop-first.invariant ∙ ap (λ l. objects_in (pairs_in l)) (take_all pairs c.loop-first.first-index c.loop-first-test.false)) c.new-2.ensures
+    subst (λ objects. IfOk c.new.result (λ made. option_map exchange_of made ≡ exchange_among (task_of c.args.task.now) objects))
+    (ap (map object_of) c.as_slice.ensures.value ∙ c.loop-first.invariant ∙ ap (λ l. objects_in (pairs_in l)) (take_all pairs c.loop-first.first-index c.loop-first-test.false)) c.new.ensures
