@@ -1,5 +1,5 @@
 -- An estimate for rooms that is admissible, and need not be consistent.
-use Rattle.std.specs.Prelude.{◌≡◌, ℕ, ◌+◌, ◌*◌, ◌==◌, ◌≤◌, min, Bool, true, false, ◌||◌, IsTrue, List, [], ◌∷◌, Option, None, Some, if◌then◌else◌, option_and_then, slice_get, refl}
+use Rattle.std.specs.Prelude.{◌≡◌, ℕ, ◌*◌, ◌==◌, ◌≤◌, min, Bool, true, false, ◌||◌, List, [], ◌∷◌, Option, None, Some, if◌then◌else◌, option_and_then, slice_get, refl}
 use Rattle.std.specs.Option.{option_map_or}
 use Rattle.std.proofs.Common.{ap, sym, ◌∙◌, arith, zero-le}
 use Rattle.std.proofs.Math.Nat.{le_trans, min-le_right}
@@ -10,7 +10,7 @@ use Rattle.model.specs.Runs.{System, run, cost_of_all}
 use Rattle.packed_state.specs.Sets.{has}
 use Rattle.search.specs.Estimates.{IsAdmissible}
 use Rattle.search.specs.DeadEnds.{ReportsDeadEnds}
-use Rattle.search_tests.specs.Rooms.{rooms, room_in, doors, through, cheapest-le}
+use Rattle.search_tests.specs.Rooms.{rooms, room_in, through, cheapest-le}
 use Rattle.search_tests.specs.BlindRooms.{no_door}
 
 -- the state to which a door leads, if it does, has the room to be reached

@@ -1,15 +1,13 @@
 -- The estimate of fair values is consistent.
-use Rattle.std.proofs.Common.{◌≡◌, ℕ, ◌+◌, ◌≤◌, refl, true, Bool, List, [], ◌∷◌, length, le_refl, subst, arith}
-use Rattle.std.specs.Prelude.{All}
+use Rattle.std.proofs.Common.{◌≡◌, ◌+◌, refl, true, [], length, le_refl, subst, arith}
 use Rattle.std.proofs.lemmas.Bool.{and_parts}
-use Rattle.model.specs.Task.{Task, Atom}
 use Rattle.model.specs.Meaning.{cost_of}
 use Rattle.model.specs.NumberedAtoms.{numbered_atoms}
 use Rattle.model.specs.Grounding.{ground_system}
 use Rattle.grounding.specs.declared.ground.Ground.{Ground}
 use Rattle.grounding.specs.Ground.{task_in, atoms_in}
 use Rattle.certificate_definitions.specs.Certificates.{two, three, is_weight, is_dead_end_weight, are_potentials}
-use Rattle.potential_functions.specs.PotentialFunctions.{PotentialFunction, score}
+use Rattle.potential_functions.specs.PotentialFunctions.{score}
 use Rattle.potentials.proofs.GroundLemmas.{numberable}
 use Rattle.potentials_improved.proofs.EstimateLemmas.{fair_guides}
 use Rattle.table_functions.specs.Laws.{AreOver}
