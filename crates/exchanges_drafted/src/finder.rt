@@ -14,6 +14,9 @@ use task_symmetries::{Exchange, SymmetryTest};
 /// With how many classes of its key an object is tried, at most: the ones that were begun last.
 const MAX_CLASSES: usize = 16;
 
+/// And of how many it is looked up before whether it is known to be one.
+const MAX_KNOWN: usize = 256;
+
 /// The last objects of the classes so far, by the keys of their objects.
 type Classes = IndexMap<u64, Vec<ObjectId>>;
 
@@ -82,7 +85,7 @@ impl Finder<'_, '_, '_> {
         lasts: &mut Vec<ObjectId>,
         trial: Trial,
     ) -> Result<(), NoMemory> {
-        for last in lasts.iter_mut() {
+        for last in lasts.iter_mut().rev().take(MAX_KNOWN) {
             if self.alike.contains(&ordered(*last, object)) {
                 *last = object;
                 return Ok(());
