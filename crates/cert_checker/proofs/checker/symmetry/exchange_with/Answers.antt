@@ -13,4 +13,4 @@ pub returns : goal.returns
 returns c =
     let pairs = c.args.pairs.now in
     subst (λ objects. IfOk c.new.result (λ made. option_map exchange_of made ≡ exchange_among (task_of c.args.task.now) objects))
-    (ap (map object_of) c.as_slice.ensures.value ∙ c.loop-first.invariant ∙ ap (λ l. objects_in (pairs_in l)) (take_all pairs c.loop-first.first-index c.loop-first-test.false)) c.new.ensures
+    (ap (map object_of) c.as_slice.ensures.value ∙ c.loop-first.invariant ∙ ap (λ l. objects_in (pairs_in l)) (take_all c.loop-first.first-index pairs c.loop-first-test.false)) c.new.ensures
