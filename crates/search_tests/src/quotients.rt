@@ -25,7 +25,7 @@ fn found_in_quotient(
     match best_first(alloc, &system, &guide, store, 1000)? {
         Outcome::Found { steps, states, .. } => {
             let plan = real_plan(alloc, representatives, &steps)?;
-            let are_few = states.nodes.len() < 30;
+            let are_few = states.nodes.len() < 100;
             Ok(Some((are_few, plan.steps().len())))
         }
         _ => Ok(None),
@@ -33,7 +33,7 @@ fn found_in_quotient(
 }
 
 /// Of four balls a state says little more than how many are in each room, how many are carried, and where the robot is: 24 states.
-/// With names for the balls there are hundreds. The plan is as long as it is then.
+/// With names for balls and grippers there are 256. The plan is as long as it is then.
 fn are_carried(rt: &impl Abort, alloc: Global, task: &Task) -> Result<(), Fail> {
     let ground = Ground::new(alloc, task, &[], 100)?;
     let exchanges = drafted_exchanges(alloc, task)?;
