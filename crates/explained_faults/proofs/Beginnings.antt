@@ -1,11 +1,12 @@
--- Where a reader's refusal is reported for no bytes, the words begin a file.
-use Rattle.std.specs.Prelude.{◌≡◌, ◌+◌, ◌<◌, Bool, true, IsTrue, List, [], ◌∷◌, ◌++◌, length, map, Result, Ok, Err, IfOk, IfSome}
+-- Words begin a file just where a reader's refusal of them is reported for no bytes.
+use Rattle.std.specs.Prelude.{◌≡◌, ◌+◌, ◌<◌, Bool, true, ◌&&◌, IsTrue, List, [], ◌∷◌, ◌++◌, length, map, Result, Ok, Err, IfOk, IfSome}
+use Rattle.std.specs.Bool.{Decides}
 use Rattle.std.specs.List.{All, list_all}
-use Rattle.std.proofs.Common.{zero, suc, ap, sym, ◌∙◌, subst, arith}
-use Rattle.std.proofs.lemmas.List.{append-nil, map-append}
+use Rattle.std.proofs.Common.{zero, suc, refl, ap, sym, ◌∙◌, subst, arith}
+use Rattle.std.proofs.lemmas.List.{append-nil, append_assoc, map-append}
 use Rattle.std.proofs.lemmas.List.Elements.{All-append}
 use Rattle.std.proofs.lemmas.List.Folds.{list_all-append, list_all-map}
-use Rattle.std.proofs.lemmas.Bool.{and_parts, ltb-true}
+use Rattle.std.proofs.lemmas.Bool.{and_from, and_parts, eq-eqb, eqb-true, ltb-true}
 use Rattle.faults.specs.declared.refused.Refused.TheVariants.{At, NoMemory}
 use Rattle.tokens.specs.Reported as reported
 use Rattle.tokens.specs.Word.{word_of}
@@ -15,7 +16,8 @@ use Rattle.model.specs.Trees.{TaskFile}
 use Rattle.model.specs.Fault.{Fault, Span}
 use Rattle.model.specs.GrammarWords.{Token, token_of, tokens_of}
 use Rattle.model.specs.Refusals.{Begins, IsWhole, IsRefused, at_word, at_end}
-use Rattle.explained_faults.specs.Expected.{has_bytes, ReportsEnd, HaveBytes, MayFollow}
+use Rattle.model.proofs.GrammarBegins.{fewer}
+use Rattle.explained_faults.specs.Expected.{Answers, has_bytes, ReportsEnd, HaveBytes, MayFollow}
 
 -- a whole file begins with its words
 pub whole_begins : (file : TaskFile) (words : List Word) → IsWhole file (tokens_of words) → Begins file (tokens_of words)
@@ -37,20 +39,56 @@ runs_out file words fault full (at_word before after word occurs begins not_more
     absurd (omega arith)
 runs_out file words fault full (at_end begins not_whole code span) empty = begins
 
--- so they do where a refusal of theirs is said to be reported for no bytes
+-- a file that begins with words begins with those of them up to any one
+begins_so_far : (file : TaskFile) (words before after : List Word) (word : Word) → words ≡ before ++ word ∷ after → Begins file (tokens_of words)
+    → Begins file (tokens_of before ++ token_of word ∷ [])
+begins_so_far file words before after word occurs begins =
+    let tokens : tokens_of words ≡ (tokens_of before ++ token_of word ∷ []) ++ tokens_of after =
+    ap tokens_of occurs ∙ map-append token_of before (word ∷ after) ∙ sym (append_assoc (tokens_of before) (token_of word ∷ []) (tokens_of after)) in
+    fewer file (tokens_of before ++ token_of word ∷ []) (tokens_of after) (subst (λ (w : List Token). Begins file w) tokens begins)
+
+-- words that begin a file are refused at a place without bytes alone
+is_without_bytes : (file : TaskFile) (words : List Word) (fault : Fault) → IsRefused file words fault → Begins file (tokens_of words)
+    → fault.span.start ≡ fault.span.end
+is_without_bytes file words fault (at_word before after word occurs begins not_more reported span) begun =
+    absurd (not_more (begins_so_far file words before after word occurs begun))
+is_without_bytes file words fault (at_end begins not_whole code span) begun = ap (λ (s : Span). s.start) span ∙ sym (ap (λ (s : Span). s.end) span)
+
+-- whether a refusal of theirs is reported for no bytes says whether they begin a file
 pub refused_begins : {E : Type 0} (file : TaskFile) (words : List Word) (fault : reported.Fault) (r : Result Bool E)
     → IsTrue (list_all has_bytes words) → IfSome (reported.reported_by fault) (IsRefused file words) → IfOk r (ReportsEnd fault)
-    → IfOk r (λ answer. answer ≡ true → Begins file (tokens_of words))
+    → IfOk r (λ answer. Decides answer (Begins file (tokens_of words)))
 refused_begins file words fault (Err e) full refused reports = tt
-refused_begins file words (At refusal) (Ok answer) full refused reports = λ is. runs_out file words (reported.refusal_of refusal) full refused (reports is)
+refused_begins file words (At refusal) (Ok answer) full refused reports = (
+  λ is. runs_out file words (reported.refusal_of refusal) full refused (eqb-true refusal.span.start refusal.span.end (sym reports ∙ is)),
+  λ begins. reports ∙ eq-eqb refusal.span.start refusal.span.end (is_without_bytes file words (reported.refusal_of refusal) refused begins),
+)
 refused_begins file words NoMemory (Ok answer) full refused reports = absurd reports
 
--- a file begins with words and one more
-pub follows : (file : TaskFile) (before : List code.Word) (word : code.Word) → Begins file (tokens_of (map word_of (before ++ word ∷ []))) → MayFollow file before word
-follows file before word begins =
-    let tokens : tokens_of (map word_of (before ++ word ∷ [])) ≡ tokens_of (map word_of before) ++ token_of (word_of word) ∷ [] =
-    ap tokens_of (map-append word_of before (word ∷ [])) ∙ map-append token_of (map word_of before) (word_of word ∷ []) in
-    subst (λ (w : List Token). Begins file w) tokens begins
+-- what decides a claim answers it
+pub of_decides : {E : Type 0} (have_bytes claim : Type 0) (r : Result Bool E) → IfOk r (λ answer. Decides answer claim) → IfOk r (Answers have_bytes claim)
+of_decides have_bytes claim (Ok answer) decides = (decides.0, λ have holds. decides.1 holds)
+of_decides have_bytes claim (Err e) decides = tt
+
+-- the words before and one more, as tokens
+one_more_token : (before : List code.Word) (word : code.Word) → tokens_of (map word_of (before ++ word ∷ [])) ≡ tokens_of (map word_of before) ++ token_of (word_of word) ∷ []
+one_more_token before word = ap tokens_of (map-append word_of before (word ∷ [])) ∙ map-append token_of (map word_of before) (word_of word ∷ [])
+
+-- whether a file begins with words and one more says whether that one may follow
+pub follows : {E : Type 0} (file : TaskFile) (before words : List code.Word) (word : code.Word) (r : Result Bool E) → words ≡ before ++ word ∷ []
+    → IfOk r (Answers (HaveBytes words) (Begins file (tokens_of (map word_of words))))
+    → IfOk r (Answers (HaveBytes before × IsTrue (has_bytes (word_of word))) (MayFollow file before word))
+follows file before words word (Err e) are answers = tt
+follows file before words word (Ok answer) are answers =
+    let tokens : tokens_of (map word_of words) ≡ tokens_of (map word_of before) ++ token_of (word_of word) ∷ [] =
+    ap (λ (w : List code.Word). tokens_of (map word_of w)) are ∙ one_more_token before word in
+    let test : code.Word → Bool = λ w. has_bytes (word_of w) in (
+      λ is. subst (λ (w : List Token). Begins file w) tokens (answers.0 is),
+      λ have holds.
+          answers.1
+          (ap (list_all test) are ∙ list_all-append test before (word ∷ []) ∙ and_from (list_all test before) (test word && true) have.0 (and_from (test word) true have.1 refl))
+          (subst (λ (w : List Token). Begins file w) (sym tokens) holds),
+    )
 
 -- words each of which has bytes, in the model's terms
 pub all_have : (words : List code.Word) → HaveBytes words → IsTrue (list_all has_bytes (map word_of words))

@@ -1,3 +1,4 @@
 pub mod Beginnings
+pub mod Candidates
 pub mod WantedWords
 pub mod WrongLemmas

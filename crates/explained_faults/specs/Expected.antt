@@ -1,6 +1,6 @@
 -- What may occur after some words of a file.
-use Rattle.std.specs.Prelude.{◌≡◌, ℕ, Bool, true, IsTrue, nat_le, nat_lt, List, [], ◌∷◌, ◌++◌, ◌⊎◌, All, length, map}
-use Rattle.std.specs.List.{before_first, list_all}
+use Rattle.std.specs.Prelude.{◌≡◌, ℕ, Bool, true, ◌==◌, IsTrue, nat_eq, nat_le, nat_lt, List, [], ◌∷◌, ◌++◌, ◌⊎◌, All, length, map, codes}
+use Rattle.std.specs.List.{before_first, list_all, starts_with}
 use Rattle.faults.specs.declared.refused.Refused.TheVariants.{At, NoMemory}
 use Rattle.tokens.specs.Reported.{Fault}
 use Rattle.tokens.specs.Word.{word_of}
@@ -33,13 +33,61 @@ pub record MayOccurIn (file : TaskFile) (text : List ℕ) (offset : ℕ) (wanted
 abbrev pub MayOccur : TaskFile → List ℕ → ℕ → List code.Word → Type 0
 MayOccur file text offset wanted = (wanted ≡ []) ⊎ MayOccurIn file text offset wanted
 
+-- The candidates: the words of this text, one of each kind that the grammar distinguishes, and all that stand for themselves.
+abbrev pub candidates_text : List ℕ
+candidates_text =
+    codes "name ?variable 0 - = preference define domain problem number minimize and or not imply "
+    ++ (codes "exists forall either when increase total-cost :requirements :types :constants :predicates :functions :action :domain "
+    ++ (codes ":objects :init :goal :metric :parameters :precondition :effect :strips :typing :equality :negative-preconditions "
+    ++ (codes ":disjunctive-preconditions :existential-preconditions :universal-preconditions :quantified-preconditions "
+    ++ codes ":conditional-effects :adl :action-costs :fluents :numeric-fluents ()")))
+
+-- of some words, those for which a claim holds, in their order: each of them, and no other
+pub data AreThose (P : code.Word → Type 0) : (words those : List code.Word) → Type 0 where
+  none : AreThose P [] []
+  kept : (word : code.Word) (words those : List code.Word) → P word → AreThose P words those → AreThose P (word ∷ words) (word ∷ those)
+  left_out : (word : code.Word) (words those : List code.Word) → (P word → ⊥) → AreThose P words those → AreThose P (word ∷ words) those
+
+-- some of these words, in their order
+pub data AreSome : (words some : List code.Word) → Type 0 where
+  no_more : AreSome [] []
+  taken : (word : code.Word) (words some : List code.Word) → AreSome words some → AreSome (word ∷ words) (word ∷ some)
+  passed_over : (word : code.Word) (words some : List code.Word) → AreSome words some → AreSome (word ∷ words) some
+
+-- of the candidates, those with which a file of this kind may go on after these words, each of them
+pub record AreAll (file : TaskFile) (before all : List code.Word) : Type 0 where
+  pub candidates : List code.Word
+  pub reads : ReadsAs candidates_text (map word_of candidates)
+  pub those : AreThose (MayFollow file before) candidates all
+
+-- the reported bytes begin as a keyword does
+abbrev pub IsOfKeyword : List ℕ → Type 0
+IsOfKeyword reported = IsTrue (starts_with nat_eq reported (codes ":"))
+
+-- What is told in the place of the reported bytes, after these words: all candidates with which a file may go on, or for a
+-- keyword some of them, and not none.
+pub record AreTold (file : TaskFile) (before : List code.Word) (reported : List ℕ) (told : List code.Word) : Type 0 where
+  pub all : List code.Word
+  pub are_all : AreAll file before all
+  pub are_told : (told ≡ all) ⊎ (IsOfKeyword reported × AreSome all told × (told ≡ [] → ⊥))
+
+-- so it is told after the words of a text that begin before an offset
+pub record AreToldIn (file : TaskFile) (text : List ℕ) (offset : ℕ) (reported : List ℕ) (told : List code.Word) : Type 0 where
+  pub words : List code.Word
+  pub reads : ReadsAs text (map word_of words)
+  pub are_told : AreTold file (words_before offset words) reported told
+
+-- an answer is yes only where a claim holds, and it is where the words have bytes
+abbrev pub Answers : (have_bytes claim : Type 0) → Bool → Type 0
+Answers have_bytes claim answer = (answer ≡ true → claim) × (have_bytes → claim → answer ≡ true)
+
 -- whether a word has bytes
 abbrev pub has_bytes : text.Word → Bool
 has_bytes word = nat_lt 0 (length word.text)
 
 -- whether what is reported for a text is reported for a place without bytes
 abbrev pub ReportsEnd : Fault → Bool → Type 0
-ReportsEnd (At refusal) answer = answer ≡ true → refusal.span.start ≡ refusal.span.end
+ReportsEnd (At refusal) answer = answer ≡ (refusal.span.start == refusal.span.end)
 ReportsEnd NoMemory answer = ⊥
 
 -- each of some words has bytes

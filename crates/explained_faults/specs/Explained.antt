@@ -1,9 +1,10 @@
 -- What is reported for a fault: the fault as it was given, and its place in its file.
-use Rattle.std.specs.Prelude.{◌≡◌, ℕ, List, [], ◌++◌, codes}
+use Rattle.std.specs.Prelude.{◌≡◌, ℕ, min, ◌⊎◌, List, [], ◌++◌, length, slice_range, codes}
 use Rattle.std.specs.Fmt.{decimal}
 use Rattle.faults.specs.Fault.{number_of}
 use Rattle.faults.specs.Fault as faults
 use Rattle.faults.specs.declared.code.Code.{Code}
+use Rattle.faults.specs.declared.code.Code.TheVariants.{BadForm, UnknownSection, UnknownRequirement}
 use Rattle.source_text.specs.declared.place.LineColumn.{LineColumn}
 use Rattle.source_text.specs.Files.{text_in}
 use Rattle.source_text.specs.Places.{IsPlace}
@@ -11,8 +12,9 @@ use Rattle.source_text.specs.declared.texts.File.TheVariants.{Domain, Problem, P
 use Rattle.source_text.specs.declared.texts.NamedTexts.{NamedTexts}
 use Rattle.explained_faults.specs.declared.explanation.FileRefusal.{FileRefusal}
 use Rattle.explained_faults.specs.declared.explanation.FaultExplanation.{FaultExplanation}
-use Rattle.explained_faults.specs.Expected.{MayOccur}
+use Rattle.explained_faults.specs.Expected.{MayOccur, AreToldIn}
 use Rattle.tokens.specs.declared.word.Word.{Word}
+use Rattle.model.specs.Words.{Reads}
 use Rattle.model.specs.Trees.{domain_file, problem_file}
 
 -- the first line of what is reported for a fault: the file, the line and the column, and the number and the name of what is wrong
@@ -32,8 +34,27 @@ AreWanted texts fault wanted =
     × (fault.file ≡ Problem → MayOccur problem_file (text_in texts Problem) fault.span.start wanted)
     × (fault.file ≡ Plan → wanted ≡ [])
 
--- it is reported for this fault, the place is that of the first byte of its span, and the words that are reported may occur there
+-- a word is refused since no file goes on with it, and not for what it says
+abbrev pub IsOfWords : Code → Type 0
+IsOfWords code = (code ≡ BadForm) ⊎ (code ≡ UnknownSection) ⊎ (code ≡ UnknownRequirement)
+
+-- the bytes that a fault is reported for, as far as they are within the text
+abbrev pub reported_in : (text : List ℕ) (start end : ℕ) → List ℕ
+reported_in text start end = slice_range text (min start (min end (length text))) (min end (length text))
+
+-- For such a fault of a domain or a problem that reads as words, all candidates are told with which a file may go on at its
+-- place, or for a keyword some of them, and not none.
+abbrev pub AreWhole : NamedTexts → FileRefusal → List Word → Type 0
+AreWhole texts fault wanted =
+    (fault.file ≡ Domain → Reads (text_in texts Domain)
+    → AreToldIn domain_file (text_in texts Domain) fault.span.start (reported_in (text_in texts Domain) fault.span.start fault.span.end) wanted)
+    × (fault.file ≡ Problem → Reads (text_in texts Problem)
+    → AreToldIn problem_file (text_in texts Problem) fault.span.start (reported_in (text_in texts Problem) fault.span.start fault.span.end) wanted)
+
+-- it is reported for this fault, the place is that of the first byte of its span, and the words that are reported may occur there,
+-- and none is left out
 pub record IsExplained (texts : NamedTexts) (fault : FileRefusal) (explanation : FaultExplanation) : Type 0 where
   pub is_fault : explanation.fault ≡ fault
   pub is_place : IsPlace (text_in texts fault.file) fault.span.start explanation.place
   pub are_wanted : AreWanted texts fault explanation.wanted.items
+  pub are_whole : IsOfWords fault.code → AreWhole texts fault explanation.wanted.items

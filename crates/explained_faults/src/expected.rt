@@ -1,15 +1,16 @@
 //! What may occur at a refused word. The reader itself says so: of the words before the refused one with another word
 //! after them, it refuses that word, or takes it and reports only that the words run out.
-ghost use Rattle.std.specs.Prelude.{◌≡◌, map, All, IfOk, true};
+ghost use Rattle.std.specs.Prelude.{◌≡◌, map, All, IfOk, IsTrue};
 ghost use Rattle.std.specs.List.{list_all};
+ghost use Rattle.std.specs.Bool.{Decides};
 ghost use Rattle.tokens.specs.Word.{word_of};
 ghost use Rattle.model.specs.Trees.{domain_file, problem_file};
 ghost use Rattle.model.specs.GrammarWords.{tokens_of};
 ghost use Rattle.model.specs.Refusals.{Begins};
+ghost use Rattle.model.specs.Words.{ReadsAs};
 ghost use Rattle.syntax_tree.specs.Tree.{file_of};
-ghost use Rattle.explained_faults.specs.Expected.{HaveBytes, MayFollow, ReportsEnd, has_bytes};
+ghost use Rattle.explained_faults.specs.Expected.{Answers, AreAll, AreThose, HaveBytes, MayFollow, ReportsEnd, candidates_text, has_bytes};
 
-use crate::near::is_near;
 use faults::{Fault, NoMemory, Refused};
 use pddl_tree::{TaskFile, domain, problem};
 use std::alloc::Global;
@@ -49,19 +50,21 @@ fn reports_end(fault: Fault) -> Result<bool, NoMemory>
 
 /// Whether a file of this kind begins with these words; no is also answered of words without bytes, which no text has.
 fn begins(alloc: Global, file: TaskFile, words: &[Word<'_>]) -> Result<bool, NoMemory>
-    ensures { IfOk result (λ answer. answer ≡ true → Begins (file_of file) (tokens_of (map word_of words.now))) }
+    ensures { IfOk result (Answers (HaveBytes words.now) (Begins (file_of file) (tokens_of (map word_of words.now)))) }
 {
+    if !have_bytes(words) {
+        return Ok(false);
+    }
     match file {
-        TaskFile::Domain if have_bytes(words) => begins_domain(alloc, words),
-        TaskFile::Problem if have_bytes(words) => begins_problem(alloc, words),
-        _ => Ok(false),
+        TaskFile::Domain => begins_domain(alloc, words),
+        TaskFile::Problem => begins_problem(alloc, words),
     }
 }
 
 /// Whether a domain begins with these words, which have bytes.
 fn begins_domain(alloc: Global, words: &[Word<'_>]) -> Result<bool, NoMemory>
     requires { HaveBytes words.now }
-    ensures { IfOk result (λ answer. answer ≡ true → Begins domain_file (tokens_of (map word_of words.now))) }
+    ensures { IfOk result (λ answer. Decides answer (Begins domain_file (tokens_of (map word_of words.now)))) }
 {
     let fault = match domain(alloc, words) {
         Ok(_) => return Ok(true),
@@ -73,7 +76,7 @@ fn begins_domain(alloc: Global, words: &[Word<'_>]) -> Result<bool, NoMemory>
 /// Whether a problem begins with these words, which have bytes.
 fn begins_problem(alloc: Global, words: &[Word<'_>]) -> Result<bool, NoMemory>
     requires { HaveBytes words.now }
-    ensures { IfOk result (λ answer. answer ≡ true → Begins problem_file (tokens_of (map word_of words.now))) }
+    ensures { IfOk result (λ answer. Decides answer (Begins problem_file (tokens_of (map word_of words.now)))) }
 {
     let fault = match problem(alloc, words) {
         Ok(_) => return Ok(true),
@@ -89,7 +92,7 @@ fn may_follow<'a>(
     before: &[Word<'a>],
     word: Word<'a>,
 ) -> Result<bool, NoMemory>
-    ensures { IfOk result (λ answer. answer ≡ true → MayFollow (file_of file) before.now word.entry) }
+    ensures { IfOk result (Answers (HaveBytes before.now × IsTrue (has_bytes (word_of word.entry))) (MayFollow (file_of file) before.now word.entry)) }
 {
     let mut words = Vec::new(alloc);
     words.extend_from_slice(before)?;
@@ -97,40 +100,43 @@ fn may_follow<'a>(
     begins(alloc, file, &words)
 }
 
-/// Whether a word is like a keyword, where one is given, and a file of this kind begins with some words and this one.
-fn is_expected<'a>(
-    alloc: Global,
-    file: TaskFile,
-    before: &[Word<'a>],
-    word: Word<'a>,
-    keyword: Option<&[u8]>,
-) -> Result<bool, NoMemory>
-    ensures { IfOk result (λ answer. answer ≡ true → MayFollow (file_of file) before.now word.entry) }
+/// The bytes of the candidates.
+fn candidate_bytes() -> &'static [u8]
+    ensures { result.now ≡ candidates_text }
 {
-    match keyword {
-        Some(keyword) if !is_near(keyword, word.text()) => Ok(false),
-        _ => may_follow(alloc, file, before, word),
-    }
+    CANDIDATES
 }
 
-/// The words with which a file of this kind may go on after these, of one for each kind that the grammar distinguishes, or of
-/// those alone that are like a keyword, where one is given. A name stands for all others that stand for nothing else, and
-/// so do a variable and a number.
+/// The words with which a file of this kind may go on after these, of one for each kind that the grammar distinguishes. A name
+/// stands for all others that stand for nothing else, and so do a variable and a number.
 pub(crate) fn expected<'a>(
     alloc: Global,
     file: TaskFile,
     before: &[Word<'a>],
-    keyword: Option<&[u8]>,
 ) -> Result<Vec<Word<'a>>, NoMemory>
-    ensures { IfOk result (λ found. All (MayFollow (file_of file) before.now) found.items) }
+    ensures follow { IfOk result (λ found. All (MayFollow (file_of file) before.now) found.items) }
+    ensures all { HaveBytes before.now → IfOk result (λ found. AreAll (file_of file) before.now found.items) }
 {
-    let mut found = Vec::new(alloc);
-    let text: &'a [u8] = CANDIDATES;
+    let text: &'a [u8] = candidate_bytes();
     let Ok(candidates) = scan(alloc, text) else {
         return Err(NoMemory);
     };
-    for word in &candidates {
-        let follows = is_expected(alloc, file, before, *word, keyword)?;
+    those_expected(alloc, file, before, &candidates)
+}
+
+/// Those of some words with which a file of this kind may go on after the words before.
+fn those_expected<'a>(
+    alloc: Global,
+    file: TaskFile,
+    before: &[Word<'a>],
+    candidates: &[Word<'a>],
+) -> Result<Vec<Word<'a>>, NoMemory>
+    ensures follow { IfOk result (λ found. All (MayFollow (file_of file) before.now) found.items) }
+    ensures those { HaveBytes before.now → HaveBytes candidates.now → IfOk result (λ found. AreThose (MayFollow (file_of file) before.now) candidates.now found.items) }
+{
+    let mut found = Vec::new(alloc);
+    for word in candidates {
+        let follows = may_follow(alloc, file, before, *word)?;
         if follows {
             found.push(*word)?;
         }

@@ -1,6 +1,7 @@
 //! A fault that is explained.
-ghost use Rattle.std.specs.Prelude.{IfOk};
-ghost use Rattle.explained_faults.specs.Explained.{AreWanted, IsExplained};
+ghost use Rattle.std.specs.Prelude.{◌≡◌, IfOk, IsTrue};
+ghost use Rattle.source_text.specs.Files.{text_in};
+ghost use Rattle.explained_faults.specs.Explained.{AreWanted, AreWhole, IsExplained, IsOfWords, reported_in};
 
 use crate::context::Context;
 use crate::help::Help;
@@ -76,18 +77,28 @@ fn wanted_words<'a>(
     texts: &NamedTexts<'a>,
     fault: FileRefusal,
 ) -> Result<Vec<Word<'a>>, NoMemory>
-    ensures { IfOk result (λ wanted. AreWanted texts.now fault wanted.items) }
+    ensures wanted { IfOk result (λ wanted. AreWanted texts.now fault wanted.items) }
+    ensures whole { IsOfWords fault.code → IfOk result (λ wanted. AreWhole texts.now fault wanted.items) }
 {
-    let is_of_words = matches!(
-        fault.code,
-        Code::BadForm | Code::UnknownSection | Code::UnknownRequirement
-    );
+    if !is_of_words(fault.code) {
+        return Ok(Vec::new(alloc));
+    }
     let (domain, problem) = (texts.domain.text, texts.problem.text);
     let (at, reported) = (fault.span.start, reported_bytes(texts, fault));
     match fault.file {
-        File::Domain if is_of_words => words_at(alloc, TaskFile::Domain, domain, at, reported),
-        File::Problem if is_of_words => words_at(alloc, TaskFile::Problem, problem, at, reported),
-        _ => Ok(Vec::new(alloc)),
+        File::Domain => words_at(alloc, TaskFile::Domain, domain, at, reported),
+        File::Problem => words_at(alloc, TaskFile::Problem, problem, at, reported),
+        File::Plan => Ok(Vec::new(alloc)),
+    }
+}
+
+/// Whether a word is refused by this code since no file goes on with it.
+fn is_of_words(code: Code) -> bool
+    ensures { IsOfWords code → IsTrue result }
+{
+    match code {
+        Code::BadForm | Code::UnknownSection | Code::UnknownRequirement => true,
+        _ => false,
     }
 }
 
@@ -139,7 +150,9 @@ fn help_in<'a>(alloc: Global, context: &Context<'a>) -> Result<Help<'a>, NoMemor
 }
 
 /// The bytes that a fault is reported for, as far as they are within the text.
-pub(crate) fn reported_bytes<'a>(texts: &NamedTexts<'a>, fault: FileRefusal) -> &'a [u8] {
+pub(crate) fn reported_bytes<'a>(texts: &NamedTexts<'a>, fault: FileRefusal) -> &'a [u8]
+    ensures { result.now ≡ reported_in (text_in texts.now fault.file) fault.span.start fault.span.end }
+{
     let text = texts.text(fault.file);
     let end = fault.span.end.min(text.len());
     let start = fault.span.start.min(end);

@@ -1,9 +1,11 @@
 //! What may occur in the place of a word with which no file goes on.
-ghost use Rattle.std.specs.Prelude.{◌≡◌, IfOk, position};
+ghost use Rattle.std.specs.Prelude.{◌≡◌, All, IfOk, position};
+ghost use Rattle.model.specs.Words.{Reads};
 ghost use Rattle.syntax_tree.specs.Tree.{file_of};
-ghost use Rattle.explained_faults.specs.Expected.{MayOccur, begins_from, words_before};
+ghost use Rattle.explained_faults.specs.Expected.{AreSome, AreTold, AreToldIn, HaveBytes, MayFollow, MayOccur, begins_from, words_before};
 
 use crate::expected::expected;
+use crate::near::is_near;
 use faults::{NoMemory, Refused};
 use pddl_tree::TaskFile;
 use std::alloc::Global;
@@ -21,21 +23,54 @@ pub(crate) fn words_at<'a>(
     offset: usize,
     reported: &[u8],
 ) -> Result<Vec<Word<'a>>, NoMemory>
-    ensures { IfOk result (λ wanted. MayOccur (file_of file) text.now offset wanted.items) }
+    ensures occur { IfOk result (λ wanted. MayOccur (file_of file) text.now offset wanted.items) }
+    ensures told { Reads text.now → IfOk result (λ wanted. AreToldIn (file_of file) text.now offset reported.now wanted.items) }
 {
     let words = match scan(alloc, text) {
         Ok(words) => words,
         Err(Refused::At(_)) => return Ok(Vec::new(alloc)),
         Err(Refused::NoMemory) => return Err(NoMemory),
     };
-    let before = words_before(&words, offset);
-    if reported.starts_with(b":") {
-        let near = expected(alloc, file, before, Some(reported))?;
-        if !near.is_empty() {
-            return Ok(near);
+    words_after(alloc, file, words_before(&words, offset), reported)
+}
+
+/// The words that may occur after these in the place of the reported bytes.
+fn words_after<'a>(
+    alloc: Global,
+    file: TaskFile,
+    before: &[Word<'a>],
+    reported: &[u8],
+) -> Result<Vec<Word<'a>>, NoMemory>
+    ensures follow { IfOk result (λ told. All (MayFollow (file_of file) before.now) told.items) }
+    ensures told { HaveBytes before.now → IfOk result (λ told. AreTold (file_of file) before.now reported.now told.items) }
+{
+    let all = expected(alloc, file, before)?;
+    if !reported.starts_with(b":") {
+        return Ok(all);
+    }
+    let near = those_near(alloc, reported, &all)?;
+    if near.is_empty() {
+        return Ok(all);
+    }
+    Ok(near)
+}
+
+/// Those of some words that are like a keyword.
+fn those_near<'a>(
+    alloc: Global,
+    keyword: &[u8],
+    words: &[Word<'a>],
+) -> Result<Vec<Word<'a>>, NoMemory>
+    ensures { IfOk result (λ near. AreSome words.now near.items) }
+{
+    let mut near = Vec::new(alloc);
+    for word in words {
+        let is_like = is_near(keyword, word.text());
+        if is_like {
+            near.push(*word)?;
         }
     }
-    expected(alloc, file, before, None)
+    Ok(near)
 }
 
 /// The words up to the first that does not begin before an offset.

@@ -1,4 +1,4 @@
-use Rattle.std.proofs.Common.{map}
+use Rattle.std.proofs.Common.{map, refl}
 use Rattle.tokens.specs.Word.{word_of}
 use Rattle.syntax_tree.specs.Tree.{domain_of}
 use Rattle.model.specs.Trees.{domain_file}
@@ -7,7 +7,7 @@ use Rattle.explained_faults.proofs.Beginnings.{all_have, refused_begins, whole_b
 use Rattle.explained_faults.proofs.expected.begins_domain.Goals as goal
 
 pub returns-in-Ok : goal.returns-in-Ok
-returns-in-Ok c = λ is. whole_begins domain_file (map word_of c.args.words.now) (domain_tree (domain_of c.in-Ok.field-0), c.in-Ok.ensures.tree)
+returns-in-Ok c = (λ is. whole_begins domain_file (map word_of c.args.words.now) (domain_tree (domain_of c.in-Ok.field-0), c.in-Ok.ensures.tree), λ begins. refl)
 
 pub returns : goal.returns
 returns c =

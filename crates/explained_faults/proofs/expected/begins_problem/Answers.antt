@@ -1,4 +1,4 @@
-use Rattle.std.proofs.Common.{map}
+use Rattle.std.proofs.Common.{map, refl}
 use Rattle.tokens.specs.Word.{word_of}
 use Rattle.syntax_tree.specs.Tree.{problem_of}
 use Rattle.model.specs.Trees.{problem_file}
@@ -7,7 +7,7 @@ use Rattle.explained_faults.proofs.Beginnings.{all_have, refused_begins, whole_b
 use Rattle.explained_faults.proofs.expected.begins_problem.Goals as goal
 
 pub returns-in-Ok : goal.returns-in-Ok
-returns-in-Ok c = λ is. whole_begins problem_file (map word_of c.args.words.now) (problem_tree (problem_of c.in-Ok.field-0), c.in-Ok.ensures.tree)
+returns-in-Ok c = (λ is. whole_begins problem_file (map word_of c.args.words.now) (problem_tree (problem_of c.in-Ok.field-0), c.in-Ok.ensures.tree), λ begins. refl)
 
 pub returns : goal.returns
 returns c =
