@@ -1,5 +1,6 @@
 pub mod TypedLemmas
 pub mod GroundLemmas
+pub mod ListedLemmas
 pub mod PotentialLemmas
 pub mod GuidanceLemmas
 pub mod TablesLemmas
