@@ -194,30 +194,30 @@ module _ (task : Task) (exchanges : List Exchange) (t : System (List Bool) ℕ) 
   )
 
   -- the values of found states are small, where so few atoms have numbers
-  found_values : (guidance : Guidance) (claim : Claim) (max_states : ℕ) (states : List (List Bool)) (nodes : List Node)
-      → AreFound t (estimate_by guidance) (reports_dead guidance) claim max_states states nodes → CanBeWritten (length atoms) guidance → length atoms ≤ 1048576
+  found_values : (count : ℕ) → count ≡ length atoms → (guidance : Guidance) (claim : Claim) (max_states : ℕ) (states : List (List Bool)) (nodes : List Node)
+      → AreFound t (estimate_by guidance) (reports_dead guidance) claim max_states states nodes → CanBeWritten count guidance → count ≤ 1048576
       → (k : ℕ) (bits : List Bool) → slice_get states k ≡ Some bits → estimate_by guidance bits ≤ most_value
-  found_values guidance claim max_states states nodes found written few_atoms k bits at =
+  found_values count same guidance claim max_states states nodes found written few_atoms k bits at =
       let (node, there) = node_at nodes k (omega (arith, slice_get_within states k bits at, found.one_for_each)) in
       let reached = found.reachable k bits node at there in
       let wide = length-reachable task exchanges t by bits (reached.0, reached.1) in
-      estimate-most (length atoms) guidance written.within_limits bits (omega (arith, few_atoms, wide))
+      estimate-most count guidance written.within_limits bits (omega (arith, few_atoms, wide, same))
 
   -- a claim that is shown by values of so few atoms is a certificate's: that of a plan, and that of a search that stops at the limit
-  pub claim_allowed : (guidance : Guidance) (cost max_states : ℕ) (states : List (List Bool)) (nodes : List Node) (plan : List ℕ) → Solves t plan
-      → AreFound t (estimate_by guidance) (reports_dead guidance) (bound cost) max_states states nodes → CanBeWritten (length atoms) guidance
+  pub claim_allowed : (count : ℕ) → count ≡ length atoms → (guidance : Guidance) (cost max_states : ℕ) (states : List (List Bool)) (nodes : List Node) (plan : List ℕ) → Solves t plan
+      → AreFound t (estimate_by guidance) (reports_dead guidance) (bound cost) max_states states nodes → CanBeWritten count guidance
       → IsLowerBound t (estimate_by guidance) → AreDeadEnds t (reports_dead guidance)
-      → length atoms ≤ 1048576 → max_states ≤ 16777216 → is_claim (bound cost) ≡ true
-  claim_allowed guidance cost max_states states nodes plan solves found written lower dead_ends few_atoms few =
+      → count ≤ 1048576 → max_states ≤ 16777216 → is_claim (bound cost) ≡ true
+  claim_allowed count same guidance cost max_states states nodes plan solves found written lower dead_ends few_atoms few =
       cheap_plan t (estimate_by guidance) (reports_dead guidance) cost max_states states nodes plan solves found
-      (found_values guidance (bound cost) max_states states nodes found written few_atoms) lower dead_ends few
+      (found_values count same guidance (bound cost) max_states states nodes found written few_atoms) lower dead_ends few
 
-  pub limit_allowed : (guidance : Guidance) (least max_states : ℕ) (states : List (List Bool)) (nodes : List Node)
-      → search.IsAtLimit t (estimate_by guidance) (reports_dead guidance) max_states least states nodes → CanBeWritten (length atoms) guidance
-      → length atoms ≤ 1048576 → max_states ≤ 16777216 → is_claim (bound least) ≡ true
-  limit_allowed guidance least max_states states nodes limit written few_atoms few =
+  pub limit_allowed : (count : ℕ) → count ≡ length atoms → (guidance : Guidance) (least max_states : ℕ) (states : List (List Bool)) (nodes : List Node)
+      → search.IsAtLimit t (estimate_by guidance) (reports_dead guidance) max_states least states nodes → CanBeWritten count guidance
+      → count ≤ 1048576 → max_states ≤ 16777216 → is_claim (bound least) ≡ true
+  limit_allowed count same guidance least max_states states nodes limit written few_atoms few =
       limit_claim t (estimate_by guidance) (reports_dead guidance) max_states least states nodes limit
-      (found_values guidance (bound least) max_states states nodes limit.found written few_atoms) few
+      (found_values count same guidance (bound least) max_states states nodes limit.found written few_atoms) few
 
   pub more_of_listed : (value : List Bool → ℕ) (is_dead : List Bool → Bool) (max_states : ℕ) → search.AreMoreReachable t value is_dead max_states
       → AreMoreReachable (quotient_of task atoms exchanges) max_states

@@ -1,8 +1,10 @@
 pub mod TypedLemmas
 pub mod GroundLemmas
 pub mod ListedLemmas
+pub mod ListedGuides
 pub mod PotentialLemmas
 pub mod GuidanceLemmas
+pub mod PotentialGuidance
 pub mod TablesLemmas
 pub mod ConsistentLemmas
 pub mod FoundLines

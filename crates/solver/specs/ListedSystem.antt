@@ -1,5 +1,5 @@
 -- The system whose states are searched and listed, in the model's terms.
-use Rattle.std.specs.Prelude.{◌≡◌, ℕ, ◌≤◌, Bool, IsTrue, List, [], length}
+use Rattle.std.specs.Prelude.{◌≡◌, ◌≢◌, ℕ, ◌≤◌, Bool, IsTrue, List, [], length, ⊤}
 use Rattle.std.specs.List.{list_all}
 use Rattle.grounding.specs.declared.ground.Ground.{Ground}
 use Rattle.grounding.specs.Ground.{task_in, atoms_in}
@@ -33,6 +33,11 @@ abbrev pub system_of : ListedSystem → System (List Bool) ℕ
 system_of (listed.Ground g) = ground_system (task_in g.now) (atoms_in g.now)
 system_of (listed.Quotient r) = quotient_by r.now
 
+-- a quotient is by some exchange
+abbrev pub HasExchanges : ListedSystem → Type 0
+HasExchanges (listed.Ground g) = ⊤
+HasExchanges (listed.Quotient r) = exchanges_of r.now ≢ []
+
 -- The task is well typed, its numbered atoms are all that its instances change, and the exchanges are symmetries of it, which a
 -- certificate can have.
 pub record IsListed (system : ListedSystem) : Type 0 where
@@ -41,6 +46,7 @@ pub record IsListed (system : ListedSystem) : Type 0 where
   pub symmetries : IsTrue (list_all (is_symmetry (task_in (ground_in system))) (exchanges_in system))
   pub written : IsTrue (are_exchanges three (exchanges_in system))
   pub few : length (exchanges_in system) ≤ 1048576
+  pub some : HasExchanges system
 
 -- ---- what guides a search of it
 

@@ -2,7 +2,8 @@
 ghost use Rattle.std.specs.Prelude.{◌≡◌, [], count_by, IfOk, IsTrue, OnOk, map, ℕ};
 ghost use Rattle.task.specs.Task.{task_of};
 ghost use Rattle.grounding.specs.Ground.{task_in, atoms_in, IsGroundOf};
-ghost use Rattle.potentials_improved.specs.FairPotentials.{potentials_in, ground_in};
+ghost use Rattle.potentials_improved.specs.FairPotentials as fair;
+ghost use Rattle.potentials_improved.specs.FairPotentials.{potentials_in};
 ghost use Rattle.solver.specs.Guidance.{estimate_by, reports_dead};
 ghost use Rattle.solver.specs.Guided.{IsGuidanceFor, IsSearched};
 ghost use Rattle.solver.specs.Exchanges.{AreExchangesFor};
@@ -276,9 +277,9 @@ fn solve_by_potentials<E: Sink>(
 ) -> Result<Answer, NoMemory>
     requires listed { IsListed system }
     requires ground { IsGroundOf (task_in (ground_in system)) [] limits.instances (ground_in system) }
-    requires estimate { ground_in estimate.now ≡ (ground_in system) }
+    requires estimate { fair.ground_in estimate.now ≡ ground_in system }
     requires improved { AreSettledOrHigh (task_in (ground_in system)) (atoms_in (ground_in system)) (potentials_in estimate.now) }
-    requires dead_ends { ground_in dead_ends.now ≡ (ground_in system) }
+    requires dead_ends { fair.ground_in dead_ends.now ≡ ground_in system }
     requires dead_ends_improved { AreDeadSettledOrHigh (task_in (ground_in system)) (atoms_in (ground_in system)) (potentials_in dead_ends.now) }
     ensures answer { IfOk result (IsTrueAnswer (task_in (ground_in system)) limits.states limits.instances) }
     ensures said { GoesOn (IsTrueLine (task_in (ground_in system))) E.wants_memory (E.failures err.old) (E.taken err.old) (E.failures err.new) (E.taken err.new) }

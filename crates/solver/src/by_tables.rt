@@ -102,6 +102,7 @@ fn drafted(
         potentials: stopped.potentials,
         dead_ends: stopped.dead_ends,
         states: &states,
+        starts: system.starts_among(&states),
         effort: stopped.effort,
     };
     let draft = drafted_tables(alloc, system.ground(), &wanted)?;
@@ -183,10 +184,11 @@ fn search_by_tables<E: Sink>(
     ensures searched { IfOk result (IfDone (λ s. IsSearched system (estimate_by (by_tables (bounds_of bounds.now))) (reports_dead (by_tables (bounds_of bounds.now))) limits.states s.outcome s.marks.items)) }
     ensures said { GoesOn (IsTrueLine (task_in (ground_in system))) E.wants_memory (E.failures err.old) (E.taken err.old) (E.failures err.new) (E.taken err.new) }
 {
-    let Some(functions) = functions_over(alloc, system.ground(), &bounds.tables, values, dead_ends)? else {
+    let ground = system.ground();
+    let Some(functions) = functions_over(alloc, ground, &bounds.tables, values, dead_ends)? else {
         return Ok(Attempt::InVain);
     };
-    if !starts_no_lower(alloc, system.ground(), &functions, stopped.potentials)? {
+    if !starts_no_lower(alloc, ground, &functions, stopped.potentials)? {
         return Ok(Attempt::InVain);
     }
     let saving = stopped.saving_by(alloc, &functions)?;
@@ -230,9 +232,10 @@ fn search_if_fair<E: Sink>(
     ensures searched { IfOk result (IfDone (λ s. IsSearched system (estimate_by (by_tables (several_of functions.entry))) (reports_dead (by_tables (several_of functions.entry))) limits.states s.outcome s.marks.items)) }
     ensures said { GoesOn (IsTrueLine (task_in (ground_in system))) E.wants_memory (E.failures err.old) (E.taken err.old) (E.failures err.new) (E.taken err.new) }
 {
-    match functions.fairness(alloc, system.ground())? {
+    let ground = system.ground();
+    match functions.fairness(alloc, ground)? {
         ValuesFairness::Fair => {
-            let fair = FairTables::new(alloc, functions, system.ground())?;
+            let fair = FairTables::new(alloc, functions, ground)?;
             let guide = ListedGuide::new(&fair, system);
             let searched = search_by(alloc, system, &guide, limits, err)?;
             Ok(Attempt::Done(searched))

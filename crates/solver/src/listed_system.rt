@@ -35,6 +35,14 @@ impl<'l, 't> ListedSystem<'l, 't> {
         }
     }
 
+    /// Of states of the system those that no instances lead to from the initial state of the task, maybe: all of the quotient's.
+    pub(crate) fn starts_among<'s>(&self, states: &'s [Vec<u32>]) -> &'s [Vec<u32>] {
+        match self {
+            ListedSystem::Ground(_) => &[],
+            ListedSystem::Quotient(_) => states,
+        }
+    }
+
     /// The exchanges, as a certificate has them.
     pub(crate) fn written_exchanges(
         &self,

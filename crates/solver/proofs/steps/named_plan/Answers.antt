@@ -4,7 +4,7 @@ use Rattle.grounding.specs.Ground.{task_in}
 use Rattle.model.specs.Task.{Instance}
 use Rattle.model.specs.Grounding.{NamesKept}
 use Rattle.solver.proofs.AnswerLemmas.{plan_length}
-use Rattle.solver.proofs.steps.plan_of.Goals as goal
+use Rattle.solver.proofs.steps.named_plan.Goals as goal
 
 pub unreachable-requires : goal.unreachable-requires
 unreachable-requires c =
