@@ -100,9 +100,14 @@ pub enum Exceeded {
 /// certificate has beside them and which are settled or high as well, states are reported as dead ends: they are listed, and
 /// the search goes no further from them.
 ///
+/// Where objects are interchangeable, one state is searched and listed for all those that exchanges of them take into one another
+/// (orbit space search: Domshlak, Katz and Shleyfman, "Symmetry Breaking in Deterministic Planning as Forward Search", 2015). The
+/// certificate has the exchanges, each of which is a symmetry of the task; the plan is one of the task itself. Which exchanges are
+/// found is not said.
+///
 /// A certificate then lists at most 100,000 states. Where more would have to be listed, `Unknown(Exceeded::States { .. })` has a
-/// certificate of 100,000, and in it the bound is the least sum of cost and value of a state that is still to be expanded: no
-/// open state has a greater sum. Two limits are reported before any potentials are looked for: `Unknown(Exceeded::Instances)`
+/// certificate of 100,000, and in it the bound is the least sum of cost and value of a state that is still to be expanded: if it
+/// has no exchanges, no open state has a greater sum. Two limits are reported before any potentials are looked for: `Unknown(Exceeded::Instances)`
 /// exactly where the task has more than 10,000 kept instances, which are those that are statically applicable, and
 /// `Unknown(Exceeded::Atoms)` exactly where it has no more, and more than 1,048,576 atoms would have numbers.
 pub fn solve(alloc: Global, task: &Task, limits: Limits) -> Result<Answer, NoMemory>

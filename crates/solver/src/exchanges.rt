@@ -1,5 +1,7 @@
 //! The exchanges of objects by which a task is searched.
-ghost use Rattle.std.specs.Prelude.{◌≡◌, IfOk, OnOk, map};
+ghost use Rattle.std.specs.Prelude.{◌≡◌, ◌<◌, IfOk, IsTrue, OnOk, length, map};
+ghost use Rattle.grounding.specs.Ground.{task_in};
+ghost use Rattle.symmetries.specs.Symmetries.{is_symmetry};
 ghost use Rattle.certificate.specs.CertificateParts.{exchange_in};
 ghost use Rattle.task_symmetries.specs.Exchange.{exchange_of};
 ghost use Rattle.solver.specs.Exchanges.{AreExchangesFor};
@@ -38,7 +40,11 @@ fn keep(
     ground: &Ground<'_>,
     exchange: Exchange,
     kept: &mut Vec<Exchange>,
-) -> Result<(), NoMemory> {
+) -> Result<(), NoMemory>
+    requires symmetry { IsTrue (is_symmetry (task_in ground.now) (exchange_of exchange)) }
+    requires room { length kept.old.items < 1048576 }
+    ensures { OnOk result (AreExchangesFor ground.now (map exchange_of kept.old.items) → AreExchangesFor ground.now (map exchange_of kept.new.items)) }
+{
     if exchange.pairs().is_empty() {
         return Ok(());
     }

@@ -6,7 +6,8 @@
 //! for Classical Planning" (ICAPS 2023). What differs is the form: here a certificate lists single states, each with the
 //! cost at which it was reached. An open line's successors are listed too, at no more than what they cost from there; a cut
 //! line goes no further, and its value, the greatest of fair values which the certificate has too, is a lower bound on what is
-//! still to be paid from its state; from a dead line's state no plan leads on, as a dead-fair value shows.
+//! still to be paid from its state; from a dead line's state no plan leads on, as a dead-fair value shows. Where the certificate has
+//! exchanges of objects, a state is listed for all that these take into one another.
 ghost use Rattle.std.specs.Prelude.{◌≡◌, ◌≤◌, length, map, IfOk, IsTrue};
 ghost use Rattle.task.specs.TaskParts.{atom_of};
 ghost use Rattle.packed_state.specs.PooledView.{pooled_states};
