@@ -14,7 +14,7 @@ use task::ObjectId;
 use task_symmetries::{Exchange, exchanged_numbers};
 
 /// So many atoms may be looked at for all exchanges together, at most. Those that come after are left out.
-const MAX_LOOKS: usize = 33_554_432;
+const MAX_LOOKS: usize = 4_194_304;
 
 /// Exchanges of objects that are symmetries of the task, and take each numbered atom to a numbered one.
 pub(crate) fn exchanges_of(
