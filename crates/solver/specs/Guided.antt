@@ -30,8 +30,8 @@ pub record IsGuidanceFor (system : ListedSystem) (guidance : Guidance) : Type 0 
   pub improved : AreSettledOrHigh (task_in (ground_in system)) (atoms_in (ground_in system)) (first_value guidance)
   pub dead_ends_improved : AreDeadSettledOrHigh (task_in (ground_in system)) (atoms_in (ground_in system)) (values_by guidance).dead_ends
   pub no_lower :
-    initial_value (task_in (ground_in system)) (atoms_in (ground_in system)) (first_value guidance)
-    ≤ estimate_by guidance (ground_system (task_in (ground_in system)) (atoms_in (ground_in system))).initial
+      initial_value (task_in (ground_in system)) (atoms_in (ground_in system)) (first_value guidance)
+      ≤ estimate_by guidance (ground_system (task_in (ground_in system)) (atoms_in (ground_in system))).initial
 
 -- the states that a search found
 abbrev pub found_in : Outcome PooledStore → FoundStates PooledStore

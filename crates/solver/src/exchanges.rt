@@ -17,10 +17,7 @@ use task_symmetries::{Exchange, exchanged_numbers};
 const MAX_LOOKS: usize = 4_194_304;
 
 /// Exchanges of objects that are symmetries of the task, and take each numbered atom to a numbered one.
-pub(crate) fn exchanges_of(
-    alloc: Global,
-    ground: &Ground<'_>,
-) -> Result<Vec<Exchange>, NoMemory>
+pub(crate) fn exchanges_of(alloc: Global, ground: &Ground<'_>) -> Result<Vec<Exchange>, NoMemory>
     ensures { IfOk result (λ kept. AreExchangesFor ground.now (map exchange_of kept.items)) }
 {
     let drafts = drafted_exchanges(alloc, ground.task())?;

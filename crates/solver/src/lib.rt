@@ -20,7 +20,7 @@ mod stopped;
 mod system;
 
 pub use answer::{Answer, Exceeded, solve, solve_and_say};
-pub use listed_system::ListedSystem;
 pub use limits::{Limits, MAX_LIMIT};
+pub use listed_system::ListedSystem;
 pub use reports::{RaisedBy, Report};
 pub use system::GroundSystem;

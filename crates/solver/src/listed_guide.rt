@@ -25,10 +25,7 @@ pub(crate) struct ListedGuide<'g, 'l, 't, G: Guide> {
 
 impl<'g, 'l, 't, G: Guide> ListedGuide<'g, 'l, 't, G> {
     /// The guide for this system.
-    pub(crate) fn new(
-        guide: &'g G,
-        system: ListedSystem<'l, 't>,
-    ) -> ListedGuide<'g, 'l, 't, G>
+    pub(crate) fn new(guide: &'g G, system: ListedSystem<'l, 't>) -> ListedGuide<'g, 'l, 't, G>
         requires listed { IsListed system }
         requires made_for { G.system_of guide.now ≡ ground_system (task_in (ground_in system)) (atoms_in (ground_in system)) }
         ensures guide { result.guide.now ≡ guide.now }

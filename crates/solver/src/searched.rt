@@ -25,7 +25,9 @@ use certificate::{Listed, Mark};
 use devices::Sink;
 use faults::NoMemory;
 use packed_state::{Packed, PooledStore, StateStore};
-use search::{FoundStates, Guide, Halt, Node, NodeStatus, Outcome, Search, TransitionSystem, begin, go_on};
+use search::{
+    FoundStates, Guide, Halt, Node, NodeStatus, Outcome, Search, TransitionSystem, begin, go_on,
+};
 use std::alloc::Global;
 
 /// What a search came to, and what its certificate says of each state that it found, in order.

@@ -127,7 +127,15 @@ fn draft_over(
         return Ok(None);
     };
     let starts = starts(alloc, variables, tables.states(), wanted.starts)?;
-    let known = known_over(alloc, ground, variables, &steps, &starts, &states, wanted.effort)?;
+    let known = known_over(
+        alloc,
+        ground,
+        variables,
+        &steps,
+        &starts,
+        &states,
+        wanted.effort,
+    )?;
     drop(steps);
     let draft = draft_by(alloc, variables, &known, &atoms, &states, tables, wanted)?;
     Ok(draft)
