@@ -20,15 +20,17 @@ import sys
 sys.dont_write_bytecode = True
 sys.path.insert(0, os.path.dirname(os.path.realpath(__file__)))
 
+from exchanges import Exchanges  # noqa: E402
 from pddl_task import Task, lists_of  # noqa: E402
 
-MOST_ATOMS, MOST_TABLES, MOST_ROWS, MOST_STATES, LONGEST_LINE = 1048576, 4194304, 4194304, 16777216, 16777216
+MOST_SWAPS, MOST_ATOMS, MOST_TABLES, MOST_ROWS, MOST_STATES, LONGEST_LINE = 1048576, 1048576, 4194304, 4194304, 16777216, 16777216
 # How many numbers the line of the constants has at least and at most, by the version.
 CONSTANTS = {1: (1, 1), 2: (2, 2), 3: (2, 33)}
 NAME = r"[a-z][a-z0-9_-]{0,254}"
 NAMES = {40: "CertForm", 41: "CertVersion", 42: "Truncated", 43: "NotFluent", 44: "Repeated", 45: "NoInitial",
          46: "Unfair", 47: "UnfairGoal", 48: "GoalOpen", 49: "SuccessorMissing", 50: "SuccessorDearer", 51: "CutWeak", 52: "CutNotAllowed",
-         53: "PlanInvalid", 54: "PlanDearer", 55: "Limit", 56: "DeadUnfair", 57: "DeadUnfairGoal", 58: "NotDead"}
+         53: "PlanInvalid", 54: "PlanDearer", 55: "Limit", 56: "DeadUnfair", 57: "DeadUnfairGoal", 58: "NotDead",
+         59: "NotSymmetry"}
 
 
 class Refused(Exception):
@@ -242,7 +244,7 @@ class Certificate:
 
     def __init__(self):
         self.version = self.claim = None
-        self.constants, self.atoms, self.weights = [], [], {}
+        self.constants, self.swaps, self.atoms, self.weights = [], [], [], {}
         self.tables, self.rows, self.places = [], 0, {}
         self.states, self.listed = [], {}
 
@@ -263,6 +265,13 @@ class Certificate:
         if self.version == 1 and len(words) != 1:
             raise ValueError
         return [weight_of(word) for word in words] + [0] * (self.version == 1)
+
+    def read_swap(self, count, names):
+        if len(names) % 2 or len(set(names)) < len(names) or not all(re.fullmatch(NAME, name) for name in names):
+            raise ValueError
+        if len(self.swaps) == MOST_SWAPS:
+            raise Refused(55)
+        self.swaps.append((count, names))
 
     def read_atom(self, task, count, text):
         weights, name = re.fullmatch(rf"atom ([^(]*) \(({NAME}(?: {NAME})*)\)", text).groups()
@@ -356,6 +365,8 @@ def read_line(task, said, count, text):
         said.claim = None if text == "claim none" else number(re.fullmatch("claim bound (.*)", text)[1])
     elif count == 3 and kind == "constant":
         said.read_constants(words)
+    elif count > 3 and kind == "swap" and words and said.version == 3 and not (said.atoms or said.tables or said.states):
+        said.read_swap(count, words)
     elif count > 3 and kind == "atom" and not said.tables and not said.states:
         said.read_atom(task, count, text)
     elif count > 3 and kind == "table" and said.version == 3 and not said.states:
@@ -389,9 +400,10 @@ def read_certificate(task, data):
 # ---- checking
 
 def kept_instances(task, said, limit):
-    """The instances that are kept and the atoms that have numbers; Refused(55) where either are too many."""
+    """The instances that are kept and the atoms that have numbers, in order; Refused(55) where either are too many."""
     instances = list(itertools.islice(task.instances(), limit + 1))
-    numbered = {*said.atoms, *task.initial, *(it.atom for instance in instances for it in instance.changes)}
+    touched = (it.atom for instance in instances for it in instance.changes)
+    numbered = dict.fromkeys([*said.atoms, *task.initial_in_order, *touched]).keys()
     if len(instances) > limit or len(numbered) > MOST_ATOMS:
         raise Refused(55)
     return instances, numbered
@@ -405,7 +417,16 @@ def by_wanted_atom(instances):
     return found
 
 
-def look_at_open(task, said, instances, line, cost, state):
+def exchanges_of(task, said, numbered):
+    """The exchanges of a certificate; Refused(59) where one is no symmetry."""
+    found = Exchanges(task, numbered)
+    for line, names in said.swaps:
+        if not found.add(names):
+            raise Refused(59, line)
+    return found
+
+
+def look_at_open(task, said, exchanges, instances, line, cost, state):
     """Refused(48), Refused(49) or Refused(50) where the line of an open state is wrong."""
     if task.holds(task.goal, state, {}) and (said.claim is None or cost < said.claim):
         raise Refused(48, line)
@@ -414,18 +435,19 @@ def look_at_open(task, said, instances, line, cost, state):
         after = instance.after(state)
         if after is None:
             continue
+        after = exchanges.representative(after)
         if after not in said.listed:
             raise Refused(49, line)
         if said.listed[after] > cost + instance.cost:
             raise Refused(50, line)
 
 
-def look_at_states(task, said, instances):
+def look_at_states(task, said, exchanges, instances):
     """Refused where the line of a state is wrong: the first such line."""
     instances = by_wanted_atom(instances)
     for line, kind, cost, rest, state in said.states:
         if kind == "open":
-            look_at_open(task, said, instances, line, cost, state)
+            look_at_open(task, said, exchanges, instances, line, cost, state)
         elif kind == "cut":
             if rest > said.value(state) or cost + rest < said.claim:
                 raise Refused(51, line)
@@ -436,10 +458,11 @@ def look_at_states(task, said, instances):
 def check(task, data, plan, limit):
     said = read_certificate(task, data)
     instances, numbered = kept_instances(task, said, limit)
+    exchanges = exchanges_of(task, said, numbered)
     look_whether_fair(said, task.sure(task.goal, {}), instances, Fairness(said, numbered))
-    if said.listed.get(task.initial) != 0:
+    if said.listed.get(exchanges.representative(task.initial)) != 0:
         raise Refused(45)
-    look_at_states(task, said, instances)
+    look_at_states(task, said, exchanges, instances)
     if plan is None:
         return "unsolvable" if said.claim is None else f"at least {said.claim}"
     cost = cost_of_plan(task, plan)

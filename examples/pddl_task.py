@@ -50,9 +50,10 @@ class Task:
         self.has_metric = bool(section(problem, ":metric"))
         self.values = {tuple(fact[1]): int(fact[2]) for fact in section(problem, ":init") if fact[0] == "="}
         self.fluent = {p for action in self.actions for p in changed_predicates(action["effect"])}
-        atoms = {tuple(atom) for atom in section(problem, ":init") if atom[0] != "="}
+        atoms = [tuple(atom) for atom in section(problem, ":init") if atom[0] != "="]
         self.static = frozenset(a for a in atoms if a[0] not in self.fluent)
-        self.initial = frozenset(atoms) - self.static
+        self.initial_in_order = [a for a in atoms if a[0] in self.fluent]
+        self.initial = frozenset(self.initial_in_order)
         goal = section(problem, ":goal")
         self.goal = goal[0] if goal else ["and"]
 

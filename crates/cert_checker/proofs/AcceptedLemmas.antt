@@ -15,13 +15,13 @@ use Rattle.model.specs.Claims.{Claim, Allows, opened, Line, none}
 use Rattle.model.proofs.ListLemmas.{Contains-cases, Contains-filter_map, Contains-here, Contains-map, Contains-none, Contains-there, map-Contains}
 use Rattle.table_functions.specs.TableFunctions.{Row, Table, is_among}
 use Rattle.certificate_definitions.specs.Certificates.{Version, one, two, three, Certificate, IsClosedFor, StateLine, are_weights, has_tables, is_row, is_table, rise, state_of_line}
-use Rattle.certificate_definitions.specs.CertificateText.{NamedAtom, WeightedAtom, TableLine, scope, row, NamedCertificate, TextLine, version, claims, constant, atom, tabled, listed, last, AreWhole, BeginCertificate, HasLine, IsFaultAfter, IsOneTooMany, IsOtherVersion, other_version, malformed, too_long, trailing, cut_short, too_many, format_of, is_line, keeps_text_limits, line_text, longest_line, most_atoms, most_rows, most_states, most_tables, text_lines, text_of, version_number, whole_line}
+use Rattle.certificate_definitions.specs.CertificateText.{NamedAtom, WeightedAtom, TableLine, scope, row, NamedCertificate, TextLine, version, claims, constant, swapped, atom, tabled, listed, last, AreWhole, BeginCertificate, HasLine, IsFaultAfter, IsOneTooMany, IsOtherVersion, other_version, malformed, too_long, trailing, cut_short, too_many, format_of, is_line, keeps_text_limits, line_text, longest_line, most_atoms, most_rows, most_states, most_swaps, most_tables, text_lines, text_of, version_number, whole_line}
 use Rattle.certificate_definitions.specs.CertificateNames.{AllName, IsTextOf, Names, table_lines}
 use Rattle.certificate_definitions.specs.CertificateChecking.{EndInTable, HasAtom, HasRow, IsAccepted, IsCut, IsLineFault, IsWrongAfter, IsWrongHere, is_of_scope, not_of_scope, repeated_row, not_fluent, repeated_atom, repeated_state, cut_not_allowed}
-use Rattle.certificate_definitions.specs.CertificateMachine.{CertificatePlace, at_version, at_claim, at_constant, in_body, ended, atom_follows, atom_more, next_place, row_follows, row_more, scope_more, state_more}
+use Rattle.certificate_definitions.specs.CertificateMachine.{CertificatePlace, at_version, at_claim, at_constant, in_body, ended, swap_follows, swap_more, atom_follows, atom_more, next_place, row_follows, row_more, scope_more, state_more}
 use Rattle.certificate_definitions.proofs.Beginnings.{body_lines}
 use Rattle.certificate_definitions.proofs.Machine.{end_of_whole, followed, never, only_where, place_of_beginning}
-use Rattle.certificate_definitions.proofs.TooMany.{IsTooManyAt, an_atom, a_scope, a_row, a_state, too_many_at}
+use Rattle.certificate_definitions.proofs.TooMany.{IsTooManyAt, a_swap, an_atom, a_scope, a_row, a_state, too_many_at}
 use Rattle.certificate_reader.specs.Stages.{IsWithin}
 use Rattle.certificate_reader.proofs.NumbersRead.{same_number}
 use Rattle.certificate_reader.proofs.OneLine.{one_line}
@@ -152,7 +152,7 @@ tables_of_rows (r ∷ rows) = ap (λ lines. row r ∷ lines) (tables_of_rows row
 
 -- a line of a text is one of the first three, or comes after them
 first_three : (said : NamedCertificate) (line : TextLine) → Contains (text_lines said) line
-    → ((version said.version ≡ line) ⊎ ((claims said.claim ≡ line) ⊎ (constant said.constants ≡ line))) ⊎ Contains (body_lines said.atoms said.tables said.lines ++ last (length said.lines) ∷ []) line
+    → ((version said.version ≡ line) ⊎ ((claims said.claim ≡ line) ⊎ (constant said.constants ≡ line))) ⊎ Contains (body_lines said.swaps said.atoms said.tables said.lines ++ last (length said.lines) ∷ []) line
 first_three said line there =
     ⊎_elim (λ same. inl (inl same))
     (λ later. ⊎_elim (λ same. inl (inr (inl same))) (λ others. ⊎_elim (λ same. inl (inr (inr same))) (λ body. inr body) (Contains-cases (constant said.constants) body line others))
@@ -160,19 +160,20 @@ first_three said line there =
     (Contains-cases (version said.version) (claims said.claim ∷ constant said.constants ∷ body) line there)
   where
     body : List TextLine
-    body = body_lines said.atoms said.tables said.lines ++ last (length said.lines) ∷ []
+    body = body_lines said.swaps said.atoms said.tables said.lines ++ last (length said.lines) ∷ []
 
--- and after them only atoms, tables, states and the end come
-module _ (said : NamedCertificate) (line : TextLine) (no_atom : (a : WeightedAtom) → atom a ≡ line → ⊥) (no_table : (t : TableLine) → tabled t ≡ line → ⊥) (no_state : (l : StateLine) → listed l ≡ line → ⊥)
+-- and after them only exchanges, atoms, tables, states and the end come
+module _ (said : NamedCertificate) (line : TextLine) (no_swap : (names : List (List ℕ)) → swapped names ≡ line → ⊥) (no_atom : (a : WeightedAtom) → atom a ≡ line → ⊥) (no_table : (t : TableLine) → tabled t ≡ line → ⊥) (no_state : (l : StateLine) → listed l ≡ line → ⊥)
     (no_end : (count : ℕ) → last count ≡ line → ⊥) where
-  not_after : Contains (body_lines said.atoms said.tables said.lines ++ last (length said.lines) ∷ []) line → ⊥
+  not_after : Contains (body_lines said.swaps said.atoms said.tables said.lines ++ last (length said.lines) ∷ []) line → ⊥
   not_after there =
-      ⊎_elim (λ body. ⊎_elim (λ front. ⊎_elim (λ among. let (a, _, is) = map-Contains atom said.atoms line among in no_atom a is)
-      (λ among. let (t, _, is) = map-Contains tabled said.tables line among in no_table t is) (Contains-append_cases (map atom said.atoms) (map tabled said.tables) line front))
+      ⊎_elim (λ body. ⊎_elim (λ front. ⊎_elim (λ first. ⊎_elim (λ among. let (names, _, is) = map-Contains swapped said.swaps line among in no_swap names is)
+      (λ among. let (a, _, is) = map-Contains atom said.atoms line among in no_atom a is) (Contains-append_cases (map swapped said.swaps) (map atom said.atoms) line first))
+      (λ among. let (t, _, is) = map-Contains tabled said.tables line among in no_table t is) (Contains-append_cases (map swapped said.swaps ++ map atom said.atoms) (map tabled said.tables) line front))
       (λ among. let (l, _, is) = map-Contains listed said.lines line among in no_state l is)
-      (Contains-append_cases (map atom said.atoms ++ map tabled said.tables) (map listed said.lines) line body))
+      (Contains-append_cases ((map swapped said.swaps ++ map atom said.atoms) ++ map tabled said.tables) (map listed said.lines) line body))
       (λ end. ⊎_elim (λ same. no_end (length said.lines) same) (λ nowhere. Contains-none line nowhere) (Contains-cases (last (length said.lines)) [] line end))
-      (Contains-append_cases (body_lines said.atoms said.tables said.lines) (last (length said.lines) ∷ []) line there)
+      (Contains-append_cases (body_lines said.swaps said.atoms said.tables said.lines) (last (length said.lines) ∷ []) line there)
 
 claim_same : (c d : Claim) → claims c ≡ claims d → c ≡ d
 claim_same c d same = cc same
@@ -180,7 +181,7 @@ claim_same c d same = cc same
 claim_there : (said : NamedCertificate) (d : Claim) → Contains (text_lines said) (claims d) → said.claim ≡ d
 claim_there said d there =
     ⊎_elim (λ first. ⊎_elim (λ same. absurd (cc same)) (λ second. ⊎_elim (claim_same said.claim d) (λ same. absurd (cc same)) second) first)
-    (λ later. absurd (not_after said (claims d) (λ a same. absurd (cc same)) (λ t same. absurd (cc same)) (λ l same. absurd (cc same)) (λ n same. absurd (cc same)) later))
+    (λ later. absurd (not_after said (claims d) (λ names same. absurd (cc same)) (λ a same. absurd (cc same)) (λ t same. absurd (cc same)) (λ l same. absurd (cc same)) (λ n same. absurd (cc same)) later))
     (first_three said (claims d) there)
 
 -- ---- no line says what is wrong of the task
@@ -278,6 +279,7 @@ nothing_after : (line : TextLine) (next : CertificatePlace) → next_place ended
 nothing_after (version v) next leads = never next leads
 nothing_after (claims claim) next leads = never next leads
 nothing_after (constant k) next leads = never next leads
+nothing_after (swapped names) next leads = never next leads
 nothing_after (atom a) next leads = never next leads
 nothing_after (tabled (scope s)) next leads = never next leads
 nothing_after (tabled (row r)) next leads = never next leads
@@ -286,6 +288,12 @@ nothing_after (last count) next leads = never next leads
 
 -- a line that leads on is within the limits
 within_limits : (place next : CertificatePlace) (line : TextLine) → IsWithin place → next_place place line ≡ Some next → IsTooManyAt place (line_text line) → ⊥
+within_limits (in_body b) next line within leads (a_swap names no_atom none_yet empty full is same) =
+    let here : line ≡ swapped names = one_line b.format (few_atoms (in_body b) within) line (swapped names) (leads_line (in_body b) within line next leads) is same in
+    let leads_on : next_place (in_body b) (swapped names) ≡ Some next = subst (λ line. next_place (in_body b) line ≡ Some next) here leads in
+    let (holds, _) = only_where (swap_follows b && nat_lt b.swaps most_swaps && is_line b.format (swapped names)) (in_body (swap_more b)) next leads_on in
+    let (counts, _) = and_parts (swap_follows b && nat_lt b.swaps most_swaps) (is_line b.format (swapped names)) holds in
+    omega (arith, full, ltb-true b.swaps most_swaps (and_parts (swap_follows b) (nat_lt b.swaps most_swaps) counts).1)
 within_limits (in_body b) next line within leads (an_atom a none_yet empty full is same) =
     let here : line ≡ atom a = one_line b.format (few_atoms (in_body b) within) line (atom a) (leads_line (in_body b) within line next leads) is same in
     let leads_on : next_place (in_body b) (atom a) ≡ Some next = subst (λ line. next_place (in_body b) line ≡ Some next) here leads in
@@ -347,7 +355,7 @@ module _ (said : NamedCertificate) (keeps : IsTrue (keeps_text_limits said)) (be
 
     -- the lines after the first
     abbrev after_version : List TextLine
-    after_version = claims said.claim ∷ constant said.constants ∷ body_lines said.atoms said.tables said.lines ++ last (length said.lines) ∷ []
+    after_version = claims said.claim ∷ constant said.constants ∷ body_lines said.swaps said.atoms said.tables said.lines ++ last (length said.lines) ∷ []
 
     this_version : IsOtherVersion before (line_text l) → ⊥
     this_version (empty, n, is, not_one, not_two, not_three, same) =

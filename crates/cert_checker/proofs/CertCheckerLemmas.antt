@@ -1,21 +1,22 @@
 -- Why a certificate that the checker goes through without a refusal is closed.
 use Rattle.std.proofs.Common.{◌≡◌, ℕ, zero, suc, ◌+◌, ◌<◌, ◌≤◌, true, ◌&&◌, List, [], ◌∷◌, ◌++◌, length, map, take, get_or, Option, None, Some, inl, inr, refl, sym, ap, ◌∙◌, subst, arith}
 use Rattle.std.specs.Prelude.{IsTrue, MatchOption, OnOk, Result, Ok, Err, nat_eq, Contains, slice_get}
-use Rattle.std.specs.Option.{option_eq}
+use Rattle.std.specs.Option.{option_eq, option_map}
 use Rattle.std.proofs.lemmas.Bool.{eqb-true, ltb-true, and_parts}
 use Rattle.std.specs.List.{list_all}
 use Rattle.std.proofs.lemmas.List.{take_all, take_more, map-append, length-map}
 use Rattle.std.proofs.lemmas.List.Elements.{Contains-append_cases}
-use Rattle.std.proofs.lemmas.Option.{slice_get_within}
+use Rattle.std.proofs.lemmas.Option.{same_Some, slice_get_within}
 use Rattle.model.proofs.Tests.{passes_got}
 use Rattle.cert_checker.specs.CheckedLines.{HasCost, IsListedAt, IsOpenClosed, IsCutClosed, IsLineClosed}
 use Rattle.model.specs.Task.{Task, Instance}
-use Rattle.model.specs.Meaning.{State, system_of}
+use Rattle.model.specs.Meaning.{State, step, system_of}
 use Rattle.model.specs.Instances.{successors_of}
+use Rattle.cert_checker.specs.Successors.{listed_successors, represented, representative_in}
 use Rattle.model.specs.Claims.{Allows, Mark, opened, cut, dead, Line, IsListedWithin}
-use Rattle.certificate_definitions.specs.Certificates.{Version, one, two, three, Certificate, StateLine, is_dead_end_of, is_mark, is_number, is_state_line, keeps_limits, lines_of, rise, state_of_line}
+use Rattle.certificate_definitions.specs.Certificates.{Version, one, two, three, Certificate, StateLine, is_dead_end_of, is_mark, is_number, is_state_line, keeps_limits, lines_of, listed_system, rise, state_of_line}
 use Rattle.certificate_definitions.specs.CertificateRefusals.{IsListed}
-use Rattle.model.proofs.ListLemmas.{Contains-cases, Contains-none}
+use Rattle.model.proofs.ListLemmas.{Contains-cases, Contains-map, Contains-none}
 use Rattle.cert_checker.proofs.LimitsLemmas.{limits_of}
 use Rattle.model.proofs.InstancesLemmas.{Contains-successors}
 
@@ -71,12 +72,24 @@ AllListed-more {X} task cert cost view xs k x lt at before here i next among =
       ]
     ]
 
+-- an instance leads to what is among the successors
+listed_leads : (task : Task) (cert : Certificate) (state : State) (i : Instance) (next : State) → (listed_system task cert).step state i ≡ Some next
+    → Contains {X = Instance × State} (listed_successors task cert state) (i, next)
+listed_leads task cert state i next leads =
+    elim (step task state i) as (λ o. step task state i ≡ o → option_map (representative_in task cert) o ≡ Some next → Contains {X = Instance × State} (listed_successors task cert state) (i, next)) [
+      | None ↦ λ _ none_leads. absurd (cc)
+      | Some there ↦ λ steps is.
+          let same : representative_in task cert there ≡ next = same_Some (representative_in task cert there) next is in
+          subst (λ (s : State). Contains {X = Instance × State} (listed_successors task cert state) (i, s)) same
+          (Contains-map {X = Instance × State} {Y = Instance × State} (represented task cert) (successors_of task state) (i, there) (Contains-successors task state i there steps))
+    ] refl leads
+
 pub open_closed : {X : Type 0} (task : Task) (cert : Certificate) (state : State) (cost : ℕ) (view : X → Instance × State) (xs : List X) (k : ℕ)
-    → length xs ≤ k → map view xs ≡ successors_of task state → AllListed task cert cost (map view (take k xs))
+    → length xs ≤ k → map view xs ≡ listed_successors task cert state → AllListed task cert cost (map view (take k xs))
     → (IsTrue ((system_of task).meets_goal state) → Allows cert.claim cost) → IsOpenClosed task cert state cost
 open_closed task cert state cost view xs k past is all goal = record {
   successors_listed = λ i next leads.
-      all i next (subst (λ l. Contains {X = Instance × State} l (i, next)) (sym is ∙ ap (map view) (sym (take_all k xs past))) (Contains-successors task state i next leads));
+      all i next (subst (λ l. Contains {X = Instance × State} l (i, next)) (sym is ∙ ap (map view) (sym (take_all k xs past))) (listed_leads task cert state i next leads));
   goal_allowed = goal;
 }
 

@@ -14,12 +14,12 @@ use Rattle.model.specs.Fluents.{is_fluent}
 use Rattle.model.specs.Claims.{Claim, bound, none}
 use Rattle.table_functions.specs.TableFunctions.{SeveralValues, Table}
 use Rattle.certificate_definitions.specs.Certificates.{Version, one}
-use Rattle.certificate_definitions.specs.CertificateText.{NamedAtom, WeightedAtom, TableLine, TextLine, version, claims, constant, atom, tabled, listed, last, BeginCertificate, AreWhole}
-use Rattle.certificate_definitions.specs.CertificateNames.{AllName, Names, table_lines, value_count, weight_said}
+use Rattle.certificate_definitions.specs.CertificateText.{NamedAtom, WeightedAtom, TableLine, TextLine, version, claims, constant, swapped, atom, tabled, listed, last, BeginCertificate, AreWhole}
+use Rattle.certificate_definitions.specs.CertificateNames.{AllName, Names, exchange_said, table_lines, value_count, weight_said}
 use Rattle.certificate_definitions.specs.CertificateMachine.{Body, CertificatePlace, at_version, at_claim, at_constant, in_body, ended, next_place, place_after}
 use Rattle.certificate_definitions.specs.CertificateChecking.{AreRight, IsWrongAfter, not_of_scope, repeated_row, not_fluent, repeated_atom, repeated_state, cut_not_allowed}
 use Rattle.certificate_definitions.proofs.Machine.{IsBody, ComesBefore, never, occurs, followed, place_of_beginning}
-use Rattle.cert_checker.specs.Given.{Heading, HaveGiven, AreGiven, AreNotGiven, atom_in, table_in, state_in, atoms_given, tables_given, states_given, names_given, value_given, values_given, with_weight, with_weights_from, with_weights, begun_with}
+use Rattle.cert_checker.specs.Given.{Heading, HaveGiven, AreGiven, AreNotGiven, swap_in, atom_in, table_in, state_in, swaps_given, atoms_given, tables_given, states_given, names_given, value_given, values_given, with_weight, with_weights_from, with_weights, begun_with}
 use Rattle.cert_checker.specs.Tabled.{with_tables}
 use Rattle.cert_checker.proofs.NamesLemmas.{one_named, same_names}
 
@@ -36,6 +36,7 @@ reported_atom lines a reported = let (line, there, is) = filter_map-Contains ato
     line_is (version v) is = absurd (cc is)
     line_is (claims claim) is = absurd (cc is)
     line_is (constant k) is = absurd (cc is)
+    line_is (swapped names) is = absurd (cc is)
     line_is (atom b) is = let same : b ≡ a = cc in ap (λ a. atom a) same
     line_is (tabled t) is = absurd (cc is)
     line_is (listed l) is = absurd (cc is)
@@ -116,7 +117,7 @@ no_atom_first before k begun = let at = placed before (constant k) begun in by_p
 constant_there : (b : Body) (before : List TextLine) → IsBody b before → (k : List ℤ) × Contains before (constant k)
 constant_there b before body =
     let g = body.beginning in
-    let rest = map (λ a. atom a) g.atoms ++ map (λ t. tabled t) g.tables ++ map (λ l. listed l) g.states in (
+    let rest = map (λ names. swapped names) g.swaps ++ map (λ a. atom a) g.atoms ++ map (λ t. tabled t) g.tables ++ map (λ l. listed l) g.states in (
       g.constants,
       subst (λ lines. Contains lines (constant g.constants)) (sym body.lines_are)
           (Contains-there (version g.version) (claims g.claim ∷ constant g.constants ∷ rest) (constant g.constants)
@@ -165,6 +166,7 @@ abbrev pub is_plain : TextLine → Bool
 is_plain (version v) = true
 is_plain (claims claim) = true
 is_plain (constant k) = true
+is_plain (swapped names) = true
 is_plain (atom a) = false
 is_plain (tabled t) = false
 is_plain (listed l) = false
@@ -232,13 +234,14 @@ given_more v k atoms a bounds given = record {
 abbrev pub nothing_said : SeveralValues
 nothing_said = record { values = []; dead_ends = record { constant = pos 0; weights = [] }; tables = [] }
 
-pub reported_nothing : (task : Task) → HaveGiven task [] (record { version = one; claim = bound 0; atoms = []; bounds = nothing_said })
+pub reported_nothing : (task : Task) → HaveGiven task [] (record { version = one; claim = bound 0; exchanges = []; atoms = []; bounds = nothing_said })
 reported_nothing task = record {
   one_version = λ v there. absurd (Contains-none (version v) there);
   one_claim = λ c there. absurd (Contains-none (claims c) there);
   none_occurs = λ same. absurd (cc same);
   given = λ k there. absurd (Contains-none (constant k) there);
   not_given = λ absent. record { values = refl; dead_ends = refl };
+  exchanged = refl;
   tables = refl;
   named = tt;
   fluent = All-nil (λ (a : Atom). IsTrue (is_atom task a && is_fluent task a.predicate));
@@ -254,6 +257,7 @@ module _ (task : Task) (before : List TextLine) (heading : Heading) (reported : 
       none_more (version v) is = refl
       none_more (claims claim) is = refl
       none_more (constant k) is = refl
+      none_more (swapped names) is = refl
       none_more (atom a) is = absurd (cc is)
       none_more (tabled t) is = refl
       none_more (listed l) is = refl
@@ -262,6 +266,22 @@ module _ (task : Task) (before : List TextLine) (heading : Heading) (reported : 
   named_still : (line : TextLine) → atom_in line ≡ None → AllName task (names_given (before ++ line ∷ [])) heading.atoms
   named_still line none_in = subst (λ (reported : List WeightedAtom). AllName task (map (λ a. a.atom) reported) heading.atoms) (sym (no_atom_more line none_in)) reported.named
 
+  no_exchange_more : (line : TextLine) → swap_in line ≡ None → swaps_given (before ++ line ∷ []) ≡ swaps_given before
+  no_exchange_more line none_in = filter_map-append swap_in before (line ∷ []) ∙ ap (λ more. swaps_given before ++ more) (none_more line none_in) ∙ append-nil (swaps_given before)
+    where
+      none_more : (line : TextLine) → swap_in line ≡ None → swaps_given (line ∷ []) ≡ []
+      none_more (version v) is = refl
+      none_more (claims claim) is = refl
+      none_more (constant k) is = refl
+      none_more (swapped names) is = absurd (cc is)
+      none_more (atom a) is = refl
+      none_more (tabled t) is = refl
+      none_more (listed l) is = refl
+      none_more (last count) is = refl
+
+  exchanged_still : (line : TextLine) → swap_in line ≡ None → heading.exchanges ≡ map (exchange_said task) (swaps_given (before ++ line ∷ []))
+  exchanged_still line none_in = reported.exchanged ∙ ap (map (exchange_said task)) (sym (no_exchange_more line none_in))
+
   no_table_more : (line : TextLine) → table_in line ≡ None → tables_given (before ++ line ∷ []) ≡ tables_given before
   no_table_more line none_in = filter_map-append table_in before (line ∷ []) ∙ ap (λ more. tables_given before ++ more) (none_more line none_in) ∙ append-nil (tables_given before)
     where
@@ -269,6 +289,7 @@ module _ (task : Task) (before : List TextLine) (heading : Heading) (reported : 
       none_more (version v) is = refl
       none_more (claims claim) is = refl
       none_more (constant k) is = refl
+      none_more (swapped names) is = refl
       none_more (atom a) is = refl
       none_more (tabled t) is = absurd (cc is)
       none_more (listed l) is = refl
@@ -288,13 +309,14 @@ module _ (task : Task) (before : List TextLine) (heading : Heading) (reported : 
   among_more line other differs there = ⊎_elim (λ earlier. earlier) (λ same. absurd (differs same)) (Contains-push_cases before line other there)
 
   pub reported_version : (v : Version) → BeginCertificate (before ++ version v ∷ [])
-      → HaveGiven task (before ++ version v ∷ []) (record { version = v; claim = heading.claim; atoms = heading.atoms; bounds = heading.bounds })
+      → HaveGiven task (before ++ version v ∷ []) (record { version = v; claim = heading.claim; exchanges = heading.exchanges; atoms = heading.atoms; bounds = heading.bounds })
   reported_version v begun = record {
     one_version = λ w there. ⊎_elim (λ earlier. absurd (nothing_first before v (version w) begun earlier)) (λ same. version_same w same) (Contains-push_cases before (version v) (version w) there);
     one_claim = λ d there. reported.one_claim d (among_more (version v) (claims d) (λ same. cc same) there);
     none_occurs = λ none_is. Contains-append_left before (version v ∷ []) (claims none) (reported.none_occurs none_is);
     given = λ k there. absurd (nothing_first before v (constant k) begun (among_more (version v) (constant k) (λ same. cc same) there));
     not_given = not_given_still (version v);
+    exchanged = exchanged_still (version v) refl;
     tables = tabled_still (version v) refl;
     named = named_still (version v) refl;
     fluent = reported.fluent;
@@ -306,13 +328,14 @@ module _ (task : Task) (before : List TextLine) (heading : Heading) (reported : 
       version_same w same = cc same
 
   pub reported_claim : (c : Claim) → BeginCertificate (before ++ claims c ∷ [])
-      → HaveGiven task (before ++ claims c ∷ []) (record { version = heading.version; claim = c; atoms = heading.atoms; bounds = heading.bounds })
+      → HaveGiven task (before ++ claims c ∷ []) (record { version = heading.version; claim = c; exchanges = heading.exchanges; atoms = heading.atoms; bounds = heading.bounds })
   reported_claim c begun = record {
     one_version = λ v there. reported.one_version v (among_more (claims c) (version v) (λ same. cc same) there);
     one_claim = λ d there. ⊎_elim (λ earlier. absurd (only_claim before c d begun earlier)) (λ same. claim_same d same) (Contains-push_cases before (claims c) (claims d) there);
     none_occurs = λ none_is. subst (λ d. Contains (before ++ claims c ∷ []) (claims d)) none_is (Contains-push before (claims c));
     given = λ k there. given_still (claims c) refl k (among_more (claims c) (constant k) (λ same. cc same) there);
     not_given = not_given_still (claims c);
+    exchanged = exchanged_still (claims c) refl;
     tables = tabled_still (claims c) refl;
     named = named_still (claims c) refl;
     fluent = reported.fluent;
@@ -324,13 +347,14 @@ module _ (task : Task) (before : List TextLine) (heading : Heading) (reported : 
       claim_same d same = cc same
 
   pub reported_constant : (k : List ℤ) → BeginCertificate (before ++ constant k ∷ [])
-      → HaveGiven task (before ++ constant k ∷ []) (record { version = heading.version; claim = heading.claim; atoms = heading.atoms; bounds = begun_with heading.version k heading.bounds })
+      → HaveGiven task (before ++ constant k ∷ []) (record { version = heading.version; claim = heading.claim; exchanges = heading.exchanges; atoms = heading.atoms; bounds = begun_with heading.version k heading.bounds })
   reported_constant k begun = record {
     one_version = λ v there. reported.one_version v (among_more (constant k) (version v) (λ same. cc same) there);
     one_claim = λ d there. reported.one_claim d (among_more (constant k) (claims d) (λ same. cc same) there);
     none_occurs = λ none_is. Contains-append_left before (constant k ∷ []) (claims none) (reported.none_occurs none_is);
     given = λ d there. subst (λ d. AreGiven heading.version d (atoms_given (before ++ constant k ∷ [])) (begun_with heading.version k heading.bounds)) (constant_is d there) begun_given;
     not_given = λ absent. absurd (absent k (Contains-push before (constant k)));
+    exchanged = exchanged_still (constant k) refl;
     tables = tabled_still (constant k) refl;
     named = named_still (constant k) refl;
     fluent = reported.fluent;
@@ -356,15 +380,40 @@ module _ (task : Task) (before : List TextLine) (heading : Heading) (reported : 
         dead_ends = λ i. record { constant = weight_said (value_count heading.version (length k)) k; weights = none_before.dead_ends i };
       })
 
-  -- a line that reports neither the version, nor the claim, nor the constants, nor an atom, nor of a table
-  pub reported_else : (line : TextLine) → ((v : Version) → line ≡ version v → ⊥) → ((d : Claim) → line ≡ claims d → ⊥) → ((k : List ℤ) → line ≡ constant k → ⊥) → atom_in line ≡ None → table_in line ≡ None
+  -- an exchange
+  pub reported_exchange : (names : List (List ℕ)) → HaveGiven task (before ++ swapped names ∷ []) (record {
+    version = heading.version;
+    claim = heading.claim;
+    exchanges = heading.exchanges ++ exchange_said task names ∷ [];
+    atoms = heading.atoms;
+    bounds = heading.bounds;
+  })
+  reported_exchange names = record {
+    one_version = λ v there. reported.one_version v (among_more (swapped names) (version v) (λ same. cc same) there);
+    one_claim = λ d there. reported.one_claim d (among_more (swapped names) (claims d) (λ same. cc same) there);
+    none_occurs = λ none_is. Contains-append_left before (swapped names ∷ []) (claims none) (reported.none_occurs none_is);
+    given = λ k there. given_still (swapped names) refl k (among_more (swapped names) (constant k) (λ same. cc same) there);
+    not_given = not_given_still (swapped names);
+    exchanged =
+        ap (λ exchanges. exchanges ++ exchange_said task names ∷ []) reported.exchanged
+        ∙ sym (ap (map (exchange_said task)) (filter_map-append swap_in before (swapped names ∷ [])) ∙ map-append (exchange_said task) (swaps_given before) (names ∷ []));
+    tables = tabled_still (swapped names) refl;
+    named = named_still (swapped names) refl;
+    fluent = reported.fluent;
+    distinct = reported.distinct;
+    right = right_more task before (swapped names) reported.right (λ number wrong. plain_is_right task before (swapped names) number wrong refl);
+  }
+
+  -- a line that reports neither the version, nor the claim, nor the constants, nor an exchange, nor an atom, nor of a table
+  pub reported_else : (line : TextLine) → ((v : Version) → line ≡ version v → ⊥) → ((d : Claim) → line ≡ claims d → ⊥) → ((k : List ℤ) → line ≡ constant k → ⊥) → swap_in line ≡ None → atom_in line ≡ None → table_in line ≡ None
       → ((number : ℕ) → IsWrongAfter task before line number → ⊥) → HaveGiven task (before ++ line ∷ []) heading
-  reported_else line no_version no_claim no_constant no_atom no_table is_right = record {
+  reported_else line no_version no_claim no_constant no_exchange no_atom no_table is_right = record {
     one_version = λ v there. reported.one_version v (among_more line (version v) (no_version v) there);
     one_claim = λ d there. reported.one_claim d (among_more line (claims d) (no_claim d) there);
     none_occurs = λ none_is. Contains-append_left before (line ∷ []) (claims none) (reported.none_occurs none_is);
     given = λ k there. given_still line no_atom k (among_more line (constant k) (no_constant k) there);
     not_given = not_given_still line;
+    exchanged = exchanged_still line no_exchange;
     tables = tabled_still line no_table;
     named = named_still line no_atom;
     fluent = reported.fluent;
@@ -374,7 +423,7 @@ module _ (task : Task) (before : List TextLine) (heading : Heading) (reported : 
 
   -- a line of a table
   pub reported_tables : (t : TableLine) (tables : List Table) → flat_map table_lines tables ≡ tables_given before ++ t ∷ [] → ((number : ℕ) → IsWrongAfter task before (tabled t) number → ⊥)
-      → HaveGiven task (before ++ tabled t ∷ []) (record { version = heading.version; claim = heading.claim; atoms = heading.atoms; bounds = with_tables heading.bounds tables })
+      → HaveGiven task (before ++ tabled t ∷ []) (record { version = heading.version; claim = heading.claim; exchanges = heading.exchanges; atoms = heading.atoms; bounds = with_tables heading.bounds tables })
   reported_tables t tables are is_right = record {
     one_version = λ v there. reported.one_version v (among_more (tabled t) (version v) (λ same. cc same) there);
     one_claim = λ d there. reported.one_claim d (among_more (tabled t) (claims d) (λ same. cc same) there);
@@ -383,6 +432,7 @@ module _ (task : Task) (before : List TextLine) (heading : Heading) (reported : 
         let given = given_still (tabled t) refl k (among_more (tabled t) (constant k) (λ same. cc same) there) in
         record { values = given.values; dead_ends = given.dead_ends };
     not_given = λ absent. let none_given = not_given_still (tabled t) absent in record { values = none_given.values; dead_ends = none_given.dead_ends };
+    exchanged = exchanged_still (tabled t) refl;
     tables = are ∙ sym (filter_map-append table_in before (tabled t ∷ []));
     named = named_still (tabled t) refl;
     fluent = reported.fluent;
@@ -392,7 +442,7 @@ module _ (task : Task) (before : List TextLine) (heading : Heading) (reported : 
 
   pub reported_last : (count : ℕ) → HaveGiven task (before ++ last count ∷ []) heading
   reported_last count =
-      reported_else (last count) (λ v same. cc same) (λ d same. cc same) (λ k same. cc same) refl refl
+      reported_else (last count) (λ v same. cc same) (λ d same. cc same) (λ k same. cc same) refl refl refl
       (λ number wrong. plain_is_right task before (last count) number wrong refl)
 
   module _ (said : WeightedAtom) (a : Atom) (names : Names task said.atom a) (typed : IsTrue (is_atom task a)) (changes : IsTrue (is_fluent task a.predicate)) where
@@ -413,6 +463,7 @@ module _ (task : Task) (before : List TextLine) (heading : Heading) (reported : 
     pub reported_new_atom : (Contains heading.atoms a → ⊥) → BeginCertificate (before ++ atom said ∷ []) → HaveGiven task (before ++ atom said ∷ []) (record {
       version = heading.version;
       claim = heading.claim;
+      exchanges = heading.exchanges;
       atoms = heading.atoms ++ a ∷ [];
       bounds = with_weights heading.bounds said.weights;
     })
@@ -424,6 +475,7 @@ module _ (task : Task) (before : List TextLine) (heading : Heading) (reported : 
           subst (λ atoms. AreGiven heading.version k atoms (with_weights heading.bounds said.weights)) (sym (atoms_more before said))
           (given_more heading.version k (atoms_given before) said heading.bounds (reported.given k (among_more (atom said) (constant k) (λ same. cc same) there)));
       not_given = λ absent. let (k, there) = constant_first before said begun in absurd (absent k (Contains-append_left before (atom said ∷ []) (constant k) there));
+      exchanged = exchanged_still (atom said) refl;
       tables = tabled_still (atom said) refl;
       named = subst (λ names. AllName task names (heading.atoms ++ a ∷ [])) (sym (names_more before said)) (named_push task (names_given before) heading.atoms said.atom a reported.named names);
       fluent = All-push (λ (a : Atom). IsTrue (is_atom task a && is_fluent task a.predicate)) heading.atoms a reported.fluent (λ i. typed i && changes i);
@@ -445,6 +497,7 @@ states_same lines line is = filter_map-append state_in lines (line ∷ []) ∙ a
     alone (version v) is = refl
     alone (claims claim) is = refl
     alone (constant k) is = refl
+    alone (swapped names) is = refl
     alone (atom a) is = refl
     alone (tabled t) is = refl
     alone (listed l) is = absurd (cc is)

@@ -1,4 +1,6 @@
 pub mod NamesLemmas
+pub mod ExchangesLemmas
+pub mod SymmetriesLemmas
 pub mod LimitsLemmas
 pub mod GivenLemmas
 pub mod ListedLemmas
@@ -11,6 +13,7 @@ pub mod ReadingLemmas
 pub mod ListingLemmas
 pub mod SplitLemmas
 pub mod AcceptedLemmas
+pub mod WrittenExchanges
 pub mod WrittenLemmas
 pub mod VersionLemmas
 pub mod CertCheckerLemmas
@@ -21,6 +24,7 @@ pub mod OrderLemmas
 pub mod TablesLemmas
 pub mod ReportedLemmas
 pub mod FirstLemmas
+pub mod RepresentedLemmas
 pub mod StaysLemmas
 pub mod GroundSuccessors
 pub mod PackedLinesLemmas

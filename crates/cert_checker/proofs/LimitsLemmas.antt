@@ -10,11 +10,12 @@ use Rattle.std.proofs.lemmas.List.FromFn.{length-range_with_len}
 use Rattle.model.specs.Task.{Atom, Task}
 use Rattle.potential_functions.specs.PotentialFunctions.{PotentialFunction}
 use Rattle.table_functions.specs.TableFunctions.{Row, Table, is_among}
-use Rattle.certificate_definitions.specs.Certificates.{Version, one, two, three, Certificate, StateLine, are_potentials, are_tables, are_weights, has_tables, is_claim, is_dead_end_weight, is_row, is_state_line, is_value_count, is_weight, keeps_limits, rows_of}
-use Rattle.certificate_definitions.specs.CertificateText.{NamedAtom, WeightedAtom, TableLine, scope, row, NamedCertificate, Format, TextLine, atom, tabled, listed, last, begin_with_scope, format_of, is_line, is_table_line, is_weight_count, keeps_text_limits, line_text, longest_line, most_atoms, most_rows, most_states, most_tables, row_count, scope_count, text_lines}
-use Rattle.certificate_definitions.specs.CertificateNames.{AllName, IsTextOf, dead_ends_said, table_lines, value_count, value_said, values_said, weight_said}
+use Rattle.certificate_definitions.specs.Certificates.{Version, one, two, three, Certificate, StateLine, are_exchanges, are_potentials, are_tables, are_weights, has_tables, is_claim, is_dead_end_weight, is_row, is_state_line, is_value_count, is_weight, keeps_limits, rows_of}
+use Rattle.certificate_definitions.specs.CertificateText.{NamedAtom, WeightedAtom, TableLine, scope, row, NamedCertificate, Format, TextLine, swapped, atom, tabled, listed, last, begin_with_scope, format_of, is_line, is_table_line, is_weight_count, keeps_text_limits, line_text, longest_line, most_atoms, most_rows, most_states, most_swaps, most_tables, row_count, scope_count, text_lines}
+use Rattle.certificate_definitions.specs.CertificateNames.{AllName, IsTextOf, dead_ends_said, exchange_said, table_lines, value_count, value_said, values_said, weight_said}
 use Rattle.certificate_reader.specs.Words.{are_lower}
 use Rattle.certificate_reader.proofs.OneText as one_text
+use Rattle.cert_checker.proofs.ExchangesLemmas.{exchanges_kept}
 use Rattle.cert_checker.proofs.NamesLemmas.{one_named}
 
 -- ---- the limits of a certificate, one by one
@@ -30,6 +31,8 @@ pub record AreLimits (c : Certificate) : Type 0 where
   pub tables : are_tables c.version (length c.atoms) (length c.values + 1) c.tables ≡ true
   pub few_tables : nat_le (length c.tables) most_tables ≡ true
   pub few_rows : nat_le (length (rows_of c.tables)) most_rows ≡ true
+  pub exchanges : are_exchanges c.version c.exchanges ≡ true
+  pub few_exchanges : nat_le (length c.exchanges) most_swaps ≡ true
 
 pub limits_of : (c : Certificate) → IsTrue (keeps_limits c) → AreLimits c
 limits_of c keeps =
@@ -42,7 +45,12 @@ limits_of c keeps =
     let dead_ends = are_potentials (is_dead_end_weight c.version) (length c.atoms) c.dead_ends in
     let tables = are_tables c.version (length c.atoms) (length c.values + 1) c.tables in
     let scopes = nat_le (length c.tables) most_tables in
-    let (first, few_rows) = and_parts (claims && atoms && lines && states && count && values && dead_ends && tables && scopes) (nat_le (length (rows_of c.tables)) most_rows) keeps in
+    let rows = nat_le (length (rows_of c.tables)) most_rows in
+    let exchanges = are_exchanges c.version c.exchanges in
+    let (first, few_exchanges) =
+    and_parts (claims && atoms && lines && states && count && values && dead_ends && tables && scopes && rows && exchanges) (nat_le (length c.exchanges) most_swaps) keeps in
+    let (first, exchanges_are) = and_parts (claims && atoms && lines && states && count && values && dead_ends && tables && scopes && rows) exchanges first in
+    let (first, few_rows) = and_parts (claims && atoms && lines && states && count && values && dead_ends && tables && scopes) rows first in
     let (first, few_tables) = and_parts (claims && atoms && lines && states && count && values && dead_ends && tables) scopes first in
     let (first, tables_are) = and_parts (claims && atoms && lines && states && count && values && dead_ends) tables first in
     let (first, dead_ends_are) = and_parts (claims && atoms && lines && states && count && values) dead_ends first in
@@ -62,11 +70,14 @@ limits_of c keeps =
       tables = tables_are;
       few_tables = few_tables;
       few_rows = few_rows;
+      exchanges = exchanges_are;
+      few_exchanges = few_exchanges;
     }
 
 -- ---- the limits of a text, one by one
 
 record AreTextLimits (said : NamedCertificate) : Type 0 where
+  few_swaps : nat_le (length said.swaps) most_swaps ≡ true
   few_atoms : nat_le (length said.atoms) most_atoms ≡ true
   few_tables : nat_le (scope_count said.tables) most_tables ≡ true
   few_rows : nat_le (row_count said.tables) most_rows ≡ true
@@ -74,6 +85,7 @@ record AreTextLimits (said : NamedCertificate) : Type 0 where
   claim : is_claim said.claim ≡ true
   constant_count : is_weight_count said.version (length said.constants) ≡ true
   constants : are_weights (length said.constants) said.constants ≡ true
+  swaps : list_all (is_line (format_of said)) (map (λ names. swapped names) said.swaps) ≡ true
   atoms : list_all (is_line (format_of said)) (map (λ a. atom a) said.atoms) ≡ true
   tables : list_all (is_line (format_of said)) (map (λ t. tabled t) said.tables) ≡ true
   states : list_all (is_state_line said.version (length said.atoms)) said.lines ≡ true
@@ -81,6 +93,7 @@ record AreTextLimits (said : NamedCertificate) : Type 0 where
 text_limits : (said : NamedCertificate) → IsTrue (keeps_text_limits said) → AreTextLimits said
 text_limits said keeps =
     let test : TextLine → Bool = is_line (format_of said) in
+    let swaps : List TextLine = map (λ names. swapped names) said.swaps in
     let atoms : List TextLine = map (λ a. atom a) said.atoms in
     let tables : List TextLine = map (λ t. tabled t) said.tables in
     let states : List TextLine = map (λ l. listed l) said.lines in
@@ -88,17 +101,21 @@ text_limits said keeps =
     let begins : Bool = begin_with_scope said.tables && nat_le (scope_count said.tables) most_tables in
     let count_is : Bool = is_weight_count said.version (length said.constants) in
     let in_order : Bool = begins && nat_le (row_count said.tables) most_rows in
-    let (counts, each) = and_parts (nat_le (length said.atoms) most_atoms && in_order && nat_le (length said.lines) most_states) (list_all test (text_lines said)) keeps in
-    let (few, few_states) = and_parts (nat_le (length said.atoms) most_atoms && in_order) (nat_le (length said.lines) most_states) counts in
-    let (few_atoms, ordered) = and_parts (nat_le (length said.atoms) most_atoms) in_order few in
+    let counted : Bool = nat_le (length said.swaps) most_swaps && nat_le (length said.atoms) most_atoms in
+    let (counts, each) = and_parts (counted && in_order && nat_le (length said.lines) most_states) (list_all test (text_lines said)) keeps in
+    let (few, few_states) = and_parts (counted && in_order) (nat_le (length said.lines) most_states) counts in
+    let (few_both, ordered) = and_parts counted in_order few in
+    let (few_swaps, few_atoms) = and_parts (nat_le (length said.swaps) most_swaps) (nat_le (length said.atoms) most_atoms) few_both in
     let (begun, few_rows) = and_parts begins (nat_le (row_count said.tables) most_rows) ordered in
     let few_tables = (and_parts (begin_with_scope said.tables) (nat_le (scope_count said.tables) most_tables) begun).1 in
-    let (claim, others) = and_parts (is_claim said.claim) ((count_is && list_all is_weight said.constants) && list_all test (((atoms ++ tables) ++ states) ++ end)) each in
-    let (constants, following) = and_parts (count_is && list_all is_weight said.constants) (list_all test (((atoms ++ tables) ++ states) ++ end)) others in
+    let (claim, others) = and_parts (is_claim said.claim) ((count_is && list_all is_weight said.constants) && list_all test ((((swaps ++ atoms) ++ tables) ++ states) ++ end)) each in
+    let (constants, following) = and_parts (count_is && list_all is_weight said.constants) (list_all test ((((swaps ++ atoms) ++ tables) ++ states) ++ end)) others in
     let (count, weights) = and_parts count_is (list_all is_weight said.constants) constants in
-    let body = (and_parts (list_all test ((atoms ++ tables) ++ states)) (list_all test end) (sym (list_all-append test ((atoms ++ tables) ++ states) end) ∙ following)).0 in
-    let (front, states_are) = and_parts (list_all test (atoms ++ tables)) (list_all test states) (sym (list_all-append test (atoms ++ tables) states) ∙ body) in
-    let (atoms_are, tables_are) = and_parts (list_all test atoms) (list_all test tables) (sym (list_all-append test atoms tables) ∙ front) in
+    let heads : List TextLine = swaps ++ atoms in
+    let body = (and_parts (list_all test ((heads ++ tables) ++ states)) (list_all test end) (sym (list_all-append test ((heads ++ tables) ++ states) end) ∙ following)).0 in
+    let (front, states_are) = and_parts (list_all test (heads ++ tables)) (list_all test states) (sym (list_all-append test (heads ++ tables) states) ∙ body) in
+    let (heads_are, tables_are) = and_parts (list_all test heads) (list_all test tables) (sym (list_all-append test heads tables) ∙ front) in
+    let (swaps_are, atoms_are) = and_parts (list_all test swaps) (list_all test atoms) (sym (list_all-append test swaps atoms) ∙ heads_are) in
     record {
       few_atoms = few_atoms;
       few_tables = few_tables;
@@ -106,6 +123,8 @@ text_limits said keeps =
       few_states = few_states;
       claim = claim;
       constant_count = count;
+      few_swaps = few_swaps;
+      swaps = swaps_are;
       constants = λ i. eq-eqb (length said.constants) (length said.constants) refl i && weights i;
       atoms = atoms_are;
       tables = tables_are;
@@ -317,7 +336,9 @@ module _ (task : Task) (text : List ℕ) (c : Certificate) (is : IsTextOf task t
       let dead_ends = (λ i. are_potentials (is_dead_end_weight (sym is.version i)) (sym as_many_atoms i) (is.dead_ends i)) ∙ dead_ends_kept is.said limits in
       let few_tables = ap (λ n. nat_le n most_tables) (sym (scopes_are c.tables) ∙ ap scope_count (sym is.tables)) ∙ limits.few_tables in
       let few_rows = ap (λ n. nat_le n most_rows) (sym (rows_are c.tables) ∙ ap row_count (sym is.tables)) ∙ limits.few_rows in
-      λ i. ((((((((claim i && few_atoms i) && few_states i) && states i) && as_many_values i) && values i) && dead_ends i) && tables_are i) && few_tables i) && few_rows i
+      let exchanges = (λ i. are_exchanges (sym is.version i) (is.exchanges i)) ∙ exchanges_kept task (format_of is.said) is.said.swaps limits.swaps in
+      let few_exchanges = ap (λ n. nat_le n most_swaps) (ap length is.exchanges ∙ length-map is.said.swaps (exchange_said task)) ∙ limits.few_swaps in
+      λ i. ((((((((((claim i && few_atoms i) && few_states i) && states i) && as_many_values i) && values i) && dead_ends i) && tables_are i) && few_tables i) && few_rows i) && exchanges i) && few_exchanges i
 
 -- ---- one certificate for a text
 
@@ -370,7 +391,8 @@ one_certificate task text c d is other =
     let lines : c.lines ≡ d.lines = sym is.lines ∙ ap (λ (n : NamedCertificate). n.lines) said ∙ other.lines in
     let values : c.values ≡ d.values = is.values ∙ ap values_said said ∙ sym other.values in
     let dead_ends : c.dead_ends ≡ d.dead_ends = is.dead_ends ∙ ap dead_ends_said said ∙ sym other.dead_ends in
+    let exchanges : c.exchanges ≡ d.exchanges = is.exchanges ∙ ap (λ (n : NamedCertificate). map (exchange_said task) n.swaps) said ∙ sym other.exchanges in
     let tables : c.tables ≡ d.tables = same_tables c.tables d.tables (sym is.tables ∙ ap (λ (n : NamedCertificate). n.tables) said ∙ other.tables) in
     let atoms : c.atoms ≡ d.atoms = same_atoms task (map (λ (a : WeightedAtom). a.atom) other.said.atoms) c.atoms d.atoms
     (subst (λ (n : NamedCertificate). AllName task (map (λ (a : WeightedAtom). a.atom) n.atoms) c.atoms) said is.atoms) other.atoms in
-    λ i. record { version = version_is i; claim = claim i; atoms = atoms i; values = values i; dead_ends = dead_ends i; tables = tables i; lines = lines i }
+    λ i. record { version = version_is i; claim = claim i; exchanges = exchanges i; atoms = atoms i; values = values i; dead_ends = dead_ends i; tables = tables i; lines = lines i }

@@ -11,7 +11,7 @@ use Rattle.model.specs.Claims.{Claim, none}
 use Rattle.certificate_definitions.specs.Certificates.{StateLine, rise}
 use Rattle.model.proofs.ListLemmas.{Contains-filter_map, filter_map-Contains, Contains-map, Contains-place, map-Contains}
 use Rattle.model.proofs.Tests.{passes_got}
-use Rattle.certificate_definitions.specs.CertificateText.{TextLine, version, claims, constant, atom, tabled, listed, last}
+use Rattle.certificate_definitions.specs.CertificateText.{TextLine, version, claims, constant, swapped, atom, tabled, listed, last}
 use Rattle.certificate_definitions.specs.CertificateChecking.{IsCut, IsWrongAfter, ListsAtoms, not_of_scope, repeated_row, not_fluent, repeated_atom, repeated_state, cut_not_allowed}
 use Rattle.certificate.specs.ListedSets.{Marked, marked}
 use Rattle.cert_checker.specs.Given.{Heading, HaveGiven, state_in, states_given}
@@ -32,6 +32,7 @@ reported_state lines l reported = let (line, there, is) = filter_map-Contains st
     line_is (version v) is = absurd (cc is)
     line_is (claims claim) is = absurd (cc is)
     line_is (constant k) is = absurd (cc is)
+    line_is (swapped names) is = absurd (cc is)
     line_is (atom a) is = absurd (cc is)
     line_is (tabled t) is = absurd (cc is)
     line_is (listed m) is = let same : m ≡ l = cc in ap (λ l. listed l) same
@@ -86,7 +87,7 @@ module _ (before : List TextLine) (claim : Claim) (width : ℕ) (marks : List Ma
 
     pub state_reported_more : (Contains sets (set_of width l.atoms) → ⊥) → ((claim ≡ none) × IsCut l.mark → ⊥) → HaveGiven task (before ++ listed l ∷ []) heading
     state_reported_more new allowed =
-        reported_else task before heading reported (listed l) (λ v same. cc same) (λ d same. cc same) (λ k same. cc same) refl refl (λ number wrong. right_state new allowed (listed l) number wrong refl)
+        reported_else task before heading reported (listed l) (λ v same. cc same) (λ d same. cc same) (λ k same. cc same) refl refl refl (λ number wrong. right_state new allowed (listed l) number wrong refl)
 
     pub state_again : Contains sets (set_of width l.atoms) → IsWrongAfter task before (listed l) 44
     state_again there = repeated_state l (set_was_listed there)

@@ -74,7 +74,7 @@ got f [] k x within is = absurd (omega (arith, within))
 got f (y ∷ xs) zero x within is = ap (λ x. Some (f x)) (sym is)
 got f (y ∷ xs) (suc k) x within is = got f xs k x (omega (arith, within)) is
 
-same_bytes : (a b : Name) → is_same a b ≡ true → a ≡ b
+pub same_bytes : (a b : Name) → is_same a b ≡ true → a ≡ b
 same_bytes [] [] same = refl
 same_bytes [] (y ∷ b) same = absurd (true≢false (sym same))
 same_bytes (x ∷ a) [] same = absurd (true≢false (sym same))

@@ -6,15 +6,16 @@ use Rattle.std.proofs.lemmas.Option.{slice_get_within, get_or_from_slice_get}
 use Rattle.model.specs.Task.{Atom, Task, Instance}
 use Rattle.model.specs.WellTyped.{is_atom}
 use Rattle.model.specs.Runs.{Solves}
-use Rattle.model.specs.Meaning.{State, system_of, initial_state}
+use Rattle.model.specs.Meaning.{State, system_of}
 use Rattle.model.specs.Limits.{max_numbered_atoms}
 use Rattle.model.specs.Grounding.{exceeded_limit}
 use Rattle.model.specs.Claims.{none, Allows, opened, cut, Line, IsListedWithin}
 use Rattle.model.specs.Fluents.{is_fluent}
-use Rattle.certificate_definitions.specs.Certificates.{Certificate, lines_of, AreFairFor, IsClosedFor}
-use Rattle.certificate_definitions.specs.CertificateRefusals.{Reason, not_fluent, repeated, no_initial, unfair, unfair_goal, goal_open, successor_missing, successor_dearer, cut_weak, cut_not_allowed, plan_invalid, plan_dearer, limit, dead_unfair, dead_unfair_goal, not_dead, IsUnfairIn, IsUnfairAtGoalsIn, IsDeadUnfairIn, IsWrongAt, IsWrong, IsFirst, stage_of, rank_of, state_line}
+use Rattle.symmetries.specs.Exchanges.{Exchange}
+use Rattle.certificate_definitions.specs.Certificates.{Certificate, lines_of, is_symmetry_for, listed_system, AreFairFor, IsClosedFor}
+use Rattle.certificate_definitions.specs.CertificateRefusals.{Reason, not_fluent, repeated, no_initial, unfair, unfair_goal, goal_open, successor_missing, successor_dearer, cut_weak, cut_not_allowed, plan_invalid, plan_dearer, limit, dead_unfair, dead_unfair_goal, not_dead, not_symmetry, HasExchange, exchange_line, IsUnfairIn, IsUnfairAtGoalsIn, IsDeadUnfairIn, IsWrongAt, IsWrong, IsFirst, stage_of, rank_of, state_line}
 use Rattle.cert_checker.specs.FluentAtoms.{AreFluent}
-use Rattle.cert_checker.specs.CheckedLines.{CutsAreAllowed, IsLineClosed, IsRightUpTo}
+use Rattle.cert_checker.specs.CheckedLines.{AreSymmetries, CutsAreAllowed, IsLineClosed, IsRightUpTo}
 use Rattle.certificate_definitions.proofs.CertificateRefusalsLemmas.{apart, dead_goals_fair, goals_fair, none_dead_unfair, none_unfair, right_line}
 
 -- ---- what is known of a beginning of the certificate
@@ -47,7 +48,7 @@ states_right_all task c pairs allowed = record {
 -- comes behind them.
 abbrev pub AreFairUpTo : Task → Certificate → (place rank : ℕ) → Type 0
 AreFairUpTo task c place rank =
-    (r : Reason) (k : ℕ) → stage_of r ≡ 2 → (k < place) ⊎ ((k ≡ place) × (rank_of r < rank)) → IsWrongAt task c r k → ⊥
+    (r : Reason) (k : ℕ) → stage_of r ≡ 3 → (k < place) ⊎ ((k ≡ place) × (rank_of r < rank)) → IsWrongAt task c r k → ⊥
 
 -- nothing is asked before the first
 pub none_asked : (task : Task) (c : Certificate) → AreFairUpTo task c 0 0
@@ -84,7 +85,7 @@ dead_instances_asked task c fair unlost dead_unfair_goal k stage (inr (there, fi
 dead_instances_asked task c fair unlost _ k stage (inr (there, first)) wrong = absurd (omega arith)
 
 -- nothing is wrong with fair values
-fair_wholly : (task : Task) (c : Certificate) → AreFairFor task c → (r : Reason) (k : ℕ) → stage_of r ≡ 2 → IsWrongAt task c r k → ⊥
+fair_wholly : (task : Task) (c : Certificate) → AreFairFor task c → (r : Reason) (k : ℕ) → stage_of r ≡ 3 → IsWrongAt task c r k → ⊥
 fair_wholly task c fair unfair k stage (i, wrong) = none_unfair task c c.version fair k i wrong
 fair_wholly task c fair unfair_goal k stage wrong = goals_fair task c c.version fair k wrong
 fair_wholly task c fair dead_unfair k stage (there, i, wrong) = none_dead_unfair task c c.version fair i wrong
@@ -128,6 +129,7 @@ module _ (task : Task) (c : Certificate) where
   states_right count line dead_unfair atoms right reach stage wrong = absurd (omega arith)
   states_right count line dead_unfair_goal atoms right reach stage wrong = absurd (omega arith)
   states_right count line not_dead atoms right reach stage wrong = absurd (omega arith)
+  states_right count line not_symmetry atoms right reach stage wrong = absurd (omega arith)
 
   -- what is looked for in reading is wrong with a line alone
   of_line : (plan : Option (List Instance)) (most : ℕ) (r : Reason) → stage_of r ≡ 0 → IsWrong task c plan most r → ⊥
@@ -147,6 +149,7 @@ module _ (task : Task) (c : Certificate) where
   of_line plan most dead_unfair stage wrong = wrong
   of_line plan most dead_unfair_goal stage wrong = wrong
   of_line plan most not_dead stage wrong = wrong
+  of_line plan most not_symmetry stage wrong = wrong
 
   -- ---- after reading
 
@@ -178,17 +181,62 @@ module _ (task : Task) (c : Certificate) where
   in_limit plan most dead_unfair l within stage wrong = absurd (omega arith)
   in_limit plan most dead_unfair_goal l within stage wrong = absurd (omega arith)
   in_limit plan most not_dead l within stage wrong = absurd (omega arith)
+  in_limit plan most not_symmetry l within stage wrong = absurd (omega arith)
 
-  before_fair : (plan : Option (List Instance)) (most : ℕ) (r : Reason) (l : ℕ) → AtomsAreRight task c (length c.atoms) → StatesAreRight task c (length (lines_of task c)) → exceeded_limit most max_numbered_atoms task c.atoms ≡ None
+  before_symmetric : (plan : Option (List Instance)) (most : ℕ) (r : Reason) (l : ℕ) → AtomsAreRight task c (length c.atoms) → StatesAreRight task c (length (lines_of task c)) → exceeded_limit most max_numbered_atoms task c.atoms ≡ None
       → stage_of r < 2 → IsWrongAt task c r l ⊎ IsWrong task c plan most r → ⊥
-  before_fair plan most r l atoms states within stage wrong =
+  before_symmetric plan most r l atoms states within stage wrong =
       elim (cases_eq (stage_of r) 0) [
         | inl reading ↦ read_right plan most r l atoms states reading wrong
         | inr later ↦ in_limit plan most r l within (omega arith) wrong
       ]
 
+  -- the exchange of this line, if it has one, is a symmetry
+  abbrev IsSymmetricAt : ℕ → Type 0
+  IsSymmetricAt line = (e : Exchange) → HasExchange c line e → is_symmetry_for task c e ≡ true
+
+  at_exchange : (plan : Option (List Instance)) (most : ℕ) (r : Reason) (l : ℕ) → IsSymmetricAt l → stage_of r ≡ 2 → IsWrongAt task c r l ⊎ IsWrong task c plan most r → ⊥
+  at_exchange plan most not_symmetry l right stage (inl (e, has, fails)) = false≢true (sym fails ∙ right e has)
+  at_exchange plan most not_symmetry l right stage (inr wrong) = wrong
+  at_exchange plan most not_fluent l right stage wrong = absurd (omega arith)
+  at_exchange plan most repeated l right stage wrong = absurd (omega arith)
+  at_exchange plan most cut_not_allowed l right stage wrong = absurd (omega arith)
+  at_exchange plan most limit l right stage wrong = absurd (omega arith)
+  at_exchange plan most no_initial l right stage wrong = absurd (omega arith)
+  at_exchange plan most goal_open l right stage wrong = absurd (omega arith)
+  at_exchange plan most successor_missing l right stage wrong = absurd (omega arith)
+  at_exchange plan most successor_dearer l right stage wrong = absurd (omega arith)
+  at_exchange plan most cut_weak l right stage wrong = absurd (omega arith)
+  at_exchange plan most plan_invalid l right stage wrong = absurd (omega arith)
+  at_exchange plan most plan_dearer l right stage wrong = absurd (omega arith)
+  at_exchange plan most unfair l right stage wrong = absurd (omega arith)
+  at_exchange plan most unfair_goal l right stage wrong = absurd (omega arith)
+  at_exchange plan most dead_unfair l right stage wrong = absurd (omega arith)
+  at_exchange plan most dead_unfair_goal l right stage wrong = absurd (omega arith)
+  at_exchange plan most not_dead l right stage wrong = absurd (omega arith)
+
+  -- the first exchange that is no symmetry is reported first
+  pub first_symmetry : (place : ℕ) (plan : Option (List Instance)) (most : ℕ) → AtomsAreRight task c (length c.atoms) → StatesAreRight task c (length (lines_of task c))
+      → exceeded_limit most max_numbered_atoms task c.atoms ≡ None → ((k : ℕ) (e : Exchange) → k < place → slice_get c.exchanges k ≡ Some e → is_symmetry_for task c e ≡ true)
+      → IsFirst task c plan most not_symmetry (exchange_line place)
+  first_symmetry place plan most atoms states within before r l (inl earlier) wrong = before_symmetric plan most r l atoms states within earlier wrong
+  first_symmetry place plan most atoms states within before r l (inr (same, inl earlier)) wrong = at_exchange plan most r l (λ e has. before has.0 e (omega (arith, has.1, earlier)) has.2) same wrong
+  first_symmetry place plan most atoms states within before r l (inr (same, inr (there, rank))) wrong = omega arith
+
+  symmetric_each : AreSymmetries task c → (l : ℕ) → IsSymmetricAt l
+  symmetric_each symmetric l e has =
+      subst (λ (e : Exchange). is_symmetry_for task c e ≡ true) (get_or_from_slice_get c.exchanges has.0 e e has.2) (symmetric has.0 e (slice_get_within c.exchanges has.0 e has.2))
+
+  before_fair : (plan : Option (List Instance)) (most : ℕ) (r : Reason) (l : ℕ) → AtomsAreRight task c (length c.atoms) → StatesAreRight task c (length (lines_of task c)) → exceeded_limit most max_numbered_atoms task c.atoms ≡ None
+      → AreSymmetries task c → stage_of r < 3 → IsWrongAt task c r l ⊎ IsWrong task c plan most r → ⊥
+  before_fair plan most r l atoms states within symmetric stage wrong =
+      elim (cases_eq (stage_of r) 2) [
+        | inl exchanged ↦ at_exchange plan most r l (symmetric_each symmetric l) exchanged wrong
+        | inr earlier ↦ before_symmetric plan most r l atoms states within (omega arith) wrong
+      ]
+
   -- what is asked of the values is wrong with one of them alone
-  of_value : (plan : Option (List Instance)) (most : ℕ) (r : Reason) → stage_of r ≡ 2 → IsWrong task c plan most r → ⊥
+  of_value : (plan : Option (List Instance)) (most : ℕ) (r : Reason) → stage_of r ≡ 3 → IsWrong task c plan most r → ⊥
   of_value plan most unfair stage wrong = wrong
   of_value plan most unfair_goal stage wrong = wrong
   of_value plan most dead_unfair stage wrong = wrong
@@ -203,35 +251,36 @@ module _ (task : Task) (c : Certificate) where
   of_value plan most successor_dearer stage wrong = wrong
   of_value plan most cut_weak stage wrong = wrong
   of_value plan most not_dead stage wrong = wrong
+  of_value plan most not_symmetry stage wrong = wrong
   of_value plan most plan_invalid stage wrong = absurd (omega arith)
   of_value plan most plan_dearer stage wrong = absurd (omega arith)
 
   -- what is asked of them is reported first where all that is asked before is so
-  pub first_asked : (reason : Reason) (place : ℕ) (plan : Option (List Instance)) (most : ℕ) → stage_of reason ≡ 2 → AtomsAreRight task c (length c.atoms) → StatesAreRight task c (length (lines_of task c))
-      → exceeded_limit most max_numbered_atoms task c.atoms ≡ None → AreFairUpTo task c place (rank_of reason) → IsFirst task c plan most reason place
-  first_asked reason place plan most stage atoms states within fair r l (inl before) wrong = before_fair plan most r l atoms states within (omega (arith, before, stage)) wrong
-  first_asked reason place plan most stage atoms states within fair r l (inr (same, before)) (inl wrong) = fair r l (same ∙ stage) before wrong
-  first_asked reason place plan most stage atoms states within fair r l (inr (same, before)) (inr wrong) = of_value plan most r (same ∙ stage) wrong
+  pub first_asked : (reason : Reason) (place : ℕ) (plan : Option (List Instance)) (most : ℕ) → stage_of reason ≡ 3 → AtomsAreRight task c (length c.atoms) → StatesAreRight task c (length (lines_of task c))
+      → exceeded_limit most max_numbered_atoms task c.atoms ≡ None → AreSymmetries task c → AreFairUpTo task c place (rank_of reason) → IsFirst task c plan most reason place
+  first_asked reason place plan most stage atoms states within symmetric fair r l (inl before) wrong = before_fair plan most r l atoms states within symmetric (omega (arith, before, stage)) wrong
+  first_asked reason place plan most stage atoms states within symmetric fair r l (inr (same, before)) (inl wrong) = fair r l (same ∙ stage) before wrong
+  first_asked reason place plan most stage atoms states within symmetric fair r l (inr (same, before)) (inr wrong) = of_value plan most r (same ∙ stage) wrong
 
-  in_fair : (plan : Option (List Instance)) (most : ℕ) (r : Reason) (l : ℕ) → AreFairFor task c → stage_of r ≡ 2 → IsWrongAt task c r l ⊎ IsWrong task c plan most r → ⊥
+  in_fair : (plan : Option (List Instance)) (most : ℕ) (r : Reason) (l : ℕ) → AreFairFor task c → stage_of r ≡ 3 → IsWrongAt task c r l ⊎ IsWrong task c plan most r → ⊥
   in_fair plan most r l fair stage (inl wrong) = fair_wholly task c fair r l stage wrong
   in_fair plan most r l fair stage (inr wrong) = of_value plan most r stage wrong
 
   before_initial : (plan : Option (List Instance)) (most : ℕ) (r : Reason) (l : ℕ) → AtomsAreRight task c (length c.atoms) → StatesAreRight task c (length (lines_of task c)) → exceeded_limit most max_numbered_atoms task c.atoms ≡ None
-      → AreFairFor task c → stage_of r < 3 → IsWrongAt task c r l ⊎ IsWrong task c plan most r → ⊥
-  before_initial plan most r l atoms states within fair stage wrong =
-      elim (cases_eq (stage_of r) 2) [
+      → AreSymmetries task c → AreFairFor task c → stage_of r < 4 → IsWrongAt task c r l ⊎ IsWrong task c plan most r → ⊥
+  before_initial plan most r l atoms states within symmetric fair stage wrong =
+      elim (cases_eq (stage_of r) 3) [
         | inl unfair_reported ↦ in_fair plan most r l fair unfair_reported wrong
-        | inr earlier ↦ before_fair plan most r l atoms states within (omega arith) wrong
+        | inr earlier ↦ before_fair plan most r l atoms states within symmetric (omega arith) wrong
       ]
 
   pub first_initial : (plan : Option (List Instance)) (most : ℕ) → AtomsAreRight task c (length c.atoms) → StatesAreRight task c (length (lines_of task c)) → exceeded_limit most max_numbered_atoms task c.atoms ≡ None
-      → AreFairFor task c → IsFirst task c plan most no_initial 0
-  first_initial plan most atoms states within fair r l (inl before) wrong = before_initial plan most r l atoms states within fair before wrong
-  first_initial plan most atoms states within fair r l (inr (same, inl before)) wrong = omega arith
-  first_initial plan most atoms states within fair r l (inr (same, inr (there, rank))) wrong = omega arith
+      → AreSymmetries task c → AreFairFor task c → IsFirst task c plan most no_initial 0
+  first_initial plan most atoms states within symmetric fair r l (inl before) wrong = before_initial plan most r l atoms states within symmetric fair before wrong
+  first_initial plan most atoms states within symmetric fair r l (inr (same, inl before)) wrong = omega arith
+  first_initial plan most atoms states within symmetric fair r l (inr (same, inr (there, rank))) wrong = omega arith
 
-  in_initial : (plan : Option (List Instance)) (most : ℕ) (r : Reason) (l : ℕ) → IsListedWithin (lines_of task c) (initial_state task) 0 → stage_of r ≡ 3 → IsWrongAt task c r l ⊎ IsWrong task c plan most r → ⊥
+  in_initial : (plan : Option (List Instance)) (most : ℕ) (r : Reason) (l : ℕ) → IsListedWithin (lines_of task c) (listed_system task c).initial 0 → stage_of r ≡ 4 → IsWrongAt task c r l ⊎ IsWrong task c plan most r → ⊥
   in_initial plan most no_initial l listed stage (inl wrong) = wrong
   in_initial plan most no_initial l listed stage (inr wrong) = wrong listed
   in_initial plan most not_fluent l listed stage wrong = absurd (omega arith)
@@ -243,6 +292,7 @@ module _ (task : Task) (c : Certificate) where
   in_initial plan most dead_unfair l listed stage wrong = absurd (omega arith)
   in_initial plan most dead_unfair_goal l listed stage wrong = absurd (omega arith)
   in_initial plan most not_dead l listed stage wrong = absurd (omega arith)
+  in_initial plan most not_symmetry l listed stage wrong = absurd (omega arith)
   in_initial plan most goal_open l listed stage wrong = absurd (omega arith)
   in_initial plan most successor_missing l listed stage wrong = absurd (omega arith)
   in_initial plan most successor_dearer l listed stage wrong = absurd (omega arith)
@@ -250,16 +300,16 @@ module _ (task : Task) (c : Certificate) where
   in_initial plan most plan_invalid l listed stage wrong = absurd (omega arith)
   in_initial plan most plan_dearer l listed stage wrong = absurd (omega arith)
 
-  before_lines : (plan : Option (List Instance)) (most place : ℕ) (r : Reason) (l : ℕ) → IsRightUpTo task c most place → stage_of r < 4 → IsWrongAt task c r l ⊎ IsWrong task c plan most r → ⊥
+  before_lines : (plan : Option (List Instance)) (most place : ℕ) (r : Reason) (l : ℕ) → IsRightUpTo task c most place → stage_of r < 5 → IsWrongAt task c r l ⊎ IsWrong task c plan most r → ⊥
   before_lines plan most place r l right stage wrong =
-      elim (cases_eq (stage_of r) 3) [
+      elim (cases_eq (stage_of r) 4) [
         | inl initial ↦ in_initial plan most r l right.initial initial wrong
-        | inr earlier ↦ before_initial plan most r l (atoms_right task c right.atoms) (states_right_all task c right.distinct right.allowed) right.within right.fair (omega arith) wrong
+        | inr earlier ↦ before_initial plan most r l (atoms_right task c right.atoms) (states_right_all task c right.distinct right.allowed) right.within right.symmetric right.fair (omega arith) wrong
       ]
 
   -- ---- the state lines
 
-  line_right : (r : Reason) (line place : ℕ) → line < state_line c place → ((k : ℕ) (l : Line State) → k < place → slice_get (lines_of task c) k ≡ Some l → IsLineClosed task c l) → stage_of r ≡ 4
+  line_right : (r : Reason) (line place : ℕ) → line < state_line c place → ((k : ℕ) (l : Line State) → k < place → slice_get (lines_of task c) k ≡ Some l → IsLineClosed task c l) → stage_of r ≡ 5
       → IsWrongAt task c r line → ⊥
   line_right goal_open line place lt right stage (l, (k, reported, at), is_open, goal, denied) = denied (((right k l (omega arith) at).is_open is_open).goal_allowed goal)
   line_right successor_missing line place lt right stage (l, i, next, ((k, reported, at), is_open, leads), missing) =
@@ -281,10 +331,11 @@ module _ (task : Task) (c : Certificate) where
   line_right dead_unfair line place lt right stage wrong = absurd (omega arith)
   line_right dead_unfair_goal line place lt right stage wrong = absurd (omega arith)
   line_right not_dead line place lt right stage (l, (k, reported, at), is_dead, alive) = false≢true (sym alive ∙ (right k l (omega arith) at).is_dead is_dead)
+  line_right not_symmetry line place lt right stage wrong = absurd (omega arith)
   line_right plan_invalid line place lt right stage wrong = wrong
   line_right plan_dearer line place lt right stage wrong = wrong
 
-  of_state_line : (plan : Option (List Instance)) (most : ℕ) (r : Reason) → stage_of r ≡ 4 → IsWrong task c plan most r → ⊥
+  of_state_line : (plan : Option (List Instance)) (most : ℕ) (r : Reason) → stage_of r ≡ 5 → IsWrong task c plan most r → ⊥
   of_state_line plan most not_fluent stage wrong = wrong
   of_state_line plan most repeated stage wrong = wrong
   of_state_line plan most cut_not_allowed stage wrong = wrong
@@ -299,11 +350,12 @@ module _ (task : Task) (c : Certificate) where
   of_state_line plan most dead_unfair stage wrong = absurd (omega arith)
   of_state_line plan most dead_unfair_goal stage wrong = absurd (omega arith)
   of_state_line plan most not_dead stage wrong = wrong
+  of_state_line plan most not_symmetry stage wrong = wrong
   of_state_line plan most plan_invalid stage wrong = absurd (omega arith)
   of_state_line plan most plan_dearer stage wrong = absurd (omega arith)
 
-  pub first_in_line : (plan : Option (List Instance)) (most place : ℕ) (reason : Reason) → IsRightUpTo task c most place → stage_of reason ≡ 4
-      → ((r : Reason) → stage_of r ≡ 4 → rank_of r < rank_of reason → IsWrongAt task c r (state_line c place) → ⊥) → IsFirst task c plan most reason (state_line c place)
+  pub first_in_line : (plan : Option (List Instance)) (most place : ℕ) (reason : Reason) → IsRightUpTo task c most place → stage_of reason ≡ 5
+      → ((r : Reason) → stage_of r ≡ 5 → rank_of r < rank_of reason → IsWrongAt task c r (state_line c place) → ⊥) → IsFirst task c plan most reason (state_line c place)
   first_in_line plan most place reason right stage here r l (inl before) wrong = before_lines plan most place r l right (omega arith) wrong
   first_in_line plan most place reason right stage here r l (inr (same, inl before)) (inl wrong) = line_right r l place before right.lines (same ∙ stage) wrong
   first_in_line plan most place reason right stage here r l (inr (same, inl before)) (inr wrong) = of_state_line plan most r (same ∙ stage) wrong
@@ -312,7 +364,7 @@ module _ (task : Task) (c : Certificate) where
 
   -- of an open state whose goal is as it is to be
   pub open_here : (place : ℕ) (l : Line State) → slice_get (lines_of task c) place ≡ Some l → l.mark ≡ opened → (IsTrue ((system_of task).meets_goal l.state) → Allows c.claim l.cost)
-      → (r : Reason) → stage_of r ≡ 4 → rank_of r < 1 → IsWrongAt task c r (state_line c place) → ⊥
+      → (r : Reason) → stage_of r ≡ 5 → rank_of r < 1 → IsWrongAt task c r (state_line c place) → ⊥
   open_here place l here is_open allowed goal_open stage rank (other, (k, reported, at), is_opened, goal, denied) =
       let there : k ≡ place = omega arith in
       let same = the_line place k other l there at here in
@@ -338,12 +390,13 @@ module _ (task : Task) (c : Certificate) where
   open_here place l here is_open allowed unfair_goal stage rank wrong = absurd (omega arith)
   open_here place l here is_open allowed dead_unfair stage rank wrong = absurd (omega arith)
   open_here place l here is_open allowed dead_unfair_goal stage rank wrong = absurd (omega arith)
+  open_here place l here is_open allowed not_symmetry stage rank wrong = absurd (omega arith)
   open_here place l here is_open allowed plan_invalid stage rank wrong = wrong
   open_here place l here is_open allowed plan_dearer stage rank wrong = wrong
 
   -- ---- the plan
 
-  before_plan : (plan : Option (List Instance)) (most : ℕ) (r : Reason) (l : ℕ) → IsClosedFor task c → exceeded_limit most max_numbered_atoms task c.atoms ≡ None → stage_of r < 5 → IsWrongAt task c r l ⊎ IsWrong task c plan most r → ⊥
+  before_plan : (plan : Option (List Instance)) (most : ℕ) (r : Reason) (l : ℕ) → IsClosedFor task c → exceeded_limit most max_numbered_atoms task c.atoms ≡ None → stage_of r < 6 → IsWrongAt task c r l ⊎ IsWrong task c plan most r → ⊥
   before_plan plan most r l closed within stage (inl wrong) = right_line task c closed r l wrong
   before_plan plan most limit l closed within stage (inr wrong) = none_reported (exceeded_limit most max_numbered_atoms task c.atoms) within wrong
   before_plan plan most no_initial l closed within stage (inr wrong) = wrong closed.listing_is_closed.initial_listed
@@ -361,6 +414,7 @@ module _ (task : Task) (c : Certificate) where
   before_plan plan most successor_dearer l closed within stage (inr wrong) = wrong
   before_plan plan most cut_weak l closed within stage (inr wrong) = wrong
   before_plan plan most not_dead l closed within stage (inr wrong) = wrong
+  before_plan plan most not_symmetry l closed within stage (inr wrong) = wrong
 
   pub first_invalid : (plan : Option (List Instance)) (most : ℕ) → IsClosedFor task c → exceeded_limit most max_numbered_atoms task c.atoms ≡ None → IsFirst task c plan most plan_invalid 0
   first_invalid plan most closed within r l (inl before) wrong = before_plan plan most r l closed within before wrong
@@ -372,7 +426,7 @@ module _ (task : Task) (c : Certificate) where
   first_dearer p most closed within solves r l (inr (same, inl before)) wrong = omega arith
   first_dearer p most closed within solves r l (inr (same, inr (there, rank))) wrong = solving r same rank wrong
     where
-      solving : (r : Reason) → stage_of r ≡ 5 → rank_of r < 1 → IsWrongAt task c r l ⊎ IsWrong task c (Some p) most r → ⊥
+      solving : (r : Reason) → stage_of r ≡ 6 → rank_of r < 1 → IsWrongAt task c r l ⊎ IsWrong task c (Some p) most r → ⊥
       solving plan_invalid stage rank (inl wrong) = wrong
       solving plan_invalid stage rank (inr wrong) = wrong solves
       solving plan_dearer stage rank wrong = omega arith
@@ -390,3 +444,4 @@ module _ (task : Task) (c : Certificate) where
       solving dead_unfair stage rank wrong = absurd (omega arith)
       solving dead_unfair_goal stage rank wrong = absurd (omega arith)
       solving not_dead stage rank wrong = absurd (omega arith)
+      solving not_symmetry stage rank wrong = absurd (omega arith)

@@ -1,7 +1,7 @@
 -- Why the checker's refusals are true.
 use Rattle.std.proofs.Common.{◌≡◌, ◌≢◌, ℕ, ◌+◌, ◌<◌, ◌≤◌, ◌⊎◌, Bool, false, List, length, map, get_or, Option, None, Some, inl, inr, refl, sym, ap, ◌∙◌, subst, arith}
 use Rattle.std.specs.Prelude.{◌↔◌, Result, Ok, Err, IfErr, IsTrue, AllPairs, Contains, MatchOption, nat_eq, slice_get}
-use Rattle.std.specs.Option.{option_eq}
+use Rattle.std.specs.Option.{option_eq, option_map}
 use Rattle.std.proofs.lemmas.Bool.{cases_order, eq-eqb, false≢true}
 use Rattle.cert_checker.specs.declared.refusal.Refusal.{Refusal}
 use Rattle.cert_checker.specs.declared.refusal.Refusal.TheVariants as refusal
@@ -12,15 +12,16 @@ use Rattle.certificate.specs.CertificateParts.{listed_of}
 use Rattle.certificate.specs.ListedSets.{Marked, marked}
 use Rattle.std.proofs.lemmas.List.{length-map}
 use Rattle.cert_checker.specs.Reasons.{reason_of}
+use Rattle.cert_checker.specs.Successors.{listed_successors, represented, representative_in}
 use Rattle.cert_checker.specs.CheckedLines.{HasCost, IsListedAs, IsListedAt, IsTrueAnyway}
 use Rattle.cert_checker.proofs.CertCheckerLemmas.{got_mapped, slice_get-map}
 use Rattle.model.specs.Task.{Task, Instance}
-use Rattle.model.specs.Meaning.{State, step, meets_goal, system_of}
+use Rattle.model.specs.Meaning.{State, meets_goal, system_of}
 use Rattle.model.specs.Instances.{successors_of}
 use Rattle.model.specs.Claims.{Claim, Allows, opened, cut, dead, Line, IsListedWithin}
-use Rattle.certificate_definitions.specs.Certificates.{Certificate, is_dead_end_of, lines_of, value_of}
+use Rattle.certificate_definitions.specs.Certificates.{Certificate, is_dead_end_of, lines_of, listed_system, value_of}
 use Rattle.certificate_definitions.specs.CertificateRefusals.{goal_open, successor_missing, successor_dearer, cut_weak, not_dead, IsWrongAt, IsListed, state_line}
-use Rattle.model.proofs.ListLemmas.{Contains-place, Contains-map}
+use Rattle.model.proofs.ListLemmas.{Contains-place, Contains-map, map-Contains}
 use Rattle.model.proofs.InstancesLemmas.{successors-Contains}
 use Rattle.certificate_definitions.proofs.CertificateRefusalsLemmas.{apart}
 
@@ -82,13 +83,21 @@ pub wrong_goal : (task : Task) (c : Certificate) (place : ℕ) (s : State) (cost
     → IsWrongAt task c goal_open (state_line c place)
 wrong_goal task c place s cost there goal denied = (record { state = s; cost = cost; mark = opened }, (place, refl, there), refl, goal, denied)
 
--- each successor that is gone through is one that an instance leads to
-pub leads_there : {X : Type 0} (task : Task) (s : State) (view : X → Instance × State) (xs : List X) (k : ℕ) (x : X) → k < length xs → x ≡ get_or xs k x
-    → map view xs ≡ successors_of task s → step task s (view x).0 ≡ Some (view x).1
-leads_there task s view xs k x lt at is =
-    successors-Contains task s (view x).0 (view x).1 (subst (λ l. Contains {X = Instance × State} l (view x)) is (Contains-map view xs x (k, lt, sym at)))
+-- what is among the successors an instance leads to
+pub leads_listed : (task : Task) (c : Certificate) (s : State) (led : Instance × State) → Contains {X = Instance × State} (listed_successors task c s) led
+    → (listed_system task c).step s led.0 ≡ Some led.1
+leads_listed task c s led among =
+    let (before, there, is) = map-Contains {X = Instance × State} {Y = Instance × State} (represented task c) (successors_of task s) led among in
+    subst (λ (led : Instance × State). (listed_system task c).step s led.0 ≡ Some led.1) is
+    (ap (option_map (representative_in task c)) (successors-Contains task s before.0 before.1 there))
 
-pub wrong_missing : (task : Task) (c : Certificate) (place : ℕ) (s : State) (cost : ℕ) (i : Instance) (next : State) → IsListedAs task c place s cost opened → step task s i ≡ Some next
+-- each successor that is gone through is one that an instance leads to
+pub leads_there : {X : Type 0} (task : Task) (c : Certificate) (s : State) (view : X → Instance × State) (xs : List X) (k : ℕ) (x : X) → k < length xs → x ≡ get_or xs k x
+    → map view xs ≡ listed_successors task c s → (listed_system task c).step s (view x).0 ≡ Some (view x).1
+leads_there task c s view xs k x lt at is =
+    leads_listed task c s (view x) (subst (λ l. Contains {X = Instance × State} l (view x)) is (Contains-map view xs x (k, lt, sym at)))
+
+pub wrong_missing : (task : Task) (c : Certificate) (place : ℕ) (s : State) (cost : ℕ) (i : Instance) (next : State) → IsListedAs task c place s cost opened → (listed_system task c).step s i ≡ Some next
     → ¬ IsListed (lines_of task c) next → IsWrongAt task c successor_missing (state_line c place)
 wrong_missing task c place s cost i next there leads missing =
     (record { state = s; cost = cost; mark = opened }, i, next, ((place, refl, there), refl, leads), missing)
@@ -101,7 +110,7 @@ pub not_within : (task : Task) (c : Certificate) (s : State) (listed most : ℕ)
 not_within task c s listed most apart at dearer within = omega (arith, one_cost (lines_of task c) s listed most apart at within)
 
 pub wrong_dearer : (task : Task) (c : Certificate) (place : ℕ) (s : State) (cost : ℕ) (i : Instance) (next : State) (listed : ℕ) → AreApart task c
-    → IsListedAs task c place s cost opened → step task s i ≡ Some next → IsListedAt (lines_of task c) next listed → cost + (system_of task).cost i < listed
+    → IsListedAs task c place s cost opened → (listed_system task c).step s i ≡ Some next → IsListedAt (lines_of task c) next listed → cost + (system_of task).cost i < listed
     → IsWrongAt task c successor_dearer (state_line c place)
 wrong_dearer task c place s cost i next listed apart there leads at dearer = (
   record { state = s; cost = cost; mark = opened },

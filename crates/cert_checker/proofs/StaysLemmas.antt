@@ -10,14 +10,17 @@ use Rattle.std.proofs.lemmas.List.Elements.{All-contains_itself}
 use Rattle.std.proofs.lemmas.List.Sums.{sum_by-cons}
 use Rattle.model.specs.Runs.{System, run, cost_of_all, IsReachable, Solves}
 use Rattle.model.specs.Task.{Atom, Task, Instance}
-use Rattle.model.specs.WellTyped.{is_atom}
+use Rattle.model.specs.WellTyped.{is_atom, is_task}
 use Rattle.model.specs.Meaning.{State, system_of}
 use Rattle.model.specs.Grounding.{bits_of_state}
 use Rattle.model.specs.Fluents.{is_fluent}
 use Rattle.model.specs.NumberedAtoms.{numbered_atoms}
 use Rattle.model.specs.Claims.{Claim, opened, cut, dead, Line, IsClosed, ClaimHolds, IsLowerBound, AreDeadEnds}
-use Rattle.certificate_definitions.specs.Certificates.{Version, one, two, three, Certificate, potentials_of, several_of, rise, has_tables, is_row, is_table, are_tables, is_dead_end_in, is_dead_end_of, lines_of, value_in, value_of, AreFairIn, IsClosedFor}
-use Rattle.model.proofs.ClaimsLemmas.{claim-of_closed, reachable_next}
+use Rattle.certificate_definitions.specs.Certificates.{Version, one, two, three, Certificate, potentials_of, several_of, rise, has_tables, is_row, is_table, are_tables, is_dead_end_in, is_dead_end_of, lines_of, listed_system, value_in, value_of, AreFairIn, IsClosedFor}
+use Rattle.symmetries.specs.Laws.{AreDeadEndsOfAll, IsLowerBoundOfAll, QuotientTells, SolveAtSameCost}
+use Rattle.symmetries.proofs.TaskQuotients.{quotients_tell}
+use Rattle.cert_checker.proofs.SymmetriesLemmas.{all_symmetries}
+use Rattle.model.proofs.ClaimsLemmas.{reachable_next}
 use Rattle.model.proofs.GroundTaskLemmas.{are_numbered, numbered-distinct, numbered-fluent}
 use Rattle.model.proofs.NumberingLemmas.{distinct-from_pairs, Contains-occurs_in}
 use Rattle.model.proofs.StaticLemmas.{contains-reachable}
@@ -205,16 +208,15 @@ module _ (task : Task) (c : Certificate) (closed : IsClosedFor task c) where
   value_same : (p : PotentialFunction) → length p.weights ≡ length c.atoms → (s : State) → value p (bits_of_state (numbered_atoms task c.atoms) s) ≡ value_of_state c.atoms p s
   value_same p weighed s = value-numbered p p (alike_itself p) (numbered_atoms task c.atoms) c.atoms numbered_first.0 s numbered_first.1 (omega (arith, weighed))
 
-  potential_below : (p : PotentialFunction) → length p.weights ≡ length c.atoms → AreFair task (numbered_atoms task c.atoms) p → IsLowerBound (system_of task) (value_of_state c.atoms p)
-  potential_below p weighed fair s end plan reached runs goal =
-      let lower = (fair_ones_are_lower_bounds task (numbered_atoms task c.atoms) p numberable fair).bound s end plan
-      (λ q static. contains-reachable task s q static reached) runs goal in
+  potential_below : (p : PotentialFunction) → length p.weights ≡ length c.atoms → AreFair task (numbered_atoms task c.atoms) p → IsLowerBoundOfAll task (value_of_state c.atoms p)
+  potential_below p weighed fair s end plan statics runs goal =
+      let lower = (fair_ones_are_lower_bounds task (numbered_atoms task c.atoms) p numberable fair).bound s end plan statics runs goal in
       omega (arith, value_same p weighed s, lower)
 
-  potential_detects : (p : PotentialFunction) → length p.weights ≡ length c.atoms → AreDeadFair task (numbered_atoms task c.atoms) p → AreDeadEnds (system_of task) (is_dead_state c.atoms p)
-  potential_detects p weighed fair s end plan reached reported runs =
+  potential_detects : (p : PotentialFunction) → length p.weights ≡ length c.atoms → AreDeadFair task (numbered_atoms task c.atoms) p → AreDeadEndsOfAll task (is_dead_state c.atoms p)
+  potential_detects p weighed fair s end plan statics reported runs =
       (dead_fair_ones_detect_dead_ends task (numbered_atoms task c.atoms) p numberable fair).dead_ends s end plan
-      (λ q static. contains-reachable task s q static reached) (ap (nat_le 1) (value_same p weighed s) ∙ reported) runs
+      statics (ap (nat_le 1) (value_same p weighed s) ∙ reported) runs
 
   -- the first value has a weight for each atom
   first_weighed : length (potentials_of c).weights ≡ length c.atoms
@@ -238,30 +240,46 @@ module _ (task : Task) (c : Certificate) (closed : IsClosedFor task c) where
 
   -- ---- each version
 
-  below_in : (v : Version) → AreFairIn v task c → IsLowerBound (system_of task) (value_in v task c)
+  below_in : (v : Version) → AreFairIn v task c → IsLowerBoundOfAll task (value_in v task c)
   below_in one fair = potential_below (potentials_of c) first_weighed fair.values
   below_in two fair = potential_below (potentials_of c) first_weighed fair.values
-  below_in three fair = λ s end plan reached runs goal.
-      (sound fair).lower_bounds.bound s end plan (λ q static. contains-reachable task s q static reached) runs goal
+  below_in three fair = λ s end plan statics runs goal. (sound fair).lower_bounds.bound s end plan statics runs goal
 
-  detects_in : (v : Version) → AreFairIn v task c → AreDeadEnds (system_of task) (is_dead_end_in v task c)
+  detects_in : (v : Version) → AreFairIn v task c → AreDeadEndsOfAll task (is_dead_end_in v task c)
   detects_in one fair = potential_detects c.dead_ends closed.one_dead_end_weight_an_atom fair.dead_ends
   detects_in two fair = potential_detects c.dead_ends closed.one_dead_end_weight_an_atom fair.dead_ends
-  detects_in three fair = λ s end plan reached reported runs.
-      (sound fair).dead_ends.no_plan s end plan (λ q static. contains-reachable task s q static reached) reported runs
+  detects_in three fair = λ s end plan statics reported runs. (sound fair).dead_ends.no_plan s end plan statics reported runs
 
   -- what is still to pay from a reachable state on does not fall short of the value that the certificate gives to it
   pub value_below : IsLowerBound (system_of task) (value_of task c)
-  value_below = below_in c.version closed.are_fair
+  value_below s end plan reached runs goal = below_in c.version closed.are_fair s end plan (λ q static. contains-reachable task s q static reached) runs goal
 
   -- and a reachable state that it reports to be a dead end is one
   pub detects_dead_ends : AreDeadEnds (system_of task) (is_dead_end_of task c)
-  detects_dead_ends = detects_in c.version closed.are_fair
+  detects_dead_ends s end plan reached reported runs = detects_in c.version closed.are_fair s end plan (λ q static. contains-reachable task s q static reached) reported runs
 
-pub closed_holds : (task : Task) (c : Certificate) → IsClosedFor task c → ClaimHolds (system_of task) c.claim
-closed_holds task c closed =
-    claim-of_closed (system_of task) (value_of task c) (is_dead_end_of task c) c.claim (lines_of task c) (value_below task c closed) (detects_dead_ends task c closed) closed.listing_is_closed
+  -- ---- the system whose states are listed
 
-pub solving_stays : (task : Task) (c : Certificate) (plan : List Instance) → IsClosedFor task c → Solves (system_of task) plan → StaysListed (system_of task) (lines_of task c) plan
-solving_stays task c plan closed =
-    stays_listed (system_of task) (value_of task c) (is_dead_end_of task c) c.claim (lines_of task c) (detects_dead_ends task c closed) closed.listing_is_closed (value_below task c closed) plan
+  module _ (well : IsTrue (is_task task)) where
+    told : QuotientTells task (numbered_atoms task c.atoms) c.exchanges
+    told = quotients_tell task (numbered_atoms task c.atoms) c.exchanges well (all_symmetries task c closed.exchanges_are_symmetries)
+
+    claim_told : ClaimHolds (system_of task) c.claim
+    claim_told =
+        told.closed (value_of task c) (is_dead_end_of task c) c.claim (lines_of task c) (below_in c.version closed.are_fair) (detects_in c.version closed.are_fair) closed.listing_is_closed
+
+    stays_told : (plan : List Instance) → Solves (listed_system task c) plan → StaysListed (listed_system task c) (lines_of task c) plan
+    stays_told plan =
+        stays_listed (listed_system task c) (value_of task c) (is_dead_end_of task c) c.claim (lines_of task c) (told.dead_ends (is_dead_end_of task c) (detects_in c.version closed.are_fair))
+        closed.listing_is_closed (told.bounds (value_of task c) (below_in c.version closed.are_fair)) plan
+
+pub closed_holds : (task : Task) (c : Certificate) → IsTrue (is_task task) → IsClosedFor task c → ClaimHolds (system_of task) c.claim
+closed_holds task c well closed = claim_told task c closed well
+
+-- lists of the task have images in that system
+pub images_solve : (task : Task) (c : Certificate) → IsTrue (is_task task) → IsClosedFor task c → SolveAtSameCost (system_of task) (listed_system task c)
+images_solve task c well closed = (told task c closed well).solves
+
+pub solving_stays : (task : Task) (c : Certificate) (plan : List Instance) → IsTrue (is_task task) → IsClosedFor task c → Solves (listed_system task c) plan
+    → StaysListed (listed_system task c) (lines_of task c) plan
+solving_stays task c plan well closed = stays_told task c closed well plan

@@ -15,7 +15,7 @@ use Rattle.table_rows.specs.Tables.{table_of, weight_count_of}
 use Rattle.table_rows.specs.declared.by_atoms.Added.TheVariants.{New}
 use Rattle.table_rows.specs.declared.table.Table.{Table}
 use Rattle.certificate_definitions.specs.Certificates.{are_weights, has_tables, is_weight, rise}
-use Rattle.certificate_definitions.specs.CertificateText.{TableLine, scope, row, TextLine, version, claims, constant, atom, tabled, listed, last, Beginning, BeginCertificate, format_in, head_lines, is_line, is_table_line, is_weight_count, most_atoms, most_rows, most_tables, row_count, scope_count}
+use Rattle.certificate_definitions.specs.CertificateText.{TableLine, scope, row, TextLine, version, claims, constant, swapped, atom, tabled, listed, last, Beginning, BeginCertificate, format_in, head_lines, is_line, is_table_line, is_weight_count, most_atoms, most_rows, most_tables, row_count, scope_count}
 use Rattle.certificate_definitions.specs.CertificateNames.{table_lines, value_count}
 use Rattle.certificate_definitions.specs.CertificateMachine.{Body, CertificatePlace, at_version, at_claim, at_constant, in_body, ended, atom_follows, atom_more, next_place, row_follows, row_more, scope_more}
 use Rattle.certificate_definitions.specs.CertificateChecking.{EndInTable, IsWrongAfter, is_of_scope, not_of_scope, repeated_row, not_fluent, repeated_atom, repeated_state, cut_not_allowed}
@@ -93,10 +93,10 @@ module _ (task : Task) (before : List TextLine) (heading : Heading) (reported : 
     opening = at.beginning
 
     abbrev further : List TextLine
-    further = body_lines opening.atoms opening.tables opening.states
+    further = body_lines opening.swaps opening.atoms opening.tables opening.states
 
     lines_of_tables : opening.tables ≡ flat_map table_lines heading.bounds.tables
-    lines_of_tables = sym (tables_of_body opening.atoms opening.tables opening.states) ∙ sym (ap tables_given at.lines_are) ∙ sym reported.tables
+    lines_of_tables = sym (tables_of_body opening.swaps opening.atoms opening.tables opening.states) ∙ sym (ap tables_given at.lines_are) ∙ sym reported.tables
 
     count_is : is_weight_count opening.version (length opening.constants) ≡ true
     count_is = (and_parts (is_weight_count opening.version (length opening.constants)) (list_all is_weight opening.constants) at.keeps.constants_are).0
@@ -126,7 +126,7 @@ module _ (task : Task) (before : List TextLine) (heading : Heading) (reported : 
   scope_is_right s line number (cut_not_allowed l new cut there) same = absurd (cc same)
 
   pub reported_scope : (s : List ℕ)
-      → HaveGiven task (before ++ tabled (scope s) ∷ []) (record { version = heading.version; claim = heading.claim; atoms = heading.atoms; bounds = with_scope heading.bounds s })
+      → HaveGiven task (before ++ tabled (scope s) ∷ []) (record { version = heading.version; claim = heading.claim; exchanges = heading.exchanges; atoms = heading.atoms; bounds = with_scope heading.bounds s })
   reported_scope s =
       let table : model.Table = record { scope = s; rows = [] } in
       reported_tables task before heading reported (scope s) (heading.bounds.tables ++ table ∷ [])
@@ -153,13 +153,14 @@ module _ (task : Task) (before : List TextLine) (heading : Heading) (reported : 
         let g : Beginning = at.beginning in
         let first_three : List TextLine → List TextLine = λ lines. version g.version ∷ claims g.claim ∷ constant g.constants ∷ lines in
         let lines_are : g.tables ≡ lines ++ scope t.scope ∷ map row t.rows = lines_of_tables r at ∙ reported.tables ∙ given_end in
+        let heads : List TextLine = map swapped g.swaps ++ map atom g.atoms in
         let table : List TextLine = tabled (scope t.scope) ∷ map (λ (r : Row). tabled (row r)) t.rows in (
-          first_three (map atom g.atoms ++ map tabled lines),
+          first_three (heads ++ map tabled lines),
           at.lines_are
-              ∙ (λ i. first_three (body_lines g.atoms (lines_are i) (at.no_states i)))
-              ∙ ap first_three (append-nil (map atom g.atoms ++ map tabled (lines ++ scope t.scope ∷ map row t.rows))
-              ∙ ap (λ lines. map atom g.atoms ++ lines) (map-append tabled lines (scope t.scope ∷ map row t.rows) ∙ ap (λ rows. map tabled lines ++ tabled (scope t.scope) ∷ rows) (rows_of_lines t.rows))
-              ∙ sym (append_assoc (map atom g.atoms) (map tabled lines) table)),
+              ∙ (λ i. first_three (body_lines g.swaps g.atoms (lines_are i) (at.no_states i)))
+              ∙ ap first_three (append-nil (heads ++ map tabled (lines ++ scope t.scope ∷ map row t.rows))
+              ∙ ap (λ lines. heads ++ lines) (map-append tabled lines (scope t.scope ∷ map row t.rows) ∙ ap (λ rows. map tabled lines ++ tabled (scope t.scope) ∷ rows) (rows_of_lines t.rows))
+              ∙ sym (append_assoc heads (map tabled lines) table)),
         )
 
     tables_of_rows : (rows : List Row) → tables_given (map (λ (r : Row). tabled (row r)) rows) ≡ map row rows
@@ -196,7 +197,7 @@ module _ (task : Task) (before : List TextLine) (heading : Heading) (reported : 
           ∙ sym (append_assoc lines (scope t.scope ∷ map row t.rows) (row r ∷ [])) ∙ ap (λ lines. lines ++ row r ∷ []) (sym given_end)
 
   pub reported_row : (r : Row) (tables : List model.Table) → IsAddedToLast heading.bounds.tables tables r New
-      → HaveGiven task (before ++ tabled (row r) ∷ []) (record { version = heading.version; claim = heading.claim; atoms = heading.atoms; bounds = with_tables heading.bounds tables })
+      → HaveGiven task (before ++ tabled (row r) ∷ []) (record { version = heading.version; claim = heading.claim; exchanges = heading.exchanges; atoms = heading.atoms; bounds = with_tables heading.bounds tables })
   reported_row r tables it =
       let differs : (q : Row) → Contains it.before.rows q → q.atoms ≡ r.atoms → ⊥ = λ q there same. All-contains (λ (q : Row). q.atoms ≡ r.atoms → ⊥) it.before.rows q it.added.differs there same in
       reported_tables task before heading reported (row r) tables
@@ -225,6 +226,7 @@ module _ (task : Task) (before : List TextLine) (header : Header) (reported : Ha
   fit_head (version v) weighed begun = tt
   fit_head (claims claim) weighed begun = tt
   fit_head (constant k) weighed begun = tt
+  fit_head (swapped names) weighed begun = tt
   fit_head (atom a) weighed begun = tt
   fit_head (listed l) weighed begun = tt
   fit_head (last count) weighed begun = tt
@@ -265,6 +267,7 @@ abbrev pub is_early : TextLine → Bool
 is_early (version v) = false
 is_early (claims claim) = false
 is_early (constant k) = true
+is_early (swapped names) = false
 is_early (atom a) = true
 is_early (tabled t) = false
 is_early (listed l) = false
@@ -279,6 +282,7 @@ none_given before line early begun =
     alone (version v) early = refl
     alone (claims claim) early = refl
     alone (constant k) early = refl
+    alone (swapped names) early = absurd (true≢false (sym early))
     alone (atom a) early = refl
     alone (tabled t) early = absurd (true≢false (sym early))
     alone (listed l) early = refl
@@ -292,11 +296,12 @@ none_given before line early begun =
         let (follows, _) = and_parts (atom_follows b) (nat_lt b.format.atoms most_atoms) counts in
         let (first, _) = and_parts (b.tables == 0) (b.states == 0) follows in
         let none : scope_count g.tables ≡ 0 = ap (λ (b : Body). b.tables) body.body_is ∙ eqb-true b.tables 0 first in
-        ap tables_given body.lines_are ∙ tables_of_body g.atoms g.tables g.states ∙ no_tables g.tables body.keeps.scope_first none
+        ap tables_given body.lines_are ∙ tables_of_body g.swaps g.atoms g.tables g.states ∙ no_tables g.tables body.keeps.scope_first none
 
     by_line : (line : TextLine) → is_early line ≡ true → (place : CertificatePlace) → ComesBefore place before → (next : CertificatePlace) → next_place place line ≡ Some next → tables_given before ≡ []
     by_line (version v) early place are next leads = absurd (true≢false (sym early))
     by_line (claims claim) early place are next leads = absurd (true≢false (sym early))
+    by_line (swapped names) early place are next leads = absurd (true≢false (sym early))
     by_line (tabled t) early place are next leads = absurd (true≢false (sym early))
     by_line (listed l) early place are next leads = absurd (true≢false (sym early))
     by_line (last count) early place are next leads = absurd (true≢false (sym early))

@@ -27,13 +27,15 @@ use Rattle.certificate_definitions.specs.Certificates.{Version, one, two, three,
 use Rattle.certificate_definitions.specs.CertificateRefusals.{IsPlanWithin}
 use Rattle.model.proofs.PlanWritingLemmas.{first_at}
 use Rattle.model.proofs.Tests.{passes_got}
-use Rattle.certificate_definitions.specs.CertificateText.{WeightedAtom, TableLine, row, Format, TextLine, atom, tabled, listed, last, after_blank, begin_with_scope, format_of, is_line, is_weight_count, keeps_text_limits, line_text, longest_line, most_atoms, most_rows, most_states, most_tables, text_lines, weights_text}
-use Rattle.certificate_definitions.specs.CertificateNames.{AllName, AreNumbersOf, IsNumberOf, IsTextOf, Names, are_atoms_of, certificate_text, constants_of, dead_ends_said, has_atom_names, named, named_atom, predicate_name, predicate_names, table_lines, value_count, value_said, values_said, weight_said, weighted_atoms, weights_in, weights_of_atom}
+use Rattle.certificate_definitions.specs.CertificateText.{WeightedAtom, TableLine, row, Format, TextLine, swapped, atom, tabled, listed, last, after_blank, begin_with_scope, format_of, is_line, is_weight_count, keeps_text_limits, line_text, longest_line, most_atoms, most_rows, most_states, most_swaps, most_tables, text_lines, weights_text}
+use Rattle.certificate_definitions.specs.CertificateNames.{AllName, AreNumbersOf, IsNumberOf, IsTextOf, Names, are_atoms_of, are_exchanges_of, named_exchange, certificate_text, constants_of, dead_ends_said, has_atom_names, named, named_atom, predicate_name, predicate_names, table_lines, value_count, value_said, values_said, weight_said, weighted_atoms, weights_in, weights_of_atom}
 use Rattle.certificate_definitions.specs.CertificateChecking.{IsAccepted}
 use Rattle.certificate_reader.proofs.LinesRead.{few_constants}
 use Rattle.certificate.proofs.NumbersLemmas.{potential_parts}
 use Rattle.cert_checker.proofs.LimitsLemmas.{AreLimits, limits_of, rows_are, said_kept, scopes_are}
 use Rattle.cert_checker.proofs.NamesLemmas.{few_objects}
+use Rattle.cert_checker.proofs.WrittenExchanges.{exchange_lines, exchanges_back}
+use Rattle.cert_checker.specs.Exchanged.{are_short}
 
 -- ---- the number of a name
 
@@ -303,7 +305,8 @@ module _ (task : Task) (c : Certificate) where
 
 -- ---- the text
 
-module _ (task : Task) (c : Certificate) (well : IsTrue (is_task task)) (has_names : IsTrue (has_atom_names task)) (typed : IsTrue (are_atoms_of task c)) (keeps : IsTrue (keeps_limits c)) where
+module _ (task : Task) (c : Certificate) (well : IsTrue (is_task task)) (has_names : IsTrue (has_atom_names task)) (typed : IsTrue (are_atoms_of task c)) (exchanged : IsTrue (are_exchanges_of task c))
+    (short : IsTrue (are_short task c)) (keeps : IsTrue (keeps_limits c)) where
   limits : AreLimits c
   limits = limits_of c keeps
 
@@ -407,6 +410,7 @@ module _ (task : Task) (c : Certificate) (well : IsTrue (is_task task)) (has_nam
   lines_within : list_all (is_line (format_of (named task c))) (text_lines (named task c)) ≡ true
   lines_within =
       let test : TextLine → Bool = is_line (format_of (named task c)) in
+      let swaps : List TextLine = map (λ names. swapped names) (map (named_exchange task) c.exchanges) in
       let atoms : List TextLine = map (λ a. atom a) (named task c).atoms in
       let tables : List TextLine = map (λ t. tabled t) (flat_map table_lines c.tables) in
       let states : List TextLine = map (λ l. listed l) c.lines in
@@ -418,17 +422,21 @@ module _ (task : Task) (c : Certificate) (well : IsTrue (is_task task)) (has_nam
       let few = leb-true (length c.lines) most_states limits.few_states in
       let number : is_number (length c.lines) ≡ true = lt-ltb (length c.lines) 1152921504606846976 (omega (arith, few)) in
       let end_is : list_all test end ≡ true = λ i. number i && true in
-      let front : list_all test (atoms ++ tables) ≡ true = list_all-append test atoms tables ∙ (λ i. atoms_are i && tables_are i) in
-      let body : list_all test ((atoms ++ tables) ++ states) ≡ true = list_all-append test (atoms ++ tables) states ∙ (λ i. front i && states_are i) in
-      let following : list_all test (((atoms ++ tables) ++ states) ++ end) ≡ true = list_all-append test ((atoms ++ tables) ++ states) end ∙ (λ i. body i && end_is i) in
+      let swaps_are : list_all test swaps ≡ true = exchange_lines task names_both.1 (format_of (named task c)) c.exchanges exchanged limits.exchanges short in
+      let heads : List TextLine = swaps ++ atoms in
+      let heads_are : list_all test heads ≡ true = list_all-append test swaps atoms ∙ (λ i. swaps_are i && atoms_are i) in
+      let front : list_all test (heads ++ tables) ≡ true = list_all-append test heads tables ∙ (λ i. heads_are i && tables_are i) in
+      let body : list_all test ((heads ++ tables) ++ states) ≡ true = list_all-append test (heads ++ tables) states ∙ (λ i. front i && states_are i) in
+      let following : list_all test (((heads ++ tables) ++ states) ++ end) ≡ true = list_all-append test ((heads ++ tables) ++ states) end ∙ (λ i. body i && end_is i) in
       λ i. limits.claim i && ((constant_count i && constants_within i) && following i)
 
   text_limits : keeps_text_limits (named task c) ≡ true
   text_limits =
       let few_atoms = ap (λ n. nat_le n most_atoms) (as_many_weighted task c 0 c.atoms) ∙ limits.few_atoms in
+      let few_swaps = ap (λ n. nat_le n most_swaps) (length-map c.exchanges (named_exchange task)) ∙ limits.few_exchanges in
       let few_tables = ap (λ n. nat_le n most_tables) (scopes_are c.tables) ∙ limits.few_tables in
       let few_rows = ap (λ n. nat_le n most_rows) (rows_are c.tables) ∙ limits.few_rows in
-      λ i. ((few_atoms i && ((begins c.tables i && few_tables i) && few_rows i)) && limits.few_states i) && lines_within i
+      λ i. (((few_swaps i && few_atoms i) && ((begins c.tables i && few_tables i) && few_rows i)) && limits.few_states i) && lines_within i
 
   pub written_reads_back : IsTextOf task (certificate_text task c) c
   written_reads_back = record {
@@ -436,6 +444,7 @@ module _ (task : Task) (c : Certificate) (well : IsTrue (is_task task)) (has_nam
     text = record { within = text_limits; lines = refl };
     version = refl;
     claim = refl;
+    exchanges = exchanges_back task names_both.1 c.exchanges exchanged;
     atoms = atoms_named 0 c.atoms typed;
     values = values_back;
     dead_ends = dead_ends_back;
@@ -451,15 +460,15 @@ typed_atoms task (a ∷ atoms) all =
     λ i. here i && more i
 
 -- what is written of a closed certificate within the limits says this certificate
-pub closed_reads_back : (task : Task) (c : Certificate) → IsTrue (is_task task) → IsTrue (has_atom_names task) → IsTrue (keeps_limits c) → IsClosedFor task c
-    → IsTextOf task (certificate_text task c) c
-closed_reads_back task c well has_names keeps closed = written_reads_back task c well has_names (typed_atoms task c.atoms closed.atoms_are_fluent) keeps
+pub closed_reads_back : (task : Task) (c : Certificate) → IsTrue (is_task task) → IsTrue (has_atom_names task) → IsTrue (are_exchanges_of task c) → IsTrue (are_short task c) → IsTrue (keeps_limits c)
+    → IsClosedFor task c → IsTextOf task (certificate_text task c) c
+closed_reads_back task c well has_names exchanged short keeps closed = written_reads_back task c well has_names (typed_atoms task c.atoms closed.atoms_are_fluent) exchanged short keeps
 
-pub closed_is_accepted : (task : Task) (c : Certificate) (plan : Option (List Instance)) → IsTrue (is_task task) → IsTrue (has_atom_names task) → IsTrue (keeps_limits c)
-    → IsClosedFor task c → IsPlanWithin task c.claim plan → IsAccepted task (certificate_text task c) plan
-closed_is_accepted task c plan well has_names keeps closed within = record {
+pub closed_is_accepted : (task : Task) (c : Certificate) (plan : Option (List Instance)) → IsTrue (is_task task) → IsTrue (has_atom_names task) → IsTrue (are_exchanges_of task c)
+    → IsTrue (are_short task c) → IsTrue (keeps_limits c) → IsClosedFor task c → IsPlanWithin task c.claim plan → IsAccepted task (certificate_text task c) plan
+closed_is_accepted task c plan well has_names exchanged short keeps closed within = record {
   certificate = c;
-  is_text = closed_reads_back task c well has_names keeps closed;
+  is_text = closed_reads_back task c well has_names exchanged short keeps closed;
   closed = closed;
   within = within;
 }

@@ -4,12 +4,13 @@ use Rattle.cert_checker.specs.declared.refusal.Refusal.{Refusal}
 use Rattle.cert_checker.specs.FluentAtoms.{AreFluent}
 use Rattle.cert_checker.specs.CertChecker.{IsFirstRefusal, IsTrueRefusal}
 use Rattle.model.specs.Task.{Task, Instance}
-use Rattle.model.specs.Meaning.{State, initial_state, step, meets_goal, system_of}
+use Rattle.model.specs.Meaning.{State, meets_goal}
 use Rattle.model.specs.Limits.{max_numbered_atoms}
 use Rattle.model.specs.Grounding.{exceeded_limit}
 use Rattle.model.specs.Claims.{none, Allows, Mark, opened, cut, dead, Line, IsListedWithin}
 use Rattle.table_functions.specs.TableFunctions.{Row, Table}
-use Rattle.certificate_definitions.specs.Certificates.{Certificate, StateLine, keeps_limits, lines_of, value_of, is_dead_end_of, AreFairFor}
+use Rattle.symmetries.specs.Exchanges.{Exchange}
+use Rattle.certificate_definitions.specs.Certificates.{Certificate, StateLine, keeps_limits, lines_of, is_symmetry_for, listed_system, value_of, is_dead_end_of, AreFairFor}
 
 -- the refusal is true, whatever plan is given and whatever the limit of kept instances
 abbrev pub IsTrueAnyway : Task → Certificate → Refusal → Type 0
@@ -27,6 +28,14 @@ IsFirstGrounded task c refusal =
     AllPairs (λ (k l : Line State). k.state ≢ l.state) (lines_of task c) → CutsAreAllowed task c (length (lines_of task c))
     → (plan : Option (List Instance)) (most : ℕ) → exceeded_limit most max_numbered_atoms task c.atoms ≡ None → IsFirstRefusal task c plan most refusal
 
+-- each exchange is a symmetry of the task, and takes numbered atoms to numbered atoms
+abbrev pub AreSymmetries : Task → Certificate → Type 0
+AreSymmetries task c = All (λ (e : Exchange). IsTrue (is_symmetry_for task c e)) c.exchanges
+
+-- so it is, where the exchanges are symmetries
+abbrev pub IsFirstSymmetric : Task → Certificate → Refusal → Type 0
+IsFirstSymmetric task c refusal = AreSymmetries task c → IsFirstGrounded task c refusal
+
 -- the certificate's line at this place has this cost and this mark
 abbrev pub HasCost : Certificate → ℕ → ℕ → Mark → Type 0
 HasCost c place cost mark = (l : StateLine) × (slice_get c.lines place ≡ Some l) × (l.cost ≡ cost) × (l.mark ≡ mark)
@@ -39,9 +48,10 @@ IsListedAs task c place state cost mark = slice_get (lines_of task c) place ≡ 
 abbrev pub IsListedAt : {S : Type 0} → List (Line S) → S → ℕ → Type 0
 IsListedAt {S} lines s cost = (line : Line S) × Contains lines line × (line.state ≡ s) × (line.cost ≡ cost)
 
--- an open state listed at this cost has its successors in the listing, and meets the goal at no less than is claimed
+-- An open state listed at this cost has its successors in the listing, in the system whose states are listed, and meets the goal at
+-- no less than is claimed.
 pub record IsOpenClosed (task : Task) (c : Certificate) (state : State) (cost : ℕ) : Type 0 where
-  pub successors_listed : (i : Instance) (next : State) → step task state i ≡ Some next → IsListedWithin (lines_of task c) next (cost + (system_of task).cost i)
+  pub successors_listed : (i : Instance) (next : State) → (listed_system task c).step state i ≡ Some next → IsListedWithin (lines_of task c) next (cost + (listed_system task c).cost i)
   pub goal_allowed : IsTrue (meets_goal task state) → Allows c.claim cost
 
 -- Of a state that is cut at this cost: the bound of what is still to pay is at most the state's value, and comes with the
@@ -59,8 +69,8 @@ pub record IsLineClosed (task : Task) (c : Certificate) (line : Line State) : Ty
 abbrev pub AreRowsDistinct : Certificate → Type 0
 AreRowsDistinct c = All (λ (t : Table). AllPairs (λ (q r : Row). q.atoms ≢ r.atoms) t.rows) c.tables
 
--- All is right up to the state line at this place: the reading of the certificate, the limits of its ground task, its values,
--- the initial state, and the state lines before.
+-- All is right up to the state line at this place: the reading of the certificate, the limits of its ground task, its exchanges,
+-- its values, the initial state, and the state lines before.
 pub record IsRightUpTo (task : Task) (c : Certificate) (most place : ℕ) : Type 0 where
   pub keeps : IsTrue (keeps_limits c)
   pub rows : AreRowsDistinct c
@@ -68,8 +78,9 @@ pub record IsRightUpTo (task : Task) (c : Certificate) (most place : ℕ) : Type
   pub distinct : AllPairs (λ (k l : Line State). k.state ≢ l.state) (lines_of task c)
   pub allowed : CutsAreAllowed task c (length (lines_of task c))
   pub within : exceeded_limit most max_numbered_atoms task c.atoms ≡ None
+  pub symmetric : AreSymmetries task c
   pub fair : AreFairFor task c
-  pub initial : IsListedWithin (lines_of task c) (initial_state task) 0
+  pub initial : IsListedWithin (lines_of task c) (listed_system task c).initial 0
   pub lines : (k : ℕ) (l : Line State) → k < place → slice_get (lines_of task c) k ≡ Some l → IsLineClosed task c l
 
 -- All is right, where nothing is wrong with what was read and the ground task keeps its limits.

@@ -6,11 +6,12 @@ use Rattle.model.specs.WellTyped.{is_atom}
 use Rattle.model.specs.Fluents.{is_fluent}
 use Rattle.model.specs.Claims.{Claim, none}
 use Rattle.certificate_definitions.specs.Certificates.{Version}
+use Rattle.symmetries.specs.Exchanges.{Exchange}
 use Rattle.potential_functions.specs.PotentialFunctions.{PotentialFunction}
 use Rattle.table_functions.specs.TableFunctions.{SeveralValues}
-pub use Rattle.certificate_definitions.specs.CertificateLines.{atom_in, table_in, state_in, atoms_given, tables_given, states_given}
-use Rattle.certificate_definitions.specs.CertificateText.{NamedAtom, WeightedAtom, TextLine, version, claims, constant, atom, tabled, listed, last}
-use Rattle.certificate_definitions.specs.CertificateNames.{AllName, table_lines, value_count, weight_said}
+pub use Rattle.certificate_definitions.specs.CertificateLines.{swap_in, atom_in, table_in, state_in, swaps_given, atoms_given, tables_given, states_given}
+use Rattle.certificate_definitions.specs.CertificateText.{NamedAtom, WeightedAtom, TextLine, version, claims, constant, swapped, atom, tabled, listed, last}
+use Rattle.certificate_definitions.specs.CertificateNames.{AllName, exchange_said, table_lines, value_count, weight_said}
 use Rattle.certificate_definitions.specs.CertificateChecking.{AreRight}
 
 -- the names of those atoms
@@ -22,6 +23,7 @@ abbrev pub is_body : TextLine → Bool
 is_body (version v) = false
 is_body (claims claim) = false
 is_body (constant k) = false
+is_body (swapped names) = false
 is_body (atom a) = false
 is_body (tabled t) = false
 is_body (listed l) = true
@@ -43,6 +45,7 @@ dead_ends_given v constants atoms = value_given constants atoms (value_count v (
 pub record Heading : Type 0 where
   pub version : Version
   pub claim : Claim
+  pub exchanges : List Exchange
   pub atoms : List Atom
   pub bounds : SeveralValues
 
@@ -63,6 +66,7 @@ pub record HaveGiven (task : Task) (lines : List TextLine) (heading : Heading) :
   pub none_occurs : heading.claim ≡ none → Contains lines (claims none)
   pub given : (k : List ℤ) → Contains lines (constant k) → AreGiven heading.version k (atoms_given lines) heading.bounds
   pub not_given : ((k : List ℤ) → Contains lines (constant k) → ⊥) → AreNotGiven heading.bounds
+  pub exchanged : heading.exchanges ≡ map (exchange_said task) (swaps_given lines)
   pub tables : flat_map table_lines heading.bounds.tables ≡ tables_given lines
   pub named : AllName task (names_given lines) heading.atoms
   pub fluent : All (λ (a : Atom). IsTrue (is_atom task a && is_fluent task a.predicate)) heading.atoms

@@ -6,9 +6,12 @@ pub mod Tabled
 pub mod Taking
 pub mod Reading
 pub mod Reasons
+pub mod Successors
 pub mod CertChecker
 pub mod Checking
 pub mod FluentAtoms
+pub mod Exchanged
+pub mod Represented
 pub mod CheckedLines
 pub mod Weights
 pub mod PackedLines

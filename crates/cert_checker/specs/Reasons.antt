@@ -1,8 +1,8 @@
 -- The reasons of the checker's refusals.
 use Rattle.std.specs.Prelude.{Option, Some, None}
 use Rattle.cert_checker.specs.declared.refusal.RefusalCode.{RefusalCode}
-use Rattle.cert_checker.specs.declared.refusal.RefusalCode.TheVariants.{CertForm, CertVersion, Truncated, NotFluent, Repeated, NoInitial, Unfair, UnfairGoal, GoalOpen, SuccessorMissing, SuccessorDearer, CutWeak, CutNotAllowed, PlanInvalid, PlanDearer, Limit, DeadUnfair, DeadUnfairGoal, NotDead}
-use Rattle.certificate_definitions.specs.CertificateRefusals.{Reason, not_fluent, repeated, no_initial, unfair_goal, goal_open, successor_missing, successor_dearer, cut_weak, cut_not_allowed, plan_invalid, plan_dearer, limit, dead_unfair_goal, not_dead}
+use Rattle.cert_checker.specs.declared.refusal.RefusalCode.TheVariants.{CertForm, CertVersion, Truncated, NotFluent, Repeated, NoInitial, Unfair, UnfairGoal, GoalOpen, SuccessorMissing, SuccessorDearer, CutWeak, CutNotAllowed, PlanInvalid, PlanDearer, Limit, DeadUnfair, DeadUnfairGoal, NotDead, NotSymmetry}
+use Rattle.certificate_definitions.specs.CertificateRefusals.{Reason, not_fluent, repeated, no_initial, unfair_goal, goal_open, successor_missing, successor_dearer, cut_weak, cut_not_allowed, plan_invalid, plan_dearer, limit, dead_unfair_goal, not_dead, not_symmetry}
 
 -- What is wrong with a certificate. Of a text that is none, nothing is said of one; that an instance is not fair, or not
 -- dead-fair, is reported by a refusal that carries the instance.
@@ -26,3 +26,4 @@ reason_of Limit = Some limit
 reason_of DeadUnfair = None
 reason_of DeadUnfairGoal = Some dead_unfair_goal
 reason_of NotDead = Some not_dead
+reason_of NotSymmetry = Some not_symmetry

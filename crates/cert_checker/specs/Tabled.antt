@@ -8,7 +8,7 @@ use Rattle.table_rows.specs.Adding.{IsAdded}
 use Rattle.table_rows.specs.declared.by_atoms.Added.{Added}
 use Rattle.table_rows.specs.declared.by_atoms.Added.TheVariants.{New, OutsideScope, Repeated}
 use Rattle.table_rows.specs.declared.table.Table.{Table}
-use Rattle.certificate_definitions.specs.CertificateText.{TextLine, version, claims, constant, atom, scope, row, tabled, listed, last}
+use Rattle.certificate_definitions.specs.CertificateText.{TextLine, version, claims, constant, swapped, atom, scope, row, tabled, listed, last}
 use Rattle.certificate.specs.declared.cert.Cert.{Cert}
 use Rattle.certificate.specs.declared.header.Bounds.{Bounds}
 use Rattle.certificate.specs.Certificate.{certificate_of, tables_in}
@@ -48,6 +48,7 @@ abbrev pub IsFitHead : Bounds → TextLine → Type 0
 IsFitHead bounds (version v) = Unit {0}
 IsFitHead bounds (claims claim) = Unit {0}
 IsFitHead bounds (constant k) = Unit {0}
+IsFitHead bounds (swapped names) = Unit {0}
 IsFitHead bounds (atom a) = Unit {0}
 IsFitHead bounds (tabled (scope atoms)) = IsFitScope bounds atoms
 IsFitHead bounds (tabled (row r)) = IsFitRow bounds.tables.items r

@@ -15,6 +15,7 @@ ghost use Rattle.model.specs.Limits.{max_numbered_atoms};
 ghost use Rattle.model.specs.Grounding.{exceeded_limit};
 ghost use Rattle.certificate_definitions.specs.Certificates.{IsClosedFor, lines_of};
 ghost use Rattle.cert_checker.specs.FluentAtoms.{AreFluent};
+ghost use Rattle.cert_checker.specs.Exchanged.{is_said};
 ghost use Rattle.cert_checker.specs.CheckedLines.{CutsAreAllowed};
 ghost use Rattle.cert_checker.specs.CertChecker.{Answers, IsFirstRefusal, IsNoFault, IsShown, IsTrueRefusal};
 ghost use Rattle.cert_checker.specs.Checking.{Accepts, Refuses};
@@ -24,6 +25,7 @@ ghost use Rattle.progress_lines.specs.Said.{AreSaid, stream};
 mod answer;
 mod packed;
 mod steps;
+mod symmetry;
 mod values;
 mod weights;
 
@@ -60,8 +62,8 @@ pub enum Accepted {
 ///
 /// # Errors
 /// The first that applies: the first line at fault, as [`read_cert`] reports it (40 to 44, 52 and 55); 55 where the task
-/// keeps more than `max_instances` instances once it is grounded, or would number more than 1,048,576 atoms; the first
-/// instance that may lose more of a value than it costs (46), or 47 where more than 0 may be left at a goal, one value after
+/// keeps more than `max_instances` instances once it is grounded, or would number more than 1,048,576 atoms; the first exchange that
+/// is no symmetry of the task, by its line (59); the first instance that may lose more of a value than it costs (46), or 47 where more than 0 may be left at a goal, one value after
 /// another; the first that may lose anything of what detects dead ends (56), or 57 where more than 0 of it may be left at a goal; 45 where the initial state is
 /// not listed at 0; what is wrong with the successors, the cost or the cut of a listed state, or with a dead end, line by
 /// line (48 to 51, 58); what is wrong with the plan (53, 54). [`Refusal::Device`] where the device failed; [`Refusal::NoMemory`] where
@@ -137,6 +139,7 @@ fn judge(
 ) -> Result<Accepted, Refusal>
     requires instances { ForSome plan (λ p. IsTrue (list_all (is_instance (task_of task.now)) (plan_of p.now))) }
     requires counted { AreCounted cert }
+    requires said { IsTrue (list_all (is_said (task_of task.now)) (certificate_of cert).exchanges) }
     requires fluent { AreFluent (task_of task.now) (certificate_of cert).atoms }
     requires allowed { CutsAreAllowed (task_of task.now) (certificate_of cert) (length (lines_of (task_of task.now) (certificate_of cert))) }
     ensures shown { IfOk result (IsShown (task_of task.now) (option_map (λ p. plan_of p.now) plan.entry)) }

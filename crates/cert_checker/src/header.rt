@@ -13,6 +13,7 @@ ghost use Rattle.certificate_reader.specs.Reader.{source_of};
 ghost use Rattle.certificate.specs.CertificateParts.{bounds_of, potential_of};
 ghost use Rattle.cert_checker.specs.Reading.{CountsRefusal, IsBegun, IsFresh, IsLineRefusal};
 
+use crate::exchanges::take_exchange;
 use crate::named_atoms::fluent_atom_named;
 use crate::refusal::{Refusal, RefusalCode};
 use crate::table_lines::{take_row, take_scope};
@@ -32,6 +33,7 @@ fn nothing_reported(alloc: Global) -> Header
     Header {
         version: Version::One,
         claim: Claim::Bound(0),
+        exchanges: Vec::new(alloc),
         atoms: IndexSet::new(alloc),
         bounds: Bounds {
             values: Vec::new(alloc),
@@ -139,6 +141,10 @@ fn take(
         }
         CertLine::Constant(constants) => {
             take_constants(alloc, &mut header.bounds, header.version, &constants)?;
+            Ok(None)
+        }
+        CertLine::Swap { objects } => {
+            take_exchange(alloc, task, &mut header.exchanges, &objects)?;
             Ok(None)
         }
         CertLine::Weight {

@@ -4,6 +4,7 @@
 
 mod cert_reader;
 mod checker;
+mod exchanges;
 mod header;
 mod laws;
 mod listed_states;

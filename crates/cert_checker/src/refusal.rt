@@ -51,6 +51,8 @@ pub enum RefusalCode {
     DeadUnfairGoal = 57,
     /// A state is listed as a dead end, and its second value is less than 1.
     NotDead = 58,
+    /// An exchange of objects that is no symmetry of the task, or takes a numbered atom to one that has no number.
+    NotSymmetry = 59,
 }
 
 impl RefusalCode {
@@ -88,6 +90,7 @@ impl RefusalCode {
             RefusalCode::DeadUnfair => "DeadUnfair",
             RefusalCode::DeadUnfairGoal => "DeadUnfairGoal",
             RefusalCode::NotDead => "NotDead",
+            RefusalCode::NotSymmetry => "NotSymmetry",
         }
     }
 }

@@ -4,7 +4,7 @@ use Rattle.std.specs.Prelude.{◌&&◌, IsTrue, All, nat_le}
 use Rattle.std.specs.List.{list_all}
 use Rattle.std.proofs.lemmas.Bool.{and_parts}
 use Rattle.std.proofs.lemmas.List.Elements.{All-cons, All-nil}
-use Rattle.certificate_definitions.specs.Certificates.{Certificate, Version, StateLine, are_potentials, are_tables, is_value_count, rows_of, is_claim, is_dead_end_weight, is_mark, is_number, is_state_line, is_weight, keeps_limits, rise}
+use Rattle.certificate_definitions.specs.Certificates.{Certificate, Version, StateLine, are_exchanges, are_potentials, are_tables, is_value_count, rows_of, is_claim, is_dead_end_weight, is_mark, is_number, is_state_line, is_weight, keeps_limits, rise}
 
 -- the limits are those of the counts, of the lines, and of what bounds the costs
 pub record Limits (c : Certificate) : Type 0 where
@@ -15,6 +15,7 @@ pub record Limits (c : Certificate) : Type 0 where
   pub values : list_all (are_potentials is_weight (length c.atoms)) c.values ≡ true
   pub dead_ends : are_potentials (is_dead_end_weight c.version) (length c.atoms) c.dead_ends ≡ true
   pub tables : are_tables c.version (length c.atoms) (length c.values + 1) c.tables ≡ true
+  pub few_exchanges : nat_le (length c.exchanges) 1048576 ≡ true
 
 pub limits_of : (c : Certificate) → keeps_limits c ≡ true → Limits c
 limits_of c keeps =
@@ -26,15 +27,20 @@ limits_of c keeps =
     let values = list_all (are_potentials is_weight (length c.atoms)) c.values in
     let dead_ends = are_potentials (is_dead_end_weight c.version) (length c.atoms) c.dead_ends in
     let tables = are_tables c.version (length c.atoms) (length c.values + 1) c.tables in
-    let first = (and_parts (most && few_lines && each && count && values && dead_ends && tables && nat_le (length c.tables) 4194304) (nat_le (length (rows_of c.tables)) 4194304) keeps).0 in
-    let first = (and_parts (most && few_lines && each && count && values && dead_ends && tables) (nat_le (length c.tables) 4194304) first).0 in
+    let few_tables = nat_le (length c.tables) 4194304 in
+    let few_rows = nat_le (length (rows_of c.tables)) 4194304 in
+    let exchanges = are_exchanges c.version c.exchanges in
+    let (first, few_exchanges) = and_parts (most && few_lines && each && count && values && dead_ends && tables && few_tables && few_rows && exchanges) (nat_le (length c.exchanges) 1048576) keeps in
+    let first = (and_parts (most && few_lines && each && count && values && dead_ends && tables && few_tables && few_rows) exchanges first).0 in
+    let first = (and_parts (most && few_lines && each && count && values && dead_ends && tables && few_tables) few_rows first).0 in
+    let first = (and_parts (most && few_lines && each && count && values && dead_ends && tables) few_tables first).0 in
     let (first, tables) = and_parts (most && few_lines && each && count && values && dead_ends) tables first in
     let (first, dead_ends) = and_parts (most && few_lines && each && count && values) dead_ends first in
     let (first, values) = and_parts (most && few_lines && each && count) values first in
     let (first, value_count) = and_parts (most && few_lines && each) count first in
     let (first, lines) = and_parts (most && few_lines) each first in
     let (first, few_lines) = and_parts most few_lines first in
-    record { few_atoms = (and_parts (is_claim c.claim) few_atoms first).1; few_lines = few_lines; lines = lines; value_count = value_count; values = values; dead_ends = dead_ends; tables = tables }
+    record { few_atoms = (and_parts (is_claim c.claim) few_atoms first).1; few_lines = few_lines; lines = lines; value_count = value_count; values = values; dead_ends = dead_ends; tables = tables; few_exchanges = few_exchanges }
 
 -- the numbers of each line rise
 pub rising_lines : (version : Version) (count : ℕ) (lines : List StateLine) → list_all (is_state_line version count) lines ≡ true → All (λ (l : StateLine). IsTrue (rise count 0 l.atoms)) lines

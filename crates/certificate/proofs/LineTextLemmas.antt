@@ -7,6 +7,10 @@ use Rattle.std.specs.Prelude.{ℤ, Result, Ok, Err, is_ok, if◌then◌else◌}
 use Rattle.std.proofs.lemmas.Grind.{flat_map-append}
 use Rattle.std.proofs.lemmas.List.{take_all}
 use Rattle.std.proofs.lemmas.List.Folds.{flat_map-map}
+use Rattle.task.specs.TaskParts.{object_of}
+use Rattle.task.specs.declared.atoms.ObjectId.{ObjectId}
+use Rattle.symmetries.specs.Exchanges.{Exchange, objects_in}
+use Rattle.task_symmetries.specs.Pairs.{pair_of, pairs_in}
 use Rattle.model.specs.Claims.{Claim}
 use Rattle.model.specs.Task.{Atom, Task}
 use Rattle.model.proofs.Pieces.{pieces_more}
@@ -17,7 +21,7 @@ use Rattle.certificate_definitions.specs.CertificateText.{after_blank, claims, c
 use Rattle.certificate_definitions.specs.CertificateNames.{named_atom, predicate_name, weights_in}
 use Rattle.certificate.specs.declared.header.Potential.{Potential}
 use Rattle.certificate.specs.CertificateParts.{potential_of}
-use Rattle.certificate.specs.Gathering.{atom_line, number_text, row_line, scope_line, state_line, weight_text}
+use Rattle.certificate.specs.Gathering.{atom_line, number_text, row_line, scope_line, state_line, swap_line, weight_text}
 
 -- what the bytes are where the last piece was added
 pub where_added : {T E : Type 0} (r : Result T E) (new old piece whole : List ℕ) → new ≡ (if is_ok r then old ++ piece else old) → old ++ piece ≡ whole
@@ -96,10 +100,30 @@ atom_text task a weights old =
     ap (λ xs. (((((old ++ codes "atom") ++ weights_text weights) ++ codes " (") ++ predicate_name task a.predicate) ++ xs) ++ codes ")\n") (names_text task a.objects)
     ∙ seven old (codes "atom") (weights_text weights) (codes " (") (predicate_name task a.predicate) (flat_map after_blank (map (object_name task) a.objects)) (codes ")") (codes "\n")
 
--- the lines of tables
 three_pieces : (old a b n : List ℕ) → ((old ++ a) ++ b) ++ n ≡ old ++ ((a ++ b) ++ n)
 three_pieces old a b n = simp append_assoc
 
+-- the line of an exchange, and the names of one pair more
+pub swap_text : (task : Task) (e : Exchange) (old : List ℕ) → ((old ++ codes "swap") ++ flat_map (object_text task) (objects_in e)) ++ codes "\n" ≡ old ++ swap_line task e
+swap_text task e old =
+    ap (λ xs. ((old ++ codes "swap") ++ xs) ++ codes "\n") (names_text task (objects_in e))
+    ∙ three_pieces old (codes "swap") (flat_map after_blank (map (object_name task) (objects_in e))) (codes "\n")
+
+pub pair_more : (task : Task) (pairs : List (ObjectId × ObjectId)) (i : ℕ) (p : ObjectId × ObjectId) → i < length pairs → p ≡ get_or pairs i p → (old text : List ℕ)
+    → text ≡ old ++ flat_map (object_text task) (objects_in (pairs_in (take i pairs)))
+    → (text ++ object_text task (object_of p.0)) ++ object_text task (object_of p.1) ≡ old ++ flat_map (object_text task) (objects_in (pairs_in (take (i + 1) pairs)))
+pair_more task pairs i p within is old text so_far =
+    let name = object_text task in
+    let first = flat_map name (objects_in (pairs_in (take i pairs))) in
+    ap (λ xs. (xs ++ name (object_of p.0)) ++ name (object_of p.1)) so_far
+    ∙ regroup old first (name (object_of p.0)) (name (object_of p.1))
+    ∙ ap (λ xs. old ++ xs) (sym (flat_map-append name (objects_in (pairs_in (take i pairs))) (object_of p.0 ∷ object_of p.1 ∷ [])))
+    ∙ ap (λ os. old ++ flat_map name os) (sym (pieces_more (λ (pair : ℕ × ℕ). pair.0 ∷ pair.1 ∷ []) pair_of pairs i p within is))
+  where
+    regroup : (old a b c : List ℕ) → ((old ++ a) ++ b) ++ c ≡ old ++ (a ++ (b ++ (c ++ [])))
+    regroup old a b c = append_assoc (old ++ a) b c ∙ append_assoc old a (b ++ c) ∙ ap (λ xs. old ++ (a ++ (b ++ xs))) (sym (append-nil c))
+
+-- the lines of tables
 pub scope_text : (numbers old : List ℕ) → ((old ++ codes "table") ++ flat_map number_text numbers) ++ codes "\n" ≡ old ++ scope_line numbers
 scope_text numbers old = three_pieces old (codes "table") (flat_map number_text numbers) (codes "\n")
 

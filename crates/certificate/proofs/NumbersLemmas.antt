@@ -265,4 +265,4 @@ module _ (cert : Cert) where
     same_certificate states same are =
         let lines = (λ i. lines_with (map listed_of (same i)) (are i)) ∙ lines_wide count wide marks sets enough as_many rises in
         let c = certificate_of cert in
-        λ i. record { version = c.version; claim = c.claim; atoms = c.atoms; values = c.values; dead_ends = c.dead_ends; tables = c.tables; lines = lines i }
+        λ i. record { version = c.version; claim = c.claim; exchanges = c.exchanges; atoms = c.atoms; values = c.values; dead_ends = c.dead_ends; tables = c.tables; lines = lines i }

@@ -1,4 +1,4 @@
--- The text of a certificate by its five parts: the first lines, the atoms, the tables, the states and the last line.
+-- The text of a certificate by its six parts: the first lines, the exchanges, the atoms, the tables, the states and the last line.
 use Rattle.std.proofs.Common.{refl, ◌≡◌, ℕ, List, [], ◌∷◌, ◌++◌, length, map, Option, sym, ap, ◌∙◌, subst, append_assoc, append-nil}
 use Rattle.std.specs.Io.KnownBytes.{Appends}
 use Rattle.std.specs.List.{flat_map}
@@ -10,9 +10,9 @@ use Rattle.model.specs.Task.{Task}
 use Rattle.model.specs.Claims.{Claim}
 use Rattle.table_functions.specs.TableFunctions.{Table}
 use Rattle.certificate_definitions.specs.Certificates.{Version, Certificate}
-use Rattle.certificate_definitions.specs.CertificateText.{TableLine, tabled, row, atom, claims, constant, last, listed, version, whole_line}
-use Rattle.certificate_definitions.specs.CertificateNames.{certificate_text, constants_of, table_lines}
-use Rattle.certificate.specs.Gathering.{IsPassedOn, atom_line, atoms_weighed, scope_line, state_line, table_text}
+use Rattle.certificate_definitions.specs.CertificateText.{TableLine, tabled, row, atom, claims, constant, last, listed, swapped, version, whole_line}
+use Rattle.certificate_definitions.specs.CertificateNames.{certificate_text, constants_of, named_exchange, table_lines}
+use Rattle.certificate.specs.Gathering.{IsPassedOn, atom_line, atoms_weighed, scope_line, state_line, swap_line, table_text}
 use Rattle.certificate.proofs.GatheringLemmas.{passed_nothing, passed_held, passed_then, passed_partly, passed_beginning, passed_all}
 
 -- ---- the parts
@@ -22,6 +22,9 @@ head v claim k = whole_line (version v) ++ whole_line (claims claim) ++ whole_li
 
 abbrev pub head_of : Certificate → List ℕ
 head_of c = head c.version c.claim (constants_of c)
+
+abbrev pub exchanges_text : Task → Certificate → List ℕ
+exchanges_text task c = flat_map (swap_line task) c.exchanges
 
 abbrev pub atoms_text : Task → Certificate → List ℕ
 atoms_text task c = flat_map atom_line (atoms_weighed task c)
@@ -35,9 +38,12 @@ states_text c = flat_map state_line c.lines
 abbrev pub last_text : Certificate → List ℕ
 last_text c = whole_line (last (length c.lines))
 
--- the text up to the last atom, to the last table, and to the last state
+-- the text up to the last exchange, to the last atom, to the last table, and to the last state
+abbrev pub to_exchanges : Task → Certificate → List ℕ
+to_exchanges task c = head_of c ++ exchanges_text task c
+
 abbrev pub to_atoms : Task → Certificate → List ℕ
-to_atoms task c = head_of c ++ atoms_text task c
+to_atoms task c = to_exchanges task c ++ atoms_text task c
 
 abbrev pub to_tables : Task → Certificate → List ℕ
 to_tables task c = to_atoms task c ++ tables_text c
@@ -60,29 +66,37 @@ of_tables (t ∷ tables) =
 module _ (task : Task) (c : Certificate) where
   pub by_states : certificate_text task c ≡ to_states task c ++ last_text c
   by_states =
+      let names = map (named_exchange task) c.exchanges in
+      let swaps = map (λ n. swapped n) names in
       let atoms = map (λ a. atom a) (atoms_weighed task c) in
       let tables = map (λ l. tabled l) (flat_map table_lines c.tables) in
       let states = map (λ l. listed l) c.lines in
       let end = last (length c.lines) ∷ [] in
+      let swaps_are : flat_map whole_line swaps ≡ exchanges_text task c =
+      flat_map-map whole_line (λ n. swapped n) names ∙ flat_map-map (λ n. whole_line (swapped n)) (named_exchange task) c.exchanges in
       let atoms_are : flat_map whole_line atoms ≡ atoms_text task c = flat_map-map whole_line (λ a. atom a) (atoms_weighed task c) in
       let tables_are : flat_map whole_line tables ≡ tables_text c = flat_map-map whole_line (λ l. tabled l) (flat_map table_lines c.tables) ∙ of_tables c.tables in
       let states_are : flat_map whole_line states ≡ states_text c = flat_map-map whole_line (λ l. listed l) c.lines in
-      let body : flat_map whole_line (((atoms ++ tables) ++ states) ++ end) ≡ ((atoms_text task c ++ tables_text c) ++ states_text c) ++ last_text c =
-      flat_map-append whole_line ((atoms ++ tables) ++ states) end
-      ∙ (λ i. flat_map-append whole_line (atoms ++ tables) states i ++ append-nil (last_text c) i)
-      ∙ (λ i. (flat_map-append whole_line atoms tables i ++ states_are i) ++ last_text c)
-      ∙ (λ i. ((atoms_are i ++ tables_are i) ++ states_text c) ++ last_text c) in
+      let body : flat_map whole_line ((((swaps ++ atoms) ++ tables) ++ states) ++ end) ≡ (((exchanges_text task c ++ atoms_text task c) ++ tables_text c) ++ states_text c) ++ last_text c =
+      flat_map-append whole_line (((swaps ++ atoms) ++ tables) ++ states) end
+      ∙ (λ i. flat_map-append whole_line ((swaps ++ atoms) ++ tables) states i ++ append-nil (last_text c) i)
+      ∙ (λ i. (flat_map-append whole_line (swaps ++ atoms) tables i ++ states_are i) ++ last_text c)
+      ∙ (λ i. ((flat_map-append whole_line swaps atoms i ++ tables_are i) ++ states_text c) ++ last_text c)
+      ∙ (λ i. (((swaps_are i ++ atoms_are i) ++ tables_text c) ++ states_text c) ++ last_text c) in
       ap (λ xs. whole_line (version c.version) ++ (whole_line (claims c.claim) ++ (whole_line (constant (constants_of c)) ++ xs))) body
-      ∙ one_by_one (whole_line (version c.version)) (whole_line (claims c.claim)) (whole_line (constant (constants_of c))) (atoms_text task c) (tables_text c) (states_text c) (last_text c)
+      ∙ one_by_one (whole_line (version c.version)) (whole_line (claims c.claim)) (whole_line (constant (constants_of c))) (exchanges_text task c) (atoms_text task c) (tables_text c) (states_text c) (last_text c)
     where
-      one_by_one : (v k z a t s l : List ℕ) → v ++ (k ++ (z ++ (((a ++ t) ++ s) ++ l))) ≡ (((((v ++ k) ++ z) ++ a) ++ t) ++ s) ++ l
-      one_by_one v k z a t s l = simp append_assoc
+      one_by_one : (v k z e a t s l : List ℕ) → v ++ (k ++ (z ++ ((((e ++ a) ++ t) ++ s) ++ l))) ≡ ((((((v ++ k) ++ z) ++ e) ++ a) ++ t) ++ s) ++ l
+      one_by_one v k z e a t s l = simp append_assoc
 
   pub by_tables : certificate_text task c ≡ to_tables task c ++ (states_text c ++ last_text c)
   by_tables = by_states ∙ append_assoc (to_tables task c) (states_text c) (last_text c)
 
   pub by_atoms : certificate_text task c ≡ to_atoms task c ++ (tables_text c ++ (states_text c ++ last_text c))
   by_atoms = by_tables ∙ append_assoc (to_atoms task c) (tables_text c) (states_text c ++ last_text c)
+
+  pub by_exchanges : certificate_text task c ≡ to_exchanges task c ++ (atoms_text task c ++ (tables_text c ++ (states_text c ++ last_text c)))
+  by_exchanges = by_atoms ∙ append_assoc (to_exchanges task c) (atoms_text task c) (tables_text c ++ (states_text c ++ last_text c))
 
 -- ---- what is passed on, and what is a beginning of the text, after each of the parts
 

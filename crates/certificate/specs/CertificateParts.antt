@@ -1,8 +1,12 @@
 -- The parts of the code's certificates, in the model's terms.
 use Rattle.std.specs.Prelude.{ℕ, ◌+◌, nat_le, Bool, ◌&&◌, ℤ, pos, List, get_or, length, map}
+use Rattle.std.specs.Global.{Vec}
 use Rattle.std.specs.List.{list_all}
+use Rattle.task.specs.declared.atoms.ObjectId.{ObjectId}
 use Rattle.task.specs.TaskParts.{atom_of}
 use Rattle.packed_state.specs.PooledView.{pooled_states}
+use Rattle.symmetries.specs.Exchanges.{Exchange}
+use Rattle.task_symmetries.specs.Pairs.{pairs_in}
 use Rattle.potential_functions.specs.PotentialFunctions.{PotentialFunction}
 use Rattle.table_functions.specs.TableFunctions.{SeveralValues}
 use Rattle.table_rows.specs.Tables.{table_of}
@@ -25,11 +29,15 @@ potential_of p = record { constant = p.constant; weights = p.weights.items }
 abbrev pub bounds_of : Bounds → SeveralValues
 bounds_of b = record { values = map potential_of b.values.items; dead_ends = potential_of b.dead_ends; tables = map table_of b.tables.items }
 
+abbrev pub exchange_in : Vec (ObjectId × ObjectId) → Exchange
+exchange_in pairs = pairs_in pairs.items
+
 -- the certificate that begins so, with these lines
 abbrev pub certificate_with_lines : Header → List StateLine → Certificate
 certificate_with_lines header lines = record {
   version = version_of header.version;
   claim = claim_of header.claim;
+  exchanges = map exchange_in header.exchanges.items;
   atoms = map atom_of header.atoms.keys;
   values = (bounds_of header.bounds).values;
   dead_ends = (bounds_of header.bounds).dead_ends;

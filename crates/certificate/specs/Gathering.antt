@@ -4,16 +4,20 @@ use Rattle.std.specs.Fmt.{decimal, signed_decimal}
 use Rattle.std.specs.Io.KnownBytes.{Appends}
 use Rattle.std.specs.List.{flat_map}
 use Rattle.model.specs.Task.{Task}
+use Rattle.symmetries.specs.Exchanges.{Exchange}
 use Rattle.table_functions.specs.TableFunctions.{Row, Table}
 use Rattle.certificate_definitions.specs.Certificates.{Certificate, StateLine}
-use Rattle.certificate_definitions.specs.CertificateText.{WeightedAtom, atom, listed, row, scope, tabled, whole_line}
-use Rattle.certificate_definitions.specs.CertificateNames.{weighted_atoms}
+use Rattle.certificate_definitions.specs.CertificateText.{WeightedAtom, atom, listed, row, scope, swapped, tabled, whole_line}
+use Rattle.certificate_definitions.specs.CertificateNames.{named_exchange, weighted_atoms}
 
 -- After the bytes that were held comes this text: of both, in their order, some went to the sink, and the others are held.
 abbrev pub IsPassedOn : (before after : Option (List ℕ)) → (held held_after : List ℕ) → List ℕ → Type 0
 IsPassedOn before after held held_after text = (written : List ℕ) × Appends before after written × (held ++ text ≡ written ++ held_after)
 
--- the line of an atom with its weights, of a table's scope, of a row, and of a listed state
+-- the line of an exchange, of an atom with its weights, of a table's scope, of a row, and of a listed state
+abbrev pub swap_line : Task → Exchange → List ℕ
+swap_line task e = whole_line (swapped (named_exchange task e))
+
 abbrev pub atom_line : WeightedAtom → List ℕ
 atom_line a = whole_line (atom a)
 

@@ -13,10 +13,10 @@ use certificate_reader::{Claim, StateLine, Version};
 use faults::NoMemory;
 use packed_state::{Packed, PooledStore, StateStore};
 use std::alloc::Global;
-use task::Atom;
+use task::{Atom, ObjectId};
 
-/// A certificate of a task, within the limits of a certificate's text: its version, its claim, its atoms, what bounds the
-/// costs of plans, and the states that it lists, as sets of the numbers of its atoms.
+/// A certificate of a task, within the limits of a certificate's text: its version, its claim, its exchanges, its atoms, what
+/// bounds the costs of plans, and the states that it lists, as sets of the numbers of its atoms.
 #[derive(Drop)]
 pub struct Cert {
     header: Header,
@@ -33,9 +33,9 @@ impl Cert {
     ghost use Rattle.certificate_definitions.specs.CertificateRefusals.{state_line};
     ghost use Rattle.certificate_definitions.specs.Certificates.{are_potentials, are_tables, is_value_count, is_weight, several_of};
     ghost use Rattle.certificate_reader.specs.Lines.{claim_of, line_of, version_of};
-    ghost use Rattle.certificate_reader.specs.declared.line.TheConstants.{MAX_ATOMS, MAX_STATE_LINES};
+    ghost use Rattle.certificate_reader.specs.declared.line.TheConstants.{MAX_ATOMS, MAX_STATE_LINES, MAX_SWAPS};
     ghost use Rattle.certificate.specs.declared.header.Potential as header;
-    ghost use Rattle.certificate.specs.CertificateParts.{bounds_of, certificate_with_lines, listed_of, potential_of};
+    ghost use Rattle.certificate.specs.CertificateParts.{bounds_of, certificate_with_lines, exchange_in, listed_of, potential_of};
     ghost use Rattle.certificate.specs.ListedSets.{marked};
     ghost use Rattle.certificate.specs.Listing.{ListOnce};
     ghost use Rattle.certificate.specs.Certificate.{certificate_of, store_in, tables_in};
@@ -84,6 +84,14 @@ impl Cert {
         self.header.claim
     }
 
+    /// Its exchanges, by which one state stands for others: for each the objects that change places, two by two.
+    pub fn exchanges(&self) -> &[Vec<(ObjectId, ObjectId)>]
+        ensures exchanges { map exchange_in result.now ≡ (certificate_of self.now).exchanges }
+        ensures at_most { length result.now ≤ MAX_SWAPS }
+    {
+        self.header.exchanges.as_slice()
+    }
+
     /// What bounds the costs of plans, within the limits of a certificate's text: each of its potential functions has a weight
     /// for each atom.
     pub fn bounds(&self) -> &Bounds
@@ -120,13 +128,16 @@ impl Cert {
         &self.states.sets
     }
 
-    /// The number of the line of its first state, from 1; each table has a line, and each row.
+    /// The number of the line of its first state, from 1; each exchange has a line, each table, and each row.
     pub fn first_state_line(&self) -> u64
         ensures line { result ≡ state_line (certificate_of self.now) 0 }
         ensures small { result < 2 ^ 32 }
     {
         let tables = self.header.bounds.tables.as_slice();
-        4 + self.header.atoms.len() as u64 + tables.len() as u64 + row_count(tables)
+        4 + self.header.exchanges.len() as u64
+            + self.header.atoms.len() as u64
+            + tables.len() as u64
+            + row_count(tables)
     }
 
     /// How many states it lists.

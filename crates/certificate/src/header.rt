@@ -7,7 +7,7 @@ use crate::limits::are_bounds;
 use certificate_reader::{Claim, Version};
 use indexmap::IndexSet;
 use table_rows::Table;
-use task::Atom;
+use task::{Atom, ObjectId};
 
 /// A potential function: a constant, and a weight for each atom, in their order.
 #[derive(Drop)]
@@ -40,13 +40,17 @@ impl Bounds {
     }
 }
 
-/// What a certificate says before its states: the version, the claim, the atoms, and what bounds the costs of plans.
+/// What a certificate says before its states: the version, the claim, the exchanges, the atoms, and what bounds the costs of
+/// plans.
 #[derive(Drop)]
 pub struct Header {
     /// The version of its text.
     pub version: Version,
     /// The claim.
     pub claim: Claim,
+    /// The exchanges by which one state stands for others, in order: for each the objects that change places, two by two.
+    /// Versions 1 and 2 have none.
+    pub exchanges: Vec<Vec<(ObjectId, ObjectId)>>,
     /// The atoms, in order.
     pub atoms: IndexSet<Atom>,
     /// What bounds the costs of plans.

@@ -2,18 +2,19 @@
 ghost use Rattle.std.specs.Prelude.{◌≡◌, ◌≤◌, IsTrue, length, map, nat_le};
 ghost use Rattle.std.specs.List.{list_all};
 ghost use Rattle.certificate_definitions.specs.Certificates as certificates;
-ghost use Rattle.certificate_definitions.specs.Certificates.{is_number, is_weight, is_dead_end_weight, is_claim, is_mark, rise, is_state_line, are_potentials, is_value_count, is_row, is_table, has_tables, are_tables, rows_of, keeps_limits};
+ghost use Rattle.certificate_definitions.specs.Certificates.{is_number, is_weight, is_dead_end_weight, is_claim, is_mark, rise, is_state_line, are_potentials, is_value_count, is_row, is_table, has_tables, are_tables, rows_of, has_exchanges, are_exchanges, keeps_limits};
 ghost use Rattle.certificate_reader.specs.Lines.{claim_of, line_of, mark_of, version_of};
 ghost use Rattle.certificate_reader.specs.declared.line.TheConstants.{MAX_ROWS};
 ghost use Rattle.table_rows.specs.Tables.{table_of};
-ghost use Rattle.certificate.specs.CertificateParts.{are_bounds, bounds_of, certificate_with_lines, potential_of};
+ghost use Rattle.certificate.specs.CertificateParts.{are_bounds, bounds_of, certificate_with_lines, exchange_in, potential_of};
 
 use crate::header::{Bounds, Header, Potential};
 use certificate_reader::{
-    Claim, MAX_ATOMS, MAX_CONSTANTS, MAX_ROWS, MAX_STATE_LINES, MAX_TABLES, MAX_WEIGHT, Mark,
-    NUMBER_LIMIT, StateLine, Version,
+    Claim, MAX_ATOMS, MAX_CONSTANTS, MAX_ROWS, MAX_STATE_LINES, MAX_SWAPS, MAX_TABLES, MAX_WEIGHT,
+    Mark, NUMBER_LIMIT, StateLine, Version,
 };
 use table_rows::Table;
+use task::ObjectId;
 
 /// Whether a certificate that begins so may have these lines.
 pub(crate) fn keeps_limits(header: &Header, lines: &[StateLine]) -> bool
@@ -25,6 +26,27 @@ pub(crate) fn keeps_limits(header: &Header, lines: &[StateLine]) -> bool
         && lines.len() <= MAX_STATE_LINES
         && are_state_lines(header.version, lines, atom_count)
         && are_bounds(header.version, &header.bounds, atom_count)
+        && are_exchanges(header.version, &header.exchanges)
+        && header.exchanges.len() <= MAX_SWAPS
+}
+
+/// Whether a certificate of this version may have these exchanges: each has a pair of objects at least.
+fn are_exchanges(version: Version, exchanges: &[Vec<(ObjectId, ObjectId)>]) -> bool
+    ensures { result ≡ are_exchanges (version_of version) (map exchange_in exchanges.now) }
+{
+    for exchange in exchanges {
+        if !(has_exchanges(version) && 1 <= exchange.len()) {
+            return false;
+        }
+    }
+    true
+}
+
+/// Whether a certificate of this version may have exchanges.
+fn has_exchanges(version: Version) -> bool
+    ensures { result ≡ has_exchanges (version_of version) }
+{
+    version == Version::Three
 }
 
 /// Whether a certificate of this version and of this many atoms may have these bounds.

@@ -11,7 +11,9 @@ ghost use Rattle.certificate_definitions.specs.CertificateText.{claims, last, li
 ghost use Rattle.certificate_definitions.specs.CertificateNames.{named_atom, predicate_name, weights_in};
 ghost use Rattle.certificate.specs.declared.header.Potential as header;
 ghost use Rattle.certificate.specs.CertificateParts.{bounds_of, constants_in, weights_at};
-ghost use Rattle.certificate.specs.Gathering.{atom_line, number_text, row_line, scope_line, state_line, weight_text};
+ghost use Rattle.symmetries.specs.Exchanges.{objects_in};
+ghost use Rattle.task_symmetries.specs.Pairs.{pairs_in};
+ghost use Rattle.certificate.specs.Gathering.{atom_line, number_text, row_line, scope_line, state_line, swap_line, weight_text};
 
 use crate::header::Bounds;
 use certificate_reader::{Claim, Mark, StateLine, Version};
@@ -64,6 +66,34 @@ fn add_constants(version: Version, bounds: &Bounds, text: &mut Vec<u8>) -> Resul
         add_weight(value.constant, text)?;
     }
     add_dead_end_weight(version, bounds.dead_ends.constant, text)
+}
+
+/// Adds the line of objects that change places two by two, by their names.
+pub(crate) fn add_exchange(
+    task: &Task,
+    pairs: &[(ObjectId, ObjectId)],
+    text: &mut Vec<u8>,
+) -> Result<(), AllocError>
+    ensures { OnOk result (text.new.items ≡ text.old.items ++ swap_line (task_of task.now) (pairs_in pairs.now)) }
+{
+    text.extend_from_slice(b"swap")?;
+    add_pairs(task, pairs, text)?;
+    text.extend_from_slice(b"\n")
+}
+
+/// Adds the names of the objects of each pair, with a blank before each.
+fn add_pairs(
+    task: &Task,
+    pairs: &[(ObjectId, ObjectId)],
+    text: &mut Vec<u8>,
+) -> Result<(), AllocError>
+    ensures { OnOk result (text.new.items ≡ text.old.items ++ flat_map (object_text (task_of task.now)) (objects_in (pairs_in pairs.now))) }
+{
+    for pair in pairs {
+        add_name(task, pair.0, text)?;
+        add_name(task, pair.1, text)?;
+    }
+    Ok(())
 }
 
 /// Adds the line of the atom at this place, from 0, by its names, with its weights.
@@ -120,10 +150,17 @@ fn add_names(task: &Task, objects: &[ObjectId], text: &mut Vec<u8>) -> Result<()
     ensures { OnOk result (text.new.items ≡ text.old.items ++ flat_map (object_text (task_of task.now)) (map object_of objects.now)) }
 {
     for object in objects {
-        text.extend_from_slice(b" ")?;
-        text.extend_from_slice(object_name(task, *object))?;
+        add_name(task, *object, text)?;
     }
     Ok(())
+}
+
+/// Adds the object's name, with a blank before it.
+fn add_name(task: &Task, object: ObjectId, text: &mut Vec<u8>) -> Result<(), AllocError>
+    ensures { OnOk result (text.new.items ≡ text.old.items ++ object_text (task_of task.now) (object_of object)) }
+{
+    text.extend_from_slice(b" ")?;
+    text.extend_from_slice(object_name(task, object))
 }
 
 /// Adds the line of a table's scope.

@@ -7,22 +7,24 @@ ghost use Rattle.task.specs.Task.{task_of};
 ghost use Rattle.certificate.specs.Certificate.{certificate_of};
 ghost use Rattle.certificate_definitions.specs.CertificateNames.{certificate_text};
 ghost use Rattle.table_rows.specs.Tables.{table_of};
-ghost use Rattle.certificate.specs.Gathering.{IsPassedOn, atom_line, atoms_weighed, row_line, state_line, table_text};
+ghost use Rattle.certificate.specs.CertificateParts.{exchange_in};
+ghost use Rattle.certificate.specs.Gathering.{IsPassedOn, atom_line, atoms_weighed, row_line, state_line, swap_line, table_text};
 
 use crate::cert::Cert;
-use crate::line_text::{add_atom, add_head, add_last, add_row, add_scope, add_state};
+use crate::line_text::{add_atom, add_exchange, add_head, add_last, add_row, add_scope, add_state};
 use certificate_reader::{Mark, StateLine};
 use devices::{IoFault, Sink, write_all};
 use packed_state::{Packed, StateStore};
 use std::alloc::Global;
 use table_rows::Table;
-use task::Task;
+use task::{ObjectId, Task};
 
 /// From how many bytes on what is held is written.
 const PIECE: usize = 65_536;
 
-/// Writes the text of a certificate of the task, a line at a time: the version, the claim and the constants, a line for
-/// each atom, by its names, the lines of each table, a line for each listed state, and last how many states are listed.
+/// Writes the text of a certificate of the task, a line at a time: the version, the claim and the constants, a line for each
+/// exchange, by its objects' names, and for each atom, by its names, the lines of each table, a line for each listed state, and
+/// last how many states are listed.
 ///
 /// # Errors
 /// The device failed, or memory was refused. It has then taken a beginning of the text.
@@ -46,11 +48,31 @@ pub fn write_cert<W: Sink>(
 {
     let mut held = Vec::new(alloc);
     add_head(cert.version(), cert.claim(), cert.bounds(), &mut held)?;
+    write_exchanges(task, cert.exchanges(), &mut held, out)?;
     write_atoms(task, cert, &mut held, out)?;
     write_tables(alloc, &cert.bounds().tables, &mut held, out)?;
     write_states(alloc, cert, &mut held, out)?;
     add_last(cert.line_count(), &mut held)?;
     write_all(out, held.as_slice())
+}
+
+/// Writes the lines of the exchanges after the bytes that are held.
+fn write_exchanges<W: Sink>(
+    task: &Task,
+    exchanges: &[Vec<(ObjectId, ObjectId)>],
+    held: &mut Vec<u8>,
+    out: &mut W,
+) -> Result<(), IoFault>
+    ensures text { OnOk result (IsPassedOn (W.taken out.old) (W.taken out.new) held.old.items held.new.items (flat_map (swap_line (task_of task.now)) (map exchange_in exchanges.now))) }
+    ensures beginning { AppendsBeginning (W.taken out.old) (W.taken out.new) (held.old.items ++ flat_map (swap_line (task_of task.now)) (map exchange_in exchanges.now)) }
+    ensures failures { CountsDevice (W.failures out.old) (W.failures out.new) result }
+    ensures name { W.name out.new ≡ W.name out.old }
+{
+    for exchange in exchanges {
+        add_exchange(task, exchange, held)?;
+        pass_on(held, out)?;
+    }
+    Ok(())
 }
 
 /// Writes the lines of the atoms, each with its weights, after the bytes that are held.

@@ -1,5 +1,5 @@
 -- What the definitions say of the worked certificates.
-use Rattle.std.proofs.Common.{◌≡◌, ◌⊎◌, ◌+◌, ◌≤◌, inl, inr, Bool, true, false, true≢false, ◌&&◌, ◌||◌, [], ◌∷◌, None, Some, refl, sym, ◌∙◌, ap, subst, arith}
+use Rattle.std.proofs.Common.{◌≡◌, ◌⊎◌, ◌+◌, ◌≤◌, inl, inr, Bool, true, false, true≢false, ◌&&◌, ◌||◌, [], ◌∷◌, Some, refl, sym, ◌∙◌, ap, subst, arith}
 use Rattle.std.specs.Prelude.{◌≢◌, ℕ, ℤ, pos, negsuc, ◌+ℤ◌, ◌≤ℤ◌, List, if◌then◌else◌, length, All, AllPairs, Contains, IsTrue}
 use Rattle.std.specs.Int.Signed.{le_z_yes}
 use Rattle.std.proofs.lemmas.Int.{ints}
@@ -8,18 +8,22 @@ use Rattle.std.proofs.lemmas.Option.{same_Some}
 use Rattle.std.proofs.lemmas.List.Elements.{All-cons, All-nil}
 use Rattle.std.proofs.lemmas.List.Kept.{AllPairs-cons}
 use Rattle.std.specs.FinSet.{contains, from_list, contains-from_list}
-use Rattle.model.specs.Task.{Atom, Instance}
+use Rattle.model.specs.Task.{Atom, Instance, Task}
 use Rattle.model.specs.Examples.{ground, instance, tie, tie_task}
+use Rattle.model.specs.Runs.{System}
 use Rattle.model.specs.StaticallyFalse.{kept_instances}
 use Rattle.model.specs.NumberedAtoms.{numbered_atoms}
-use Rattle.model.specs.Meaning.{State, cost_of, atom_cmp, step, changes_of, meets_goal}
+use Rattle.model.specs.Meaning.{State, cost_of, atom_cmp, step, changes_of, meets_goal, system_of}
+use Rattle.symmetries.specs.Exchanges.{Exchange}
+use Rattle.symmetries.specs.SymmetryExamples.{swapping}
 use Rattle.model.specs.WellTyped.{is_atom}
-use Rattle.model.specs.Claims.{Claim, bound, Allows, opened, cut, dead, Line, IsListedWithin}
+use Rattle.model.specs.Claims.{Claim, bound, Allows, opened, cut, dead, Line, IsListedWithin, IsClosed}
 use Rattle.model.specs.Claims as model
 use Rattle.model.specs.Fluents.{is_fluent}
-use Rattle.certificate_definitions.specs.Certificates.{two, StateLine, state_of_line, IsClosedFor}
-use Rattle.certificate_definitions.specs.CertificateRefusals.{IsWrong, IsWrongAt, unfair, unfair_goal, dead_unfair, dead_unfair_goal, not_dead}
-use Rattle.certificate_definitions.specs.CertificateExamples.{AreJudged, open_at, cut_at, linked, tied, claims, weighs, zeros, token_reported}
+use Rattle.certificate_definitions.specs.Certificates.{two, StateLine, Certificate, state_of_line, lines_of, is_symmetry_for, listed_system, value_of, is_dead_end_of, IsClosedFor}
+use Rattle.certificate_definitions.specs.CertificateRefusals.{IsWrongAt, unfair, unfair_goal, dead_unfair, dead_unfair_goal, not_dead}
+use Rattle.certificate_definitions.proofs.WithoutExchanges.{lists_task}
+use Rattle.certificate_definitions.specs.CertificateExamples.{AreJudged, open_at, cut_at, linked, tied, claims, weighs, zeros, token_reported, start_open}
 use Rattle.table_functions.specs.TableFunctions.{Row, Table}
 use Rattle.potential_functions.specs.PotentialFunctions.{PotentialFunction, or_zero, value_of_state, is_dead_by, is_dead_state}
 use Rattle.potential_functions.specs.Fair.{IsFairAt, IsFairAtGoals, AreFair, nothing, AreDeadFair}
@@ -161,6 +165,15 @@ the_one_line P l line at of_l = by_first (Contains-cases l [] line at)
 one_value : (count : ℕ) (p : PotentialFunction) → length p.weights ≡ count → All (λ (p : PotentialFunction). length p.weights ≡ count) (p ∷ [])
 one_value count p many = All-cons (λ (p : PotentialFunction). length p.weights ≡ count) p [] many (All-nil (λ (p : PotentialFunction). length p.weights ≡ count))
 
+-- without exchanges a listing is closed for the task
+no_exchanges : (task : Task) (c : Certificate) → All (λ (e : Exchange). IsTrue (is_symmetry_for task c e)) []
+no_exchanges task c = All-nil (λ (e : Exchange). IsTrue (is_symmetry_for task c e))
+
+closed_in_task : (task : Task) (c : Certificate) → c.exchanges ≡ [] → IsClosed (system_of task) (value_of task c) (is_dead_end_of task c) c.claim (lines_of task c)
+    → IsClosed (listed_system task c) (value_of task c) (is_dead_end_of task c) c.claim (lines_of task c)
+closed_in_task task c none closed =
+    subst (λ t. IsClosed t (value_of task c) (is_dead_end_of task c) c.claim (lines_of task c)) (sym (lists_task task c none)) closed
+
 no_rows : All (λ (t : Table). AllPairs (λ (q r : Row). q.atoms ≢ r.atoms) t.rows) []
 no_rows = All-nil (λ (t : Table). AllPairs (λ (q r : Row). q.atoms ≢ r.atoms) t.rows)
 
@@ -170,12 +183,13 @@ cut_closed = record {
   one_weight_an_atom = one_value 1 (potentials (pos 1) (negsuc 0)) refl;
   one_dead_end_weight_an_atom = refl;
   tables_are_over_atoms = refl;
+  exchanges_are_symmetries = no_exchanges tie_task (weighs (bound 1) (pos 1) (negsuc 0) (cut_at 0 1 [] ∷ []));
   are_fair = record { values = worth_one; dead_ends = zero_is_dead_fair };
   rows_are_distinct = no_rows;
   atoms_are_fluent = All-cons (λ (a : Atom). IsTrue (is_atom tie_task a && is_fluent tie_task a.predicate)) tied [] refl (All-nil (λ (a : Atom). IsTrue (is_atom tie_task a && is_fluent tie_task a.predicate)));
   atoms_are_distinct = λ i j d before within. absurd (omega (arith, before, within));
   states_are_distinct = λ i j d before within. absurd (omega (arith, before, within));
-  listing_is_closed = record {
+  listing_is_closed = closed_in_task tie_task (weighs (bound 1) (pos 1) (negsuc 0) (cut_at 0 1 [] ∷ [])) refl (record {
     initial_listed = (start_cut 1, (0, omega arith, refl), refl, omega arith);
     successors_listed = λ line a next at is_open leads.
         the_one_line (λ (l : Line State). l.mark ≡ opened → IsListedWithin (start_cut 1 ∷ []) next (l.cost + 1)) (start_cut 1) line at (λ not_cut. absurd (cc)) is_open;
@@ -185,7 +199,7 @@ cut_closed = record {
         (λ is. let same : 1 ≡ rest = cc in (omega (arith, same, start_value), omega (arith, same))) is_cut;
     dead_are_dead = λ line at is_dead.
         the_one_line (λ (l : Line State). l.mark ≡ dead → IsTrue (is_dead_state (tied ∷ []) (potentials (pos 0) (pos 0)) l.state)) (start_cut 1) line at (λ is_cut. absurd (cc)) is_dead;
-  };
+  });
 }
 
 -- worth two, it is lost by the instance, which costs one
@@ -230,6 +244,7 @@ dead_closed claim = record {
   one_weight_an_atom = one_value 2 (zeros token_atoms) refl;
   one_dead_end_weight_an_atom = refl;
   tables_are_over_atoms = refl;
+  exchanges_are_symmetries = no_exchanges token_task (token_reported two claim (pos 2) (minus 1));
   are_fair = record {
     values = subst (λ atoms. AreFair token_task atoms (zeros token_atoms)) (sym token_atoms_are) (zero-fair token_task token_atoms);
     dead_ends = subst (λ atoms. AreDeadFair token_task atoms one_missing) (sym token_atoms_are) fair_proofs.are_judged.token_is_dead_fair;
@@ -243,7 +258,7 @@ dead_closed claim = record {
       AllPairs-cons R (ground 0 []) (ground 1 [] ∷ []) (All-cons (R (ground 0 [])) (ground 1 []) [] (λ same. absurd (cc (ap (λ (a : Atom). a.predicate) same))) (All-nil (R (ground 0 []))))
       (λ i j d before within. absurd (omega (arith, before, within)));
   states_are_distinct = λ i j d before within. absurd (omega (arith, before, within));
-  listing_is_closed = record {
+  listing_is_closed = closed_in_task token_task (token_reported two claim (pos 2) (minus 1)) refl (record {
     initial_listed = (dead_line, (0, omega arith, refl), refl, omega arith);
     successors_listed = λ line a next at is_open leads.
         the_one_line (λ (l : Line State). l.mark ≡ opened → IsListedWithin (dead_line ∷ []) next (l.cost + cost_of token_task a)) dead_line line at (λ is. absurd (cc)) is_open;
@@ -252,7 +267,7 @@ dead_closed claim = record {
         the_one_line (λ (l : Line State). l.mark ≡ cut rest → (rest ≤ value_of_state token_atoms (zeros token_atoms) l.state) × Allows claim (l.cost + rest)) dead_line line at
         (λ is. absurd (cc)) is_cut;
     dead_are_dead = λ line at is_dead. the_one_line (λ (l : Line State). IsTrue (is_dead_state token_atoms one_missing l.state)) dead_line line at (reported_at_x one_missing);
-  };
+  });
 }
 
 -- with a constant of 1 it has the value 0
@@ -295,13 +310,14 @@ are_judged = record {
     one_weight_an_atom = one_value 1 (zeros (tied ∷ [])) refl;
     one_dead_end_weight_an_atom = refl;
     tables_are_over_atoms = refl;
+    exchanges_are_symmetries = no_exchanges tie_task (claims (bound 1) (tied ∷ []) start_open);
     are_fair = record { values = zero_is_fair; dead_ends = zero_is_dead_fair };
     rows_are_distinct = no_rows;
     atoms_are_fluent = All-cons (λ (a : Atom). IsTrue (is_atom tie_task a && is_fluent tie_task a.predicate)) tied [] refl (All-nil (λ (a : Atom). IsTrue (is_atom tie_task a && is_fluent tie_task a.predicate)));
     atoms_are_distinct = λ i j d before within. absurd (omega (arith, before, within));
     states_are_distinct = AllPairs-cons (λ (k l : Line State). k.state ≢ l.state) first (second ∷ []) (All-cons (λ (l : Line State). first.state ≢ l.state) second [] apart (All-nil (λ (l : Line State). first.state ≢ l.state)))
         (λ i j d before within. absurd (omega (arith, before, within)));
-    listing_is_closed = record {
+    listing_is_closed = closed_in_task tie_task (claims (bound 1) (tied ∷ []) start_open) refl (record {
       initial_listed = (line_of (open_at 0 []), (0, omega arith, refl), refl, omega arith);
       successors_listed = λ line a next at is_open leads.
           of_two (λ (l : Line State). l.mark ≡ opened → step tie_task l.state a ≡ Some next → IsListedWithin (first ∷ second ∷ []) next (l.cost + 1)) first second line at
@@ -315,13 +331,13 @@ are_judged = record {
       dead_are_dead = λ line at is_dead.
           of_two (λ (l : Line State). l.mark ≡ dead → IsTrue (is_dead_state (tied ∷ []) (potentials (pos 0) (pos 0)) l.state)) first second line at
           (λ is_open. absurd (cc)) (λ is_cut. absurd (cc)) is_dead;
-    };
+    });
   };
   cut_claims_too_little = (line_of (cut_at 1 0 (0 ∷ [])), 0, (1, refl, refl), refl, inr (λ h. absurd (omega (arith, h))));
   open_goal = (line_of (open_at 1 (0 ∷ [])), (1, refl, refl), refl, contains-from_list atoms_total (tied ∷ linked ∷ []) tied, λ h. absurd (omega (arith, h)));
   cut_by_its_bound = (line_of (cut_at 1 1 (0 ∷ [])), 1, (1, refl, refl), refl, inl (let none = end_value in omega (arith, none)));
   cut_without_bound = (line_of (cut_at 1 0 (0 ∷ [])), 0, (1, refl, refl), refl, refl);
-  missing = (line_of (open_at 0 []), the_instance, after_it, ((0, refl, refl), refl, leads_on), λ listed. apart (one_line listed.0 listed.1 listed.2 ∙ sym same_end));
+  missing = (line_of (open_at 0 []), the_instance, after_it, ((0, refl, refl), refl, ap (λ (t : System State Instance). t.step start the_instance) (lists_task tie_task (claims (bound 1) (tied ∷ []) (open_at 0 [] ∷ [])) refl) ∙ leads_on), λ listed. apart (one_line listed.0 listed.1 listed.2 ∙ sym same_end));
   dear_start = λ listed.
       of_two (λ (l : Line State). l.cost ≤ 0 → ⊥) (line_of (open_at 1 [])) second listed.0 listed.1 (λ h. absurd (omega (arith, h))) (λ h. absurd (omega (arith, h))) listed.3;
   cut_by_value = cut_closed;
@@ -346,4 +362,14 @@ are_judged = record {
   dead_in_version_1 = refl;
   state_behind_tables = refl;
   tables_within_limits = refl;
+  second_exchange = refl;
+  atom_behind_exchanges = refl;
+  state_behind_exchanges = refl;
+  rooms_exchanged = (swapping 0 1, (1, refl, refl), refl);
+  ball_and_gripper = (swapping 2 4, (0, refl, refl), refl);
+  ball_and_none = (swapping 2 6, (0, refl, refl), refl);
+  exchanges_in_version_3 = refl;
+  exchanges_in_version_2 = refl;
+  version_2_without = refl;
+  exchange_of_nothing = refl;
 }

@@ -11,8 +11,9 @@ use Rattle.model.specs.StaticallyFalse.{kept_instances}
 use Rattle.model.specs.NumberedAtoms.{numbered_atoms}
 use Rattle.model.specs.Claims.{Claim, bound, none, Allows, Line}
 use Rattle.model.specs.Fluents.{is_fluent}
-use Rattle.certificate_definitions.specs.Certificates.{Version, one, two, three, Certificate, potentials_of, several_of, lines_of, AreFairIn, IsClosedFor}
-use Rattle.certificate_definitions.specs.CertificateRefusals.{Reason, not_fluent, repeated, no_initial, unfair, unfair_goal, goal_open, successor_missing, successor_dearer, cut_weak, cut_not_allowed, plan_invalid, plan_dearer, limit, dead_unfair, dead_unfair_goal, not_dead, MayLose, MayLoseByTables, IsUnfairIn, IsUnfairAtGoalsIn, IsDeadUnfairIn, IsDeadUnfairAtGoalsIn, IsWrongAt, IsWrong, IsPlanWithin}
+use Rattle.certificate_definitions.specs.Certificates.{Version, one, two, three, Certificate, potentials_of, several_of, lines_of, is_symmetry_for, AreFairIn, IsClosedFor}
+use Rattle.symmetries.specs.Exchanges.{Exchange}
+use Rattle.certificate_definitions.specs.CertificateRefusals.{Reason, not_fluent, repeated, no_initial, unfair, unfair_goal, goal_open, successor_missing, successor_dearer, cut_weak, cut_not_allowed, plan_invalid, plan_dearer, limit, dead_unfair, dead_unfair_goal, not_dead, not_symmetry, MayLose, MayLoseByTables, IsUnfairIn, IsUnfairAtGoalsIn, IsDeadUnfairIn, IsDeadUnfairAtGoalsIn, IsWrongAt, IsWrong, IsPlanWithin}
 use Rattle.potential_functions.specs.PotentialFunctions.{PotentialFunction}
 use Rattle.potential_functions.specs.Fair.{nothing, IsFairAt, AreFairAt}
 use Rattle.table_functions.specs.TableFunctions.{TableFunction, over_tables, functions_of, dead_ends_of}
@@ -91,6 +92,10 @@ module _ (task : Task) (c : Certificate) (closed : IsClosedFor task c) where
       let here : IsTrue (is_atom task a && is_fluent task a.predicate) =
       subst (λ (b : Atom). IsTrue (is_atom task b && is_fluent task b.predicate)) (get_or_from_slice_get c.atoms place a a at) right in
       absurd (cc)
+  right_line not_symmetry line (e, (place, reported, at), wrong) =
+      let here = closed.exchanges_are_symmetries place e (slice_get_within c.exchanges place e at) in
+      let right : IsTrue (is_symmetry_for task c e) = subst (λ (x : Exchange). IsTrue (is_symmetry_for task c x)) (get_or_from_slice_get c.exchanges place e e at) here in
+      absurd (cc)
   right_line repeated line (inl (a, before, lt, (j, reported_j, at_j), (k, reported_k, at_k))) =
       apart (λ (a b : Atom). a ≢ b) c.atoms j k a a closed.atoms_are_distinct (omega arith) at_j at_k refl
   right_line repeated line (inr (earlier, l, before, lt, (j, reported_j, at_j), (k, reported_k, at_k), same)) =
@@ -135,6 +140,7 @@ module _ (task : Task) (c : Certificate) (closed : IsClosedFor task c) where
       let most_of = subst (λ (claim : Claim). IsPlanWithin task claim (Some p)) claimed within in
       absurd (omega (arith, most_of.1))
   right plan most limit within wrong = refl
+  right plan most not_symmetry within wrong = absurd wrong
   right plan most not_fluent within wrong = absurd wrong
   right plan most repeated within wrong = absurd wrong
   right plan most goal_open within wrong = absurd wrong

@@ -1,3 +1,4 @@
+pub mod WithoutExchanges
 pub mod CertificateRefusalsLemmas
 pub mod CertificateExampleProofs
 pub mod CertificateTextExampleProofs

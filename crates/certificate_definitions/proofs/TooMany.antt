@@ -3,13 +3,15 @@ use Rattle.std.proofs.Common.{◌≡◌, ℕ, ◌<◌, List, [], ◌∷◌, leng
 use Rattle.std.specs.Prelude.{◌≢◌, IsTrue}
 use Rattle.table_functions.specs.TableFunctions.{Row}
 use Rattle.certificate_definitions.specs.Certificates.{StateLine}
-use Rattle.certificate_definitions.specs.CertificateText.{WeightedAtom, TableLine, scope, row, TextLine, atom, tabled, listed, is_line, line_text, scope_count, begin_with_scope, most_atoms, most_tables, most_rows, most_states, IsOneTooMany, atoms, scopes, rows, states, Beginning, head_lines}
+use Rattle.certificate_definitions.specs.CertificateText.{WeightedAtom, TableLine, scope, row, TextLine, swapped, atom, tabled, listed, is_line, line_text, scope_count, begin_with_scope, most_swaps, most_atoms, most_tables, most_rows, most_states, IsOneTooMany, swaps, atoms, scopes, rows, states, Beginning, head_lines}
 use Rattle.certificate_definitions.specs.CertificateMachine.{Body, CertificatePlace, at_version, at_claim, at_constant, in_body, ended, place_after}
 use Rattle.certificate_definitions.proofs.Beginnings.{no_beginning_is_whole, one_beginning}
-use Rattle.certificate_definitions.proofs.Machine.{ComesBefore, Keeps, body_of, no_states, no_tables, occurs}
+use Rattle.certificate_definitions.proofs.Machine.{ComesBefore, Keeps, body_of, no_atoms, no_states, no_tables, occurs}
 
 -- The bytes are a line that may not occur in this body for the limit alone.
 pub data IsOverIn (b : Body) (bytes : List ℕ) : Type 0 where
+  a_swap : (names : List (List ℕ)) → b.format.atoms ≡ 0 → b.tables ≡ 0 → b.states ≡ 0 → b.swaps ≡ most_swaps → IsTrue (is_line b.format (swapped names)) → bytes ≡ line_text (swapped names)
+      → IsOverIn b bytes
   an_atom : (a : WeightedAtom) → b.tables ≡ 0 → b.states ≡ 0 → b.format.atoms ≡ most_atoms → IsTrue (is_line b.format (atom a)) → bytes ≡ line_text (atom a) → IsOverIn b bytes
   a_scope : (s : List ℕ) → b.states ≡ 0 → b.tables ≡ most_tables → IsTrue (is_line b.format (tabled (scope s))) → bytes ≡ line_text (tabled (scope s)) → IsOverIn b bytes
   a_row : (r : Row) → 0 < b.tables → b.states ≡ 0 → b.rows ≡ most_rows → IsTrue (is_line b.format (tabled (row r))) → bytes ≡ line_text (tabled (row r)) → IsOverIn b bytes
@@ -42,6 +44,7 @@ some_where (t ∷ tables) begun = λ same. absurd (cc same)
 -- ---- the limit, by the place
 
 over_in : (bytes : List ℕ) (before : List TextLine) → (over : IsOneTooMany before bytes) → (g : Beginning) × (before ≡ head_lines g) × (Keeps g → IsOverIn (body_of g) bytes)
+over_in bytes before (swaps g names are no_atom none_yet no_state full is same) = (g, are, λ keeps. a_swap names (ap length no_atom) (ap scope_count none_yet) (ap length no_state) full is same)
 over_in bytes before (atoms g a are none_yet no_state full is same) = (g, are, λ keeps. an_atom a (ap scope_count none_yet) (ap length no_state) full is same)
 over_in bytes before (scopes g s are no_state full is same) = (g, are, λ keeps. a_scope s (ap length no_state) full is same)
 over_in bytes before (rows g r are some no_state full is same) = (g, are, λ keeps. a_row r (begun_where g.tables keeps.scope_first some) (ap length no_state) full is same)
@@ -63,6 +66,8 @@ module _ (before : List TextLine) (place : CertificatePlace) (leads : place_afte
       subst (λ place. IsTooManyAt place bytes) (sym (place_past g place comes)) (is (kept g place comes))
 
 of_over : (g : Beginning) → Keeps g → (before : List TextLine) (bytes : List ℕ) → before ≡ head_lines g → IsOverIn (body_of g) bytes → IsOneTooMany before bytes
+of_over g keeps before bytes are (a_swap names no_atom none_yet no_state full is same) =
+    swaps g names are (no_atoms g.atoms no_atom) (no_tables g.tables keeps.scope_first none_yet) (no_states g.states no_state) full is same
 of_over g keeps before bytes are (an_atom a none_yet no_state full is same) = atoms g a are (no_tables g.tables keeps.scope_first none_yet) (no_states g.states no_state) full is same
 of_over g keeps before bytes are (a_scope s no_state full is same) = scopes g s are (no_states g.states no_state) full is same
 of_over g keeps before bytes are (a_row r begun no_state full is same) = rows g r are (some_where g.tables begun) (no_states g.states no_state) full is same

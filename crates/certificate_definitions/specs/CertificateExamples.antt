@@ -9,7 +9,9 @@ use Rattle.potential_functions.specs.PotentialFunctions.{PotentialFunction}
 use Rattle.potential_functions.specs.FairExamples.{token_task, token_atoms, potentials, minus}
 use Rattle.table_functions.specs.TableFunctions.{Table}
 use Rattle.certificate_definitions.specs.Certificates.{Version, one, two, three, StateLine, Certificate, keeps_limits, IsClosedFor}
-use Rattle.certificate_definitions.specs.CertificateRefusals.{IsWrongAt, IsWrong, not_fluent, repeated, no_initial, unfair, unfair_goal, dead_unfair, dead_unfair_goal, goal_open, successor_missing, cut_weak, cut_not_allowed, not_dead, state_line}
+use Rattle.certificate_definitions.specs.CertificateRefusals.{IsWrongAt, IsWrong, not_fluent, repeated, not_symmetry, no_initial, unfair, unfair_goal, dead_unfair, dead_unfair_goal, goal_open, successor_missing, cut_weak, cut_not_allowed, not_dead, exchange_line, atom_line, state_line}
+use Rattle.symmetries.specs.Exchanges.{Exchange}
+use Rattle.symmetries.specs.SymmetryExamples.{swapping, gripper}
 
 abbrev pub open_at : ℕ → List ℕ → StateLine
 open_at cost atoms = record { cost = cost; mark = opened; atoms = atoms }
@@ -26,7 +28,7 @@ zeros atoms = potentials (pos 0) (map (λ (a : Atom). pos 0) atoms)
 
 -- a certificate of version 1, which says no dead ends
 abbrev pub first_version : Claim → List Atom → PotentialFunction → List StateLine → Certificate
-first_version claim atoms p lines = record { version = one; claim = claim; atoms = atoms; values = p ∷ []; dead_ends = zeros atoms; tables = []; lines = lines }
+first_version claim atoms p lines = record { version = one; claim = claim; exchanges = []; atoms = atoms; values = p ∷ []; dead_ends = zeros atoms; tables = []; lines = lines }
 
 -- In the task `tie` an atom of the static predicate `link` is true at the start; the one instance makes `tied` true, which
 -- is the goal.
@@ -55,6 +57,7 @@ abbrev pub token_reported : Version → Claim → (constant of_y : ℤ) → Cert
 token_reported version claim constant of_y = record {
   version = version;
   claim = claim;
+  exchanges = [];
   atoms = token_atoms;
   values = zeros token_atoms ∷ [];
   dead_ends = potentials constant (minus 1 ∷ of_y ∷ []);
@@ -74,11 +77,29 @@ abbrev pub token_tables : Certificate
 token_tables = record {
   version = three;
   claim = bound 0;
+  exchanges = [];
   atoms = token_atoms;
   values = zeros token_atoms ∷ [];
   dead_ends = zeros token_atoms;
   tables = table_over 0 ∷ table_over 1 ∷ [];
   lines = open_at 0 (0 ∷ []) ∷ [];
+}
+
+-- In version 3, with these exchanges: for the task `gripper`, whose objects 2 and 3 are balls, 4 and 5 grippers, 0 and 1 rooms, the
+-- atoms of where the balls are, and one state.
+abbrev pub ball_atoms : List Atom
+ball_atoms = ground 1 (2 ∷ 0 ∷ []) ∷ ground 1 (3 ∷ 0 ∷ []) ∷ []
+
+abbrev pub gripper_by : Version → List Exchange → Certificate
+gripper_by v exchanges = record {
+  version = v;
+  claim = bound 0;
+  exchanges = exchanges;
+  atoms = ball_atoms;
+  values = zeros ball_atoms ∷ [];
+  dead_ends = zeros ball_atoms;
+  tables = [];
+  lines = cut_at 0 0 [] ∷ [];
 }
 
 pub record AreJudged : Type 0 where
@@ -128,3 +149,15 @@ pub record AreJudged : Type 0 where
   -- The first state's line is behind the version, the claim, the constants, two atoms, and two tables with two rows each.
   pub state_behind_tables : state_line token_tables 0 ≡ 12
   pub tables_within_limits : keeps_limits token_tables ≡ true
+  -- The lines of two exchanges come before those of two atoms, and these before the first state; each is told by its line.
+  pub second_exchange : exchange_line 1 ≡ 5
+  pub atom_behind_exchanges : atom_line (gripper_by three (swapping 2 3 ∷ swapping 4 5 ∷ [])) 0 ≡ 6
+  pub state_behind_exchanges : state_line (gripper_by three (swapping 2 3 ∷ swapping 4 5 ∷ [])) 0 ≡ 8
+  pub rooms_exchanged : IsWrongAt gripper (gripper_by three (swapping 2 3 ∷ swapping 0 1 ∷ [])) not_symmetry 5
+  pub ball_and_gripper : IsWrongAt gripper (gripper_by three (swapping 2 4 ∷ [])) not_symmetry 4
+  pub ball_and_none : IsWrongAt gripper (gripper_by three (swapping 2 6 ∷ [])) not_symmetry 4
+  -- Only version 3 has exchanges, and each of them has two objects at least.
+  pub exchanges_in_version_3 : keeps_limits (gripper_by three (swapping 2 3 ∷ [])) ≡ true
+  pub exchanges_in_version_2 : keeps_limits (gripper_by two (swapping 2 3 ∷ [])) ≡ false
+  pub version_2_without : keeps_limits (gripper_by two []) ≡ true
+  pub exchange_of_nothing : keeps_limits (gripper_by three ([] ∷ [])) ≡ false

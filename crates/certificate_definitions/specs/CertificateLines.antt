@@ -1,14 +1,25 @@
 -- What the lines of a certificate's text give, one after another.
-use Rattle.std.specs.Prelude.{List, Option, None, Some}
+use Rattle.std.specs.Prelude.{ℕ, List, Option, None, Some}
 use Rattle.std.specs.List.{filter_map}
 use Rattle.certificate_definitions.specs.Certificates.{StateLine}
-use Rattle.certificate_definitions.specs.CertificateText.{WeightedAtom, TableLine, TextLine, version, claims, constant, atom, tabled, listed, last}
+use Rattle.certificate_definitions.specs.CertificateText.{WeightedAtom, TableLine, TextLine, version, claims, constant, swapped, atom, tabled, listed, last}
 
--- the atom that the line gives, with its weights, what it says of a table, and the state that it lists
+-- the names of an exchange that the line gives, the atom, with its weights, what it says of a table, and the state that it lists
+abbrev pub swap_in : TextLine → Option (List (List ℕ))
+swap_in (version v) = None
+swap_in (claims claim) = None
+swap_in (constant k) = None
+swap_in (swapped names) = Some names
+swap_in (atom a) = None
+swap_in (tabled t) = None
+swap_in (listed l) = None
+swap_in (last count) = None
+
 abbrev pub atom_in : TextLine → Option WeightedAtom
 atom_in (version v) = None
 atom_in (claims claim) = None
 atom_in (constant k) = None
+atom_in (swapped names) = None
 atom_in (atom a) = Some a
 atom_in (tabled t) = None
 atom_in (listed l) = None
@@ -18,6 +29,7 @@ abbrev pub table_in : TextLine → Option TableLine
 table_in (version v) = None
 table_in (claims claim) = None
 table_in (constant k) = None
+table_in (swapped names) = None
 table_in (atom a) = None
 table_in (tabled t) = Some t
 table_in (listed l) = None
@@ -27,12 +39,16 @@ abbrev pub state_in : TextLine → Option StateLine
 state_in (version v) = None
 state_in (claims claim) = None
 state_in (constant k) = None
+state_in (swapped names) = None
 state_in (atom a) = None
 state_in (tabled t) = None
 state_in (listed l) = Some l
 state_in (last count) = None
 
 -- those of the lines, in order
+abbrev pub swaps_given : List TextLine → List (List (List ℕ))
+swaps_given lines = filter_map swap_in lines
+
 abbrev pub atoms_given : List TextLine → List WeightedAtom
 atoms_given lines = filter_map atom_in lines
 

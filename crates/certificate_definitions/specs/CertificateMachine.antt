@@ -3,11 +3,12 @@
 use Rattle.std.specs.Prelude.{ℕ, ◌+◌, Bool, ◌&&◌, ◌==◌, nat_lt, if◌then◌else◌, List, [], ◌∷◌, length, Option, None, Some}
 use Rattle.std.specs.Option.{option_and_then}
 use Rattle.certificate_definitions.specs.Certificates.{Version, one}
-use Rattle.certificate_definitions.specs.CertificateText.{Format, scope, row, TextLine, version, claims, constant, atom, tabled, listed, last, is_line, most_atoms, most_tables, most_rows, most_states}
+use Rattle.certificate_definitions.specs.CertificateText.{Format, scope, row, TextLine, version, claims, constant, swapped, atom, tabled, listed, last, is_line, most_swaps, most_atoms, most_tables, most_rows, most_states}
 
--- what came after the constants: atoms, which the format counts, tables, their rows, and states
+-- what came after the constants: exchanges, atoms, which the format counts, tables, their rows, and states
 pub record Body : Type 0 where
   pub format : Format
+  pub swaps : ℕ
   pub tables : ℕ
   pub rows : ℕ
   pub states : ℕ
@@ -34,27 +35,34 @@ format_at ended = no_format one
 
 -- the body of a text with so many constants
 abbrev pub no_body : Version → ℕ → Body
-no_body v weights = record { format = record { version = v; weights = weights; atoms = 0 }; tables = 0; rows = 0; states = 0 }
+no_body v weights = record { format = record { version = v; weights = weights; atoms = 0 }; swaps = 0; tables = 0; rows = 0; states = 0 }
 
 -- one more of each
+abbrev pub swap_more : Body → Body
+swap_more b = record { format = b.format; swaps = b.swaps + 1; tables = b.tables; rows = b.rows; states = b.states }
+
 abbrev pub atom_more : Body → Body
 atom_more b = record {
   format = record { version = b.format.version; weights = b.format.weights; atoms = b.format.atoms + 1 };
+  swaps = b.swaps;
   tables = b.tables;
   rows = b.rows;
   states = b.states;
 }
 
 abbrev pub scope_more : Body → Body
-scope_more b = record { format = b.format; tables = b.tables + 1; rows = b.rows; states = b.states }
+scope_more b = record { format = b.format; swaps = b.swaps; tables = b.tables + 1; rows = b.rows; states = b.states }
 
 abbrev pub row_more : Body → Body
-row_more b = record { format = b.format; tables = b.tables; rows = b.rows + 1; states = b.states }
+row_more b = record { format = b.format; swaps = b.swaps; tables = b.tables; rows = b.rows + 1; states = b.states }
 
 abbrev pub state_more : Body → Body
-state_more b = record { format = b.format; tables = b.tables; rows = b.rows; states = b.states + 1 }
+state_more b = record { format = b.format; swaps = b.swaps; tables = b.tables; rows = b.rows; states = b.states + 1 }
 
--- whether one more may follow: atoms come before tables, these before states, and a row after a scope
+-- whether one more may follow: exchanges come before atoms, these before tables, these before states, and a row after a scope
+abbrev pub swap_follows : Body → Bool
+swap_follows b = (b.format.atoms == 0) && (b.tables == 0) && (b.states == 0)
+
 abbrev pub atom_follows : Body → Bool
 atom_follows b = (b.tables == 0) && (b.states == 0)
 
@@ -70,6 +78,7 @@ abbrev pub next_place : CertificatePlace → TextLine → Option CertificatePlac
 next_place at_version (version v) = Some (at_claim v)
 next_place (at_claim v) (claims claim) = only_if (is_line (no_format v) (claims claim)) (at_constant v)
 next_place (at_constant v) (constant k) = only_if (is_line (no_format v) (constant k)) (in_body (no_body v (length k)))
+next_place (in_body b) (swapped names) = only_if (swap_follows b && nat_lt b.swaps most_swaps && is_line b.format (swapped names)) (in_body (swap_more b))
 next_place (in_body b) (atom a) = only_if (atom_follows b && nat_lt b.format.atoms most_atoms && is_line b.format (atom a)) (in_body (atom_more b))
 next_place (in_body b) (tabled (scope s)) = only_if ((b.states == 0) && nat_lt b.tables most_tables && is_line b.format (tabled (scope s))) (in_body (scope_more b))
 next_place (in_body b) (tabled (row r)) = only_if (row_follows b && nat_lt b.rows most_rows && is_line b.format (tabled (row r))) (in_body (row_more b))

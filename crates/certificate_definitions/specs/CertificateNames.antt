@@ -1,6 +1,6 @@
--- The names of a certificate's atoms, and the certificates of a task that a text says.
-use Rattle.std.specs.Prelude.{◌≡◌, ℕ, suc, ◌-◌, ℤ, pos, Bool, ◌&&◌, List, [], ◌∷◌, ◌++◌, length, map, get_or, position, slice_get, Some}
-use Rattle.std.specs.List.{flat_map, list_all, range_with_len}
+-- The names of a certificate's atoms and exchanges, and the certificates of a task that a text says.
+use Rattle.std.specs.Prelude.{◌≡◌, ℕ, suc, ◌-◌, ℤ, pos, Bool, ◌&&◌, nat_lt, List, [], ◌∷◌, ◌++◌, length, map, get_or, position, slice_get, Some}
+use Rattle.std.specs.List.{flat_map, list_all, position_or_len, range_with_len}
 use Rattle.std.specs.Option.{option_map_or}
 use Rattle.model.specs.Task.{Name, Atom, Predicate, Task}
 use Rattle.model.specs.WellTyped.{is_atom}
@@ -9,6 +9,7 @@ use Rattle.model.specs.PlanText.{object_names}
 use Rattle.model.specs.PlanWriting.{object_name, are_lower_names}
 use Rattle.certificate_definitions.specs.Certificates.{Version, one, two, three, Certificate}
 use Rattle.table_functions.specs.TableFunctions.{Table}
+use Rattle.symmetries.specs.Exchanges.{Exchange, objects_in, are_different}
 use Rattle.potential_functions.specs.PotentialFunctions.{PotentialFunction}
 use Rattle.certificate_definitions.specs.CertificateText.{NamedAtom, WeightedAtom, TableLine, scope, row, NamedCertificate, IsCertificateText, text_lines, text_of}
 
@@ -46,12 +47,17 @@ weighted_atoms task c place (a ∷ atoms) = record { weights = weights_of_atom c
 abbrev pub table_lines : Table → List TableLine
 table_lines t = scope t.scope ∷ map row t.rows
 
--- a certificate by its atoms' names
+-- the objects of an exchange by their names
+abbrev pub named_exchange : Task → Exchange → List (List ℕ)
+named_exchange task e = map (object_name task) (objects_in e)
+
+-- a certificate by the names of its atoms and of the objects that it exchanges
 abbrev pub named : Task → Certificate → NamedCertificate
 named task c = record {
   version = c.version;
   claim = c.claim;
   constants = constants_of c;
+  swaps = map (named_exchange task) c.exchanges;
   atoms = weighted_atoms task c 0 c.atoms;
   tables = flat_map table_lines c.tables;
   lines = c.lines;
@@ -82,6 +88,20 @@ AllName task [] (a ∷ atoms) = ⊥
 AllName task (name ∷ names) [] = ⊥
 AllName task (name ∷ names) (a ∷ atoms) = Names task name a × AllName task names atoms
 
+-- the number of the object of this name; where none has it the count of objects, which is the number of none
+abbrev pub object_said : Task → List ℕ → ℕ
+object_said task name = position_or_len (is_same name) (object_names task)
+
+-- these two by two
+abbrev pub two_by_two : List ℕ → List (ℕ × ℕ)
+two_by_two [] = []
+two_by_two (last ∷ []) = []
+two_by_two (first ∷ second ∷ rest) = (first, second) ∷ two_by_two rest
+
+-- the exchange of the objects of these names
+abbrev pub exchange_said : Task → List (List ℕ) → Exchange
+exchange_said task names = two_by_two (map (object_said task) names)
+
 -- the weight at this place, 0 where none is written
 abbrev pub weight_said : ℕ → List ℤ → ℤ
 weight_said place weights = get_or weights place (pos 0)
@@ -109,6 +129,7 @@ pub record IsTextOf (task : Task) (bytes : List ℕ) (c : Certificate) : Type 0 
   pub text : IsCertificateText bytes said
   pub version : said.version ≡ c.version
   pub claim : said.claim ≡ c.claim
+  pub exchanges : c.exchanges ≡ map (exchange_said task) said.swaps
   pub atoms : AllName task (map (λ (a : WeightedAtom). a.atom) said.atoms) c.atoms
   pub values : c.values ≡ values_said said
   pub dead_ends : c.dead_ends ≡ dead_ends_said said
@@ -120,6 +141,13 @@ pub record IsTextOf (task : Task) (bytes : List ℕ) (c : Certificate) : Type 0 
 -- predicates and objects have names of their own, in lower case, each of at most 255 bytes, as those of files do
 abbrev pub has_atom_names : Task → Bool
 has_atom_names task = are_lower_names (predicate_names task) && are_lower_names (object_names task)
+
+-- the objects of an exchange are the task's, and all different
+abbrev pub is_exchange_of : Task → Exchange → Bool
+is_exchange_of task e = list_all (λ o. nat_lt o (length task.objects)) (objects_in e) && are_different (objects_in e)
+
+abbrev pub are_exchanges_of : Task → Certificate → Bool
+are_exchanges_of task c = list_all (is_exchange_of task) c.exchanges
 
 -- each atom is well-typed: its names are those of the task
 abbrev pub are_atoms_of : Task → Certificate → Bool

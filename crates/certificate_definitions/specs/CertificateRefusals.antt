@@ -1,9 +1,9 @@
 -- What is wrong with a certificate, or with the plan that was given with it, where the checker refuses it.
-use Rattle.std.specs.Prelude.{◌≡◌, ℕ, ◌+◌, ◌<◌, ◌≤◌, ◌⊎◌, ◌&&◌, false, IsTrue, List, [], ◌∷◌, length, Contains, slice_get, Option, None, Some, IsSome, MatchOption}
+use Rattle.std.specs.Prelude.{◌≡◌, ℕ, ◌+◌, ◌<◌, ◌≤◌, ◌⊎◌, ◌&&◌, false, IsTrue, List, length, Contains, slice_get, Option, None, Some, IsSome, MatchOption}
 use Rattle.model.specs.Task.{Atom, Task, Instance}
 use Rattle.model.specs.WellTyped.{is_atom}
 use Rattle.model.specs.Runs.{cost_of_all, Solves}
-use Rattle.model.specs.Meaning.{State, cost_of, initial_state, step, meets_goal, system_of}
+use Rattle.model.specs.Meaning.{State, cost_of, meets_goal, system_of}
 use Rattle.model.specs.Limits.{max_numbered_atoms}
 use Rattle.model.specs.StaticallyFalse.{kept_instances}
 use Rattle.model.specs.NumberedAtoms.{numbered_atoms}
@@ -15,7 +15,8 @@ use Rattle.table_functions.specs.TableFunctions.{TableFunction, functions_of, de
 use Rattle.table_functions.specs.FairTables as fair_tables
 use Rattle.table_functions.specs.FairTables.{is_asked}
 use Rattle.model.specs.Fluents.{is_fluent}
-use Rattle.certificate_definitions.specs.Certificates.{Version, one, two, three, Certificate, potentials_of, several_of, rows_of, lines_of, value_of, is_dead_end_of}
+use Rattle.symmetries.specs.Exchanges.{Exchange}
+use Rattle.certificate_definitions.specs.Certificates.{Version, one, two, three, Certificate, potentials_of, several_of, rows_of, lines_of, is_symmetry_for, listed_system, value_of, is_dead_end_of}
 
 -- the reasons, each with the number that is reported
 pub data Reason : Type 0 where
@@ -35,18 +36,26 @@ pub data Reason : Type 0 where
   dead_unfair : Reason  -- 56
   dead_unfair_goal : Reason  -- 57
   not_dead : Reason  -- 58
+  not_symmetry : Reason  -- 59
 
--- The lines of a certificate's text are counted from 1: its version, its claim and its constants come first, then its atoms, a
--- line each, then its tables, each with its rows, and then its states.
-abbrev pub atom_line : ℕ → ℕ
-atom_line place = 4 + place
+-- The lines of a certificate's text are counted from 1: its version, its claim and its constants come first, then its exchanges
+-- and its atoms, a line each, then its tables, each with its rows, and then its states.
+abbrev pub exchange_line : ℕ → ℕ
+exchange_line place = 4 + place
+
+abbrev pub atom_line : Certificate → ℕ → ℕ
+atom_line c place = 4 + length c.exchanges + place
 
 abbrev pub state_line : Certificate → ℕ → ℕ
-state_line c place = 4 + length c.atoms + (length c.tables + length (rows_of c.tables)) + place
+state_line c place = 4 + length c.exchanges + length c.atoms + (length c.tables + length (rows_of c.tables)) + place
+
+-- this line has this exchange
+abbrev pub HasExchange : Certificate → ℕ → Exchange → Type 0
+HasExchange c line e = (place : ℕ) × (line ≡ exchange_line place) × (slice_get c.exchanges place ≡ Some e)
 
 -- this line has this atom
 abbrev pub HasAtom : Certificate → ℕ → Atom → Type 0
-HasAtom c line a = (place : ℕ) × (line ≡ atom_line place) × (slice_get c.atoms place ≡ Some a)
+HasAtom c line a = (place : ℕ) × (line ≡ atom_line c place) × (slice_get c.atoms place ≡ Some a)
 
 -- this line lists this state
 abbrev pub HasState : Task → Certificate → ℕ → Line State → Type 0
@@ -64,9 +73,9 @@ abbrev pub IsRepeatedState : Task → Certificate → ℕ → Type 0
 IsRepeatedState task c line =
     (earlier l : Line State) × (before : ℕ) × (before < line) × HasState task c before earlier × HasState task c line l × (earlier.state ≡ l.state)
 
--- this line lists an open state, from which this instance leads to this state
+-- this line lists an open state, from which this instance leads to this state, in the system whose states are listed
 abbrev pub LeadsFrom : Task → Certificate → ℕ → Line State → Instance → State → Type 0
-LeadsFrom task c line l i next = HasState task c line l × (l.mark ≡ opened) × (step task l.state i ≡ Some next)
+LeadsFrom task c line l i next = HasState task c line l × (l.mark ≡ opened) × ((listed_system task c).step l.state i ≡ Some next)
 
 -- ---- values that are not fair
 
@@ -110,6 +119,8 @@ IsDeadUnfairAtGoalsIn three task c = ¬ fair_tables.IsFairAtGoals task (numbered
 abbrev pub IsWrongAt : Task → Certificate → Reason → ℕ → Type 0
 -- its atom is not well-typed, or its predicate is static
 IsWrongAt task c not_fluent line = (a : Atom) × HasAtom c line a × ((is_atom task a && is_fluent task a.predicate) ≡ false)
+-- its exchange is no symmetry of the task, or takes a numbered atom to one that has no number
+IsWrongAt task c not_symmetry line = (e : Exchange) × HasExchange c line e × (is_symmetry_for task c e ≡ false)
 -- its atom, or its state, is in a line before
 IsWrongAt task c repeated line = IsRepeatedAtom c line ⊎ IsRepeatedState task c line
 -- its open state meets the goal, at a cost that the claim does not allow
@@ -141,8 +152,8 @@ IsWrongAt task c _ line = ⊥
 -- What is wrong, and neither with a line nor with a value: with the whole certificate, with the plan, if one is given, or with the
 -- ground task in which the certificate's atoms have the first numbers, of whose instances at most `most` may be kept.
 abbrev pub IsWrong : Task → Certificate → Option (List Instance) → ℕ → Reason → Type 0
--- the initial state is not listed at 0
-IsWrong task c plan most no_initial = ¬ IsListedWithin (lines_of task c) (initial_state task) 0
+-- the initial state, or the state that stands for it, is not listed at 0
+IsWrong task c plan most no_initial = ¬ IsListedWithin (lines_of task c) (listed_system task c).initial 0
 -- the plan does not solve the task
 IsWrong task c plan most plan_invalid = MatchOption plan ⊥ (λ p. ¬ Solves (system_of task) p)
 -- the plan solves it, and costs more than is claimed
@@ -152,26 +163,27 @@ IsWrong task c plan most plan_dearer =
 IsWrong task c plan most limit = IsSome (exceeded_limit most max_numbered_atoms task c.atoms)
 IsWrong task c plan most _ = ⊥
 
--- The checker looks for what is wrong in this order: it reads the lines one by one, grounds the task, looks whether the values
--- are fair, one after another, and what reports dead ends is dead-fair, looks for the initial state, goes through the state lines
+-- The checker looks for what is wrong in this order: it reads the lines one by one, grounds the task, looks whether the exchanges
+-- are symmetries, one line after another, whether the values are fair, one after another, and what reports dead ends is dead-fair, looks for the initial state, goes through the state lines
 -- one by one, and holds the plan against the claim.
 abbrev pub stage_of : Reason → ℕ
 stage_of not_fluent = 0
 stage_of repeated = 0
 stage_of cut_not_allowed = 0
 stage_of limit = 1
-stage_of unfair = 2
-stage_of unfair_goal = 2
-stage_of dead_unfair = 2
-stage_of dead_unfair_goal = 2
-stage_of no_initial = 3
-stage_of goal_open = 4
-stage_of successor_missing = 4
-stage_of successor_dearer = 4
-stage_of cut_weak = 4
-stage_of not_dead = 4
-stage_of plan_invalid = 5
-stage_of plan_dearer = 5
+stage_of not_symmetry = 2
+stage_of unfair = 3
+stage_of unfair_goal = 3
+stage_of dead_unfair = 3
+stage_of dead_unfair_goal = 3
+stage_of no_initial = 4
+stage_of goal_open = 5
+stage_of successor_missing = 5
+stage_of successor_dearer = 5
+stage_of cut_weak = 5
+stage_of not_dead = 5
+stage_of plan_invalid = 6
+stage_of plan_dearer = 6
 
 -- and of one line in this order; of a line's successors it reports the first one that is not as it is to be
 abbrev pub rank_of : Reason → ℕ

@@ -1,11 +1,12 @@
 -- The text of a certificate, version 1, 2 or 3, and the first line at which a text that is none is at fault. The format is this
 -- repository's own; docs/certificates.md shows it. Every certificate has one text, and a text is at most one certificate.
-use Rattle.std.specs.Prelude.{◌≡◌, ◌≢◌, ℕ, ◌+◌, ◌<◌, ◌≤◌, ◌==◌, Bool, true, false, ◌&&◌, nat_le, ℤ, IsTrue, List, [], ◌∷◌, ◌++◌, codes, length, map, Contains}
+use Rattle.std.specs.Prelude.{◌≡◌, ◌≢◌, ℕ, ◌+◌, ◌<◌, ◌≤◌, ◌==◌, Bool, true, false, not, ◌&&◌, nat_le, ℤ, IsTrue, List, [], ◌∷◌, ◌++◌, codes, length, map, Contains}
 use Rattle.std.specs.Fmt.{decimal, signed_decimal}
-use Rattle.std.specs.List.{flat_map, list_all}
+use Rattle.std.specs.List.{flat_map, list_all, list_any}
 use Rattle.model.specs.Claims.{Claim, bound, none, Mark, opened, cut, dead}
-use Rattle.certificate_definitions.specs.Certificates.{Version, one, two, three, StateLine, is_number, is_weight, is_claim, is_state_line, rise, are_weights, has_tables}
+use Rattle.certificate_definitions.specs.Certificates.{Version, one, two, three, StateLine, is_number, is_weight, is_claim, is_state_line, rise, are_weights, has_tables, has_exchanges}
 use Rattle.table_functions.specs.TableFunctions.{Row}
+use Rattle.model.specs.Resolution.{is_same}
 use Rattle.model.specs.PlanWriting.{is_lower_name}
 
 -- ---- what is in a text
@@ -25,11 +26,13 @@ pub data TableLine : Type 0 where
   scope : List ℕ → TableLine
   row : Row → TableLine
 
--- what a text says: a claim, values, and a listing of states; atoms are named by their numbers, from 0 on
+-- what a text says: a claim, exchanges of objects, of each the names two by two, values, and a listing of states; atoms are named
+-- by their numbers, from 0 on
 pub record NamedCertificate : Type 0 where
   pub version : Version
   pub claim : Claim
   pub constants : List ℤ
+  pub swaps : List (List (List ℕ))
   pub atoms : List WeightedAtom
   pub tables : List TableLine
   pub lines : List StateLine
@@ -40,6 +43,8 @@ pub data TextLine : Type 0 where
   claims : Claim → TextLine
   -- constants, as many as an atom has weights
   constant : List ℤ → TextLine
+  -- names of objects: the first and the second change places, the third and the fourth, and so on
+  swapped : List (List ℕ) → TextLine
   atom : WeightedAtom → TextLine
   tabled : TableLine → TextLine
   listed : StateLine → TextLine
@@ -74,6 +79,7 @@ line_text (version v) = codes "pddl-cert " ++ decimal (version_number v)
 line_text (claims (bound least)) = codes "claim bound " ++ decimal least
 line_text (claims none) = codes "claim none"
 line_text (constant k) = codes "constant" ++ weights_text k
+line_text (swapped names) = codes "swap" ++ flat_map after_blank names
 line_text (tabled (scope atoms)) = codes "table" ++ numbers_text atoms
 line_text (tabled (row r)) = codes "row" ++ weights_text r.weights ++ numbers_text r.atoms
 line_text (atom a) = codes "atom" ++ weights_text a.weights ++ codes " (" ++ a.atom.predicate ++ flat_map after_blank a.atom.objects ++ codes ")"
@@ -88,14 +94,18 @@ whole_line line = line_text line ++ codes "\n"
 abbrev pub text_of : List TextLine → List ℕ
 text_of lines = flat_map whole_line lines
 
--- the certificate's lines: its atoms come before its tables, and these before its states
+-- the certificate's lines: its exchanges come before its atoms, these before its tables, and these before its states
 abbrev pub text_lines : NamedCertificate → List TextLine
-text_lines c = version c.version ∷ claims c.claim ∷ constant c.constants ∷ map atom c.atoms ++ map tabled c.tables ++ map listed c.lines ++ last (length c.lines) ∷ []
+text_lines c = version c.version ∷ claims c.claim ∷ constant c.constants ∷ map swapped c.swaps ++ map atom c.atoms ++ map tabled c.tables ++ map listed c.lines ++ last (length c.lines) ∷ []
 
 -- ---- limits
 
 abbrev pub most_atoms : ℕ
 most_atoms = 1048576
+
+-- the most exchanges
+abbrev pub most_swaps : ℕ
+most_swaps = 1048576
 
 -- the most tables
 abbrev pub most_tables : ℕ
@@ -129,14 +139,31 @@ abbrev pub is_table_line : Format → TableLine → Bool
 is_table_line f (scope atoms) = rise f.atoms 0 atoms && nat_le 1 (length atoms)
 is_table_line f (row r) = are_weights f.weights r.weights && rise f.atoms 0 r.atoms
 
+-- two by two none is left over
+abbrev pub are_paired : {X : Type 0} → List X → Bool
+are_paired [] = true
+are_paired (x ∷ []) = false
+are_paired (x ∷ y ∷ rest) = are_paired rest
+
+-- no name is there twice
+abbrev pub differ : List (List ℕ) → Bool
+differ [] = true
+differ (name ∷ rest) = not (list_any (is_same name) rest) && differ rest
+
+-- two names at least, names in lower case, of which two by two none is left over, and none is there twice
+abbrev pub are_exchanged : List (List ℕ) → Bool
+are_exchanged names = nat_le 2 (length names) && are_paired names && differ names && list_all is_lower_name names
+
 -- The line keeps the limits by itself, in a text of this format: numbers are below 2 to the power 60, constants and weights are
 -- at most 2147483647 either way, names are names of a domain file in lower case (PDDL 1.2 manual, "Domains") of at most 255
--- bytes, the numbers of a state's atoms, of a scope and of a row rise and are those of atoms, and the line is not too long.
+-- bytes, those of an exchange are two at least, even in number and all different, the numbers of a state's atoms, of a scope and
+-- of a row rise and are those of atoms, and the line is not too long.
 abbrev pub is_line : Format → TextLine → Bool
 is_line f (version w) = true
 is_line f (claims claim) = is_claim claim
 is_line f (constant k) = is_weight_count f.version (length k) && list_all is_weight k
 is_line f (atom a) = are_weights f.weights a.weights && list_all is_lower_name (a.atom.predicate ∷ a.atom.objects) && nat_le (length (line_text (atom a))) longest_line
+is_line f (swapped names) = has_exchanges f.version && are_exchanged names && nat_le (length (line_text (swapped names))) longest_line
 is_line f (tabled t) = has_tables f.version && is_table_line f t
 is_line f (listed l) = is_state_line f.version f.atoms l
 is_line f (last count) = is_number count
@@ -165,7 +192,7 @@ format_of c = record { version = c.version; weights = length c.constants; atoms 
 -- the certificate keeps all limits
 abbrev pub keeps_text_limits : NamedCertificate → Bool
 keeps_text_limits c =
-    nat_le (length c.atoms) most_atoms && (begin_with_scope c.tables && nat_le (scope_count c.tables) most_tables && nat_le (row_count c.tables) most_rows) && nat_le (length c.lines) most_states
+    (nat_le (length c.swaps) most_swaps && nat_le (length c.atoms) most_atoms) && (begin_with_scope c.tables && nat_le (scope_count c.tables) most_tables && nat_le (row_count c.tables) most_rows) && nat_le (length c.lines) most_states
     && list_all (is_line (format_of c)) (text_lines c)
 
 -- The text is this certificate.
@@ -191,23 +218,27 @@ MayFollow before bytes = (line : TextLine) × BeginCertificate (before ++ line �
 abbrev pub IsOtherVersion : List TextLine → List ℕ → Type 0
 IsOtherVersion before bytes = (before ≡ []) × (number : ℕ) × IsTrue (is_number number) × (number ≢ 1) × (number ≢ 2) × (number ≢ 3) × (bytes ≡ codes "pddl-cert " ++ decimal number)
 
--- the first lines of a text: all but some of the last atoms, tables and states, and the last line
+-- the first lines of a text: all but some of the last exchanges, atoms, tables and states, and the last line
 pub record Beginning : Type 0 where
   pub version : Version
   pub claim : Claim
   pub constants : List ℤ
+  pub swaps : List (List (List ℕ))
   pub atoms : List WeightedAtom
   pub tables : List TableLine
   pub states : List StateLine
 
 abbrev pub head_lines : Beginning → List TextLine
-head_lines b = version b.version ∷ claims b.claim ∷ constant b.constants ∷ map atom b.atoms ++ map tabled b.tables ++ map listed b.states
+head_lines b = version b.version ∷ claims b.claim ∷ constant b.constants ∷ map swapped b.swaps ++ map atom b.atoms ++ map tabled b.tables ++ map listed b.states
 
 abbrev pub format_in : Beginning → Format
 format_in b = record { version = b.version; weights = length b.constants; atoms = length b.atoms }
 
--- they are a line of an atom, a table, a row or a state that may occur there but for the limit, which the lines before have used up
+-- they are a line of an exchange, an atom, a table, a row or a state that may occur there but for the limit, which the lines before
+-- have used up
 pub data IsOneTooMany (before : List TextLine) (bytes : List ℕ) : Type 0 where
+  swaps : (b : Beginning) (names : List (List ℕ)) → before ≡ head_lines b → b.atoms ≡ [] → b.tables ≡ [] → b.states ≡ [] → length b.swaps ≡ most_swaps
+      → IsTrue (is_line (format_in b) (swapped names)) → bytes ≡ line_text (swapped names) → IsOneTooMany before bytes
   atoms : (b : Beginning) (a : WeightedAtom) → before ≡ head_lines b → b.tables ≡ [] → b.states ≡ [] → length b.atoms ≡ most_atoms
       → IsTrue (is_line (format_in b) (atom a)) → bytes ≡ line_text (atom a) → IsOneTooMany before bytes
   scopes : (b : Beginning) (s : List ℕ) → before ≡ head_lines b → b.states ≡ [] → scope_count b.tables ≡ most_tables
@@ -238,7 +269,7 @@ pub data IsFaultAfter (before : List TextLine) (bytes : List ℕ) : ℕ → Type
   trailing : AreWhole before → bytes ≢ [] → IsFaultAfter before bytes 40
   -- the text ends before the last line does
   cut_short : ¬ AreWhole before → IsInOneLine bytes → length bytes ≤ longest_line → IsFaultAfter before bytes 42
-  -- an atom, a table, a row or a state too many
+  -- an exchange, an atom, a table, a row or a state too many
   too_many : (line : List ℕ) → HasLine bytes line → IsOneTooMany before line → IsFaultAfter before bytes 55
 
 -- The number is reported for this line, counted from 1, which is the first at fault: the lines before it begin a certificate.

@@ -5,11 +5,12 @@ use Rattle.model.specs.Examples.{tie_task}
 use Rattle.model.specs.Claims.{bound}
 use Rattle.potential_functions.specs.FairExamples.{potentials, minus}
 use Rattle.certificate_definitions.specs.Certificates.{Version, one, two, three, Certificate, keeps_limits}
-use Rattle.certificate_definitions.specs.CertificateText.{WeightedAtom, scope, row, TextLine, version, claims, constant, atom, tabled, listed, last, NamedCertificate}
+use Rattle.certificate_definitions.specs.CertificateText.{WeightedAtom, scope, row, TextLine, version, claims, constant, swapped, atom, tabled, listed, last, NamedCertificate}
 use Rattle.certificate_definitions.specs.CertificateMachine.{CertificatePlace, in_body, ended, place_from, place_after}
-use Rattle.certificate_definitions.specs.CertificateNames.{values_said, dead_ends_said}
+use Rattle.certificate_definitions.specs.CertificateNames.{values_said, dead_ends_said, exchange_said, named_exchange}
 use Rattle.certificate_definitions.specs.CertificateChecking.{IsWrongAfter}
 use Rattle.certificate_definitions.specs.CertificateExamples.{open_at, linked, tied}
+use Rattle.symmetries.specs.SymmetryExamples.{gripper}
 
 abbrev pub weighs : List ℤ → (name : List ℕ) → WeightedAtom
 weighs weights name = record { weights = weights; atom = record { predicate = name; objects = [] } }
@@ -37,6 +38,7 @@ abbrev pub with_row : Version → List ℤ → List ℕ → Certificate
 with_row v weights atoms = record {
   version = v;
   claim = bound 0;
+  exchanges = [];
   atoms = linked ∷ tied ∷ [];
   values = potentials (pos 0) (pos 0 ∷ pos 0 ∷ []) ∷ [];
   dead_ends = potentials (pos 0) (pos 0 ∷ pos 0 ∷ []);
@@ -46,11 +48,15 @@ with_row v weights atoms = record {
 
 -- what a text with one atom says of values and of dead ends
 abbrev pub said_of : Version → (constants weights : List ℤ) → NamedCertificate
-said_of v constants weights = record { version = v; claim = bound 0; constants = constants; atoms = weighs weights (codes "p") ∷ []; tables = []; lines = [] }
+said_of v constants weights = record { version = v; claim = bound 0; constants = constants; swaps = []; atoms = weighs weights (codes "p") ∷ []; tables = []; lines = [] }
 
 -- the place after these lines, in a text of this version with so many constants, behind two atoms
 abbrev pub behind_atoms : Version → ℕ → List TextLine → Option CertificatePlace
-behind_atoms v weights = place_from (in_body (record { format = record { version = v; weights = weights; atoms = 2 }; tables = 0; rows = 0; states = 0 }))
+behind_atoms v weights = place_from (in_body (record { format = record { version = v; weights = weights; atoms = 2 }; swaps = 0; tables = 0; rows = 0; states = 0 }))
+
+-- the place after these lines, in a text of this version, behind its constants
+abbrev pub behind_constants : Version → List TextLine → Option CertificatePlace
+behind_constants v = place_from (in_body (record { format = record { version = v; weights = 2; atoms = 0 }; swaps = 0; tables = 0; rows = 0; states = 0 }))
 
 pub record AreTextsJudged : Type 0 where
   -- Atoms come before tables, each table before its rows, and all of them before states.
@@ -70,6 +76,21 @@ pub record AreTextsJudged : Type 0 where
   pub one_constant : place_after (version three ∷ claims (bound 2) ∷ constant (pos 2 ∷ []) ∷ []) ≡ None
   pub three_in_version_2 : place_after (version two ∷ claims (bound 2) ∷ constant zeros ∷ []) ≡ None
   pub table_in_version_2 : behind_atoms two 2 (tabled (scope (0 ∷ [])) ∷ []) ≡ None
+  -- Exchanges come after the constants, before all else.
+  pub exchanges : behind_constants three (swapped (codes "a" ∷ codes "b" ∷ []) ∷ swapped (codes "b" ∷ codes "c" ∷ codes "d" ∷ codes "a" ∷ []) ∷ last_lines) ≡ Some ended
+  pub exchange_behind_atoms : behind_atoms three 2 (swapped (codes "a" ∷ codes "b" ∷ []) ∷ []) ≡ None
+  pub exchange_behind_a_state : behind_constants three (listed (open_at 0 []) ∷ swapped (codes "a" ∷ codes "b" ∷ []) ∷ []) ≡ None
+  pub exchange_in_version_1 : behind_constants one (swapped (codes "a" ∷ codes "b" ∷ []) ∷ []) ≡ None
+  pub exchange_in_version_2 : behind_constants two (swapped (codes "a" ∷ codes "b" ∷ []) ∷ []) ≡ None
+  -- Of an exchange the names are two at least, none is left over, and none is there twice.
+  pub no_names : behind_constants three (swapped [] ∷ []) ≡ None
+  pub one_left_over : behind_constants three (swapped (codes "a" ∷ codes "b" ∷ codes "c" ∷ []) ∷ []) ≡ None
+  pub name_twice : behind_constants three (swapped (codes "a" ∷ codes "b" ∷ codes "c" ∷ codes "a" ∷ []) ∷ []) ≡ None
+  pub capital_letter : behind_constants three (swapped (codes "a" ∷ codes "B" ∷ []) ∷ []) ≡ None
+  -- A name that no object has is the number of none.
+  pub exchange_of_balls : exchange_said gripper (codes "ball2" ∷ codes "ball1" ∷ codes "left" ∷ codes "right" ∷ []) ≡ (3, 2) ∷ (4, 5) ∷ []
+  pub exchange_of_none : exchange_said gripper (codes "ball1" ∷ codes "ball3" ∷ []) ≡ (2, 6) ∷ []
+  pub exchange_is_written : named_exchange gripper ((3, 2) ∷ (4, 5) ∷ []) ≡ codes "ball2" ∷ codes "ball1" ∷ codes "left" ∷ codes "right" ∷ []
   -- The atoms of a row are of its table's scope.
   pub row_of_scope : keeps_limits (with_row three (pos 0 ∷ pos 0 ∷ []) (1 ∷ [])) ≡ true
   pub row_of_others : keeps_limits (with_row three (pos 0 ∷ pos 0 ∷ []) (0 ∷ [])) ≡ false

@@ -2,10 +2,11 @@
 use Rattle.std.specs.Prelude.{◌≡◌, ◌≢◌, ℕ, zero, ◌+◌, ◌==◌, Bool, true, false, ◌&&◌, nat_lt, nat_le, ℤ, pos, negsuc, IsTrue, List, [], ◌∷◌, ◌++◌, map, length, get_or, All, AllPairs, slice_get}
 use Rattle.std.specs.List.{list_all, filter_map, flat_map}
 use Rattle.std.specs.FinSet.{from_list}
-use Rattle.model.specs.Task.{Atom, Task}
+use Rattle.model.specs.Task.{Atom, Task, Instance}
 use Rattle.model.specs.WellTyped.{is_atom}
 pub use Rattle.model.specs.Fluents.{is_literal_of, touches, any_touches, is_fluent, static_atoms}
-use Rattle.model.specs.Meaning.{State, system_of}
+use Rattle.model.specs.Meaning.{State}
+use Rattle.model.specs.Runs.{System}
 use Rattle.model.specs.NumberedAtoms.{numbered_atoms}
 use Rattle.model.specs.Claims.{Claim, bound, none, Mark, opened, cut, dead, Line, IsClosed}
 use Rattle.potential_functions.specs.PotentialFunctions.{PotentialFunction, value_of_state, is_dead_state}
@@ -13,9 +14,12 @@ use Rattle.potential_functions.specs.Fair.{AreFair, AreDeadFair}
 use Rattle.table_functions.specs.TableFunctions as tables
 use Rattle.table_functions.specs.TableFunctions.{Row, Table, SeveralValues, functions_of, dead_ends_of, greatest_of_state, is_among}
 use Rattle.table_functions.specs.FairTables as fair_tables
+use Rattle.symmetries.specs.Exchanges.{Exchange}
+use Rattle.symmetries.specs.Symmetries.{is_symmetry}
+use Rattle.symmetries.specs.Quotients.{keeps_atoms, quotient_of}
 
 -- The versions of a certificate's text. From version 2 on a state may be listed as a dead end. In version 3 a state may have
--- several values, and these may look at tables.
+-- several values, these may look at tables, and one state may stand for all that exchanges of objects take into one another.
 pub data Version : Type 0 where
   one : Version
   two : Version
@@ -30,10 +34,12 @@ pub record StateLine : Type 0 where
 
 -- A claim, with what shows it: values that are lower bounds, of which the greatest counts, one by which states are dead ends,
 -- and a listing of states. The weights of each are those of the atoms, one for one, and a row of a table has one for each value
--- and, last, one for dead ends. Versions 1 and 2 have one value and no tables: potential functions.
+-- and, last, one for dead ends. Versions 1 and 2 have one value and no tables: potential functions. And they have no exchanges of
+-- objects, by which a state stands for others.
 pub record Certificate : Type 0 where
   pub version : Version
   pub claim : Claim
+  pub exchanges : List Exchange
   pub atoms : List Atom
   pub values : List PotentialFunction
   pub dead_ends : PotentialFunction
@@ -116,6 +122,16 @@ has_tables three = true
 abbrev pub are_tables : Version → (atom_count weight_count : ℕ) → List Table → Bool
 are_tables version atom_count weight_count = list_all (λ t. has_tables version && is_table atom_count weight_count t)
 
+-- versions 1 and 2 know no exchanges
+abbrev pub has_exchanges : Version → Bool
+has_exchanges one = false
+has_exchanges two = false
+has_exchanges three = true
+
+-- an exchange has a pair of objects at least
+abbrev pub are_exchanges : Version → List Exchange → Bool
+are_exchanges version = list_all (λ e. has_exchanges version && nat_le 1 (length e))
+
 -- all rows, of whichever table
 abbrev pub rows_of : List Table → List Row
 rows_of = flat_map (λ (t : Table). t.rows)
@@ -127,6 +143,7 @@ keeps_limits c =
     && is_value_count c.version (length c.values) && list_all (are_potentials is_weight (length c.atoms)) c.values
     && are_potentials (is_dead_end_weight c.version) (length c.atoms) c.dead_ends
     && are_tables c.version (length c.atoms) (length c.values + 1) c.tables && nat_le (length c.tables) 4194304 && nat_le (length (rows_of c.tables)) 4194304
+    && are_exchanges c.version c.exchanges && nat_le (length c.exchanges) 1048576
 
 -- ---- listings
 
@@ -138,6 +155,17 @@ state_of_line task certificate line = from_list (filter_map (slice_get certifica
 abbrev pub lines_of : Task → Certificate → List (Line State)
 lines_of task certificate =
     map (λ (l : StateLine). record { state = state_of_line task certificate l; cost = l.cost; mark = l.mark }) certificate.lines
+
+-- ---- exchanges
+
+-- the exchange is a symmetry of the task, and the image of each numbered atom has a number
+abbrev pub is_symmetry_for : Task → Certificate → Exchange → Bool
+is_symmetry_for task c exchange = is_symmetry task exchange && keeps_atoms (numbered_atoms task c.atoms) exchange
+
+-- The system whose states are listed: the quotient of the task by the certificate's exchanges, where the certificate's atoms have
+-- the first numbers. Without exchanges each state stands for itself.
+abbrev pub listed_system : Task → Certificate → System State Instance
+listed_system task c = quotient_of task (numbered_atoms task c.atoms) c.exchanges
 
 -- ---- what it says of states
 
@@ -176,16 +204,17 @@ AreFairIn three task c = fair_tables.AreFair task (numbered_atoms task c.atoms) 
 abbrev pub AreFairFor : Task → Certificate → Type 0
 AreFairFor task c = AreFairIn c.version task c
 
--- Its values, which have a weight for each of its atoms, are fair, that of dead ends is dead-fair, and its listing is closed by
--- what they say of states.
+-- Its exchanges are symmetries of the task, its values, which have a weight for each of its atoms, are fair, that of dead ends is
+-- dead-fair, and its listing is closed for the quotient by the exchanges, by what the values say of states.
 pub record IsClosedFor (task : Task) (certificate : Certificate) : Type 0 where
   pub as_many_values : IsTrue (is_value_count certificate.version (length certificate.values))
   pub one_weight_an_atom : All (λ (p : PotentialFunction). length p.weights ≡ length certificate.atoms) certificate.values
   pub one_dead_end_weight_an_atom : length certificate.dead_ends.weights ≡ length certificate.atoms
   pub tables_are_over_atoms : IsTrue (are_tables certificate.version (length certificate.atoms) (length certificate.values + 1) certificate.tables)
+  pub exchanges_are_symmetries : All (λ (e : Exchange). IsTrue (is_symmetry_for task certificate e)) certificate.exchanges
   pub are_fair : AreFairFor task certificate
   pub atoms_are_fluent : All (λ (a : Atom). IsTrue (is_atom task a && is_fluent task a.predicate)) certificate.atoms
   pub atoms_are_distinct : AllPairs (λ (a b : Atom). a ≢ b) certificate.atoms
   pub rows_are_distinct : All (λ (t : Table). AllPairs (λ (q r : Row). q.atoms ≢ r.atoms) t.rows) certificate.tables
   pub states_are_distinct : AllPairs (λ (k l : Line State). k.state ≢ l.state) (lines_of task certificate)
-  pub listing_is_closed : IsClosed (system_of task) (value_of task certificate) (is_dead_end_of task certificate) certificate.claim (lines_of task certificate)
+  pub listing_is_closed : IsClosed (listed_system task certificate) (value_of task certificate) (is_dead_end_of task certificate) certificate.claim (lines_of task certificate)

@@ -13,3 +13,4 @@ pub mod FaultsRead
 pub mod FirstPlaces
 pub mod NextLemmas
 pub mod ReaderLemmas
+pub mod ExchangedRead

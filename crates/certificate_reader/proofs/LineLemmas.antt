@@ -12,7 +12,7 @@ use Rattle.model.specs.Words.{is_name, is_name_byte}
 use Rattle.model.specs.PlanWriting.{is_lower_name}
 use Rattle.model.specs.Claims.{bound, none, Mark, opened, cut, dead}
 use Rattle.certificate_definitions.specs.Certificates.{is_number, is_weight}
-use Rattle.certificate_definitions.specs.CertificateText.{scope, row, TextLine, version, claims, constant, atom, tabled, listed, last, after_blank, line_text, weights_text, numbers_text}
+use Rattle.certificate_definitions.specs.CertificateText.{scope, row, TextLine, version, claims, constant, swapped, atom, tabled, listed, last, after_blank, line_text, weights_text, numbers_text}
 use Rattle.certificate_reader.specs.Words.{is_blank, is_word, atom_rest, line_head, line_rest, mark_head, then_numbers, then_words, with_rest}
 use Rattle.certificate_reader.proofs.NumberLemmas.{is_below}
 use Rattle.certificate_reader.proofs.WordLemmas.{one_first}
@@ -89,12 +89,21 @@ atom_parts c w p f = simp append_assoc
 alone : (head word : List ℕ) → head ++ codes " " ++ word ≡ head ++ after_blank word
 alone head word = append_assoc head (codes " ") word
 
+names_bytes : (names : List (List ℕ)) → bytes_of (then_words names None) ≡ flat_map after_blank names ++ []
+names_bytes [] = refl
+names_bytes (name ∷ names) =
+    ap (λ bytes. codes " " ++ bytes) (with_bytes name (then_words names None))
+    ∙ sym (append_assoc (codes " ") name (bytes_of (then_words names None)))
+    ∙ ap (λ bytes. after_blank name ++ bytes) (names_bytes names)
+    ∙ sym (append_assoc (after_blank name) (flat_map after_blank names) [])
+
 -- the bytes of a line: its first word, and the others
 pub line_bytes : (line : TextLine) → line_text line ≡ line_head line ++ bytes_of (line_rest line)
 line_bytes (version v) = refl
 line_bytes (claims (bound least)) = refl
 line_bytes (claims none) = refl
 line_bytes (constant k) = ap (λ bytes. codes "constant" ++ bytes) (sym (append-nil (weights_text k)) ∙ sym (words_bytes signed_decimal k None))
+line_bytes (swapped names) = ap (λ bytes. codes "swap" ++ bytes) (sym (append-nil (flat_map after_blank names)) ∙ sym (names_bytes names))
 line_bytes (atom a) =
     atom_parts (codes "atom") (weights_text a.weights) a.atom.predicate (flat_map after_blank a.atom.objects)
     ∙ ap (λ bytes. codes "atom" ++ bytes) (sym (words_bytes signed_decimal a.weights (Some (atom_rest a.atom))))
@@ -119,6 +128,7 @@ pub head_is_word : (line : TextLine) → IsTrue (is_word (line_head line))
 head_is_word (version v) = refl
 head_is_word (claims claim) = refl
 head_is_word (constant k) = refl
+head_is_word (swapped names) = refl
 head_is_word (atom a) = refl
 head_is_word (tabled (scope atoms)) = refl
 head_is_word (tabled (row r)) = refl

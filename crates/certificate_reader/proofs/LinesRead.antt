@@ -10,9 +10,9 @@ use Rattle.std.proofs.lemmas.Bool.Decides.{nat_tests}
 use Rattle.std.proofs.lemmas.List.{append_cancel_left, append_cancel_right}
 use Rattle.model.specs.PlanWriting.{is_lower_name}
 use Rattle.model.specs.Claims.{Mark, opened, cut, dead}
-use Rattle.certificate_definitions.specs.Certificates.{Version, one, two, three, is_number, is_mark, is_weight, are_weights, has_tables, rise}
+use Rattle.certificate_definitions.specs.Certificates.{Version, one, two, three, is_number, is_mark, is_weight, are_weights, has_exchanges, has_tables, rise}
 use Rattle.table_functions.specs.TableFunctions.{Row}
-use Rattle.certificate_definitions.specs.CertificateText.{NamedAtom, WeightedAtom, scope, row, Format, TextLine, version, claims, constant, atom, tabled, listed, last, after_blank, is_weight_count, is_line, line_text, longest_line}
+use Rattle.certificate_definitions.specs.CertificateText.{NamedAtom, WeightedAtom, scope, row, Format, TextLine, version, claims, constant, swapped, atom, tabled, listed, last, after_blank, are_exchanged, is_weight_count, is_line, line_text, longest_line}
 use Rattle.certificate_reader.specs.Words.{IsFirstWord, IsLeading, IsNumbered, IsReadAs, are_lower, atom_rest, line_rest, mark_head, then_numbers, then_weights, then_words, with_rest}
 use Rattle.certificate_reader.proofs.WordLemmas.{one_first}
 use Rattle.certificate_reader.proofs.LineLemmas.{line_splits, lower_name_is_word, number_is_word, some_same, words_after}
@@ -58,13 +58,14 @@ and_all a b c x y z = λ i. x i && y i && z i
 -- a line that begins with the word of a state's mark lists a state
 module _ (word : List ℕ) (no_version : bytes_eq (codes "pddl-cert") word ≡ false) (no_claim : bytes_eq (codes "claim") word ≡ false)
     (no_constant : bytes_eq (codes "constant") word ≡ false) (no_atom : bytes_eq (codes "atom") word ≡ false) (no_end : bytes_eq (codes "end") word ≡ false)
-    (no_scope : bytes_eq (codes "table") word ≡ false) (no_row : bytes_eq (codes "row") word ≡ false)
+    (no_scope : bytes_eq (codes "table") word ≡ false) (no_row : bytes_eq (codes "row") word ≡ false) (no_swap : bytes_eq (codes "swap") word ≡ false)
     (rest : List ℕ) (f : Format) where
   only_listed : ((cost : ℕ) (mark : Mark) (atoms : List ℕ) → IsReadAs word rest f (listed (record { cost = cost; mark = mark; atoms = atoms })) → ⊥)
       → (line : TextLine) → IsReadAs word rest f line → ⊥
   only_listed never (version w) read = unlike (codes "pddl-cert") word no_version read.head
   only_listed never (claims claim) read = unlike (codes "claim") word no_claim read.head
   only_listed never (constant k) read = unlike (codes "constant") word no_constant read.head
+  only_listed never (swapped names) read = unlike (codes "swap") word no_swap read.head
   only_listed never (atom a) read = unlike (codes "atom") word no_atom read.head
   only_listed never (tabled (scope s)) read = unlike (codes "table") word no_scope read.head
   only_listed never (tabled (row r)) read = unlike (codes "row") word no_row read.head
@@ -95,7 +96,7 @@ module _ (rest : List ℕ) (f : Format) where
   open_parts cost dead atoms read = absurd (unlike (codes "dead") (codes "open") refl read.head)
 
   pub no_open : ((n : ℕ) (atoms : List ℕ) → IsNumbered rest f.atoms n atoms → ⊥) → (line : TextLine) → IsReadAs (codes "open") rest f line → ⊥
-  no_open never = only_listed (codes "open") refl refl refl refl refl refl refl rest f (λ cost mark atoms read. never cost atoms (open_parts cost mark atoms read))
+  no_open never = only_listed (codes "open") refl refl refl refl refl refl refl refl rest f (λ cost mark atoms read. never cost atoms (open_parts cost mark atoms read))
 
   pub dead_is_read : IsTrue (is_mark f.version dead) → (cost : ℕ) (atoms : List ℕ) → IsNumbered rest f.atoms cost atoms
       → IsReadAs (codes "dead") rest f (listed (record { cost = cost; mark = dead; atoms = atoms }))
@@ -118,7 +119,7 @@ module _ (rest : List ℕ) (f : Format) where
   dead_parts cost opened atoms read = absurd (unlike (codes "open") (codes "dead") refl read.head)
 
   pub no_dead : ((n : ℕ) (atoms : List ℕ) → IsNumbered rest f.atoms n atoms → ⊥) → (line : TextLine) → IsReadAs (codes "dead") rest f line → ⊥
-  no_dead never = only_listed (codes "dead") refl refl refl refl refl refl refl rest f (λ cost mark atoms read. never cost atoms (dead_parts cost mark atoms read))
+  no_dead never = only_listed (codes "dead") refl refl refl refl refl refl refl refl rest f (λ cost mark atoms read. never cost atoms (dead_parts cost mark atoms read))
 
 -- ---- cuts
 
@@ -165,7 +166,7 @@ module _ (rest : List ℕ) (f : Format) where
   cut_parts cost (cut least) atoms read = (least, cut_of cost least atoms read)
 
   pub no_cut : ((cost least : ℕ) (atoms : List ℕ) → IsCut rest f.atoms cost least atoms → ⊥) → (line : TextLine) → IsReadAs (codes "cut") rest f line → ⊥
-  no_cut never = only_listed (codes "cut") refl refl refl refl refl refl refl rest f
+  no_cut never = only_listed (codes "cut") refl refl refl refl refl refl refl refl rest f
       (λ cost mark atoms read. let (least, is) = cut_parts cost mark atoms read in never cost least atoms is)
 
   module _ (word : List ℕ) (following : Option (List ℕ)) (first : IsFirstWord rest word following) where
@@ -240,6 +241,7 @@ module _ (rest : List ℕ) (f : Format) where
   only_constant never (version w) read = unlike (codes "pddl-cert") (codes "constant") refl read.head
   only_constant never (claims claim) read = unlike (codes "claim") (codes "constant") refl read.head
   only_constant never (constant k) read = never k read
+  only_constant never (swapped names) read = unlike (codes "swap") (codes "constant") refl read.head
   only_constant never (atom a) read = unlike (codes "atom") (codes "constant") refl read.head
   only_constant never (tabled (scope s)) read = unlike (codes "table") (codes "constant") refl read.head
   only_constant never (tabled (row r)) read = unlike (codes "row") (codes "constant") refl read.head
@@ -310,11 +312,44 @@ module _ (rest : List ℕ) (f : Format) where
   no_atom never (version w) read = unlike (codes "pddl-cert") (codes "atom") refl read.head
   no_atom never (claims claim) read = unlike (codes "claim") (codes "atom") refl read.head
   no_atom never (constant k) read = unlike (codes "constant") (codes "atom") refl read.head
+  no_atom never (swapped names) read = unlike (codes "swap") (codes "atom") refl read.head
   no_atom never (atom a) read = never a read
   no_atom never (tabled (scope s)) read = unlike (codes "table") (codes "atom") refl read.head
   no_atom never (tabled (row r)) read = unlike (codes "row") (codes "atom") refl read.head
   no_atom never (listed l) read = is_no_mark (codes "atom") refl refl refl l.mark read.head
   no_atom never (last n) read = unlike (codes "end") (codes "atom") refl read.head
+
+-- ---- exchanges
+
+module _ (rest : List ℕ) (f : Format) where
+  only_swap : ((names : List (List ℕ)) → IsReadAs (codes "swap") rest f (swapped names) → ⊥) → (line : TextLine) → IsReadAs (codes "swap") rest f line → ⊥
+  only_swap never (version w) read = unlike (codes "pddl-cert") (codes "swap") refl read.head
+  only_swap never (claims claim) read = unlike (codes "claim") (codes "swap") refl read.head
+  only_swap never (constant k) read = unlike (codes "constant") (codes "swap") refl read.head
+  only_swap never (swapped names) read = never names read
+  only_swap never (atom a) read = unlike (codes "atom") (codes "swap") refl read.head
+  only_swap never (tabled (scope s)) read = unlike (codes "table") (codes "swap") refl read.head
+  only_swap never (tabled (row r)) read = unlike (codes "row") (codes "swap") refl read.head
+  only_swap never (listed l) read = is_no_mark (codes "swap") refl refl refl l.mark read.head
+  only_swap never (last n) read = unlike (codes "end") (codes "swap") refl read.head
+
+  swap_parts : (names : List (List ℕ)) → IsReadAs (codes "swap") rest f (swapped names) → IsTrue (has_exchanges f.version) × IsTrue (are_exchanged names)
+  swap_parts names read =
+      and_parts (has_exchanges f.version) (are_exchanged names) (and_parts (has_exchanges f.version && are_exchanged names) (nat_le (length (line_text (swapped names))) longest_line) read.within).0
+
+  -- a version without exchanges has no such line
+  pub no_exchanges : has_exchanges f.version ≡ false → (line : TextLine) → IsReadAs (codes "swap") rest f line → ⊥
+  no_exchanges none = only_swap (λ names read. absurd (cc (sym none ∙ (swap_parts names read).0)))
+
+  pub no_exchange : ((names : List (List ℕ)) → IsTrue (are_exchanged names) → then_words names None ≡ Some rest → ⊥) → (line : TextLine) → IsReadAs (codes "swap") rest f line → ⊥
+  no_exchange never = only_swap (λ names read. never names (swap_parts names read).1 read.following)
+
+  pub swap_is_read : has_exchanges f.version ≡ true → (names : List (List ℕ)) → IsTrue (are_exchanged names) → then_words names None ≡ Some rest
+      → length (with_rest (codes "swap") (Some rest)) ≤ longest_line → IsReadAs (codes "swap") rest f (swapped names)
+  swap_is_read has names are splits short =
+      let text : line_text (swapped names) ≡ with_rest (codes "swap") (Some rest) = line_splits (swapped names) ∙ ap (with_rest (codes "swap")) splits in
+      let fits : nat_le (length (line_text (swapped names))) longest_line ≡ true = le-leb (length (line_text (swapped names))) longest_line (subst (λ text. length text ≤ longest_line) (sym text) short) in
+      record { head = refl; following = splits; within = (λ i. has i && are i && fits i) }
 
 -- ---- tables
 
@@ -323,6 +358,7 @@ module _ (rest : List ℕ) (f : Format) where
   only_scope never (version w) read = unlike (codes "pddl-cert") (codes "table") refl read.head
   only_scope never (claims claim) read = unlike (codes "claim") (codes "table") refl read.head
   only_scope never (constant k) read = unlike (codes "constant") (codes "table") refl read.head
+  only_scope never (swapped names) read = unlike (codes "swap") (codes "table") refl read.head
   only_scope never (atom a) read = unlike (codes "atom") (codes "table") refl read.head
   only_scope never (tabled (scope s)) read = never s read
   only_scope never (tabled (row r)) read = unlike (codes "row") (codes "table") refl read.head
@@ -333,6 +369,7 @@ module _ (rest : List ℕ) (f : Format) where
   only_row never (version w) read = unlike (codes "pddl-cert") (codes "row") refl read.head
   only_row never (claims claim) read = unlike (codes "claim") (codes "row") refl read.head
   only_row never (constant k) read = unlike (codes "constant") (codes "row") refl read.head
+  only_row never (swapped names) read = unlike (codes "swap") (codes "row") refl read.head
   only_row never (atom a) read = unlike (codes "atom") (codes "row") refl read.head
   only_row never (tabled (scope s)) read = unlike (codes "table") (codes "row") refl read.head
   only_row never (tabled (row r)) read = never r read

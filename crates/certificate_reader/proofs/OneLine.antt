@@ -7,9 +7,9 @@ use Rattle.std.proofs.lemmas.Bool.{and_parts}
 use Rattle.std.proofs.lemmas.List.{append_cancel_left}
 use Rattle.model.specs.Claims.{Claim, bound, none, Mark, opened, cut, dead}
 use Rattle.model.specs.PlanWriting.{is_lower_name}
-use Rattle.certificate_definitions.specs.Certificates.{Version, one, two, three, StateLine, is_claim, is_number, is_weight, are_weights, has_tables, rise}
+use Rattle.certificate_definitions.specs.Certificates.{Version, one, two, three, StateLine, is_claim, is_number, is_weight, are_weights, has_exchanges, has_tables, rise}
 use Rattle.table_functions.specs.TableFunctions.{Row}
-use Rattle.certificate_definitions.specs.CertificateText.{NamedAtom, WeightedAtom, scope, row, Format, TextLine, version, claims, constant, atom, tabled, listed, last, is_weight_count, is_line, line_text, numbers_text, longest_line, most_atoms, version_number}
+use Rattle.certificate_definitions.specs.CertificateText.{NamedAtom, WeightedAtom, scope, row, Format, TextLine, version, claims, constant, swapped, atom, tabled, listed, last, are_exchanged, are_paired, differ, is_weight_count, is_line, line_text, numbers_text, longest_line, most_atoms, version_number}
 use Rattle.certificate_reader.specs.Words.{IsLeading, IsNumbered, IsReadAs, are_lower, atom_rest, claim_rest, is_word, line_head, line_rest, mark_head, mark_rest, then_numbers, then_weights, then_words}
 use Rattle.certificate_reader.proofs.WordLemmas.{one_first}
 use Rattle.certificate_reader.proofs.LineLemmas.{all_words, head_is_word, line_splits, lower_name_is_word, number_is_word, some_same}
@@ -180,11 +180,21 @@ constants_same f k j k_is j_is same =
         let (count, all) = and_parts (is_weight_count f.version (length k)) (list_all is_weight k) is in
         leading_alone words 33 k all (few_constants f.version (length k) count) splits
 
+one_swap : (f : Format) (names others : List (List ℕ)) → IsTrue (is_line f (swapped names)) → IsTrue (is_line f (swapped others)) → then_words names None ≡ then_words others None → names ≡ others
+one_swap f names others is also same =
+    all_words names others (names_are_words names (lower names is)) (names_are_words others (lower others also)) same
+  where
+    lower : (names : List (List ℕ)) → IsTrue (is_line f (swapped names)) → IsTrue (list_all is_lower_name names)
+    lower names is =
+        (and_parts (nat_le 2 (length names) && are_paired names && differ names) (list_all is_lower_name names)
+        (and_parts (has_exchanges f.version) (are_exchanged names) (and_parts (has_exchanges f.version && are_exchanged names) (nat_le (length (line_text (swapped names))) longest_line) is).0).1).1
+
 module _ (f : Format) (few : f.atoms ≤ most_atoms) where
   by_parts : (l m : TextLine) → IsTrue (is_line f l) → IsTrue (is_line f m) → line_head l ≡ line_head m → line_rest l ≡ line_rest m → l ≡ m
   by_parts (version u) (version w) h g heads rests = one_version u w (some_same (decimal (version_number u)) (decimal (version_number w)) rests)
   by_parts (version u) (claims d) h g heads rests = absurd (unlike (codes "pddl-cert") (codes "claim") refl heads)
   by_parts (version u) (constant j) h g heads rests = absurd (unlike (codes "pddl-cert") (codes "constant") refl heads)
+  by_parts (version u) (swapped others) h g heads rests = absurd (unlike (codes "pddl-cert") (codes "swap") refl heads)
   by_parts (version u) (atom b) h g heads rests = absurd (unlike (codes "pddl-cert") (codes "atom") refl heads)
   by_parts (version u) (tabled (scope t)) h g heads rests = absurd (unlike (codes "pddl-cert") (codes "table") refl heads)
   by_parts (version u) (tabled (row r)) h g heads rests = absurd (unlike (codes "pddl-cert") (codes "row") refl heads)
@@ -193,6 +203,7 @@ module _ (f : Format) (few : f.atoms ≤ most_atoms) where
   by_parts (claims c) (version w) h g heads rests = absurd (unlike (codes "claim") (codes "pddl-cert") refl heads)
   by_parts (claims c) (claims d) h g heads rests = ap (λ claim. claims claim) (one_claim c d h g (some_same (claim_rest c) (claim_rest d) rests))
   by_parts (claims c) (constant j) h g heads rests = absurd (unlike (codes "claim") (codes "constant") refl heads)
+  by_parts (claims c) (swapped others) h g heads rests = absurd (unlike (codes "claim") (codes "swap") refl heads)
   by_parts (claims c) (atom b) h g heads rests = absurd (unlike (codes "claim") (codes "atom") refl heads)
   by_parts (claims c) (tabled (scope t)) h g heads rests = absurd (unlike (codes "claim") (codes "table") refl heads)
   by_parts (claims c) (tabled (row r)) h g heads rests = absurd (unlike (codes "claim") (codes "row") refl heads)
@@ -201,14 +212,25 @@ module _ (f : Format) (few : f.atoms ≤ most_atoms) where
   by_parts (constant k) (version w) h g heads rests = absurd (unlike (codes "constant") (codes "pddl-cert") refl heads)
   by_parts (constant k) (claims d) h g heads rests = absurd (unlike (codes "constant") (codes "claim") refl heads)
   by_parts (constant k) (constant j) h g heads rests = ap (λ k. constant k) (constants_same f k j h g rests)
+  by_parts (constant k) (swapped others) h g heads rests = absurd (unlike (codes "constant") (codes "swap") refl heads)
   by_parts (constant k) (atom b) h g heads rests = absurd (unlike (codes "constant") (codes "atom") refl heads)
   by_parts (constant k) (tabled (scope t)) h g heads rests = absurd (unlike (codes "constant") (codes "table") refl heads)
   by_parts (constant k) (tabled (row r)) h g heads rests = absurd (unlike (codes "constant") (codes "row") refl heads)
   by_parts (constant k) (listed o) h g heads rests = absurd (is_no_mark (codes "constant") refl refl refl o.mark (sym heads))
   by_parts (constant k) (last n) h g heads rests = absurd (unlike (codes "constant") (codes "end") refl heads)
+  by_parts (swapped names) (version w) h g heads rests = absurd (unlike (codes "swap") (codes "pddl-cert") refl heads)
+  by_parts (swapped names) (claims d) h g heads rests = absurd (unlike (codes "swap") (codes "claim") refl heads)
+  by_parts (swapped names) (constant j) h g heads rests = absurd (unlike (codes "swap") (codes "constant") refl heads)
+  by_parts (swapped names) (swapped others) h g heads rests = ap (λ names. swapped names) (one_swap f names others h g rests)
+  by_parts (swapped names) (atom b) h g heads rests = absurd (unlike (codes "swap") (codes "atom") refl heads)
+  by_parts (swapped names) (tabled (scope t)) h g heads rests = absurd (unlike (codes "swap") (codes "table") refl heads)
+  by_parts (swapped names) (tabled (row r)) h g heads rests = absurd (unlike (codes "swap") (codes "row") refl heads)
+  by_parts (swapped names) (listed o) h g heads rests = absurd (is_no_mark (codes "swap") refl refl refl o.mark (sym heads))
+  by_parts (swapped names) (last n) h g heads rests = absurd (unlike (codes "swap") (codes "end") refl heads)
   by_parts (atom a) (version w) h g heads rests = absurd (unlike (codes "atom") (codes "pddl-cert") refl heads)
   by_parts (atom a) (claims d) h g heads rests = absurd (unlike (codes "atom") (codes "claim") refl heads)
   by_parts (atom a) (constant j) h g heads rests = absurd (unlike (codes "atom") (codes "constant") refl heads)
+  by_parts (atom a) (swapped others) h g heads rests = absurd (unlike (codes "atom") (codes "swap") refl heads)
   by_parts (atom a) (atom b) h g heads rests = one_atom f a b h g rests
   by_parts (atom a) (tabled (scope t)) h g heads rests = absurd (unlike (codes "atom") (codes "table") refl heads)
   by_parts (atom a) (tabled (row r)) h g heads rests = absurd (unlike (codes "atom") (codes "row") refl heads)
@@ -217,6 +239,7 @@ module _ (f : Format) (few : f.atoms ≤ most_atoms) where
   by_parts (tabled (scope s)) (version w) h g heads rests = absurd (unlike (codes "table") (codes "pddl-cert") refl heads)
   by_parts (tabled (scope s)) (claims d) h g heads rests = absurd (unlike (codes "table") (codes "claim") refl heads)
   by_parts (tabled (scope s)) (constant j) h g heads rests = absurd (unlike (codes "table") (codes "constant") refl heads)
+  by_parts (tabled (scope s)) (swapped others) h g heads rests = absurd (unlike (codes "table") (codes "swap") refl heads)
   by_parts (tabled (scope s)) (atom b) h g heads rests = absurd (unlike (codes "table") (codes "atom") refl heads)
   by_parts (tabled (scope s)) (tabled (scope t)) h g heads rests = one_scope f few s t h g rests
   by_parts (tabled (scope s)) (tabled (row r)) h g heads rests = absurd (unlike (codes "table") (codes "row") refl heads)
@@ -225,6 +248,7 @@ module _ (f : Format) (few : f.atoms ≤ most_atoms) where
   by_parts (tabled (row q)) (version w) h g heads rests = absurd (unlike (codes "row") (codes "pddl-cert") refl heads)
   by_parts (tabled (row q)) (claims d) h g heads rests = absurd (unlike (codes "row") (codes "claim") refl heads)
   by_parts (tabled (row q)) (constant j) h g heads rests = absurd (unlike (codes "row") (codes "constant") refl heads)
+  by_parts (tabled (row q)) (swapped others) h g heads rests = absurd (unlike (codes "row") (codes "swap") refl heads)
   by_parts (tabled (row q)) (atom b) h g heads rests = absurd (unlike (codes "row") (codes "atom") refl heads)
   by_parts (tabled (row q)) (tabled (scope t)) h g heads rests = absurd (unlike (codes "row") (codes "table") refl heads)
   by_parts (tabled (row q)) (tabled (row r)) h g heads rests = one_row f few q r h g rests
@@ -233,6 +257,7 @@ module _ (f : Format) (few : f.atoms ≤ most_atoms) where
   by_parts (listed l) (version w) h g heads rests = absurd (is_no_mark (codes "pddl-cert") refl refl refl l.mark heads)
   by_parts (listed l) (claims d) h g heads rests = absurd (is_no_mark (codes "claim") refl refl refl l.mark heads)
   by_parts (listed l) (constant j) h g heads rests = absurd (is_no_mark (codes "constant") refl refl refl l.mark heads)
+  by_parts (listed l) (swapped others) h g heads rests = absurd (is_no_mark (codes "swap") refl refl refl l.mark heads)
   by_parts (listed l) (atom b) h g heads rests = absurd (is_no_mark (codes "atom") refl refl refl l.mark heads)
   by_parts (listed l) (tabled (scope t)) h g heads rests = absurd (is_no_mark (codes "table") refl refl refl l.mark heads)
   by_parts (listed l) (tabled (row r)) h g heads rests = absurd (is_no_mark (codes "row") refl refl refl l.mark heads)
@@ -244,6 +269,7 @@ module _ (f : Format) (few : f.atoms ≤ most_atoms) where
   by_parts (last m) (version w) h g heads rests = absurd (unlike (codes "end") (codes "pddl-cert") refl heads)
   by_parts (last m) (claims d) h g heads rests = absurd (unlike (codes "end") (codes "claim") refl heads)
   by_parts (last m) (constant j) h g heads rests = absurd (unlike (codes "end") (codes "constant") refl heads)
+  by_parts (last m) (swapped others) h g heads rests = absurd (unlike (codes "end") (codes "swap") refl heads)
   by_parts (last m) (atom b) h g heads rests = absurd (unlike (codes "end") (codes "atom") refl heads)
   by_parts (last m) (tabled (scope t)) h g heads rests = absurd (unlike (codes "end") (codes "table") refl heads)
   by_parts (last m) (tabled (row r)) h g heads rests = absurd (unlike (codes "end") (codes "row") refl heads)

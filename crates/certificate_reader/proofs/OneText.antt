@@ -13,8 +13,8 @@ use Rattle.std.proofs.lemmas.Str.Parse.{tells_digits}
 use Rattle.model.specs.Words.{is_name, is_name_byte}
 use Rattle.model.specs.PlanWriting.{is_lower_name}
 use Rattle.model.specs.Claims.{bound, none, Mark, opened, cut, dead}
-use Rattle.certificate_definitions.specs.Certificates.{Version, one, two, three, is_mark, is_number, is_weight, are_weights, has_tables, rise}
-use Rattle.certificate_definitions.specs.CertificateText.{scope, row, Format, NamedCertificate, TextLine, version, claims, constant, atom, tabled, listed, last, after_blank, is_weight_count, is_line, line_text, mark_text, weights_text, numbers_text, text_of, text_lines, IsCertificateText, longest_line, most_atoms}
+use Rattle.certificate_definitions.specs.Certificates.{Version, one, two, three, is_mark, is_number, is_weight, are_weights, has_exchanges, has_tables, rise}
+use Rattle.certificate_definitions.specs.CertificateText.{scope, row, Format, NamedCertificate, TextLine, version, claims, constant, swapped, atom, tabled, listed, last, after_blank, are_exchanged, are_paired, differ, is_weight_count, is_line, line_text, mark_text, weights_text, numbers_text, text_of, text_lines, IsCertificateText, longest_line, most_atoms}
 use Rattle.certificate_definitions.specs.CertificateMachine.{CertificatePlace, at_version, ended, format_at, next_place, place_from}
 use Rattle.certificate_definitions.proofs.Beginnings.{one_whole_text}
 use Rattle.certificate_definitions.proofs.Machine.{end_of_whole, never, place_same}
@@ -118,6 +118,10 @@ line_in_one f few (version w) is = version_in_one w
 line_in_one f few (claims (bound n)) is = both (codes "claim bound ") (decimal n) refl (number_in_one n is)
 line_in_one f few (claims none) is = refl
 line_in_one f few (constant k) is = both (codes "constant") (weights_text k) refl (weights_in_one k (and_parts (is_weight_count f.version (length k)) (list_all is_weight k) is).1)
+line_in_one f few (swapped names) is =
+    let lower = (and_parts (nat_le 2 (length names) && are_paired names && differ names) (list_all is_lower_name names)
+    (and_parts (has_exchanges f.version) (are_exchanged names) (and_parts (has_exchanges f.version && are_exchanged names) (nat_le (length (line_text (swapped names))) longest_line) is).0).1).1 in
+    both (codes "swap") (flat_map after_blank names) refl (names_in_one names lower)
 line_in_one f few (atom a) is =
     let (weights, names) = and_parts (are_weights f.weights a.weights) (are_lower a.atom) (and_parts (are_weights f.weights a.weights && are_lower a.atom) (nat_le _ longest_line) is).0 in
     let (predicate, objects) = and_parts (is_lower_name a.atom.predicate) (list_all is_lower_name a.atom.objects) names in

@@ -7,18 +7,19 @@ use Rattle.std.specs.Borrow.{Bor}
 use Rattle.std.specs.Fmt.{decimal}
 use Rattle.std.specs.Str.{bytes_eq}
 use Rattle.std.proofs.lemmas.Slice.Eq.{bytes_eq-Decides}
-use Rattle.certificate_definitions.specs.Certificates.{Version, one, two, three, is_number, is_mark, is_weight, are_weights, has_tables, rise}
+use Rattle.certificate_definitions.specs.Certificates.{Version, one, two, three, is_number, is_mark, is_weight, are_weights, has_exchanges, has_tables, rise}
 use Rattle.model.specs.Claims.{dead}
+use Rattle.model.specs.PlanWriting.{is_lower_name}
 use Rattle.certificate_reader.specs.declared.line.CertLine.{CertLine}
 use Rattle.certificate_reader.specs.declared.line.Version as code
 use Rattle.certificate_reader.specs.declared.line.Version.TheVariants.{One, Two, Three}
 use Rattle.certificate_reader.specs.Lines.{text_line_of, version_of}
-use Rattle.certificate_definitions.specs.CertificateText.{WeightedAtom, scope, row, Format, TextLine, version, claims, constant, atom, tabled, listed, last, is_weight_count, is_line, version_number}
+use Rattle.certificate_definitions.specs.CertificateText.{WeightedAtom, scope, row, Format, TextLine, version, claims, constant, swapped, atom, tabled, listed, last, are_exchanged, are_paired, differ, is_weight_count, is_line, line_text, longest_line, version_number}
 use Rattle.certificate_reader.specs.declared.fault.NextFault.{NextFault}
 use Rattle.certificate_reader.specs.declared.fault.NextFault.TheVariants.{Text, NoMemory}
 use Rattle.certificate_reader.specs.declared.fault.TextFault.TheVariants as fault
 use Rattle.certificate_reader.specs.Parsing.{IsParsed, IsParsedAfter}
-use Rattle.certificate_reader.specs.Words.{IsFirstWord, IsReadAs, atom_rest, then_numbers, then_weights, line_head, line_rest, text_in, with_rest}
+use Rattle.certificate_reader.specs.Words.{IsFirstWord, IsReadAs, atom_rest, then_numbers, then_weights, then_words, line_head, line_rest, text_in, with_rest}
 use Rattle.certificate_reader.proofs.WordLemmas.{one_first}
 use Rattle.certificate_reader.proofs.LineLemmas.{head_is_word, line_splits, some_same}
 use Rattle.certificate_reader.proofs.LinesRead.{is_no_mark, no_atom, unlike}
@@ -39,6 +40,7 @@ pub no_version : (rest : List ℕ) → ((n : ℕ) → IsTrue (is_number n) → d
 no_version rest never f (version w) read = never (version_number w) (version_is_number w) (some_same (decimal (version_number w)) rest read.following)
 no_version rest never f (claims claim) read = unlike (codes "claim") (codes "pddl-cert") refl read.head
 no_version rest never f (constant k) read = unlike (codes "constant") (codes "pddl-cert") refl read.head
+no_version rest never f (swapped names) read = unlike (codes "swap") (codes "pddl-cert") refl read.head
 no_version rest never f (atom a) read = unlike (codes "atom") (codes "pddl-cert") refl read.head
 no_version rest never f (tabled (scope s)) read = unlike (codes "table") (codes "pddl-cert") refl read.head
 no_version rest never f (tabled (row r)) read = unlike (codes "row") (codes "pddl-cert") refl read.head
@@ -111,6 +113,10 @@ some_numbers : (numbers : List ℕ) → 1 ≤ length numbers → then_numbers nu
 some_numbers [] some none = absurd (omega (arith, some))
 some_numbers (n ∷ numbers) some none = absurd (cc none)
 
+some_names : (names : List (List ℕ)) → 2 ≤ length names → then_words names None ≡ None → ⊥
+some_names [] some none = absurd (omega (arith, some))
+some_names (name ∷ names) some none = absurd (cc none)
+
 constants_count : (v : Version) (n : ℕ) → is_weight_count v n ≡ true → 1 ≤ n
 constants_count one n is = omega (arith, eqb-true n 1 is)
 constants_count two n is = omega (arith, eqb-true n 2 is)
@@ -122,6 +128,10 @@ has_rest f some (version v) is none = absurd (cc none)
 has_rest f some (claims claim) is none = absurd (cc none)
 has_rest f some (constant k) is none =
     some_weights k None (constants_count f.version (length k) (and_parts (is_weight_count f.version (length k)) (list_all is_weight k) is).0) none
+has_rest f some (swapped names) is none =
+    some_names names (leb-true 2 (length names) (and_parts (nat_le 2 (length names)) (are_paired names) (and_parts (nat_le 2 (length names) && are_paired names) (differ names)
+    (and_parts (nat_le 2 (length names) && are_paired names && differ names) (list_all is_lower_name names)
+    (and_parts (has_exchanges f.version) (are_exchanged names) (and_parts (has_exchanges f.version && are_exchanged names) (nat_le (length (line_text (swapped names))) longest_line) is).0).1).0).0).0) none
 has_rest f some (atom a) is none = weights_then a.weights (atom_rest a.atom) none
 has_rest f some (tabled (scope s)) is none =
     some_numbers s (leb-true 1 (length s) (and_parts (rise f.atoms 0 s) (nat_le 1 (length s)) (and_parts (has_tables f.version) (rise f.atoms 0 s && nat_le 1 (length s)) is).1).1) none

@@ -4,8 +4,8 @@ use Rattle.std.specs.Prelude.{length, ◌&&◌, ◌==◌, Err, IsTrue, nat_le, n
 use Rattle.std.specs.Fmt.{decimal}
 use Rattle.std.proofs.lemmas.Bool.{and_parts, eqb-true, leb-true, lt-ltb}
 use Rattle.certificate_definitions.specs.Certificates.{Version, one, two, three, is_number}
-use Rattle.certificate_definitions.specs.CertificateText.{scope, row, Format, TextLine, version, claims, constant, atom, tabled, listed, last, is_line, line_text, most_atoms, most_tables, most_rows, most_states, version_number}
-use Rattle.certificate_definitions.specs.CertificateMachine.{CertificatePlace, at_version, at_claim, at_constant, in_body, ended, no_format, no_body, format_at, atom_more, scope_more, row_more, state_more, atom_follows, row_follows, next_place}
+use Rattle.certificate_definitions.specs.CertificateText.{scope, row, Format, TextLine, version, claims, constant, swapped, atom, tabled, listed, last, is_line, line_text, most_swaps, most_atoms, most_tables, most_rows, most_states, version_number}
+use Rattle.certificate_definitions.specs.CertificateMachine.{CertificatePlace, at_version, at_claim, at_constant, in_body, ended, no_format, no_body, format_at, swap_more, atom_more, scope_more, row_more, state_more, swap_follows, atom_follows, row_follows, next_place}
 use Rattle.certificate_definitions.proofs.Machine.{never, only_where}
 use Rattle.certificate_reader.specs.Stages.{IsOver, IsReadAt, IsStep, IsWithin}
 use Rattle.certificate_reader.specs.Parsing.{IsParsed}
@@ -25,7 +25,7 @@ few_atoms at_version within = omega arith
 few_atoms (at_claim v) within = omega arith
 few_atoms (at_constant v) within = omega arith
 few_atoms (in_body b) within =
-    let bodies = (and_parts (nat_le b.format.atoms most_atoms && nat_le b.tables most_tables && nat_le b.rows most_rows) (nat_le b.states most_states) (and_parts (nat_le 1 b.format.weights) _ within).1).0 in
+    let bodies = (and_parts (nat_le b.format.atoms most_atoms && nat_le b.tables most_tables && nat_le b.rows most_rows) (nat_le b.states most_states) (and_parts (nat_le 1 b.format.weights && nat_le b.swaps most_swaps) _ within).1).0 in
     let tables = (and_parts (nat_le b.format.atoms most_atoms && nat_le b.tables most_tables) (nat_le b.rows most_rows) bodies).0 in
     leb-true b.format.atoms most_atoms (and_parts (nat_le b.format.atoms most_atoms) (nat_le b.tables most_tables) tables).0
 few_atoms ended within = omega arith
@@ -34,7 +34,7 @@ pub some_weights : (place : CertificatePlace) → IsWithin place → 1 ≤ (form
 some_weights at_version within = omega arith
 some_weights (at_claim v) within = omega arith
 some_weights (at_constant v) within = omega arith
-some_weights (in_body b) within = leb-true 1 b.format.weights (and_parts (nat_le 1 b.format.weights) _ within).0
+some_weights (in_body b) within = leb-true 1 b.format.weights (and_parts (nat_le 1 b.format.weights) (nat_le b.swaps most_swaps) (and_parts (nat_le 1 b.format.weights && nat_le b.swaps most_swaps) _ within).0).0
 some_weights ended within = omega arith
 
 -- a line that leads on keeps the limits there
@@ -42,6 +42,7 @@ pub leads_line : (place : CertificatePlace) → IsWithin place → (line : TextL
 leads_line at_version within (version w) next leads = refl
 leads_line at_version within (claims claim) next leads = never next leads
 leads_line at_version within (constant k) next leads = never next leads
+leads_line at_version within (swapped names) next leads = never next leads
 leads_line at_version within (atom a) next leads = never next leads
 leads_line at_version within (tabled (scope s)) next leads = never next leads
 leads_line at_version within (tabled (row r)) next leads = never next leads
@@ -50,6 +51,7 @@ leads_line at_version within (last count) next leads = never next leads
 leads_line (at_claim v) within (version w) next leads = never next leads
 leads_line (at_claim v) within (claims claim) next leads = (only_where (is_line (no_format v) (claims claim)) (at_constant v) next leads).0
 leads_line (at_claim v) within (constant k) next leads = never next leads
+leads_line (at_claim v) within (swapped names) next leads = never next leads
 leads_line (at_claim v) within (atom a) next leads = never next leads
 leads_line (at_claim v) within (tabled (scope s)) next leads = never next leads
 leads_line (at_claim v) within (tabled (row r)) next leads = never next leads
@@ -58,6 +60,7 @@ leads_line (at_claim v) within (last count) next leads = never next leads
 leads_line (at_constant v) within (version w) next leads = never next leads
 leads_line (at_constant v) within (claims claim) next leads = never next leads
 leads_line (at_constant v) within (constant k) next leads = (only_where (is_line (no_format v) (constant k)) (in_body (no_body v (length k))) next leads).0
+leads_line (at_constant v) within (swapped names) next leads = never next leads
 leads_line (at_constant v) within (atom a) next leads = never next leads
 leads_line (at_constant v) within (tabled (scope s)) next leads = never next leads
 leads_line (at_constant v) within (tabled (row r)) next leads = never next leads
@@ -66,15 +69,17 @@ leads_line (at_constant v) within (last count) next leads = never next leads
 leads_line (in_body b) within (version w) next leads = never next leads
 leads_line (in_body b) within (claims claim) next leads = never next leads
 leads_line (in_body b) within (constant k) next leads = never next leads
+leads_line (in_body b) within (swapped names) next leads = (and_parts (swap_follows b && nat_lt b.swaps most_swaps) (is_line b.format (swapped names)) (only_where (swap_follows b && nat_lt b.swaps most_swaps && is_line b.format (swapped names)) (in_body (swap_more b)) next leads).0).1
 leads_line (in_body b) within (atom a) next leads = (and_parts (atom_follows b && nat_lt b.format.atoms most_atoms) (is_line b.format (atom a)) (only_where (atom_follows b && nat_lt b.format.atoms most_atoms && is_line b.format (atom a)) (in_body (atom_more b)) next leads).0).1
 leads_line (in_body b) within (tabled (scope s)) next leads = (and_parts ((b.states == 0) && nat_lt b.tables most_tables) (is_line b.format (tabled (scope s))) (only_where ((b.states == 0) && nat_lt b.tables most_tables && is_line b.format (tabled (scope s))) (in_body (scope_more b)) next leads).0).1
 leads_line (in_body b) within (tabled (row r)) next leads = (and_parts (row_follows b && nat_lt b.rows most_rows) (is_line b.format (tabled (row r))) (only_where (row_follows b && nat_lt b.rows most_rows && is_line b.format (tabled (row r))) (in_body (row_more b)) next leads).0).1
 leads_line (in_body b) within (listed l) next leads = (and_parts (nat_lt b.states most_states) (is_line b.format (listed l)) (only_where (nat_lt b.states most_states && is_line b.format (listed l)) (in_body (state_more b)) next leads).0).1
 leads_line (in_body b) within (last count) next leads =
-    lt-ltb count 1152921504606846976 (omega (arith, eqb-true count b.states (only_where (count == b.states) ended next leads).0, leb-true b.states most_states (and_parts _ (nat_le b.states most_states) (and_parts (nat_le 1 b.format.weights) _ within).1).1))
+    lt-ltb count 1152921504606846976 (omega (arith, eqb-true count b.states (only_where (count == b.states) ended next leads).0, leb-true b.states most_states (and_parts _ (nat_le b.states most_states) (and_parts (nat_le 1 b.format.weights && nat_le b.swaps most_swaps) _ within).1).1))
 leads_line ended within (version w) next leads = never next leads
 leads_line ended within (claims claim) next leads = never next leads
 leads_line ended within (constant k) next leads = never next leads
+leads_line ended within (swapped names) next leads = never next leads
 leads_line ended within (atom a) next leads = never next leads
 leads_line ended within (tabled (scope s)) next leads = never next leads
 leads_line ended within (tabled (row r)) next leads = never next leads
@@ -86,6 +91,7 @@ version_rest : (line : TextLine) → line_head line ≡ codes "pddl-cert" → (v
 version_rest (version v) head = (v, refl)
 version_rest (claims claim) head = absurd (unlike (codes "claim") (codes "pddl-cert") refl head)
 version_rest (constant k) head = absurd (unlike (codes "constant") (codes "pddl-cert") refl head)
+version_rest (swapped names) head = absurd (unlike (codes "swap") (codes "pddl-cert") refl head)
 version_rest (atom a) head = absurd (unlike (codes "atom") (codes "pddl-cert") refl head)
 version_rest (tabled (scope s)) head = absurd (unlike (codes "table") (codes "pddl-cert") refl head)
 version_rest (tabled (row r)) head = absurd (unlike (codes "row") (codes "pddl-cert") refl head)

@@ -6,8 +6,8 @@ use Rattle.std.specs.List.{list_all}
 use Rattle.std.proofs.lemmas.List.{length-map}
 use Rattle.certificate_definitions.specs.Certificates.{Version, one, two, three, StateLine, is_weight}
 use Rattle.certificate_definitions.proofs.Beginnings.{body_lines}
-use Rattle.certificate_definitions.specs.CertificateText.{scope, row, TextLine, version, claims, constant, atom, tabled, listed, last, is_line, most_atoms, most_tables, most_rows, most_states, is_weight_count, scope_count, row_count, begin_with_scope, format_of, text_lines, TableLine, WeightedAtom, Beginning, AreWhole, IsFaultAfter, trailing}
-use Rattle.certificate_definitions.specs.CertificateMachine.{CertificatePlace, at_version, at_claim, at_constant, in_body, ended, no_format, no_body, atom_more, scope_more, row_more, state_more, atom_follows, row_follows, next_place}
+use Rattle.certificate_definitions.specs.CertificateText.{scope, row, TextLine, version, claims, constant, swapped, atom, tabled, listed, last, is_line, most_swaps, most_atoms, most_tables, most_rows, most_states, is_weight_count, scope_count, row_count, begin_with_scope, format_of, text_lines, TableLine, WeightedAtom, Beginning, AreWhole, IsFaultAfter, trailing}
+use Rattle.certificate_definitions.specs.CertificateMachine.{CertificatePlace, at_version, at_claim, at_constant, in_body, ended, no_format, no_body, swap_more, atom_more, scope_more, row_more, state_more, swap_follows, atom_follows, row_follows, next_place}
 use Rattle.certificate_definitions.proofs.Machine.{ComesBefore, begins, never, only_where, place_same}
 use Rattle.certificate_reader.specs.declared.line.CertLine.{CertLine}
 use Rattle.certificate_reader.specs.Lines.{text_line_of}
@@ -32,6 +32,7 @@ pub leads_within : (place : CertificatePlace) → IsWithin place → (line : Tex
 leads_within at_version within (version w) next leads = subst IsWithin (place_same (at_claim w) next leads) refl
 leads_within at_version within (claims claim) next leads = never next leads
 leads_within at_version within (constant k) next leads = never next leads
+leads_within at_version within (swapped names) next leads = never next leads
 leads_within at_version within (atom a) next leads = never next leads
 leads_within at_version within (tabled (scope s)) next leads = never next leads
 leads_within at_version within (tabled (row r)) next leads = never next leads
@@ -40,6 +41,7 @@ leads_within at_version within (last count) next leads = never next leads
 leads_within (at_claim v) within (version w) next leads = never next leads
 leads_within (at_claim v) within (claims claim) next leads = subst IsWithin (only_where (is_line (no_format v) (claims claim)) (at_constant v) next leads).1 refl
 leads_within (at_claim v) within (constant k) next leads = never next leads
+leads_within (at_claim v) within (swapped names) next leads = never next leads
 leads_within (at_claim v) within (atom a) next leads = never next leads
 leads_within (at_claim v) within (tabled (scope s)) next leads = never next leads
 leads_within (at_claim v) within (tabled (row r)) next leads = never next leads
@@ -50,7 +52,8 @@ leads_within (at_constant v) within (claims claim) next leads = never next leads
 leads_within (at_constant v) within (constant k) next leads =
     let (holds, same) = only_where (is_line (no_format v) (constant k)) (in_body (no_body v (length k))) next leads in
     let some = some_constants v (length k) (and_parts (is_weight_count v (length k)) (list_all is_weight k) holds).0 in
-    subst IsWithin same (λ i. some i && true)
+    subst IsWithin same (λ i. (some i && true) && true)
+leads_within (at_constant v) within (swapped names) next leads = never next leads
 leads_within (at_constant v) within (atom a) next leads = never next leads
 leads_within (at_constant v) within (tabled (scope s)) next leads = never next leads
 leads_within (at_constant v) within (tabled (row r)) next leads = never next leads
@@ -59,10 +62,16 @@ leads_within (at_constant v) within (last count) next leads = never next leads
 leads_within (in_body b) within (version w) next leads = never next leads
 leads_within (in_body b) within (claims claim) next leads = never next leads
 leads_within (in_body b) within (constant k) next leads = never next leads
+leads_within (in_body b) within (swapped names) next leads =
+    let (holds, same) = only_where (swap_follows b && nat_lt b.swaps most_swaps && is_line b.format (swapped names)) (in_body (swap_more b)) next leads in
+    let below : b.swaps < most_swaps = ltb-true b.swaps most_swaps (and_parts (swap_follows b) (nat_lt b.swaps most_swaps) (and_parts (swap_follows b && nat_lt b.swaps most_swaps) (is_line b.format (swapped names)) holds).0).1 in
+    let all = and_parts (nat_le 1 b.format.weights && nat_le b.swaps most_swaps) (nat_le b.format.atoms most_atoms && nat_le b.tables most_tables && nat_le b.rows most_rows && nat_le b.states most_states) within in
+    let front = and_parts (nat_le 1 b.format.weights) (nat_le b.swaps most_swaps) all.0 in
+    subst IsWithin same (λ i. (front.0 i && le-leb (b.swaps + 1) most_swaps (omega (arith, below)) i) && all.1 i)
 leads_within (in_body b) within (atom a) next leads =
     let (holds, same) = only_where (atom_follows b && nat_lt b.format.atoms most_atoms && is_line b.format (atom a)) (in_body (atom_more b)) next leads in
     let below : b.format.atoms < most_atoms = ltb-true b.format.atoms most_atoms (and_parts (atom_follows b) (nat_lt b.format.atoms most_atoms) (and_parts (atom_follows b && nat_lt b.format.atoms most_atoms) (is_line b.format (atom a)) holds).0).1 in
-    let all = and_parts (nat_le 1 b.format.weights) (nat_le b.format.atoms most_atoms && nat_le b.tables most_tables && nat_le b.rows most_rows && nat_le b.states most_states) within in
+    let all = and_parts (nat_le 1 b.format.weights && nat_le b.swaps most_swaps) (nat_le b.format.atoms most_atoms && nat_le b.tables most_tables && nat_le b.rows most_rows && nat_le b.states most_states) within in
     let more = and_parts (nat_le b.format.atoms most_atoms && nat_le b.tables most_tables && nat_le b.rows most_rows) (nat_le b.states most_states) all.1 in
     let rest = and_parts (nat_le b.format.atoms most_atoms && nat_le b.tables most_tables) (nat_le b.rows most_rows) more.0 in
     let few = and_parts (nat_le b.format.atoms most_atoms) (nat_le b.tables most_tables) rest.0 in
@@ -70,7 +79,7 @@ leads_within (in_body b) within (atom a) next leads =
 leads_within (in_body b) within (tabled (scope s)) next leads =
     let (holds, same) = only_where ((b.states == 0) && nat_lt b.tables most_tables && is_line b.format (tabled (scope s))) (in_body (scope_more b)) next leads in
     let below : b.tables < most_tables = ltb-true b.tables most_tables (and_parts (b.states == 0) (nat_lt b.tables most_tables) (and_parts ((b.states == 0) && nat_lt b.tables most_tables) (is_line b.format (tabled (scope s))) holds).0).1 in
-    let all = and_parts (nat_le 1 b.format.weights) (nat_le b.format.atoms most_atoms && nat_le b.tables most_tables && nat_le b.rows most_rows && nat_le b.states most_states) within in
+    let all = and_parts (nat_le 1 b.format.weights && nat_le b.swaps most_swaps) (nat_le b.format.atoms most_atoms && nat_le b.tables most_tables && nat_le b.rows most_rows && nat_le b.states most_states) within in
     let more = and_parts (nat_le b.format.atoms most_atoms && nat_le b.tables most_tables && nat_le b.rows most_rows) (nat_le b.states most_states) all.1 in
     let rest = and_parts (nat_le b.format.atoms most_atoms && nat_le b.tables most_tables) (nat_le b.rows most_rows) more.0 in
     let few = and_parts (nat_le b.format.atoms most_atoms) (nat_le b.tables most_tables) rest.0 in
@@ -78,7 +87,7 @@ leads_within (in_body b) within (tabled (scope s)) next leads =
 leads_within (in_body b) within (tabled (row r)) next leads =
     let (holds, same) = only_where (row_follows b && nat_lt b.rows most_rows && is_line b.format (tabled (row r))) (in_body (row_more b)) next leads in
     let below : b.rows < most_rows = ltb-true b.rows most_rows (and_parts (row_follows b) (nat_lt b.rows most_rows) (and_parts (row_follows b && nat_lt b.rows most_rows) (is_line b.format (tabled (row r))) holds).0).1 in
-    let all = and_parts (nat_le 1 b.format.weights) (nat_le b.format.atoms most_atoms && nat_le b.tables most_tables && nat_le b.rows most_rows && nat_le b.states most_states) within in
+    let all = and_parts (nat_le 1 b.format.weights && nat_le b.swaps most_swaps) (nat_le b.format.atoms most_atoms && nat_le b.tables most_tables && nat_le b.rows most_rows && nat_le b.states most_states) within in
     let more = and_parts (nat_le b.format.atoms most_atoms && nat_le b.tables most_tables && nat_le b.rows most_rows) (nat_le b.states most_states) all.1 in
     let rest = and_parts (nat_le b.format.atoms most_atoms && nat_le b.tables most_tables) (nat_le b.rows most_rows) more.0 in
     let few = and_parts (nat_le b.format.atoms most_atoms) (nat_le b.tables most_tables) rest.0 in
@@ -86,7 +95,7 @@ leads_within (in_body b) within (tabled (row r)) next leads =
 leads_within (in_body b) within (listed l) next leads =
     let (holds, same) = only_where (nat_lt b.states most_states && is_line b.format (listed l)) (in_body (state_more b)) next leads in
     let below : b.states < most_states = ltb-true b.states most_states (and_parts (nat_lt b.states most_states) (is_line b.format (listed l)) holds).0 in
-    let all = and_parts (nat_le 1 b.format.weights) (nat_le b.format.atoms most_atoms && nat_le b.tables most_tables && nat_le b.rows most_rows && nat_le b.states most_states) within in
+    let all = and_parts (nat_le 1 b.format.weights && nat_le b.swaps most_swaps) (nat_le b.format.atoms most_atoms && nat_le b.tables most_tables && nat_le b.rows most_rows && nat_le b.states most_states) within in
     let more = and_parts (nat_le b.format.atoms most_atoms && nat_le b.tables most_tables && nat_le b.rows most_rows) (nat_le b.states most_states) all.1 in
     let rest = and_parts (nat_le b.format.atoms most_atoms && nat_le b.tables most_tables) (nat_le b.rows most_rows) more.0 in
     let few = and_parts (nat_le b.format.atoms most_atoms) (nat_le b.tables most_tables) rest.0 in
@@ -95,6 +104,7 @@ leads_within (in_body b) within (last count) next leads = subst IsWithin (only_w
 leads_within ended within (version w) next leads = never next leads
 leads_within ended within (claims claim) next leads = never next leads
 leads_within ended within (constant k) next leads = never next leads
+leads_within ended within (swapped names) next leads = never next leads
 leads_within ended within (atom a) next leads = never next leads
 leads_within ended within (tabled (scope s)) next leads = never next leads
 leads_within ended within (tabled (row r)) next leads = never next leads
@@ -103,12 +113,15 @@ leads_within ended within (last count) next leads = never next leads
 
 -- ---- how many lines there are
 
-body_length : (atoms : List WeightedAtom) (tables : List TableLine) (states : List StateLine) → length (body_lines atoms tables states) ≡ (length atoms + length tables) + length states
-body_length atoms tables states =
+body_length : (swaps : List (List (List ℕ))) (atoms : List WeightedAtom) (tables : List TableLine) (states : List StateLine)
+    → length (body_lines swaps atoms tables states) ≡ (length swaps + length atoms + length tables) + length states
+body_length swaps atoms tables states =
     omega (
       arith,
-      length-append (map atom atoms ++ map tabled tables) (map listed states),
-      length-append (map atom atoms) (map tabled tables),
+      length-append ((map swapped swaps ++ map atom atoms) ++ map tabled tables) (map listed states),
+      length-append (map swapped swaps ++ map atom atoms) (map tabled tables),
+      length-append (map swapped swaps) (map atom atoms),
+      length-map swaps swapped,
       length-map atoms atom,
       length-map tables tabled,
       length-map states listed,
@@ -126,18 +139,20 @@ few_lines lines (at_claim v) are = omega (arith, ap length are)
 few_lines lines (at_constant v) (claim, is, are) = omega (arith, ap length are)
 few_lines lines (in_body b) body =
     let g : Beginning = body.beginning in
-    omega (arith, ap length body.lines_are, body_length g.atoms g.tables g.states, table_lines g.tables, body.keeps.few_atoms, body.keeps.few_tables, body.keeps.few_rows, body.keeps.few_states)
+    omega (arith, ap length body.lines_are, body_length g.swaps g.atoms g.tables g.states, table_lines g.tables, body.keeps.few_swaps, body.keeps.few_atoms, body.keeps.few_tables, body.keeps.few_rows, body.keeps.few_states)
 few_lines lines ended (c, keeps, are) =
     let (counts, each) = and_parts _ (list_all (is_line (format_of c)) (text_lines c)) keeps in
     let (bodies, states) = and_parts _ (nat_le (length c.lines) most_states) counts in
-    let (atoms, tables) = and_parts (nat_le (length c.atoms) most_atoms) _ bodies in
+    let (fronts, tables) = and_parts (nat_le (length c.swaps) most_swaps && nat_le (length c.atoms) most_atoms) _ bodies in
+    let (swaps, atoms) = and_parts (nat_le (length c.swaps) most_swaps) (nat_le (length c.atoms) most_atoms) fronts in
     let (scopes, rows) = and_parts (begin_with_scope c.tables && nat_le (scope_count c.tables) most_tables) (nat_le (row_count c.tables) most_rows) tables in
     omega (
       arith,
       ap length are,
-      body_length c.atoms c.tables c.lines,
-      length-append (body_lines c.atoms c.tables c.lines) (last (length c.lines) ∷ []),
+      body_length c.swaps c.atoms c.tables c.lines,
+      length-append (body_lines c.swaps c.atoms c.tables c.lines) (last (length c.lines) ∷ []),
       table_lines c.tables,
+      leb-true (length c.swaps) most_swaps swaps,
       leb-true (length c.atoms) most_atoms atoms,
       leb-true (scope_count c.tables) most_tables (and_parts (begin_with_scope c.tables) (nat_le (scope_count c.tables) most_tables) scopes).1,
       leb-true (row_count c.tables) most_rows rows,

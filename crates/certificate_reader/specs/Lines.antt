@@ -42,6 +42,7 @@ abbrev pub text_line_of : CertLine → text.TextLine
 text_line_of (line.Head version) = text.version (version_of version)
 text_line_of (line.Claim claim) = text.claims (claim_of claim)
 text_line_of (line.Constant k) = text.constant k.items
+text_line_of (line.Swap objects) = text.swapped (map name_of objects.items)
 text_line_of (line.Weight weights predicate objects) =
     text.atom (record { weights = weights.items; atom = record { predicate = name_of predicate; objects = map name_of objects.items } })
 text_line_of (line.Table scope) = text.tabled (text.scope scope.items)

@@ -6,7 +6,7 @@ use Rattle.certificate_reader.specs.declared.line.CertLine.{CertLine}
 use Rattle.certificate_reader.specs.declared.format.Format.{Format}
 use Rattle.certificate_reader.specs.Lines.{text_line_of, version_of}
 use Rattle.certificate_definitions.specs.CertificateText as text
-use Rattle.certificate_definitions.specs.CertificateText.{scope, row, TextLine, atom, tabled, listed, is_line, line_text, most_atoms, most_tables, most_rows, most_states}
+use Rattle.certificate_definitions.specs.CertificateText.{scope, row, TextLine, swapped, atom, tabled, listed, is_line, line_text, most_swaps, most_atoms, most_tables, most_rows, most_states}
 use Rattle.certificate_definitions.specs.CertificateMachine as machine
 use Rattle.certificate_definitions.specs.CertificateMachine.{CertificatePlace, at_version, at_claim, at_constant, in_body, ended, format_at, next_place}
 use Rattle.certificate_reader.specs.declared.stage.Body.{Body}
@@ -21,7 +21,7 @@ abbrev pub format_of : Format → text.Format
 format_of f = record { version = version_of f.version; weights = f.weights; atoms = f.atoms }
 
 abbrev pub body_of : Body → machine.Body
-body_of b = record { format = format_of b.format; tables = b.tables; rows = b.rows; states = b.states }
+body_of b = record { format = format_of b.format; swaps = b.swaps; tables = b.tables; rows = b.rows; states = b.states }
 
 abbrev pub place_of : Stage → CertificatePlace
 place_of stage.Version = at_version
@@ -30,9 +30,9 @@ place_of (stage.Constants version) = at_constant (version_of version)
 place_of (stage.Body b) = in_body (body_of b)
 place_of stage.Ended = ended
 
--- the body has weights, and no more atoms, tables, rows and states than there may be
+-- the body has weights, and no more exchanges, atoms, tables, rows and states than there may be
 abbrev pub is_body_within : machine.Body → Bool
-is_body_within b = nat_le 1 b.format.weights && (nat_le b.format.atoms most_atoms && nat_le b.tables most_tables && nat_le b.rows most_rows && nat_le b.states most_states)
+is_body_within b = (nat_le 1 b.format.weights && nat_le b.swaps most_swaps) && (nat_le b.format.atoms most_atoms && nat_le b.tables most_tables && nat_le b.rows most_rows && nat_le b.states most_states)
 
 abbrev pub is_within : CertificatePlace → Bool
 is_within at_version = true
@@ -46,6 +46,7 @@ IsWithin place = IsTrue (is_within place)
 
 -- the line could occur there but for a limit
 abbrev pub IsOver : CertificatePlace → TextLine → Type 0
+IsOver (in_body b) (swapped names) = (b.format.atoms ≡ 0) × (b.tables ≡ 0) × (b.states ≡ 0) × (b.swaps ≡ most_swaps)
 IsOver (in_body b) (atom a) = (b.tables ≡ 0) × (b.states ≡ 0) × (b.format.atoms ≡ most_atoms)
 IsOver (in_body b) (tabled (scope s)) = (b.states ≡ 0) × (b.tables ≡ most_tables)
 IsOver (in_body b) (tabled (row r)) = (0 < b.tables) × (b.states ≡ 0) × (b.rows ≡ most_rows)

@@ -8,7 +8,7 @@ use Rattle.std.specs.Option.{option_map}
 use Rattle.model.specs.PlanWriting.{is_lower_name}
 use Rattle.model.specs.Claims.{Claim, bound, none, Mark, opened, cut, dead}
 use Rattle.certificate_definitions.specs.Certificates.{is_number, is_weight, rise}
-use Rattle.certificate_definitions.specs.CertificateText.{NamedAtom, scope, row, Format, TextLine, version, claims, constant, atom, tabled, listed, last, after_blank, numbers_text, is_line, version_number}
+use Rattle.certificate_definitions.specs.CertificateText.{NamedAtom, scope, row, Format, TextLine, version, claims, constant, swapped, atom, tabled, listed, last, after_blank, numbers_text, is_line, version_number}
 
 -- the bytes of a word, where there is one
 abbrev pub text_in : Option (Bor (List ℕ)) → Option (List ℕ)
@@ -53,6 +53,7 @@ abbrev pub line_head : TextLine → List ℕ
 line_head (version v) = codes "pddl-cert"
 line_head (claims claim) = codes "claim"
 line_head (constant k) = codes "constant"
+line_head (swapped names) = codes "swap"
 line_head (atom a) = codes "atom"
 line_head (tabled (scope atoms)) = codes "table"
 line_head (tabled (row r)) = codes "row"
@@ -93,6 +94,7 @@ abbrev pub line_rest : TextLine → Option (List ℕ)
 line_rest (version v) = Some (decimal (version_number v))
 line_rest (claims claim) = Some (claim_rest claim)
 line_rest (constant k) = then_weights k None
+line_rest (swapped names) = then_words names None
 line_rest (atom a) = then_weights a.weights (Some (atom_rest a.atom))
 line_rest (tabled (scope atoms)) = then_numbers atoms
 line_rest (tabled (row r)) = then_weights r.weights (then_numbers r.atoms)

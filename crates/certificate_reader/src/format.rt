@@ -1,6 +1,6 @@
 //! What the lines of a text have in common.
 ghost use Rattle.std.specs.Prelude.{◌≡◌};
-ghost use Rattle.certificate_definitions.specs.Certificates.{has_tables};
+ghost use Rattle.certificate_definitions.specs.Certificates.{has_exchanges, has_tables};
 ghost use Rattle.certificate_definitions.specs.CertificateText.{is_weight_count};
 ghost use Rattle.certificate_reader.specs.Lines.{version_of};
 
@@ -36,4 +36,11 @@ pub(crate) fn has_tables(version: Version) -> bool
         Version::One | Version::Two => false,
         Version::Three => true,
     }
+}
+
+/// Whether there may be exchanges of objects.
+pub(crate) fn has_exchanges(version: Version) -> bool
+    ensures { result ≡ has_exchanges (version_of version) }
+{
+    version == Version::Three
 }

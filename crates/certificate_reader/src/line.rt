@@ -3,6 +3,9 @@
 /// The most atoms that a certificate may have.
 pub const MAX_ATOMS: usize = 1_048_576;
 
+/// The most exchanges of objects that a certificate may have.
+pub const MAX_SWAPS: usize = 1_048_576;
+
 /// The most tables that a certificate may have.
 pub const MAX_TABLES: usize = 4_194_304;
 
@@ -34,7 +37,7 @@ pub enum Claim {
 }
 
 /// The version of a certificate's text. From version 2 on a state may be listed as a dead end, and each atom has a last weight,
-/// by which dead ends are reported. In version 3 there are up to 32 values, and tables.
+/// by which dead ends are reported. In version 3 there are up to 32 values, tables, and exchanges of objects.
 #[derive(Clone, Copy, Debug, PartialEq, Eq)]
 pub enum Version {
     /// `pddl-cert 1`.
@@ -88,6 +91,11 @@ pub enum CertLine {
     Claim(Claim),
     /// The constants, one for each value and, last, one for dead ends: `constant 6 1`, and in version 1 `constant 6`.
     Constant(Vec<i64>),
+    /// Objects that change places, two by two, by their names in lower case: `swap ball1 ball2`.
+    Swap {
+        /// The names: the first and the second change places, the third and the fourth, and so on. All are different.
+        objects: Vec<Vec<u8>>,
+    },
     /// An atom and its weights: `atom -3 0 (at b)`, and in version 1 `atom -3 (at b)`.
     Weight {
         /// The weights, as many as there are constants.

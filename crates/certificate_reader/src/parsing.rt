@@ -9,9 +9,10 @@ ghost use Rattle.certificate_definitions.specs.CertificateText as text;
 ghost use Rattle.certificate_reader.specs.Parsing.{IsParsed, IsParsedAfter};
 ghost use Rattle.certificate_reader.specs.Words.{IsReadAs, are_lower, atom_rest, with_rest};
 
+use crate::exchanged::exchanged_names;
 use crate::fault::{NextFault, TextFault};
 use crate::first_word::{first_word, is};
-use crate::format::{Format, has_tables, is_weight_count};
+use crate::format::{Format, has_exchanges, has_tables, is_weight_count};
 use crate::line::{CertLine, MAX_CONSTANTS, Mark, NamedAtom, StateLine, Version};
 use crate::lower_names::{copy, is_lower_name, names};
 use crate::number::number;
@@ -64,6 +65,9 @@ fn parse_after(
     }
     if is(word, b"atom") {
         return atom_line(alloc, rest, format);
+    }
+    if is(word, b"swap") {
+        return swap_line(alloc, rest, format);
     }
     if is(word, b"end") {
         return last_line(rest);
@@ -147,6 +151,20 @@ fn atom_line(alloc: Global, rest: &[u8], format: Format) -> Result<CertLine, Nex
             predicate,
             objects,
         }),
+        None => Err(NextFault::Text(TextFault::Form)),
+    }
+}
+
+/// The line of the objects that change places, whose names come after `swap`.
+fn swap_line(alloc: Global, rest: &[u8], format: Format) -> Result<CertLine, NextFault>
+    requires short { length (with_rest (codes "swap") (Some rest.now)) ≤ longest_line }
+    ensures { IsParsedAfter (codes "swap") rest.now (format_of format) result }
+{
+    if !has_exchanges(format.version) {
+        return Err(NextFault::Text(TextFault::Form));
+    }
+    match exchanged_names(alloc, rest)? {
+        Some(objects) => Ok(CertLine::Swap { objects }),
         None => Err(NextFault::Text(TextFault::Form)),
     }
 }

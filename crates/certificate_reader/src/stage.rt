@@ -2,14 +2,14 @@
 ghost use Rattle.std.specs.Prelude.{◌≡◌, ℕ, ◌≤◌, IsTrue, List, length};
 ghost use Rattle.table_functions.specs.TableFunctions.{Row};
 ghost use Rattle.certificate_definitions.specs.Certificates.{StateLine};
-ghost use Rattle.certificate_definitions.specs.CertificateText.{WeightedAtom, scope, row, atom, tabled, listed, is_line, longest_line};
+ghost use Rattle.certificate_definitions.specs.CertificateText.{WeightedAtom, scope, row, swapped, atom, tabled, listed, is_line, longest_line};
 ghost use Rattle.certificate_definitions.specs.CertificateMachine.{format_at, in_body, no_body, no_format};
 ghost use Rattle.certificate_reader.specs.Lines.{text_line_of, version_of};
 ghost use Rattle.certificate_reader.specs.Stages.{IsReadAt, IsStep, IsWithin, body_of, format_of, place_of};
 
 use crate::fault::{NextFault, TextFault};
 use crate::format::Format;
-use crate::line::{CertLine, MAX_ATOMS, MAX_ROWS, MAX_STATE_LINES, MAX_TABLES, Version};
+use crate::line::{CertLine, MAX_ATOMS, MAX_ROWS, MAX_STATE_LINES, MAX_SWAPS, MAX_TABLES, Version};
 use crate::parsing::parse;
 use std::alloc::Global;
 
@@ -28,11 +28,13 @@ pub(crate) enum Stage {
     Ended,
 }
 
-/// What came after the constants: atoms, which the format counts, then tables with their rows, then states.
+/// What came after the constants: exchanges, then atoms, which the format counts, then tables with their rows, then states.
 #[derive(Clone, Copy, Debug, PartialEq, Eq)]
 pub(crate) struct Body {
     /// What was said of the form of lines.
     pub(crate) format: Format,
+    /// How many exchanges of objects there were.
+    pub(crate) swaps: usize,
     /// How many tables began.
     pub(crate) tables: usize,
     /// How many rows there were.
@@ -100,6 +102,7 @@ fn no_body(version: Version, weights: usize) -> Body
             weights,
             atoms: 0,
         },
+        swaps: 0,
         tables: 0,
         rows: 0,
         states: 0,
@@ -114,6 +117,7 @@ impl Body {
         ensures { IsStep (in_body (body_of self)) (text_line_of line.now) result }
     {
         match line {
+            CertLine::Swap { .. } => self.after_swap(),
             CertLine::Weight { .. } => self.after_atom(),
             CertLine::Table { .. } => self.after_table(),
             CertLine::Row { .. } => self.after_row(),
@@ -127,6 +131,26 @@ impl Body {
             }
             _ => Err(TextFault::Form),
         }
+    }
+
+    /// The stage after an exchange of objects, or its fault: exchanges come before all else.
+    fn after_swap(self) -> Result<Stage, TextFault>
+        requires within { IsWithin (in_body (body_of self)) }
+        ensures { (names : List (List ℕ)) → IsTrue (is_line (format_of self.format) (swapped names)) → IsStep (in_body (body_of self)) (swapped names) result }
+    {
+        if self.format.atoms > 0 || self.tables > 0 || self.states > 0 {
+            return Err(TextFault::Form);
+        }
+        if self.swaps >= MAX_SWAPS {
+            return Err(TextFault::Limit);
+        }
+        Ok(Stage::Body(Body {
+            format: self.format,
+            swaps: self.swaps + 1,
+            tables: self.tables,
+            rows: self.rows,
+            states: self.states,
+        }))
     }
 
     /// The stage after an atom, or its fault.
@@ -146,6 +170,7 @@ impl Body {
                 weights: self.format.weights,
                 atoms: self.format.atoms + 1,
             },
+            swaps: self.swaps,
             tables: self.tables,
             rows: self.rows,
             states: self.states,
@@ -165,6 +190,7 @@ impl Body {
         }
         Ok(Stage::Body(Body {
             format: self.format,
+            swaps: self.swaps,
             tables: self.tables + 1,
             rows: self.rows,
             states: self.states,
@@ -184,6 +210,7 @@ impl Body {
         }
         Ok(Stage::Body(Body {
             format: self.format,
+            swaps: self.swaps,
             tables: self.tables,
             rows: self.rows + 1,
             states: self.states,
@@ -200,6 +227,7 @@ impl Body {
         }
         Ok(Stage::Body(Body {
             format: self.format,
+            swaps: self.swaps,
             tables: self.tables,
             rows: self.rows,
             states: self.states + 1,

@@ -1,4 +1,4 @@
-mod EstimateLemmas
+pub mod EstimateLemmas
 mod ClimbLemmas
 mod FairAtLemmas
 mod TestedLemmas

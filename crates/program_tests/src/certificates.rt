@@ -137,6 +137,7 @@ fn header(alloc: Global, row: &Row) -> Result<Header, NoMemory> {
     Ok(Header {
         version: row.0,
         claim: row.1,
+        exchanges: Vec::new(alloc),
         atoms,
         bounds: bounds(alloc, row)?,
     })

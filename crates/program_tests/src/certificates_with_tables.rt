@@ -74,6 +74,7 @@ fn header(alloc: Global, version: Version) -> Result<Header, NoMemory> {
     Ok(Header {
         version,
         claim: Claim::Bound(0),
+        exchanges: Vec::new(alloc),
         atoms,
         bounds: bounds(alloc)?,
     })

@@ -7,6 +7,8 @@ mod answers;
 #[cfg(test)]
 mod certificates;
 #[cfg(test)]
+mod certificates_with_exchanges;
+#[cfg(test)]
 mod certificates_with_tables;
 #[cfg(test)]
 mod changed_texts;

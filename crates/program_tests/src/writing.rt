@@ -72,6 +72,7 @@ fn header(alloc: Global) -> Result<Header, NoMemory> {
     Ok(Header {
         version: Version::Two,
         claim: Claim::Bound(0),
+        exchanges: Vec::new(alloc),
         atoms,
         bounds: bounds(alloc)?,
     })

@@ -3,36 +3,38 @@ use Rattle.std.proofs.Common.{◌≡◌, ◌∙◌, ℕ, ◌^◌, ◌<◌, ◌�
 use Rattle.std.specs.Prelude.{slice_get, slice_index, nat_lt, IsTrue}
 use Rattle.std.specs.Global.{Vec}
 use Rattle.std.specs.List.{list_all}
-use Rattle.std.specs.Option.{option_map_or}
+use Rattle.std.specs.Option.{option_map, option_map_or}
 use Rattle.std.proofs.lemmas.Bool.{true≢false, cases_lt, and_from, and_parts, ltb-true, lt-ltb}
 use Rattle.std.proofs.lemmas.List.{get_or_read, length-map, take_all}
-use Rattle.std.proofs.lemmas.Option.{slice_get_within}
+use Rattle.std.proofs.lemmas.Option.{slice_get_read, slice_get_within, slice_get-map}
 use Rattle.grounding.specs.declared.ground.Ground.{Ground}
 use Rattle.grounding.specs.Ground.{atoms_in}
 use Rattle.model.specs.Task.{Atom}
 use Rattle.model.specs.Meaning.{State}
 use Rattle.model.specs.Fluents.{is_fluent}
-use Rattle.model.specs.Grounding.{state_of_bits}
+use Rattle.model.specs.Grounding.{state_of_bits, bits_of_state}
+use Rattle.model.proofs.ListLemmas.{Contains-got}
 use Rattle.model.proofs.Tests.{passes_weaker}
 use Rattle.model.proofs.PackedStates.{bits_of-packed_state}
-use Rattle.symmetries.specs.Exchanges.{Exchange, image_of_object, objects_in, are_different}
+use Rattle.symmetries.specs.Exchanges.{Exchange, image_of_object, image_of_state, objects_in, are_different}
 use Rattle.symmetries.specs.Symmetries.{is_symmetry}
 use Rattle.symmetries.specs.Quotients.{keeps_atoms, packed_representative}
+use Rattle.symmetries.proofs.Lists.{all-at}
 use Rattle.symmetries.proofs.ExchangeLemmas.{own_inverse}
 use Rattle.task_symmetries.specs.declared.exchange.Exchange as code
-use Rattle.task_symmetries.specs.Exchange.{exchange_of}
+use Rattle.task_symmetries.specs.Exchange.{exchange_of, image}
 use Rattle.packed_state.specs.Sets.{has}
 use Rattle.representatives.specs.declared.pairs.Pair.{Pair}
 use Rattle.representatives.specs.declared.representatives.Representatives.{Representatives}
-use Rattle.representatives.specs.Places.{swap_of, swaps_of_all, are_within, is_within, is_earlier, is_earlier_at, swapped_at, FindsFrom}
+use Rattle.representatives.specs.Places.{swap_of, swaps_of_all, are_within, is_within, is_earlier, with_swapped, is_earlier_at, swapped_at, FindsFrom}
 use Rattle.representatives.specs.Apart.{AreAllWithin}
-use Rattle.representatives.specs.NewNames.{IsRenamed}
+use Rattle.representatives.specs.NewNames.{IsRenamed, IsRenamedBy}
 use Rattle.representatives.specs.Pairs.{pair_of, AreBelow, swap_in, swaps_in}
 use Rattle.representatives.specs.Representatives.{task_of, atoms_of, exchanges_of, swaps_of}
 use Rattle.representatives.proofs.Ranks.{rank}
-use Rattle.representatives.proofs.ImageBits.{numbers_within}
+use Rattle.representatives.proofs.ImageBits.{numbers_within, image_swapped}
 use Rattle.representatives.proofs.ApartLemmas.{swap_at, these_below, passed_on}
-use Rattle.representatives.proofs.NewNames.{renamed}
+use Rattle.representatives.proofs.NewNames.{renamed, renamed_by_none, renamed_by_one_more}
 use Rattle.representatives.proofs.Turns.{AreKept, all_within, Stands, ends, turns}
 
 all_different : (exchanges : List code.Exchange) → list_all (λ (e : Exchange). are_different (objects_in e)) (map exchange_of exchanges) ≡ true
@@ -168,3 +170,54 @@ pub has_new_names : (r : Representatives) (bits new : List Bool) → new ≡ pac
 has_new_names r bits new is all =
     subst (IsRenamed (task_of r) (atoms_of r) bits) (sym is)
     (renamed (task_of r) (atoms_of r) (exchanges_of r) r.ground.now.numbering.fluent r.kept all r.ground.now.numbering.statics.task.now.well_typed bits)
+
+-- ---- names
+
+-- a number of an exchange whose image comes before the state
+pub number_within : (r : Representatives) (bits : List Bool) (n : ℕ) → is_earlier_at (swaps_of r) bits n ≡ true → n < length r.exchanges.now
+number_within r bits n passes = within (slice_get (swaps_of r) n) refl
+  where
+    within : (found : Option (List (ℕ × ℕ))) → slice_get (swaps_of r) n ≡ found → n < length r.exchanges.now
+    within None none = absurd (true≢false (sym passes ∙ ap (λ o. option_map_or (λ pairs. is_earlier pairs (has bits)) o false) none))
+    within (Some pairs) some =
+        let inside = slice_get_within (swaps_of r) n pairs some in
+        let made = ap length r.made in
+        let each = length-map (exchanges_of r) (swap_of (atoms_of r)) in
+        let given = length-map r.exchanges.now exchange_of in
+        omega (arith, inside, made, each, given)
+
+module _ (r : Representatives) where
+  -- of a state of one width, by the exchange at a number
+  made_image : (bits new : List Bool) (n : ℕ) (e : Exchange) → length bits ≡ length (atoms_of r) → slice_get (exchanges_of r) n ≡ Some e → new ≡ swapped_at (swaps_of r) bits n
+      → new ≡ bits_of_state (atoms_of r) (image_of_state (image_of_object e) (state_of_bits (task_of r) (atoms_of r) bits))
+  made_image bits new n e wide at is =
+      let atoms = atoms_of r in
+      let s = state_of_bits (task_of r) atoms bits in
+      let same : bits_of_state atoms s ≡ bits = bits_of-packed_state (is_fluent (task_of r)) (task_of r).init atoms r.ground.now.numbering.fluent r.ground.now.numbering.distinct bits wide in
+      let there = Contains-got (exchanges_of r) n e at in
+      let kept = kept_of r in
+      let found : slice_get (swaps_of r) n ≡ Some (swap_of atoms e) =
+      ap (λ swaps. slice_get swaps n) r.made ∙ slice_get-map (swap_of atoms) (exchanges_of r) n ∙ ap (option_map (swap_of atoms)) at in
+      is
+      ∙ ap (λ o. option_map_or (λ pairs. with_swapped pairs bits) o bits) found
+      ∙ ap (with_swapped (swap_of atoms e)) (sym same)
+      ∙ sym (image_swapped atoms kept.distinct (image_of_object e) (own_inverse e (all-at (λ (x : Exchange). are_different (objects_in x)) (exchanges_of r) e kept.different there))
+      (all-at (keeps_atoms atoms) (exchanges_of r) e kept.kept there) s)
+
+  -- where exchanges are symmetries, the state is renamed
+  abbrev pub AreNamed : List Bool → (ℕ → ℕ) → List Bool → (ℕ → ℕ) → Type 0
+  AreNamed start names bits now = IsTrue (list_all (is_symmetry (task_of r)) (exchanges_of r)) → IsRenamedBy (task_of r) (atoms_of r) names start now bits
+
+  pub names_given : (names : ℕ → ℕ) (bits : List Bool) → AreNamed bits names bits names
+  names_given names bits all = renamed_by_none (task_of r) (atoms_of r) (exchanges_of r) r.ground.now.numbering.fluent r.kept all names bits
+
+  -- the exchange at the number has been made
+  pub names_changed : (start bits new : List Bool) (names now after : ℕ → ℕ) (n : ℕ) (e : code.Exchange) → AreNamed start names bits now
+      → length bits ≡ length (atoms_of r) → is_earlier_at (swaps_of r) bits n ≡ true → e ≡ get_or r.exchanges.now n e → new ≡ swapped_at (swaps_of r) bits n
+      → ((o : ℕ) → after o ≡ now (image e o)) → AreNamed start names new after
+  names_changed start bits new names now after n e named wide passes at is moved all =
+      let there : slice_get (exchanges_of r) n ≡ Some (exchange_of e) =
+      slice_get-map exchange_of r.exchanges.now n ∙ ap (option_map exchange_of) (slice_get_read r.exchanges.now (length r.exchanges.now) n e refl (number_within r bits n passes) at) in
+      renamed_by_one_more (task_of r) (atoms_of r) (exchanges_of r) r.ground.now.numbering.fluent r.kept all r.ground.now.numbering.statics.task.now.well_typed
+      (exchange_of e) (Contains-got (exchanges_of r) n (exchange_of e) there) names now after start bits new (named all)
+      (made_image bits new n (exchange_of e) wide there is) moved

@@ -5,4 +5,5 @@ pub mod ImageBits
 pub mod Turns
 pub mod ApartLemmas
 pub mod NewNames
+pub mod NameLemmas
 pub mod Kept

@@ -2,8 +2,10 @@
 //! them all, found bit by bit.
 #![tactic(auto)]
 
+mod names;
 mod neighbours;
 mod pairs;
 mod representatives;
 
+pub use names::Names;
 pub use representatives::Representatives;

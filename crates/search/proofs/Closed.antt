@@ -3,20 +3,20 @@ use Rattle.std.proofs.Common.{◌≡◌, ℕ, zero, suc, ◌+◌, ◌*◌, ◌�
 use Rattle.std.specs.Prelude.{slice_get, Contains, if◌then◌else◌}
 use Rattle.std.proofs.lemmas.Bool.{false≢true}
 use Rattle.std.proofs.lemmas.Option.{same_Some, slice_get_within}
-use Rattle.std.proofs.lemmas.List.Sums.{sum_by-append, count_by-le-length}
-use Rattle.std.proofs.Math.Nat.{mul-le-mul_right}
+use Rattle.std.proofs.lemmas.List.Sums.{sum_by-append}
 use Rattle.model.specs.Runs.{System, run, cost_of_all, CostsAtLeast, Solves, IsOptimal, IsUnsolvable}
 use Rattle.model.specs.Claims.{Claim, bound, none, Allows, ClaimHolds, Mark, opened, cut, dead, Line, IsListedWithin, IsClosed}
 use Rattle.model.proofs.ClaimsLemmas.{claim-of_closed}
 use Rattle.model.proofs.ListLemmas.{Contains-here, Contains-there, Contains-cases, Contains-none}
 use Rattle.search.specs.declared.nodes.Node.{Node}
-use Rattle.search.specs.Estimates.{IsConsistent}
-use Rattle.search.specs.DeadEnds.{DetectsDeadEnds}
+use Rattle.search.specs.Estimates.{IsAdmissible, IsConsistent}
+use Rattle.search.specs.DeadEnds.{DetectsDeadEnds, ReportsDeadEnds}
 use Rattle.search.specs.Outcome.{is_expanded, is_marked_dead, line_of, lines_of, IsReachableAt, ReachingCostsAtLeast, AreFound, AreExpandedWithin}
-use Rattle.search.specs.Nodes.{Waiting, Found, found_of, IsWaiting, total_of, AreNodes, IsFoundWithin, AreOpen, parent_of, begins, follows, IsPath, IsReachedIn, IsWay, expanded_count, dearest}
+use Rattle.search.specs.Nodes.{Waiting, Found, found_of, IsWaiting, total_of, AreNodes, IsFoundWithin, AreOpen, parent_of, begins, follows, IsPath, IsReachedIn, IsWay, dearest}
 use Rattle.search.proofs.Consistent.{lower_bound}
 use Rattle.search.proofs.DeadEnds.{are_dead_ends}
 use Rattle.search.proofs.NodesLemmas.{run-push}
+use Rattle.search.proofs.ShortWays.{short_way}
 use Rattle.search.proofs.Linked.{found_of-get, get-found_of, length-found_of}
 use Rattle.search.proofs.Lists.{get_exists}
 
@@ -65,22 +65,22 @@ dead_if false true estimate is = refl
 dead_if false false estimate is = absurd (cc)
 
 -- what a listing needs of the found states
-pub record AreListed {S : Type 0} (t : System S ℕ) (is_dead : S → Bool) (nodes : List (Found S)) : Type 0 where
+pub record AreListed {S : Type 0} (t : System S ℕ) (value : S → ℕ) (is_dead : S → Bool) (nodes : List (Found S)) : Type 0 where
   pub root : (n : Found S) × (slice_get nodes 0 ≡ Some n) × (n.state ≡ t.initial) × (n.node.cost ≡ 0)
   pub distinct : (j k : ℕ) (m n : Found S) → slice_get nodes j ≡ Some m → slice_get nodes k ≡ Some n → m.state ≡ n.state → j ≡ k
   pub cheap : (k : ℕ) (n : Found S) → slice_get nodes k ≡ Some n → n.node.cost ≤ length nodes * dearest
   pub reachable : (k : ℕ) (n : Found S) → slice_get nodes k ≡ Some n → IsReachableAt t n.state n.node.cost
   pub no_goal : (k : ℕ) (n : Found S) → slice_get nodes k ≡ Some n → is_expanded n.node ≡ true → t.meets_goal n.state ≡ false
-  pub cheapest : (k : ℕ) (n : Found S) → slice_get nodes k ≡ Some n → is_expanded n.node ≡ true → ReachingCostsAtLeast t n.state n.node.cost
+  pub cheapest : IsConsistent t value → DetectsDeadEnds t is_dead → (k : ℕ) (n : Found S) → slice_get nodes k ≡ Some n → is_expanded n.node ≡ true → ReachingCostsAtLeast t n.state n.node.cost
   pub alive : (k : ℕ) (n : Found S) → slice_get nodes k ≡ Some n → is_expanded n.node ≡ true → is_dead n.state ≡ false
   pub marked : (k : ℕ) (n : Found S) → slice_get nodes k ≡ Some n → is_marked_dead n.node ≡ is_dead n.state
 
 -- what holds of them at any time suffices
-pub are_listed : {S : Type 0} (t : System S ℕ) (value : S → ℕ) (is_dead : S → Bool) (nodes : List (Found S)) (open_list : List Waiting) → AreNodes t value is_dead nodes open_list → AreListed t is_dead nodes
+pub are_listed : {S : Type 0} (t : System S ℕ) (value : S → ℕ) (is_dead : S → Bool) (nodes : List (Found S)) (open_list : List Waiting) → AreNodes t value is_dead nodes open_list → AreListed t value is_dead nodes
 are_listed {S} t value is_dead nodes open_list are = record {
   root = are.root;
   distinct = are.distinct;
-  cheap = λ k n at. omega (arith, are.cheap k n at, mul-le-mul_right dearest (count_by-le-length (λ (x : Found S). is_expanded x.node) nodes));
+  cheap = are.cheap;
   reachable = are.reachable;
   no_goal = are.no_goal;
   cheapest = are.cheapest;
@@ -99,7 +99,7 @@ module _ {S : Type 0} (t : System S ℕ) (value : S → ℕ) (is_dead : S → Bo
       let parts = found_of-get states all k n at in
       (line_of value is_dead n.state n.node, at-line value is_dead states all k n.state n.node parts.0 parts.1, is, within)
 
-  module _ (listed : AreListed t is_dead (found_of states all)) where
+  module _ (listed : AreListed t value is_dead (found_of states all)) where
     pub closed : (claim : Claim) → AreOpen t (found_of states all)
         → ((k : ℕ) (n : Found S) → slice_get (found_of states all) k ≡ Some n → IsWaiting is_dead n → Allows claim (total_of value n))
         → IsClosed t value is_dead claim (lines_of value is_dead states all)
@@ -152,24 +152,20 @@ module _ {S : Type 0} (t : System S ℕ) (value : S → ℕ) (is_dead : S → Bo
           let s = get_exists states k (omega (arith, slice_get_within all k r at_r)) in
           let there = node_at k s.0 r s.1 at_r in
           rw (length-found_of states all one_each) at (listed.cheap k (record { state = s.0; node = r }) there);
-      expanded_cheapest = λ k s r at_s at_r expanded. listed.cheapest k (record { state = s; node = r }) (node_at k s r at_s at_r) expanded;
+      expanded_cheapest = λ consistent detects k s r at_s at_r expanded. listed.cheapest consistent detects k (record { state = s; node = r }) (node_at k s r at_s at_r) expanded;
       marked = λ k s r at_s at_r. listed.marked k (record { state = s; node = r }) (node_at k s r at_s at_r);
       expanded_alive = λ k s r at_s at_r expanded. listed.alive k (record { state = s; node = r }) (node_at k s r at_s at_r) expanded;
       closed = is_closed;
     }
 
     -- what a closed listing claims is true
-    pub claimed : IsConsistent t value → DetectsDeadEnds t is_dead → (claim : Claim) → IsClosed t value is_dead claim (lines_of value is_dead states all) → ClaimHolds t claim
-    claimed consistent reports claim is_closed =
-        claim-of_closed t value is_dead claim (lines_of value is_dead states all) (lower_bound t value consistent) (are_dead_ends t is_dead reports) is_closed
+    pub claimed : IsAdmissible t value → ReportsDeadEnds t is_dead → (claim : Claim) → IsClosed t value is_dead claim (lines_of value is_dead states all) → ClaimHolds t claim
+    claimed admissible reports claim is_closed =
+        claim-of_closed t value is_dead claim (lines_of value is_dead states all) (lower_bound t value admissible) (are_dead_ends t is_dead reports) is_closed
 
   module _ (open_list : List Waiting) (nodes : AreNodes t value is_dead (found_of states all) open_list) where
-    listing : AreListed t is_dead (found_of states all)
+    listing : AreListed t value is_dead (found_of states all)
     listing = are_listed t value is_dead (found_of states all) open_list nodes
-
-    few_expanded : expanded_count (found_of states all) ≤ length states
-    few_expanded =
-        omega (arith, count_by-le-length (λ (n : Found S). is_expanded n.node) (found_of states all), length-found_of states all one_each)
 
     -- the way to a found state, among the nodes alone
     path_of : (k : ℕ) (way : List ℕ) → IsWay (found_of states all) k way → IsPath all k way
@@ -180,16 +176,17 @@ module _ {S : Type 0} (t : System S ℕ) (value : S → ℕ) (is_dead : S → Bo
     -- the parents lead to each node
     pub reached_in : (k : ℕ) (n : Found S) → slice_get (found_of states all) k ≡ Some n → IsReachedIn all k (length all)
     reached_in k n at =
-        let (way, leads, short) = nodes.shallow k n at in
-        (way, path_of k way leads, omega (arith, short, few_expanded, one_each))
+        let (way, leads) = nodes.reached k n at in
+        let path = path_of k way leads in
+        (way, path, short_way (λ (r : Node). r) all k way path)
 
-    -- the actions along the parents lead from the initial state to the node, at its cost
+    -- the actions along the parents lead from the initial state to the node, and cost no more
     pub path_runs : (k : ℕ) (path : List ℕ) (n : Found S) → IsPath all k path → slice_get (found_of states all) k ≡ Some n
-        → (run t t.initial path ≡ Some n.state) × (cost_of_all t path ≡ n.node.cost)
+        → (run t t.initial path ≡ Some n.state) × (cost_of_all t path ≤ n.node.cost)
     path_runs k path n (begins first is) there =
         let same : nodes.root.0 ≡ n = same_Some nodes.root.0 n (sym nodes.root.1 ∙ ap (slice_get (found_of states all)) (sym first) ∙ there) in (
           ap (λ (p : List ℕ). run t t.initial p) is ∙ ap Some (sym nodes.root.2 ∙ ap (λ (x : Found S). x.state) same),
-          ap (λ (p : List ℕ). cost_of_all t p) is ∙ sym nodes.root.3 ∙ ap (λ (x : Found S). x.node.cost) same,
+          omega (arith, ap (λ (p : List ℕ). cost_of_all t p) is),
         )
     path_runs k path n (follows node before elsewhere at earlier is) there =
         let same : n.node ≡ node = same_Some n.node node (sym (found_of-get states all k n there).1 ∙ at) in
@@ -198,29 +195,30 @@ module _ {S : Type 0} (t : System S ℕ) (value : S → ℕ) (is_dead : S → Bo
         let by : n.node.action ≡ node.action = ap (λ (x : Node). x.action) same in
         let (runs, costs) = path_runs (parent_of node) before leads.parent earlier occurs in (
           ap (run t t.initial) is ∙ run-push t t.initial before node.action leads.parent.state n.state runs (ap (t.step leads.parent.state) (sym by) ∙ leads.step),
-          ap (cost_of_all t) is ∙ sum_by-append t.cost before (node.action ∷ []) ∙ omega (arith, costs, leads.cost, ap t.cost by),
+          omega (arith, ap (cost_of_all t) is, sum_by-append t.cost before (node.action ∷ []), costs, leads.cost, ap t.cost by),
         )
 
     -- no list that solves costs less than the sum of the node whose turn came: each has to pass through one that waits
-    pub no_plan_cheaper : IsConsistent t value → DetectsDeadEnds t is_dead → (one : Found S) → AreOpen t (found_of states all)
+    pub no_plan_cheaper : IsAdmissible t value → ReportsDeadEnds t is_dead → (one : Found S) → AreOpen t (found_of states all)
         → ((k : ℕ) (n : Found S) → slice_get (found_of states all) k ≡ Some n → IsWaiting is_dead n → total_of value one ≤ total_of value n)
         → CostsAtLeast t (total_of value one)
-    no_plan_cheaper consistent reports one are_open least =
+    no_plan_cheaper admissible reports one are_open least =
         let sum = total_of value one in
-        claimed listing consistent reports (bound sum) (closed listing (bound sum) are_open (λ k n at waits. least k n at waits))
+        claimed listing admissible reports (bound sum) (closed listing (bound sum) are_open (λ k n at waits. least k n at waits))
 
     -- a goal state whose turn came is reached by a cheapest list
-    pub optimal : IsConsistent t value → DetectsDeadEnds t is_dead → (i : ℕ) (one : Found S) (steps : List ℕ) (max_states : ℕ) → AreOpen t (found_of states all) → slice_get (found_of states all) i ≡ Some one
+    pub optimal : IsAdmissible t value → ReportsDeadEnds t is_dead → (i : ℕ) (one : Found S) (steps : List ℕ) (max_states : ℕ) → AreOpen t (found_of states all) → slice_get (found_of states all) i ≡ Some one
         → ((k : ℕ) (n : Found S) → slice_get (found_of states all) k ≡ Some n → IsWaiting is_dead n → total_of value one ≤ total_of value n)
         → t.meets_goal one.state ≡ true → IsPath all i steps → length steps ≤ length all → length states ≤ max_states
         → IsOptimal t steps × (cost_of_all t steps ≡ one.node.cost) × AreFound t value is_dead (bound one.node.cost) max_states states all
         × (length steps ≤ max_states) × AreExpandedWithin value one.node.cost states all
-    optimal consistent reports i one steps max_states are_open occurs least goal path short within =
-        let nothing_left : value one.state ≡ 0 = consistent.zero_at_goals one.state goal in
+    optimal admissible reports i one steps max_states are_open occurs least goal path short within =
+        let nothing_left : value one.state ≤ 0 = admissible one.state one.state [] refl goal in
         let is_closed = closed listing (bound one.node.cost) are_open (λ k n at waits. omega (arith, least k n at waits, nothing_left)) in
-        let holds = no_plan_cheaper consistent reports one are_open least in
-        let (runs, costs) = path_runs i steps one path occurs in
-        let solves : Solves t steps = (one.state, runs, goal) in (
+        let holds = no_plan_cheaper admissible reports one are_open least in
+        let (runs, no_more) = path_runs i steps one path occurs in
+        let solves : Solves t steps = (one.state, runs, goal) in
+        let costs : cost_of_all t steps ≡ one.node.cost = omega (arith, no_more, holds steps solves) in (
           (solves, λ plan is_plan. omega (arith, holds plan is_plan, costs)),
           costs,
           found_states listing (bound one.node.cost) max_states within is_closed,
@@ -229,9 +227,9 @@ module _ {S : Type 0} (t : System S ℕ) (value : S → ℕ) (is_dead : S → Bo
         )
 
     -- where no state waits, none solves
-    pub unsolvable : IsConsistent t value → DetectsDeadEnds t is_dead → (max_states : ℕ) → AreOpen t (found_of states all)
+    pub unsolvable : IsAdmissible t value → ReportsDeadEnds t is_dead → (max_states : ℕ) → AreOpen t (found_of states all)
         → ((k : ℕ) (n : Found S) → slice_get (found_of states all) k ≡ Some n → IsWaiting is_dead n → ⊥) → length states ≤ max_states
         → IsUnsolvable t × AreFound t value is_dead none max_states states all
-    unsolvable consistent reports max_states are_open none_waits within =
+    unsolvable admissible reports max_states are_open none_waits within =
         let is_closed = closed listing none are_open (λ k n at waits. none_waits k n at waits) in
-        (claimed listing consistent reports none is_closed, found_states listing none max_states within is_closed)
+        (claimed listing admissible reports none is_closed, found_states listing none max_states within is_closed)

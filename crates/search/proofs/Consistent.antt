@@ -5,7 +5,7 @@ use Rattle.std.proofs.lemmas.Option.{same_Some}
 use Rattle.std.proofs.lemmas.List.Sums.{sum_by-cons}
 use Rattle.model.specs.Runs.{System, run, cost_of_all}
 use Rattle.model.specs.Claims.{IsLowerBound}
-use Rattle.search.specs.Estimates.{IsConsistent}
+use Rattle.search.specs.Estimates.{IsAdmissible, IsConsistent}
 
 module _ {S A : Type 0} (t : System S A) (value : S → ℕ) (consistent : IsConsistent t value) where
   -- along a list of actions it falls by no more than what they cost
@@ -21,5 +21,9 @@ module _ {S A : Type 0} (t : System S A) (value : S → ℕ) (consistent : IsCon
       ] refl runs
 
   -- so that it is at most what is still to pay
-  pub lower_bound : IsLowerBound t value
-  lower_bound s end plan reached runs goal = omega (arith, falls_along plan s end runs, consistent.zero_at_goals end goal)
+  pub admissible : IsAdmissible t value
+  admissible s end plan runs goal = omega (arith, falls_along plan s end runs, consistent.zero_at_goals end goal)
+
+-- an admissible estimate is a lower bound from reachable states on
+pub lower_bound : {S A : Type 0} (t : System S A) (value : S → ℕ) → IsAdmissible t value → IsLowerBound t value
+lower_bound t value admissible s end plan reached runs goal = admissible s end plan runs goal

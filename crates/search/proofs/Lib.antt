@@ -4,10 +4,13 @@ pub mod DeadEnds
 pub mod Limit
 pub mod Linked
 pub mod Lists
+pub mod Kept
 pub mod Marked
 pub mod NodesLemmas
 pub mod OpenList
 pub mod OpenListLemmas
 pub mod Steps
+pub mod ShortWays
 pub mod Stopped
 pub mod Ways
+pub mod Work

@@ -1,5 +1,5 @@
 -- Where one state more is found than may be listed: each of them is found from one whose sum is no more than any plan costs.
-use Rattle.std.proofs.Common.{◌≡◌, ℕ, ◌+◌, ◌≢◌, inl, inr, List, [], ◌∷◌, ◌++◌, length, Bool, Some, true, refl, sym, ap, ◌∙◌, subst, arith}
+use Rattle.std.proofs.Common.{◌≡◌, ℕ, ◌+◌, ◌≢◌, inl, inr, List, [], ◌∷◌, ◌++◌, length, Bool, Some, false, refl, sym, ap, ◌∙◌, subst, arith}
 use Rattle.std.specs.Prelude.{slice_get, Contains}
 use Rattle.std.proofs.lemmas.Bool.{cases_eq}
 use Rattle.std.proofs.lemmas.Option.{same_Some, slice_get_within}
@@ -8,7 +8,7 @@ use Rattle.std.proofs.lemmas.List.Elements.{Contains-push_cases}
 use Rattle.model.proofs.ListLemmas.{Contains-got, Contains-place}
 use Rattle.model.specs.Runs.{System, CostsAtLeast, IsReachable}
 use Rattle.search.specs.declared.nodes.Node.{Node}
-use Rattle.search.specs.Outcome.{is_expanded, PrecedesPlans, is_initial, is_next, AreMoreReachable}
+use Rattle.search.specs.Outcome.{PrecedesPlans, is_initial, is_next, AreMoreReachable}
 use Rattle.packed_state.specs.Store.{AreDistinct}
 use Rattle.search.specs.Nodes.{Waiting, parent_of, Found, found_of, AreNodes, IsTurn}
 use Rattle.search.proofs.Lists.{get-push_new, get-push_other, get_exists}
@@ -55,11 +55,12 @@ module _ {S : Type 0} (t : System S ℕ) (value : S → ℕ) (is_dead : S → Bo
       let (n, there_n, same_n) = node_there k x at_k in
       nodes.distinct j k m n there_m there_n (same_m ∙ sym same_n)
 
-  -- an action leads to the state from an expanded one
-  precedes-next : (k : ℕ) (n : Found S) → slice_get (found_of states all) k ≡ Some n → is_expanded n.node ≡ true → (a : ℕ) (x : S) → t.step n.state a ≡ Some x → PrecedesPlans t value is_dead x
-  precedes-next k n there expanded a x leads =
+  -- an action leads to the state from one that is or was expanded
+  precedes-next : (k : ℕ) (n : Found S) → slice_get (found_of states all) k ≡ Some n → t.meets_goal n.state ≡ false → is_dead n.state ≡ false → CostsAtLeast t (n.node.cost + value n.state)
+      → (a : ℕ) (x : S) → t.step n.state a ≡ Some x → PrecedesPlans t value is_dead x
+  precedes-next k n there no_goal alive no_dearer a x leads =
       let (actions, runs, costs) = nodes.reachable k n there in
-      is_next actions n.state a runs (nodes.no_goal k n there expanded) (nodes.alive k n there expanded) (subst (λ c. CostsAtLeast t (c + value n.state)) (sym costs) (nodes.no_dearer k n there expanded)) leads
+      is_next actions n.state a runs no_goal alive (subst (λ c. CostsAtLeast t (c + value n.state)) (sym costs) no_dearer) leads
 
   -- a found state is the initial one, or has a parent
   precedes-found : (k : ℕ) (n : Found S) → slice_get (found_of states all) k ≡ Some n → PrecedesPlans t value is_dead n.state
@@ -70,14 +71,14 @@ module _ {S : Type 0} (t : System S ℕ) (value : S → ℕ) (is_dead : S → Bo
             is_initial (sym (ap (λ (y : Found S). y.state) same) ∙ nodes.root.2)
         | inr elsewhere ↦
             let leads = nodes.linked k n there elsewhere in
-            precedes-next (parent_of n.node) leads.parent leads.occurs leads.expanded n.node.action n.state leads.step
+            precedes-next (parent_of n.node) leads.parent leads.occurs leads.no_goal leads.alive leads.no_dearer n.node.action n.state leads.step
       ]
 
   with_reach : (x : S) → PrecedesPlans t value is_dead x → IsReachable t x × PrecedesPlans t value is_dead x
   with_reach x precedes = (reachable-of_precedes t value is_dead x precedes, precedes)
 
   -- the listed states are as many as the limit allows, and an action leads to a new one from the state whose turn it is
-  pub more_reachable : (i : ℕ) (turn : IsTurn value (found_of states all) i) (a : ℕ) (s : S) → t.step turn.found.state a ≡ Some s → (¬ Contains states s)
+  pub more_reachable : (i : ℕ) (turn : IsTurn t value (found_of states all) i) (a : ℕ) (s : S) → t.step turn.found.state a ≡ Some s → (¬ Contains states s)
       → (max_states : ℕ) → length states ≡ max_states → AreMoreReachable t value is_dead max_states
   more_reachable i turn a s step is_new max_states full = (
     states ++ s ∷ [],
@@ -89,7 +90,9 @@ module _ {S : Type 0} (t : System S ℕ) (value : S → ℕ) (is_dead : S → Bo
               let (k, occurs) = Contains-place states x among in
               let (n, there, same) = node_there k x occurs in
               subst (λ y. PrecedesPlans t value is_dead y) same (precedes-found k n there)
-          | inr is ↦ precedes-next i turn.found turn.occurs turn.expanded a x (step ∙ ap Some is)
+          | inr is ↦
+              precedes-next i turn.found turn.occurs (nodes.no_goal i turn.found turn.occurs turn.expanded) (nodes.alive i turn.found turn.occurs turn.expanded)
+              (nodes.no_dearer i turn.found turn.occurs turn.expanded) a x (step ∙ ap Some is)
         ])),
     omega (arith, length-append states (s ∷ []), full),
   )

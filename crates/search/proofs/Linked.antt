@@ -1,17 +1,13 @@
 -- The found states are the two lists put together, place by place.
-use Rattle.std.proofs.Common.{◌≡◌, ℕ, zero, suc, ◌+◌, ◌≤◌, List, [], ◌∷◌, ◌++◌, length, set, get_or, Bool, cond, Some, false, refl, sym, ap, ◌∙◌, subst, arith}
+use Rattle.std.proofs.Common.{◌≡◌, ℕ, zero, suc, ◌<◌, List, [], ◌∷◌, ◌++◌, length, set, Some, false, refl, sym, ap, ◌∙◌, subst, arith}
 use Rattle.std.specs.Prelude.{slice_get}
-use Rattle.std.proofs.lemmas.Option.{same_Some, get_or_from_slice_get, slice_get_within}
-use Rattle.std.proofs.lemmas.List.Sums.{sum_by-append, sum_by-set}
+use Rattle.std.proofs.lemmas.Option.{same_Some, slice_get_within}
 use Rattle.std.proofs.lemmas.List.{length-set, length-append}
 use Rattle.search.specs.declared.nodes.Node.{Node}
 use Rattle.search.specs.Outcome.{is_expanded}
-use Rattle.search.specs.declared.nodes.NodeStatus.TheVariants.{Expanded}
-use Rattle.search.specs.Nodes.{Found, found_of, expanded_count, Updates, marked}
+use Rattle.search.specs.Nodes.{Found, found_of, Updates}
 use Rattle.search.proofs.Lists.{get-push_new, get-push_other, get-set_here, get-set_other}
-
-abbrev one_if : Bool → ℕ
-one_if b = cond b 1 0
+use Rattle.search.proofs.Work.{work_push, work_cheaper}
 
 module _ {S : Type 0} where
   pub length-found_of : (states : List S) (all : List Node) → length all ≡ length states → length (found_of states all) ≡ length states
@@ -59,23 +55,6 @@ module _ {S : Type 0} where
   found_of-set (x ∷ states) (y ∷ all) (suc k) n r at =
       ap (λ ns. record { state = x; node = y } ∷ ns) (found_of-set states all k n r at)
 
-  count-push : (nodes : List (Found S)) (m : Found S) → is_expanded m.node ≡ false → expanded_count (nodes ++ m ∷ []) ≡ expanded_count nodes
-  count-push nodes m waits =
-      let one : one_if (is_expanded m.node) ≡ 0 = ap (λ b. one_if b) waits in
-      omega (arith, sum_by-append (λ (n : Found S). one_if (is_expanded n.node)) nodes (m ∷ []), one)
-
-  -- what a set changes of the count
-  count-set : (nodes : List (Found S)) (j : ℕ) (n m : Found S) → slice_get nodes j ≡ Some n → expanded_count (set nodes j m) + one_if (is_expanded n.node) ≡ expanded_count nodes + one_if (is_expanded m.node)
-  count-set nodes j n m at =
-      let here : get_or nodes j n ≡ n = get_or_from_slice_get nodes j n n at in
-      let one : one_if (is_expanded (get_or nodes j n).node) ≡ one_if (is_expanded n.node) = ap (λ (x : Found S). one_if (is_expanded x.node)) here in
-      omega (arith, one, sum_by-set (λ (x : Found S). one_if (is_expanded x.node)) nodes j m n (slice_get_within nodes j n at))
-
-  pub count-mark : (nodes : List (Found S)) (j : ℕ) (n : Found S) → slice_get nodes j ≡ Some n → is_expanded n.node ≡ false → expanded_count (set nodes j (marked Expanded n)) ≡ expanded_count nodes + 1
-  count-mark nodes j n at waits =
-      let one : one_if (is_expanded n.node) ≡ 0 = ap (λ b. one_if b) waits in
-      omega (arith, one, count-set nodes j n (marked Expanded n) at)
-
   -- a node is new
   pub updates-push : (nodes : List (Found S)) (m : Found S) → is_expanded m.node ≡ false → ((k : ℕ) (n : Found S) → slice_get nodes k ≡ Some n → n.state ≡ m.state → ⊥)
       → Updates nodes (nodes ++ m ∷ []) (length nodes) m
@@ -84,30 +63,26 @@ module _ {S : Type 0} where
       record {
         here = get-push_new nodes m;
         others = λ k other. get-push_other nodes m k other;
-        count = count-push nodes m waits;
         waits = waits;
-        waited = λ n at. absurd (none n at);
         same_state = λ n at. absurd (none n at);
         cheaper = λ n at. absurd (none n at);
         only = λ k n at same. absurd (is_new k n at same);
         longer = omega (arith, length-append nodes (m ∷ []));
+        less = λ most within cheap. work_push nodes m most waits within cheap;
       }
 
   -- a node is reached at a lower cost
-  pub updates-set : (nodes : List (Found S)) (j : ℕ) (n m : Found S) → slice_get nodes j ≡ Some n → is_expanded n.node ≡ false → is_expanded m.node ≡ false → n.state ≡ m.state → m.node.cost ≤ n.node.cost
+  pub updates-set : (nodes : List (Found S)) (j : ℕ) (n m : Found S) → slice_get nodes j ≡ Some n → is_expanded m.node ≡ false → n.state ≡ m.state → m.node.cost < n.node.cost
       → ((k : ℕ) (x : Found S) → slice_get nodes k ≡ Some x → x.state ≡ n.state → k ≡ j) → Updates nodes (set nodes j m) j m
-  updates-set nodes j n m at waited waits same cheaper only =
+  updates-set nodes j n m at waits same cheaper only =
       let is : (x : Found S) → slice_get nodes j ≡ Some x → n ≡ x = λ x at_x. same_Some n x (sym at ∙ at_x) in
-      let zero_n : one_if (is_expanded n.node) ≡ 0 = ap (λ b. one_if b) waited in
-      let zero_m : one_if (is_expanded m.node) ≡ 0 = ap (λ b. one_if b) waits in
       record {
         here = get-set_here nodes j m n at;
         others = λ k other. get-set_other nodes j m k other;
-        count = omega (arith, zero_n, zero_m, count-set nodes j n m at);
         waits = waits;
-        waited = λ x at_x. subst (λ (y : Found S). is_expanded y.node ≡ false) (is x at_x) waited;
         same_state = λ x at_x. subst (λ (y : Found S). y.state ≡ m.state) (is x at_x) same;
-        cheaper = λ x at_x. subst (λ (y : Found S). m.node.cost ≤ y.node.cost) (is x at_x) cheaper;
+        cheaper = λ x at_x. subst (λ (y : Found S). m.node.cost < y.node.cost) (is x at_x) cheaper;
         only = λ k x at_x same_x. only k x at_x (same_x ∙ sym same);
         longer = omega (arith, length-set nodes j m);
+        less = λ most _ _. work_cheaper nodes j n m most at waits cheaper;
       }

@@ -1,162 +1,206 @@
 -- What a search keeps true when a state's turn comes and goes.
-use Rattle.std.proofs.Common.{◌≡◌, ℕ, ◌+◌, ◌*◌, ◌≤◌, ◌≢◌, inl, inr, List, Bool, Some, true, false, refl, sym, ap, ◌∙◌, subst, arith}
+use Rattle.std.proofs.Common.{◌≡◌, ℕ, ◌*◌, ◌≤◌, ◌≢◌, inl, inr, List, [], ◌∷◌, ◌++◌, length, Bool, Some, true, false, refl, sym, ap, ◌∙◌, subst, arith}
 use Rattle.std.specs.Prelude.{slice_get, Contains, All}
 use Rattle.std.proofs.lemmas.Bool.{cases_eq, false≢true}
-use Rattle.std.proofs.lemmas.List.Elements.{All-weaker}
 use Rattle.std.proofs.lemmas.Option.{same_Some}
+use Rattle.std.proofs.lemmas.List.Elements.{All-cons}
+use Rattle.model.proofs.ListLemmas.{Contains-here, Contains-there}
 use Rattle.model.specs.Runs.{System, CostsAtLeast}
-use Rattle.search.specs.declared.nodes.NodeStatus.TheVariants.{Expanded}
-use Rattle.search.specs.Nodes.{Waiting, place_of, entry, IsWaiting, total_of, IsEntryOf, parent_of, begins, follows, IsWay, HasWay, Found, expanded_count, Leads, dearest, AreNodes, IsFoundWithin, IsOpen, AreOpen, AreOpenBut, IsTurn, marked}
+use Rattle.search.specs.declared.nodes.NodeStatus.{NodeStatus}
+use Rattle.search.specs.declared.nodes.NodeStatus.TheVariants.{Open, Expanded}
+use Rattle.search.specs.Estimates.{IsConsistent}
+use Rattle.search.specs.DeadEnds.{DetectsDeadEnds}
+use Rattle.search.specs.Nodes.{Waiting, entry, IsWaiting, total_of, IsEntryOf, parent_of, follows, HasWay, Found, Leads, dearest, AreNodes, IsOpen, AreOpen, AreOpenBut, IsTurn, marked}
 use Rattle.search.specs.Outcome.{is_expanded, is_marked_dead, IsReachableAt, ReachingCostsAtLeast}
+use Rattle.search.proofs.Kept.{AreKept, way_kept, open_kept, leads_kept, entries_kept}
 
-module _ {S : Type 0} (nodes after : List (Found S)) (i : ℕ) (one : Found S) (stood : slice_get nodes i ≡ Some one) (waited : is_expanded one.node ≡ false)
-    (here : slice_get after i ≡ Some (marked Expanded one)) (others : (k : ℕ) → k ≢ i → slice_get after k ≡ slice_get nodes k) (count : expanded_count after ≡ expanded_count nodes + 1) where
-  each_marked : (P : ℕ → Found S → Type 0) → P i (marked Expanded one) → ((k : ℕ) (n : Found S) → k ≢ i → slice_get nodes k ≡ Some n → P k n) → (k : ℕ) (n : Found S) → slice_get after k ≡ Some n → P k n
+-- what holds of the found states however far the search is with them
+pub record AreReached {S : Type 0} (t : System S ℕ) (value : S → ℕ) (is_dead : S → Bool) (nodes : List (Found S)) : Type 0 where
+  pub root : (n : Found S) × (slice_get nodes 0 ≡ Some n) × (n.state ≡ t.initial) × (n.node.cost ≡ 0)
+  pub linked : (k : ℕ) (n : Found S) → slice_get nodes k ≡ Some n → k ≢ 0 → Leads t value is_dead nodes n
+  pub distinct : (j k : ℕ) (m n : Found S) → slice_get nodes j ≡ Some m → slice_get nodes k ≡ Some n → m.state ≡ n.state → j ≡ k
+  pub cheap : (k : ℕ) (n : Found S) → slice_get nodes k ≡ Some n → n.node.cost ≤ length nodes * dearest
+  pub reached : (k : ℕ) (n : Found S) → slice_get nodes k ≡ Some n → HasWay nodes k
+  pub reachable : (k : ℕ) (n : Found S) → slice_get nodes k ≡ Some n → IsReachableAt t n.state n.node.cost
+
+-- the node at one place has another status now
+module _ {S : Type 0} (status : NodeStatus) (nodes after : List (Found S)) (i : ℕ) (one : Found S) (stood : slice_get nodes i ≡ Some one)
+    (here : slice_get after i ≡ Some (marked status one)) (others : (k : ℕ) → k ≢ i → slice_get after k ≡ slice_get nodes k) where
+  pub each_marked : (P : ℕ → Found S → Type 0) → P i (marked status one) → ((k : ℕ) (n : Found S) → k ≢ i → slice_get nodes k ≡ Some n → P k n) → (k : ℕ) (n : Found S) → slice_get after k ≡ Some n → P k n
   each_marked P at_i elsewhere k n at =
       elim (cases_eq k i) [
-        | inl e ↦ subst (λ p. P p n) (sym e) (subst (λ x. P i x) (same_Some (marked Expanded one) n (sym here ∙ ap (slice_get after) (sym e) ∙ at)) at_i)
+        | inl e ↦ subst (λ p. P p n) (sym e) (subst (λ x. P i x) (same_Some (marked status one) n (sym here ∙ ap (slice_get after) (sym e) ∙ at)) at_i)
         | inr other ↦ elsewhere k n other (sym (others k other) ∙ at)
       ]
 
-  -- an expanded node stays as it is
-  stays_marked : (k : ℕ) (n : Found S) → slice_get nodes k ≡ Some n → is_expanded n.node ≡ true → slice_get after k ≡ Some n
-  stays_marked k n at expanded =
-      elim (cases_eq k i) [
-        | inl e ↦
-            let same : one ≡ n = same_Some one n (sym stood ∙ ap (slice_get nodes) (sym e) ∙ at) in
-            absurd (false≢true (sym waited ∙ ap (λ (x : Found S). is_expanded x.node) same ∙ expanded))
-        | inr other ↦ others k other ∙ at
-      ]
+  same_marked : (k : ℕ) (n : Found S) → k ≡ i → slice_get nodes k ≡ Some n → one ≡ n
+  same_marked k n e at = same_Some one n (sym stood ∙ ap (slice_get nodes) (sym e) ∙ at)
 
-  found_marked : (s : S) (cost : ℕ) → IsFoundWithin nodes s cost → IsFoundWithin after s cost
-  found_marked s cost (k, n, at, is, within) =
+  pub kept_marked : AreKept nodes after
+  kept_marked k n at =
       elim (cases_eq k i) [
         | inl e ↦
-            let same : one ≡ n = same_Some one n (sym stood ∙ ap (slice_get nodes) (sym e) ∙ at) in
-            (i, marked Expanded one, here, ap (λ (x : Found S). x.state) same ∙ is, omega (arith, within, ap (λ (x : Found S). x.node.cost) same))
-        | inr other ↦ (k, n, others k other ∙ at, is, within)
+            let same = same_marked k n e at in
+            (marked status one, ap (slice_get after) e ∙ here, ap (λ (x : Found S). x.state) same, omega (arith, ap (λ (x : Found S). x.node.cost) same))
+        | inr other ↦ (n, others k other ∙ at, refl, omega arith)
       ]
 
   -- a way leads where it led
-  way_marked : (k : ℕ) (way : List ℕ) → IsWay nodes k way → IsWay after k way
-  way_marked k way (begins first none) = begins first none
-  way_marked k way (follows n before elsewhere at earlier is) =
-      let rest = way_marked (parent_of n.node) before earlier in
+  way_marked : (k : ℕ) (n : Found S) → k ≢ 0 → slice_get nodes k ≡ Some n → HasWay after (parent_of n.node) → HasWay after k
+  way_marked k n elsewhere at (path, leads) =
       elim (cases_eq k i) [
         | inl e ↦
-            let same : one ≡ n = same_Some one n (sym stood ∙ ap (slice_get nodes) (sym e) ∙ at) in
-            follows (marked Expanded n) before elsewhere (ap (slice_get after) e ∙ here ∙ ap (λ (x : Found S). Some (marked Expanded x)) same) rest is
-        | inr other ↦ follows n before elsewhere (others k other ∙ at) rest is
+            let same = same_marked k n e at in
+            (path ++ n.node.action ∷ [], follows (marked status n) path elsewhere (ap (slice_get after) e ∙ here ∙ ap (λ (x : Found S). Some (marked status x)) same) leads refl)
+        | inr other ↦ (path ++ n.node.action ∷ [], follows n path elsewhere (others k other ∙ at) leads refl)
       ]
 
-  -- an entry's state stays where it is
-  entry_marked : (value : S → ℕ) (is_dead : S → Bool) (w : Waiting) → IsEntryOf value is_dead nodes w → IsEntryOf value is_dead after w
-  entry_marked value is_dead w of =
-      elim (cases_eq (place_of w) i) [
-        | inl e ↦
-            let same : one ≡ of.found = same_Some one of.found (sym stood ∙ ap (slice_get nodes) (sym e) ∙ of.occurs) in
-            record {
-              found = marked Expanded one;
-              occurs = ap (slice_get after) e ∙ here;
-              alive = ap (λ (x : Found S). is_dead x.state) same ∙ of.alive;
-              estimate = of.estimate ∙ sym (ap (λ (x : Found S). value x.state) same);
-              part = of.part;
-            }
-        | inr other ↦ record { found = of.found; occurs = others (place_of w) other ∙ of.occurs; alive = of.alive; estimate = of.estimate; part = of.part }
-      ]
-
-  pub entries_marked : (value : S → ℕ) (is_dead : S → Bool) (open_list : List Waiting) → All (IsEntryOf value is_dead nodes) open_list → All (IsEntryOf value is_dead after) open_list
-  entries_marked value is_dead open_list all = All-weaker (IsEntryOf value is_dead nodes) (IsEntryOf value is_dead after) (entry_marked value is_dead) open_list all
-
-  module _ (t : System S ℕ) (value : S → ℕ) (is_dead : S → Bool) (open_list open_list' : List Waiting) (old : AreNodes t value is_dead nodes open_list) (alive : is_dead one.state ≡ false) where
-    leads_marked : (n : Found S) → Leads t nodes n → Leads t after n
-    leads_marked n leads = record {
-      parent = leads.parent;
-      occurs = stays_marked (parent_of n.node) leads.parent leads.occurs leads.expanded;
-      expanded = leads.expanded;
-      cost = leads.cost;
-      step = leads.step;
-    }
-
-    marked_leads : (n : Found S) → Leads t after n → Leads t after (marked Expanded n)
+  module _ (t : System S ℕ) (value : S → ℕ) (is_dead : S → Bool) where
+    marked_leads : (n : Found S) → Leads t value is_dead after n → Leads t value is_dead after (marked status n)
     marked_leads n leads = record {
       parent = leads.parent;
       occurs = leads.occurs;
-      expanded = leads.expanded;
       cost = leads.cost;
       step = leads.step;
+      no_goal = leads.no_goal;
+      alive = leads.alive;
+      no_dearer = leads.no_dearer;
     }
 
-    way_still : (k : ℕ) (n : Found S) → slice_get nodes k ≡ Some n → HasWay after k (expanded_count after)
-    way_still k n at =
-        let (way, leads, short) = old.shallow k n at in
-        (way, way_marked k way leads, omega (arith, short, count))
-
-    pub nodes_marked : t.meets_goal one.state ≡ false → CostsAtLeast t (total_of value one) → ReachingCostsAtLeast t one.state one.node.cost
-        → ((k : ℕ) (n : Found S) → slice_get nodes k ≡ Some n → IsWaiting is_dead n → total_of value one ≤ total_of value n)
-        → ((k : ℕ) (n : Found S) → slice_get nodes k ≡ Some n → IsWaiting is_dead n → k ≢ i → Contains open_list' (entry n.node.cost (value n.state) k))
-        → All (IsEntryOf value is_dead nodes) open_list' → AreNodes t value is_dead after open_list'
-    nodes_marked no_goal no_dearer cheapest least queued entries = record {
-      root =
-          elim (cases_eq 0 i) [
-            | inl e ↦
-                let same : one ≡ old.root.0 = same_Some one old.root.0 (sym stood ∙ ap (slice_get nodes) (sym e) ∙ old.root.1) in
-                (marked Expanded one, ap (slice_get after) e ∙ here, ap (λ (x : Found S). x.state) same ∙ old.root.2, ap (λ (x : Found S). x.node.cost) same ∙ old.root.3)
-            | inr other ↦ (old.root.0, others 0 other ∙ old.root.1, old.root.2, old.root.3)
-          ];
-      linked = each_marked (λ k n. k ≢ 0 → Leads t after n)
-          (λ elsewhere. marked_leads one (leads_marked one (old.linked i one stood elsewhere)))
-          (λ k n _ at elsewhere. leads_marked n (old.linked k n at elsewhere));
-      distinct = λ p k x n at_p at_k same.
-          each_marked (λ p x. x.state ≡ n.state → p ≡ k)
-          (each_marked (λ k n. one.state ≡ n.state → i ≡ k) (λ _. refl) (λ k n _ at same. old.distinct i k one n stood at same) k n at_k)
-          (λ p x _ at.
-          each_marked (λ k n. x.state ≡ n.state → p ≡ k) (λ same. old.distinct p i x one at stood same) (λ k n _ at' same. old.distinct p k x n at at' same) k n at_k)
-          p x at_p same;
-      cheap = rw count (each_marked (λ k n. n.node.cost ≤ (expanded_count nodes + 1) * dearest) (omega (arith, old.cheap i one stood)) (λ k n _ at. omega (arith, old.cheap k n at)));
-      shallow = each_marked (λ k n. HasWay after k (expanded_count after)) (way_still i one stood) (λ k n _ at. way_still k n at);
-      reachable = each_marked (λ k n. IsReachableAt t n.state n.node.cost) (old.reachable i one stood) (λ k n _ at. old.reachable k n at);
-      no_goal = each_marked (λ k n. is_expanded n.node ≡ true → t.meets_goal n.state ≡ false) (λ _. no_goal) (λ k n _ at. old.no_goal k n at);
-      no_dearer = each_marked (λ k n. is_expanded n.node ≡ true → CostsAtLeast t (total_of value n)) (λ _. no_dearer) (λ k n _ at. old.no_dearer k n at);
-      cheapest = each_marked (λ k n. is_expanded n.node ≡ true → ReachingCostsAtLeast t n.state n.node.cost) (λ _. cheapest) (λ k n _ at. old.cheapest k n at);
-      alive = each_marked (λ k n. is_expanded n.node ≡ true → is_dead n.state ≡ false) (λ _. alive) (λ k n _ at. old.alive k n at);
-      marked = each_marked (λ k n. is_marked_dead n.node ≡ is_dead n.state) (sym alive) (λ k n _ at. old.marked k n at);
-      ordered = λ p k x n at_p at_k expanded waits.
-          each_marked (λ k n. IsWaiting is_dead n → total_of value x ≤ total_of value n)
-          (λ is_waiting. absurd (false≢true (sym is_waiting.0)))
-          (λ k n _ at is_waiting.
-          each_marked (λ p x. is_expanded x.node ≡ true → total_of value x ≤ total_of value n)
-          (λ _. least k n at is_waiting)
-          (λ p x _ at_x was_expanded. old.ordered p k x n at_x at was_expanded is_waiting)
-          p x at_p expanded)
-          k n at_k waits;
-      queued = each_marked (λ k n. IsWaiting is_dead n → Contains open_list' (entry n.node.cost (value n.state) k))
-          (λ waits. absurd (false≢true (sym waits.0)))
-          (λ k n other at waits. queued k n at waits other);
-      entries = entries_marked value is_dead open_list' entries;
-    }
-
-    -- its turn begins
-    pub turn_marked : IsTurn value after i
-    turn_marked =
-        let (way, leads, short) = old.shallow i one stood in
+    pub reached_marked : (open_list : List Waiting) → AreNodes t value is_dead nodes open_list → length after ≡ length nodes → AreReached t value is_dead after
+    reached_marked open_list old long =
+        let still : (n : Found S) → Leads t value is_dead nodes n → Leads t value is_dead after n = leads_kept nodes after kept_marked t value is_dead in
         record {
-          found = marked Expanded one;
-          occurs = here;
-          expanded = refl;
-          greatest = each_marked (λ k n. is_expanded n.node ≡ true → total_of value n ≤ total_of value one)
-              (λ _. omega arith)
-              (λ k n _ at expanded. old.ordered k i n one at stood expanded (waited, alive));
-          cheap = rw count (omega (arith, old.cheap i one stood));
-          way = way;
-          leads = way_marked i way leads;
-          shallow = omega (arith, short, count);
+          root =
+              let (n, at, is, free) = old.root in
+              let (m, there, same, cheaper) = kept_marked 0 n at in
+              (m, there, same ∙ is, omega (arith, free, cheaper));
+          linked = each_marked (λ k n. k ≢ 0 → Leads t value is_dead after n)
+              (λ elsewhere. marked_leads one (still one (old.linked i one stood elsewhere)))
+              (λ k n _ at elsewhere. still n (old.linked k n at elsewhere));
+          distinct = λ p k x n at_p at_k same.
+              each_marked (λ p x. x.state ≡ n.state → p ≡ k)
+              (each_marked (λ k n. one.state ≡ n.state → i ≡ k) (λ _. refl) (λ k n _ at same. old.distinct i k one n stood at same) k n at_k)
+              (λ p x _ at.
+              each_marked (λ k n. x.state ≡ n.state → p ≡ k) (λ same. old.distinct p i x one at stood same) (λ k n _ at' same. old.distinct p k x n at at' same) k n at_k)
+              p x at_p same;
+          cheap = rw long (each_marked (λ k n. n.node.cost ≤ length nodes * dearest) (old.cheap i one stood) (λ k n _ at. old.cheap k n at));
+          reached = each_marked (λ k n. HasWay after k)
+              (let way = old.reached i one stood in way_kept nodes after way_marked i way.0 way.1)
+              (λ k n _ at. let way = old.reached k n at in way_kept nodes after way_marked k way.0 way.1);
+          reachable = each_marked (λ k n. IsReachableAt t n.state n.node.cost) (old.reachable i one stood) (λ k n _ at. old.reachable k n at);
         }
 
-    pub open_but_marked : AreOpen t nodes → AreOpenBut t after i
-    open_but_marked all = each_marked (λ k n. is_expanded n.node ≡ true → k ≢ i → IsOpen t after n)
-        (λ _ other. absurd (other refl))
-        (λ k n _ at expanded _ a next step. found_marked next (n.node.cost + t.cost a) (all k n at expanded a next step))
+-- its turn begins
+module _ {S : Type 0} (nodes after : List (Found S)) (i : ℕ) (one : Found S) (stood : slice_get nodes i ≡ Some one) (waited : is_expanded one.node ≡ false)
+    (here : slice_get after i ≡ Some (marked Expanded one)) (others : (k : ℕ) → k ≢ i → slice_get after k ≡ slice_get nodes k) (long : length after ≡ length nodes)
+    (t : System S ℕ) (value : S → ℕ) (is_dead : S → Bool) (open_list open_list' : List Waiting) (old : AreNodes t value is_dead nodes open_list) (alive : is_dead one.state ≡ false) where
+  each : (P : ℕ → Found S → Type 0) → P i (marked Expanded one) → ((k : ℕ) (n : Found S) → k ≢ i → slice_get nodes k ≡ Some n → P k n) → (k : ℕ) (n : Found S) → slice_get after k ≡ Some n → P k n
+  each = each_marked Expanded nodes after i one stood here others
+
+  kept : AreKept nodes after
+  kept = kept_marked Expanded nodes after i one stood here others
+
+  pub nodes_marked : t.meets_goal one.state ≡ false → CostsAtLeast t (total_of value one) → (IsConsistent t value → DetectsDeadEnds t is_dead → ReachingCostsAtLeast t one.state one.node.cost)
+      → ((k : ℕ) (n : Found S) → slice_get nodes k ≡ Some n → IsWaiting is_dead n → total_of value one ≤ total_of value n)
+      → ((k : ℕ) (n : Found S) → slice_get nodes k ≡ Some n → IsWaiting is_dead n → k ≢ i → Contains open_list' (entry n.node.cost (value n.state) k))
+      → All (IsEntryOf value is_dead nodes) open_list' → AreNodes t value is_dead after open_list'
+  nodes_marked no_goal no_dearer cheapest least queued entries =
+      let are = reached_marked Expanded nodes after i one stood here others t value is_dead open_list old long in
+      record {
+        root = are.root;
+        linked = are.linked;
+        distinct = are.distinct;
+        cheap = are.cheap;
+        reached = are.reached;
+        reachable = are.reachable;
+        no_goal = each (λ k n. is_expanded n.node ≡ true → t.meets_goal n.state ≡ false) (λ _. no_goal) (λ k n _ at. old.no_goal k n at);
+        no_dearer = each (λ k n. is_expanded n.node ≡ true → CostsAtLeast t (total_of value n)) (λ _. no_dearer) (λ k n _ at. old.no_dearer k n at);
+        cheapest = λ consistent detects. each (λ k n. is_expanded n.node ≡ true → ReachingCostsAtLeast t n.state n.node.cost)
+            (λ _. cheapest consistent detects)
+            (λ k n _ at. old.cheapest consistent detects k n at);
+        alive = each (λ k n. is_expanded n.node ≡ true → is_dead n.state ≡ false) (λ _. alive) (λ k n _ at. old.alive k n at);
+        marked = each (λ k n. is_marked_dead n.node ≡ is_dead n.state) (sym alive) (λ k n _ at. old.marked k n at);
+        ordered = λ consistent p k x n at_p at_k expanded waits.
+            each (λ k n. IsWaiting is_dead n → total_of value x ≤ total_of value n)
+            (λ is_waiting. absurd (false≢true (sym is_waiting.0)))
+            (λ k n _ at is_waiting.
+            each (λ p x. is_expanded x.node ≡ true → total_of value x ≤ total_of value n)
+            (λ _. least k n at is_waiting)
+            (λ p x _ at_x was_expanded. old.ordered consistent p k x n at_x at was_expanded is_waiting)
+            p x at_p expanded)
+            k n at_k waits;
+        queued = each (λ k n. IsWaiting is_dead n → Contains open_list' (entry n.node.cost (value n.state) k))
+            (λ waits. absurd (false≢true (sym waits.0)))
+            (λ k n other at waits. queued k n at waits other);
+        entries = entries_kept nodes after kept value is_dead open_list' entries;
+      }
+
+  pub turn_marked : IsTurn t value after i
+  turn_marked = record {
+    found = marked Expanded one;
+    occurs = here;
+    expanded = refl;
+    greatest = λ consistent. each (λ k n. is_expanded n.node ≡ true → total_of value n ≤ total_of value one)
+        (λ _. omega arith)
+        (λ k n _ at expanded. old.ordered consistent k i n one at stood expanded (waited, alive));
+  }
+
+  pub open_but_marked : AreOpen t nodes → AreOpenBut t after i
+  open_but_marked all = each (λ k n. is_expanded n.node ≡ true → k ≢ i → IsOpen t after n)
+      (λ _ other. absurd (other refl))
+      (λ k n _ at expanded _. open_kept nodes after kept t n (all k n at expanded))
+
+-- its turn is taken back: it waits again
+module _ {S : Type 0} (t : System S ℕ) (value : S → ℕ) (is_dead : S → Bool) (nodes after : List (Found S)) (i : ℕ) (turn : IsTurn t value nodes i)
+    (here : slice_get after i ≡ Some (marked Open turn.found)) (others : (k : ℕ) → k ≢ i → slice_get after k ≡ slice_get nodes k) where
+  back : (P : ℕ → Found S → Type 0) → P i (marked Open turn.found) → ((k : ℕ) (n : Found S) → k ≢ i → slice_get nodes k ≡ Some n → P k n) → (k : ℕ) (n : Found S) → slice_get after k ≡ Some n → P k n
+  back = each_marked Open nodes after i turn.found turn.occurs here others
+
+  kept_back : AreKept nodes after
+  kept_back = kept_marked Open nodes after i turn.found turn.occurs here others
+
+  -- of those that are expanded still, each was there
+  expanded_back : (P : ℕ → Found S → Type 0) → ((k : ℕ) (n : Found S) → k ≢ i → slice_get nodes k ≡ Some n → is_expanded n.node ≡ true → P k n)
+      → (k : ℕ) (n : Found S) → slice_get after k ≡ Some n → is_expanded n.node ≡ true → P k n
+  expanded_back P elsewhere = back (λ k n. is_expanded n.node ≡ true → P k n) (λ expanded. absurd (false≢true expanded)) elsewhere
+
+  pub open_unmarked : AreOpenBut t nodes i → AreOpen t after
+  open_unmarked all = expanded_back (λ k n. IsOpen t after n) (λ k n other at expanded. open_kept nodes after kept_back t n (all k n at expanded other))
+
+  pub nodes_unmarked : (open_list : List Waiting) → AreNodes t value is_dead nodes open_list → length after ≡ length nodes
+      → AreNodes t value is_dead after (entry turn.found.node.cost (value turn.found.state) i ∷ open_list)
+  nodes_unmarked open_list old long =
+      let one = turn.found in
+      let first = entry one.node.cost (value one.state) i in
+      let alive = old.alive i one turn.occurs turn.expanded in
+      let are = reached_marked Open nodes after i one turn.occurs here others t value is_dead open_list old long in
+      let of : IsEntryOf value is_dead after first = record { found = marked Open one; occurs = here; alive = alive; estimate = refl; part = omega arith } in
+      record {
+        root = are.root;
+        linked = are.linked;
+        distinct = are.distinct;
+        cheap = are.cheap;
+        reached = are.reached;
+        reachable = are.reachable;
+        no_goal = expanded_back (λ k n. t.meets_goal n.state ≡ false) (λ k n _ at. old.no_goal k n at);
+        no_dearer = expanded_back (λ k n. CostsAtLeast t (total_of value n)) (λ k n _ at. old.no_dearer k n at);
+        cheapest = λ consistent detects. expanded_back (λ k n. ReachingCostsAtLeast t n.state n.node.cost) (λ k n _ at. old.cheapest consistent detects k n at);
+        alive = expanded_back (λ k n. is_dead n.state ≡ false) (λ k n _ at. old.alive k n at);
+        marked = back (λ k n. is_marked_dead n.node ≡ is_dead n.state) (sym alive) (λ k n _ at. old.marked k n at);
+        ordered = λ consistent p k x n at_p at_k expanded waits.
+            expanded_back (λ p x. total_of value x ≤ total_of value n)
+            (λ p x _ at_x was_expanded.
+            back (λ k n. IsWaiting is_dead n → total_of value x ≤ total_of value n)
+            (λ _. turn.greatest consistent p x at_x was_expanded)
+            (λ k n _ at is_waiting. old.ordered consistent p k x n at_x at was_expanded is_waiting)
+            k n at_k waits)
+            p x at_p expanded;
+        queued = back (λ k n. IsWaiting is_dead n → Contains (first ∷ open_list) (entry n.node.cost (value n.state) k))
+            (λ _. Contains-here first open_list)
+            (λ k n _ at waits. Contains-there first open_list (entry n.node.cost (value n.state) k) (old.queued k n at waits));
+        entries = All-cons (IsEntryOf value is_dead after) first open_list of (entries_kept nodes after kept_back value is_dead open_list old.entries);
+      }
 
 -- its turn ends: it is open as the others are
 pub open_all : {S : Type 0} (t : System S ℕ) (nodes : List (Found S)) (i : ℕ) (one : Found S) → slice_get nodes i ≡ Some one → IsOpen t nodes one → AreOpenBut t nodes i → AreOpen t nodes

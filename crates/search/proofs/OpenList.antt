@@ -14,7 +14,7 @@ use Rattle.search.specs.declared.turns.Turn.{Turn}
 use Rattle.search.specs.Outcome.{is_expanded}
 use Rattle.search.specs.Nodes.{Waiting, sum_of, estimate_of, place_of, IsEntry, IsCurrent, parent_of, IsPath, begins, follows, IsReachedIn}
 use Rattle.search.specs.OpenList.{by_sum}
-use Rattle.search.specs.Progress.{TakesNext}
+use Rattle.search.specs.Progress.{TakesNext, IsLeastWith}
 use Rattle.search.proofs.Lists.{get_there}
 use Rattle.search.proofs.OpenListLemmas.{IsFirst}
 
@@ -92,6 +92,22 @@ module _ (initial old new : List Waiting) (all : List Node) (x : Waiting) (keeps
           | inr there ↦ there
         ];
   }
+
+-- the least of a sum and those of the current entries, of which one is taken
+pub least_taken : (old new : List Waiting) (all : List Node) (turn : Turn) → TakesNext old new all turn → (sum least : ℕ) → least ≤ sum → least ≤ turn.sum → (sum ≤ least) ⊎ (turn.sum ≤ least) → IsLeastWith sum old all least
+least_taken old new all turn takes sum least below below_turn reached = record {
+  no_greater = below;
+  at_most_each = λ w at current. omega (arith, below_turn, takes.sum, takes.least w at current);
+  of_one =
+      elim reached [
+        | inl is ↦ inl (omega (arith, is, below))
+        | inr is ↦ inr (takes.next, takes.among, takes.current, omega (arith, is, below_turn, takes.sum))
+      ];
+}
+
+-- or where none is current
+pub least_alone : (open_list : List Waiting) (all : List Node) (sum : ℕ) → ((w : Waiting) → Contains open_list w → ¬ IsCurrent all w) → IsLeastWith sum open_list all sum
+least_alone open_list all sum none = record { no_greater = omega arith; at_most_each = λ w at current. absurd (none w at current); of_one = inl refl }
 
 -- what was read of the entry's state
 pub current-read : (all : List Node) (w : Waiting) (r : Node) → place_of w < length all → r ≡ get_or all (place_of w) r → is_expanded r ≡ false → r.cost + estimate_of w ≡ sum_of w → IsCurrent all w

@@ -1,12 +1,12 @@
 -- The steps of an expansion, over the lists of a search.
-use Rattle.std.proofs.Common.{◌≡◌, ℕ, zero, suc, ◌+◌, ◌*◌, ◌<◌, ◌≤◌, ◌≢◌, ◌⊎◌, inl, inr, List, [], ◌∷◌, ◌++◌, length, set, Bool, Option, None, Some, true, false, refl, sym, ap, ◌∙◌, subst, arith}
+use Rattle.std.proofs.Common.{◌≡◌, ℕ, zero, suc, ◌+◌, ◌*◌, ◌<◌, ◌≤◌, ◌≢◌, ◌⊎◌, inl, inr, List, [], ◌∷◌, ◌++◌, length, set, Bool, Option, None, Some, true, false, refl, sym, ap, ◌∙◌, subst, le_refl, arith}
 use Rattle.std.specs.Prelude.{◌^◌, slice_get, Contains, All, IfSome, IsPermutation, IsTrue, is_some}
 use Rattle.std.proofs.lemmas.Bool.{false≢true}
 use Rattle.std.proofs.lemmas.Option.{same_Some, slice_get_within}
 use Rattle.std.proofs.lemmas.List.{length-set, length-append}
 use Rattle.std.proofs.lemmas.List.Elements.{All-cons, All-nil, All-weaker, All-contains}
 use Rattle.std.proofs.lemmas.List.Sorted.{Contains-permutation, All-permutation}
-use Rattle.std.proofs.lemmas.List.Sums.{count_by-le-length}
+use Rattle.std.proofs.Math.Nat.{le_trans, mul-le-mul_right}
 use Rattle.model.proofs.ListLemmas.{Contains-here, Contains-there, Contains-cases, Contains-none, Contains-got}
 use Rattle.model.specs.Runs.{System, CostsAtLeast}
 use Rattle.search.specs.declared.nodes.Node.{Node}
@@ -15,27 +15,28 @@ use Rattle.search.specs.declared.nodes.NodeStatus.{NodeStatus}
 use Rattle.search.specs.declared.nodes.ShortId.{ShortId}
 use Rattle.search.specs.Transitions.{AreApplicable}
 use Rattle.search.specs.declared.turns.Turn.{Turn}
-use Rattle.search.specs.Estimates.{IsConsistent}
-use Rattle.search.specs.DeadEnds.{DetectsDeadEnds, IsValueUnlessDead}
+use Rattle.search.specs.Estimates.{IsAdmissible, IsConsistent}
+use Rattle.search.specs.DeadEnds.{ReportsDeadEnds, IsValueUnlessDead}
 use Rattle.search.specs.Outcome.{is_expanded_status, is_dead_status, is_expanded, is_marked_dead, IsReachableAt, ReachingCostsAtLeast}
 use Rattle.packed_state.specs.Store.{IsPlaced}
-use Rattle.search.specs.Nodes.{Waiting, place_of, estimate_of, entry, IsEntry, IsWaiting, total_of, IsEntryOf, status_of_reached, parent_of, begins, HasWay, Found, found_of, expanded_count, dearest, Leads, AreNodes, IsFoundWithin, IsOpen, AreOpen, AreOpenBut, IsTurn, IsCurrent, marked_as, marked}
+use Rattle.search.specs.Nodes.{Waiting, place_of, sum_of, estimate_of, entry, IsEntry, IsWaiting, total_of, IsEntryOf, status_of_reached, parent_of, begins, HasWay, Found, found_of, dearest, work_left, Leads, AreNodes, IsFoundWithin, IsOpen, AreOpen, AreOpenBut, IsTurn, IsCurrent, marked_as, marked}
 use Rattle.search.specs.declared.open_list.OpenList.{OpenList}
 use Rattle.search.specs.OpenList.{waiting_in, IsOpenList, JoinsBy}
 use Rattle.search.specs.Progress.{Continues, IsListed, TakesNext}
-use Rattle.search.proofs.Lists.{get-set_here, get-set_other, get_exists}
-use Rattle.search.proofs.Linked.{length-found_of, found_of-get, get-found_of, found_of-push, found_of-set, count-mark, updates-push, updates-set}
+use Rattle.search.proofs.Lists.{get-set_here, get-set_other}
+use Rattle.search.proofs.Linked.{length-found_of, found_of-get, get-found_of, found_of-push, found_of-set, updates-push, updates-set}
 use Rattle.search.proofs.Closed.{no_plan_cheaper}
 use Rattle.search.proofs.Marked.{nodes_marked, turn_marked, open_but_marked}
 use Rattle.search.proofs.Ways.{cheapest_way}
-use Rattle.search.proofs.NodesLemmas.{IsJoined, Stepped, stepped, reachable-push}
+use Rattle.search.proofs.Work.{work_marked}
+use Rattle.search.proofs.NodesLemmas.{IsJoined, Stepped, stepped}
 
 module _ {S : Type 0} (t : System S ℕ) (value : S → ℕ) (is_dead : S → Bool) (states : List S) (all : List Node) (open_list : List Waiting) (i : ℕ)
     (one_each : length all ≡ length states)
-    (nodes : AreNodes t value is_dead (found_of states all) open_list) (turn : IsTurn value (found_of states all) i) (others : AreOpenBut t (found_of states all) i)
+    (nodes : AreNodes t value is_dead (found_of states all) open_list) (turn : IsTurn t value (found_of states all) i) (others : AreOpenBut t (found_of states all) i)
     (s : S) (now : Node) (waits : is_expanded now ≡ false) (parent : parent_of now ≡ i)
     (costs : now.cost ≡ turn.found.node.cost + t.cost now.action) (affordable : t.cost now.action ≤ dearest)
-    (step : t.step turn.found.state now.action ≡ Some s) (falls : value turn.found.state ≤ t.cost now.action + value s) where
+    (step : t.step turn.found.state now.action ≡ Some s) (falls : IsConsistent t value → value turn.found.state ≤ t.cost now.action + value s) where
   -- the state is new
   stepped_pushed : is_marked_dead now ≡ is_dead s → (¬ Contains states s) → (open_list' : List Waiting) → IsJoined (is_dead s) (entry now.cost (value s) (length states)) open_list open_list'
       → Stepped t value is_dead (found_of states all) (found_of (states ++ s ∷ []) (all ++ now ∷ [])) open_list' i now.action s
@@ -45,8 +46,8 @@ module _ {S : Type 0} (t : System S ℕ) (value : S → ℕ) (is_dead : S → Bo
       let updates = updates-push (found_of states all) m waits (λ k n at same. is_new (subst (λ x. Contains states x) same (Contains-got states k n.state (found_of-get states all k n at).0))) in
       let joins' : IsJoined (is_dead s) (entry now.cost (value s) (length (found_of states all))) open_list open_list' = subst (λ p. IsJoined (is_dead s) (entry now.cost (value s) p) open_list open_list') (sym place) joins in
       subst (λ after. Stepped t value is_dead (found_of states all) after open_list' i now.action s) (sym (found_of-push states all s now one_each))
-      (stepped (found_of states all) (found_of states all ++ m ∷ []) (length (found_of states all)) m updates t value is_dead i turn open_list open_list' nodes others
-      parent costs affordable step falls reported joins')
+      (stepped (found_of states all) (found_of states all ++ m ∷ []) (length (found_of states all)) m updates t value is_dead i turn open_list nodes parent costs open_list' others
+      (omega (arith, costs, affordable, nodes.cheap i turn.found turn.occurs, length-append (found_of states all) (m ∷ []))) step falls reported joins')
 
   pub stepped_new : is_marked_dead now ≡ is_dead s → (¬ Contains states s) → (states' : List S) (all' : List Node) (place : ℕ) (open_list' : List Waiting)
       → states' ≡ states ++ s ∷ [] → all' ≡ all ++ now ∷ [] → place ≡ length states
@@ -61,25 +62,17 @@ module _ {S : Type 0} (t : System S ℕ) (value : S → ℕ) (is_dead : S → Bo
         subst (λ after. Stepped t value is_dead (found_of states all) after open_list' i now.action s) (sym same) (stepped_pushed reported is_new open_list' joins'),
       )
 
-  -- the state waits, and is now reached at a lower cost
+  -- the state is now reached at a lower cost
   stepped_set : is_marked_dead now ≡ is_dead s → (j : ℕ) (reached : Node) → slice_get states j ≡ Some s → slice_get all j ≡ Some reached → now.cost < reached.cost → (open_list' : List Waiting) → IsJoined (is_dead s) (entry now.cost (value s) j) open_list open_list'
       → Stepped t value is_dead (found_of states all) (found_of states (set all j now)) open_list' i now.action s
   stepped_set reported j reached is_s is_reached cheaper open_list' joins =
       let n : Found S = record { state = s; node = reached } in
       let stood : slice_get (found_of states all) j ≡ Some n = get-found_of states all j s reached is_s is_reached in
-      -- there is no cheaper way to an expanded state
-      let way : IsReachableAt t s (turn.found.node.cost + t.cost now.action) =
-      reachable-push t turn.found.state s turn.found.node.cost now.action (nodes.reachable i turn.found turn.occurs) step in
-      let waited : is_expanded reached ≡ false =
-      elim (is_expanded reached) as (λ b. is_expanded reached ≡ b → b ≡ false) [
-        | true ↦ λ expanded. absurd (omega (arith, costs, cheaper, nodes.cheapest j n stood expanded way.0 way.1, way.2))
-        | false ↦ λ _. refl
-      ] refl in
       let m : Found S = record { state = s; node = now } in
-      let updates = updates-set (found_of states all) j n m stood waited waits refl (omega (arith, cheaper)) (λ k x at same. nodes.distinct k j x n at stood same) in
+      let updates = updates-set (found_of states all) j n m stood waits refl cheaper (λ k x at same. nodes.distinct k j x n at stood same) in
       subst (λ after. Stepped t value is_dead (found_of states all) after open_list' i now.action s) (sym (found_of-set states all j n now stood))
-      (stepped (found_of states all) (set (found_of states all) j m) j m updates t value is_dead i turn open_list open_list' nodes others
-      parent costs affordable step falls reported joins)
+      (stepped (found_of states all) (set (found_of states all) j m) j m updates t value is_dead i turn open_list nodes parent costs open_list' others
+      (omega (arith, cheaper, nodes.cheap j n stood, mul-le-mul_right dearest updates.longer)) step falls reported joins)
 
   pub stepped_cheaper : is_marked_dead now ≡ is_dead s → (j : ℕ) (reached : Node) → slice_get states j ≡ Some s → slice_get all j ≡ Some reached → now.cost < reached.cost
       → (states' : List S) (all' : List Node) (open_list' : List Waiting)
@@ -95,7 +88,7 @@ module _ {S : Type 0} (t : System S ℕ) (value : S → ℕ) (is_dead : S → Bo
 
 module _ {S : Type 0} (t : System S ℕ) (value : S → ℕ) (is_dead : S → Bool) (states : List S) (all : List Node) (open_list : List Waiting) (i : ℕ)
     (one_each : length all ≡ length states)
-    (nodes : AreNodes t value is_dead (found_of states all) open_list) (turn : IsTurn value (found_of states all) i) (others : AreOpenBut t (found_of states all) i)
+    (nodes : AreNodes t value is_dead (found_of states all) open_list) (turn : IsTurn t value (found_of states all) i) (others : AreOpenBut t (found_of states all) i)
     (s : S) (a cost : ℕ) (costs : cost ≡ turn.found.node.cost + t.cost a) where
   -- the state is found already, at no higher cost
   stepped_known : (j : ℕ) (reached : Node) → slice_get states j ≡ Some s → slice_get all j ≡ Some reached → reached.cost ≤ cost
@@ -107,7 +100,7 @@ module _ {S : Type 0} (t : System S ℕ) (value : S → ℕ) (is_dead : S → Bo
         sound = nodes;
         turn = turn;
         others = others;
-        continues = record { found = λ _ _ found. found; stays = λ _ at. at; count = refl };
+        continues = record { found = λ _ _ found. found; stays = λ _ at. at; longer = omega arith; less = λ most _. le_refl _ };
         listed = λ x at.
             let same : turn.found ≡ x = same_Some turn.found x (sym turn.occurs ∙ at) in
             (j, n, stood, refl, omega (arith, costs, no_dearer, ap (λ (y : Found S). y.node.cost) same));
@@ -145,11 +138,9 @@ value_fits value is_dead s None cost reported small = tt
 value_fits value is_dead s (Some estimate) cost (alive, is, fits) small = omega (arith, fits, small)
 
 -- the sums fit
-pub turn_limits : {S : Type 0} (value : S → ℕ) (nodes : List (Found S)) (i max_states : ℕ) (turn : IsTurn value nodes i) → length nodes ≤ max_states → max_states ≤ 16777216
-    → turn.found.node.cost + 4294967295 ≤ 72057594021150720
-turn_limits {S} value nodes i max_states turn within limit =
-    let count = count_by-le-length (λ (n : Found S). is_expanded n.node) nodes in
-    omega (arith, turn.cheap, count, within, limit)
+pub turn_limits : {S : Type 0} (t : System S ℕ) (value : S → ℕ) (is_dead : S → Bool) (nodes : List (Found S)) (open_list : List Waiting) → AreNodes t value is_dead nodes open_list
+    → (i max_states : ℕ) (turn : IsTurn t value nodes i) → length nodes ≤ max_states → max_states ≤ 16777216 → turn.found.node.cost + 4294967295 ≤ 72057598316118015
+turn_limits t value is_dead nodes open_list old i max_states turn within limit = omega (arith, old.cheap i turn.found turn.occurs, within, limit)
 
 -- what the action leads to from the state that is at the place
 pub leads_from : {S : Type 0} (t : System S ℕ) (states : List S) (before one next : S) (i a : ℕ) → slice_get states i ≡ Some before → slice_get states i ≡ Some one
@@ -217,17 +208,17 @@ module _ {S : Type 0} (t : System S ℕ) (value : S → ℕ) (is_dead : S → Bo
         ap length is_all ∙ sym (ap length is_states),
         subst (λ ns. AreNodes t value is_dead ns open_list') (sym nodes) (record {
           root = (one_node, refl, initial, refl);
-          linked = each (λ k n. k ≢ 0 → Leads t (one_node ∷ []) n) (λ elsewhere. absurd (elsewhere refl));
+          linked = each (λ k n. k ≢ 0 → Leads t value is_dead (one_node ∷ []) n) (λ elsewhere. absurd (elsewhere refl));
           distinct = λ j k m n at_j at_k _. (only j m at_j).0 ∙ sym (only k n at_k).0;
-          cheap = each (λ k n. n.node.cost ≤ expanded_count (one_node ∷ []) * dearest) (omega arith);
-          shallow = each (λ k n. HasWay (one_node ∷ []) k (expanded_count (one_node ∷ []))) ([], begins refl refl, omega arith);
+          cheap = each (λ k n. n.node.cost ≤ length (one_node ∷ []) * dearest) (omega arith);
+          reached = each (λ k n. HasWay (one_node ∷ []) k) ([], begins refl refl);
           reachable = each (λ k n. IsReachableAt t n.state n.node.cost) ([], ap Some (sym initial), refl);
           no_goal = each (λ k n. is_expanded n.node ≡ true → t.meets_goal n.state ≡ false) (λ expanded. absurd (false≢true (sym waits ∙ expanded)));
           no_dearer = each (λ k n. is_expanded n.node ≡ true → CostsAtLeast t (total_of value n)) (λ expanded. absurd (false≢true (sym waits ∙ expanded)));
-          cheapest = each (λ k n. is_expanded n.node ≡ true → ReachingCostsAtLeast t n.state n.node.cost) (λ expanded. absurd (false≢true (sym waits ∙ expanded)));
+          cheapest = λ _ _. each (λ k n. is_expanded n.node ≡ true → ReachingCostsAtLeast t n.state n.node.cost) (λ expanded. absurd (false≢true (sym waits ∙ expanded)));
           alive = each (λ k n. is_expanded n.node ≡ true → is_dead n.state ≡ false) (λ expanded. absurd (false≢true (sym waits ∙ expanded)));
           marked = each (λ k n. is_marked_dead n.node ≡ is_dead n.state) reported;
-          ordered = λ j k m n at_j _ expanded _. absurd (each (λ j m. is_expanded m.node ≡ true → ⊥) (λ expanded. false≢true (sym waits ∙ expanded)) j m at_j expanded);
+          ordered = λ _ j k m n at_j _ expanded _. absurd (each (λ j m. is_expanded m.node ≡ true → ⊥) (λ expanded. false≢true (sym waits ∙ expanded)) j m at_j expanded);
           queued = each (λ k n. IsWaiting is_dead n → Contains open_list' (entry n.node.cost (value n.state) k)) started.queued;
           entries = started.entries;
         }),
@@ -279,11 +270,12 @@ pub continues_trans : {S : Type 0} (first second third : List (Found S)) (i : �
 continues_trans first second third i one two = record {
   found = λ s cost found. two.found s cost (one.found s cost found);
   stays = λ n at. two.stays n (one.stays n at);
-  count = two.count ∙ one.count;
+  longer = omega (arith, one.longer, two.longer);
+  less = λ most within. le_trans (two.less most within) (one.less most (omega (arith, two.longer, within)));
 }
 
 pub continues_same : {S : Type 0} (nodes : List (Found S)) (i : ℕ) → Continues nodes nodes i
-continues_same nodes i = record { found = λ _ _ found. found; stays = λ _ at. at; count = refl }
+continues_same nodes i = record { found = λ _ _ found. found; stays = λ _ at. at; longer = omega arith; less = λ most _. le_refl _ }
 
 -- the state at the place stays there
 pub occurs_still : {S : Type 0} (states states' : List S) (all all' : List Node) (i : ℕ) (n : Found S) (s : S) → slice_get (found_of states all) i ≡ Some n
@@ -313,31 +305,34 @@ module _ {S : Type 0} (t : System S ℕ) (value : S → ℕ) (is_dead : S → Bo
       (λ w of. (omega (arith, slice_get_within (found_of states all) (place_of w) of.found of.occurs, length-found_of states all one_each, one_each), of.part)) open_list nodes.entries
 
   -- a node that waits has a current entry
-  current_entry : (k : ℕ) (n : Found S) → slice_get (found_of states all) k ≡ Some n → IsWaiting is_dead n → IsCurrent all (entry n.node.cost (value n.state) k)
+  pub current_entry : (k : ℕ) (n : Found S) → slice_get (found_of states all) k ≡ Some n → IsWaiting is_dead n → IsCurrent all (entry n.node.cost (value n.state) k)
   current_entry k n at waits = (n.node, (found_of-get states all k n at).1, refl, waits.0)
 
   pub none_waits : ((w : Waiting) → Contains open_list w → ¬ IsCurrent all w) → (k : ℕ) (n : Found S) → slice_get (found_of states all) k ≡ Some n → IsWaiting is_dead n → ⊥
   none_waits none k n at waits = none (entry n.node.cost (value n.state) k) (nodes.queued k n at waits) (current_entry k n at waits)
 
+  -- a current entry is that of a state that waits
+  pub entry_waits : (w : Waiting) → Contains open_list w → IsCurrent all w
+      → (n : Found S) × (slice_get (found_of states all) (place_of w) ≡ Some n) × IsWaiting is_dead n × (total_of value n ≡ sum_of w) × (estimate_of w ≡ value n.state)
+  entry_waits w among (node, occurs, sums, waits) =
+      let of = All-contains (IsEntryOf value is_dead (found_of states all)) open_list w nodes.entries among in
+      let same : node ≡ of.found.node = same_Some node of.found.node (sym occurs ∙ (found_of-get states all (place_of w) of.found of.occurs).1) in
+      (of.found, of.occurs, (ap (λ (r : Node). is_expanded r) (sym same) ∙ waits, of.alive), omega (arith, sums, of.estimate, ap (λ (r : Node). r.cost) same), of.estimate)
+
   pub at_turn : (open_list' : List Waiting) (turn : Turn) → TakesNext open_list open_list' all turn → IsNext value is_dead states all open_list' turn
   at_turn open_list' turn takes =
       let i = turn.id.0 in
-      let (node, occurs, sums, waits) = takes.current in
-      let of = All-contains (IsEntryOf value is_dead (found_of states all)) open_list takes.next nodes.entries takes.among in
-      let is_node : slice_get all i ≡ Some node = ap (slice_get all) (sym takes.occurs) ∙ occurs in
-      let s = get_exists states i (omega (arith, slice_get_within all i node is_node)) in
-      let one : Found S = record { state = s.0; node = node } in
-      let at_one : slice_get (found_of states all) i ≡ Some one = get-found_of states all i s.0 node s.1 is_node in
-      let same : of.found ≡ one = same_Some of.found one (sym of.occurs ∙ ap (slice_get (found_of states all)) takes.occurs ∙ at_one) in
-      let estimate : estimate_of takes.next ≡ value one.state = of.estimate ∙ ap (λ (x : Found S). value x.state) same in
+      let (one, there, waits, sum, estimate) = entry_waits takes.next takes.among takes.current in
+      let at_one : slice_get (found_of states all) i ≡ Some one = ap (slice_get (found_of states all)) (sym takes.occurs) ∙ there in
+      let parts = found_of-get states all i one at_one in
       record {
         found = one;
         occurs = at_one;
-        state = s.1;
-        node = is_node;
-        waits = (waits, ap (λ (x : Found S). is_dead x.state) (sym same) ∙ of.alive);
-        sum = omega (arith, takes.sum, sums, estimate);
-        least = λ k m at waits. omega (arith, sums, estimate, takes.least (entry m.node.cost (value m.state) k) (nodes.queued k m at waits) (current_entry k m at waits));
+        state = parts.0;
+        node = parts.1;
+        waits = waits;
+        sum = omega (arith, takes.sum, sum);
+        least = λ k m at waits. omega (arith, sum, takes.least (entry m.node.cost (value m.state) k) (nodes.queued k m at waits) (current_entry k m at waits));
         rest = λ k m at waits elsewhere. takes.rest (entry m.node.cost (value m.state) k) (nodes.queued k m at waits) (current_entry k m at waits) elsewhere;
         estimate = sym takes.estimate ∙ estimate;
       }
@@ -346,13 +341,13 @@ module _ {S : Type 0} (t : System S ℕ) (value : S → ℕ) (is_dead : S → Bo
 pub record HasBegun {S : Type 0} (t : System S ℕ) (value : S → ℕ) (is_dead : S → Bool) (before : List (Found S)) (states : List S) (all : List Node) (open_list : List Waiting) (i : ℕ) (one : Found S) : Type 0 where
   pub one_each : length all ≡ length states
   pub nodes : AreNodes t value is_dead (found_of states all) open_list
-  pub turn : IsTurn value (found_of states all) i
+  pub turn : IsTurn t value (found_of states all) i
   pub others_open : AreOpenBut t (found_of states all) i
   pub occurs : slice_get (found_of states all) i ≡ Some (marked Expanded one)
-  pub count : expanded_count (found_of states all) ≡ expanded_count before + 1
+  pub less : (most : ℕ) → work_left most (found_of states all) < work_left most before
 
 -- a turn begins
-module _ {S : Type 0} (t : System S ℕ) (value : S → ℕ) (is_dead : S → Bool) (consistent : IsConsistent t value) (reports : DetectsDeadEnds t is_dead) (states : List S) (all : List Node) (open_list open_list' : List Waiting)
+module _ {S : Type 0} (t : System S ℕ) (value : S → ℕ) (is_dead : S → Bool) (admissible : IsAdmissible t value) (reports : ReportsDeadEnds t is_dead) (states : List S) (all : List Node) (open_list open_list' : List Waiting)
     (one_each : length all ≡ length states) (nodes : AreNodes t value is_dead (found_of states all) open_list)
     (i : ℕ) (one : Found S) (occurs : slice_get (found_of states all) i ≡ Some one) (waits : IsWaiting is_dead one)
     (least : (k : ℕ) (n : Found S) → slice_get (found_of states all) k ≡ Some n → IsWaiting is_dead n → total_of value one ≤ total_of value n)
@@ -370,16 +365,18 @@ module _ {S : Type 0} (t : System S ℕ) (value : S → ℕ) (is_dead : S → Bo
       let here : slice_get after i ≡ Some (marked Expanded one) = ap (λ (ns : List (Found S)). slice_get ns i) is ∙ get-set_here (found_of states all) i (marked Expanded one) one occurs in
       let others : (k : ℕ) → k ≢ i → slice_get after k ≡ slice_get (found_of states all) k =
       λ k elsewhere. ap (λ (ns : List (Found S)). slice_get ns k) is ∙ get-set_other (found_of states all) i (marked Expanded one) k elsewhere in
-      let count : expanded_count after ≡ expanded_count (found_of states all) + 1 = ap expanded_count is ∙ count-mark (found_of states all) i one occurs waits.0 in
+      let long : length after ≡ length (found_of states all) = ap length is ∙ length-set (found_of states all) i (marked Expanded one) in
       let count_states : length states' ≡ length states = ap length is_states in
       let count_all : length all' ≡ length all = ap length is_all ∙ length-set all i now in
-      let way = cheapest_way t value is_dead consistent reports (found_of states all) are_open (total_of value one) least open_list nodes i one occurs waits.1 (omega arith) in
       record {
         one_each = omega (arith, count_states, count_all, one_each);
-        nodes = nodes_marked (found_of states all) after i one occurs waits.0 here others count t value is_dead open_list open_list' nodes waits.1 no_goal
-            (no_plan_cheaper t value is_dead states all one_each open_list nodes consistent reports one are_open least) way least rest entries;
-        turn = turn_marked (found_of states all) after i one occurs waits.0 here others count t value is_dead open_list open_list' nodes waits.1;
-        others_open = open_but_marked (found_of states all) after i one occurs waits.0 here others count t value is_dead open_list open_list' nodes waits.1 are_open;
+        nodes = nodes_marked (found_of states all) after i one occurs waits.0 here others long t value is_dead open_list open_list' nodes waits.1 no_goal
+            (no_plan_cheaper t value is_dead states all one_each open_list nodes admissible reports one are_open least)
+            (λ consistent detects. cheapest_way t value is_dead consistent detects (found_of states all) are_open (total_of value one) least open_list nodes i one occurs waits.1 (omega arith))
+            least rest entries;
+        turn = turn_marked (found_of states all) after i one occurs waits.0 here others long t value is_dead open_list open_list' nodes waits.1;
+        others_open = open_but_marked (found_of states all) after i one occurs waits.0 here others long t value is_dead open_list open_list' nodes waits.1 are_open;
         occurs = here;
-        count = count;
+        less = λ most. subst (λ (ns : List (Found S)). work_left most ns < work_left most (found_of states all)) (sym is)
+            (work_marked (found_of states all) i one (marked Expanded one) most occurs waits.0 refl refl);
       }

@@ -13,7 +13,7 @@ use Rattle.search.specs.Nodes.{Waiting, Found, IsWaiting, total_of, AreNodes, Is
 use Rattle.search.proofs.Consistent.{falls_along}
 use Rattle.search.proofs.DeadEnds.{dead_along}
 
-module _ {S : Type 0} (t : System S ℕ) (value : S → ℕ) (is_dead : S → Bool) (consistent : IsConsistent t value) (reports : DetectsDeadEnds t is_dead)
+module _ {S : Type 0} (t : System S ℕ) (value : S → ℕ) (is_dead : S → Bool) (consistent : IsConsistent t value) (detects : DetectsDeadEnds t is_dead)
     (nodes : List (Found S)) (are_open : AreOpen t nodes)
     (least : ℕ) (at_least : (k : ℕ) (n : Found S) → slice_get nodes k ≡ Some n → IsWaiting is_dead n → least ≤ total_of value n) where
   -- A list that runs from a found state to one that is not reported dead comes to one that waits, or leads to one that is found
@@ -26,7 +26,7 @@ module _ {S : Type 0} (t : System S ℕ) (value : S → ℕ) (is_dead : S → Bo
         | false ↦ λ not_expanded.
             elim (is_dead n.state) as (λ d. is_dead n.state ≡ d → (least ≤ n.node.cost + cost_of_all t (a ∷ plan) + value end) ⊎ IsFoundWithin nodes end (n.node.cost + cost_of_all t (a ∷ plan))) [
               | false ↦ λ living. inl (omega (arith, at_least k n at (not_expanded, living), falls_along t value consistent (a ∷ plan) n.state end runs))
-              | true ↦ λ reported. absurd (false≢true (sym alive ∙ dead_along t is_dead reports (a ∷ plan) n.state end runs reported))
+              | true ↦ λ reported. absurd (false≢true (sym alive ∙ dead_along t is_dead detects (a ∷ plan) n.state end runs reported))
             ] refl
         | true ↦ λ expanded.
             elim (t.step n.state a) as (λ o. t.step n.state a ≡ o → option_and_then (λ next. run t next plan) o ≡ Some end

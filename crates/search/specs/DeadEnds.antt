@@ -1,6 +1,10 @@
 -- Tests for dead ends: states from which no list of actions leads to the goal.
-use Rattle.std.specs.Prelude.{◌≡◌, ℕ, ◌<◌, ◌^◌, Bool, false, IsTrue, Option, None, Some}
-use Rattle.model.specs.Runs.{System}
+use Rattle.std.specs.Prelude.{◌≡◌, ℕ, ◌<◌, ◌^◌, Bool, false, IsTrue, List, Option, None, Some}
+use Rattle.model.specs.Runs.{System, run}
+
+-- no list of actions leads to the goal from a state that is reported dead
+abbrev pub ReportsDeadEnds : {S A : Type 0} → System S A → (S → Bool) → Type 0
+ReportsDeadEnds {S} {A} t is_dead = (s end : S) (plan : List A) → IsTrue (is_dead s) → run t s plan ≡ Some end → t.meets_goal end ≡ false
 
 -- No state that meets the goal is reported dead, and an applicable action leads from a state that is reported dead to one that is:
 -- so each state reported dead is a dead end, though not each dead end need be reported.

@@ -1,10 +1,15 @@
 -- Estimates of what is still to pay from a state on.
 use Rattle.std.proofs.Common.{zero-le}
-use Rattle.std.specs.Prelude.{◌≡◌, ℕ, ◌+◌, ◌≤◌, ℤ, pos, negsuc, IsTrue, Some, refl}
-use Rattle.model.specs.Runs.{System}
+use Rattle.std.specs.Prelude.{◌≡◌, ℕ, ◌+◌, ◌≤◌, ℤ, pos, negsuc, IsTrue, List, Some, refl}
+use Rattle.model.specs.Runs.{System, run, cost_of_all}
+
+-- No list of actions that runs from a state to one that meets the goal costs less than the state's estimate: it is admissible.
+-- (Russell & Norvig, Artificial Intelligence, section 3.5.2.)
+abbrev pub IsAdmissible : {S A : Type 0} → System S A → (S → ℕ) → Type 0
+IsAdmissible {S} {A} t value = (s end : S) (plan : List A) → run t s plan ≡ Some end → IsTrue (t.meets_goal end) → value s ≤ cost_of_all t plan
 
 -- The estimate is 0 in each state that meets the goal, and across an applicable action it falls by at most what the action
--- costs: it is consistent. (Russell & Norvig, Artificial Intelligence, section 3.5.2; Hart, Nilsson & Raphael, A Formal
+-- costs: it is consistent, and so admissible. (Russell & Norvig, Artificial Intelligence, section 3.5.2; Hart, Nilsson & Raphael, A Formal
 -- Basis for the Heuristic Determination of Minimum Cost Paths, 1968.)
 pub record IsConsistent {S A : Type 0} (t : System S A) (value : S → ℕ) : Type 0 where
   pub zero_at_goals : (s : S) → IsTrue (t.meets_goal s) → value s ≡ 0

@@ -1,5 +1,5 @@
 -- What a search keeps true of the states that it has found.
-use Rattle.std.specs.Prelude.{◌≡◌, ℕ, ◌+◌, ◌*◌, ◌≤◌, ◌<◌, ◌≢◌, Bool, true, false, Option, None, Some, List, [], ◌∷◌, ◌++◌, length, slice_get, Contains, count_by, All}
+use Rattle.std.specs.Prelude.{◌≡◌, ℕ, ◌+◌, ◌-◌, ◌*◌, ◌≤◌, ◌<◌, ◌≢◌, Bool, true, false, if◌then◌else◌, Option, None, Some, List, [], ◌∷◌, ◌++◌, length, slice_get, Contains, sum_by, All}
 use Rattle.std.specs.declared.cmp.Reverse.{Reverse}
 use Rattle.model.specs.Runs.{System, CostsAtLeast}
 use Rattle.search.specs.declared.nodes.StateId.{StateId}
@@ -7,6 +7,8 @@ use Rattle.search.specs.declared.nodes.Node.{Node}
 use Rattle.search.specs.declared.nodes.NodeStatus.{NodeStatus}
 use Rattle.search.specs.declared.nodes.NodeStatus.TheVariants.{Open, Dead}
 use Rattle.search.specs.declared.nodes.ShortId.{ShortId}
+use Rattle.search.specs.Estimates.{IsConsistent}
+use Rattle.search.specs.DeadEnds.{DetectsDeadEnds}
 use Rattle.search.specs.Outcome.{is_expanded, is_marked_dead, IsReachableAt, ReachingCostsAtLeast, IsCut}
 
 -- a waiting state as the open list holds it: the sum of its cost and its estimate, the estimate, and its place
@@ -60,7 +62,7 @@ found_of [] nodes = []
 found_of (s ∷ states) [] = []
 found_of (s ∷ states) (node ∷ nodes) = record { state = s; node = node } ∷ found_of states nodes
 
--- the found state waits to be expanded: it was not yet, and it is not reported dead
+-- the found state waits to be expanded: it is not, at the cost at which it is reached now, and it is not reported dead
 abbrev pub IsWaiting : {S : Type 0} → (S → Bool) → Found S → Type 0
 IsWaiting is_dead n = IsCut is_dead n.state n.node
 
@@ -76,18 +78,29 @@ pub record IsEntryOf {S : Type 0} (value : S → ℕ) (is_dead : S → Bool) (no
   pub estimate : estimate_of w ≡ value found.state
   pub part : estimate_of w ≤ sum_of w
 
--- how many are expanded
-abbrev pub expanded_count : {S : Type 0} → List (Found S) → ℕ
-expanded_count nodes = count_by (λ n. is_expanded n.node) nodes
+-- the most that an action may cost
+abbrev pub dearest : ℕ
+dearest = 4294967295
 
-module _ {S : Type 0} (t : System S ℕ) (nodes : List (Found S)) where
-  -- the node's action leads to it from its parent, which is expanded
+-- how often a search may still turn to a found state: it may be reached more cheaply, and is expanded at each cost at most once
+abbrev pub work_at : {S : Type 0} → Found S → ℕ
+work_at n = n.node.cost * 2 + (if is_expanded n.node then 0 else 1)
+
+-- and to all states, where at most so many are found, each at no more than all of them may cost
+abbrev pub work_left : {S : Type 0} → (most : ℕ) → List (Found S) → ℕ
+work_left most nodes = (most - length nodes) * (most * dearest * 2 + 2) + sum_by work_at nodes
+
+module _ {S : Type 0} (t : System S ℕ) (value : S → ℕ) (is_dead : S → Bool) (nodes : List (Found S)) where
+  -- The node's action leads to it from its parent, at no more than its cost. When the node was reached so, the parent was being
+  -- expanded, and cost no less than now: it may have been reached more cheaply since.
   pub record Leads (n : Found S) : Type 0 where
     pub parent : Found S
     pub occurs : slice_get nodes (parent_of n.node) ≡ Some parent
-    pub expanded : is_expanded parent.node ≡ true
-    pub cost : n.node.cost ≡ parent.node.cost + t.cost n.node.action
+    pub cost : parent.node.cost + t.cost n.node.action ≤ n.node.cost
     pub step : t.step parent.state n.node.action ≡ Some n.state
+    pub no_goal : t.meets_goal parent.state ≡ false
+    pub alive : is_dead parent.state ≡ false
+    pub no_dearer : CostsAtLeast t (parent.node.cost + value parent.state)
 
 -- from parent to child these actions lead from the initial state, which is found first, to the one at this place
 pub data IsPathBy {X : Type 0} (node_of : X → Node) (nodes : List X) : ℕ → List ℕ → Type 0 where
@@ -106,29 +119,25 @@ IsReachedIn nodes k most = (path : List ℕ) × IsPath nodes k path × (length p
 abbrev pub IsWay : {S : Type 0} → List (Found S) → ℕ → List ℕ → Type 0
 IsWay {S} nodes k path = IsPathBy (λ (n : Found S). n.node) nodes k path
 
-abbrev pub HasWay : {S : Type 0} → List (Found S) → ℕ → ℕ → Type 0
-HasWay {S} nodes k most = (path : List ℕ) × IsWay nodes k path × (length path ≤ most)
-
--- the most that an action may cost
-abbrev pub dearest : ℕ
-dearest = 4294967295
+abbrev pub HasWay : {S : Type 0} → List (Found S) → ℕ → Type 0
+HasWay {S} nodes k = (path : List ℕ) × IsWay nodes k path
 
 module _ {S : Type 0} (t : System S ℕ) (value : S → ℕ) (is_dead : S → Bool) (nodes : List (Found S)) where
-  -- What holds of the found states at any time. Those that wait are in the open list, at their cost and with their estimate, and
-  -- none of them has a lesser sum of these than one that was expanded.
+  -- What holds of the found states at any time. Those that wait are in the open list, at their cost and with their estimate. Where
+  -- the estimate is consistent, none of them has a lesser sum of these than one that was expanded.
   pub record AreNodes (open_list : List Waiting) : Type 0 where
     pub root : (n : Found S) × (slice_get nodes 0 ≡ Some n) × (n.state ≡ t.initial) × (n.node.cost ≡ 0)
-    pub linked : (k : ℕ) (n : Found S) → slice_get nodes k ≡ Some n → k ≢ 0 → Leads t nodes n
+    pub linked : (k : ℕ) (n : Found S) → slice_get nodes k ≡ Some n → k ≢ 0 → Leads t value is_dead nodes n
     pub distinct : (j k : ℕ) (m n : Found S) → slice_get nodes j ≡ Some m → slice_get nodes k ≡ Some n → m.state ≡ n.state → j ≡ k
-    pub cheap : (k : ℕ) (n : Found S) → slice_get nodes k ≡ Some n → n.node.cost ≤ expanded_count nodes * dearest
-    pub shallow : (k : ℕ) (n : Found S) → slice_get nodes k ≡ Some n → HasWay nodes k (expanded_count nodes)
+    pub cheap : (k : ℕ) (n : Found S) → slice_get nodes k ≡ Some n → n.node.cost ≤ length nodes * dearest
+    pub reached : (k : ℕ) (n : Found S) → slice_get nodes k ≡ Some n → HasWay nodes k
     pub reachable : (k : ℕ) (n : Found S) → slice_get nodes k ≡ Some n → IsReachableAt t n.state n.node.cost
     pub no_goal : (k : ℕ) (n : Found S) → slice_get nodes k ≡ Some n → is_expanded n.node ≡ true → t.meets_goal n.state ≡ false
     pub no_dearer : (k : ℕ) (n : Found S) → slice_get nodes k ≡ Some n → is_expanded n.node ≡ true → CostsAtLeast t (n.node.cost + value n.state)
-    pub cheapest : (k : ℕ) (n : Found S) → slice_get nodes k ≡ Some n → is_expanded n.node ≡ true → ReachingCostsAtLeast t n.state n.node.cost
+    pub cheapest : IsConsistent t value → DetectsDeadEnds t is_dead → (k : ℕ) (n : Found S) → slice_get nodes k ≡ Some n → is_expanded n.node ≡ true → ReachingCostsAtLeast t n.state n.node.cost
     pub alive : (k : ℕ) (n : Found S) → slice_get nodes k ≡ Some n → is_expanded n.node ≡ true → is_dead n.state ≡ false
     pub marked : (k : ℕ) (n : Found S) → slice_get nodes k ≡ Some n → is_marked_dead n.node ≡ is_dead n.state
-    pub ordered : (j k : ℕ) (m n : Found S) → slice_get nodes j ≡ Some m → slice_get nodes k ≡ Some n → is_expanded m.node ≡ true → IsWaiting is_dead n
+    pub ordered : IsConsistent t value → (j k : ℕ) (m n : Found S) → slice_get nodes j ≡ Some m → slice_get nodes k ≡ Some n → is_expanded m.node ≡ true → IsWaiting is_dead n
         → total_of value m ≤ total_of value n
     pub queued : (k : ℕ) (n : Found S) → slice_get nodes k ≡ Some n → IsWaiting is_dead n → Contains open_list (entry n.node.cost (value n.state) k)
     pub entries : All (IsEntryOf value is_dead nodes) open_list
@@ -149,28 +158,23 @@ AreOpen {S} t nodes = (k : ℕ) (n : Found S) → slice_get nodes k ≡ Some n �
 abbrev pub AreOpenBut : {S : Type 0} → System S ℕ → List (Found S) → ℕ → Type 0
 AreOpenBut {S} t nodes i = (k : ℕ) (n : Found S) → slice_get nodes k ≡ Some n → is_expanded n.node ≡ true → k ≢ i → IsOpen t nodes n
 
--- the node at this place is being expanded, and no expanded one has a greater sum
-pub record IsTurn {S : Type 0} (value : S → ℕ) (nodes : List (Found S)) (i : ℕ) : Type 0 where
+-- the node at this place is being expanded; where the estimate is consistent, no expanded one has a greater sum
+pub record IsTurn {S : Type 0} (t : System S ℕ) (value : S → ℕ) (nodes : List (Found S)) (i : ℕ) : Type 0 where
   pub found : Found S
   pub occurs : slice_get nodes i ≡ Some found
   pub expanded : is_expanded found.node ≡ true
-  pub greatest : (k : ℕ) (n : Found S) → slice_get nodes k ≡ Some n → is_expanded n.node ≡ true → total_of value n ≤ total_of value found
-  pub cheap : found.node.cost + dearest ≤ expanded_count nodes * dearest
-  pub way : List ℕ
-  pub leads : IsWay nodes i way
-  pub shallow : length way + 1 ≤ expanded_count nodes
+  pub greatest : IsConsistent t value → (k : ℕ) (n : Found S) → slice_get nodes k ≡ Some n → is_expanded n.node ≡ true → total_of value n ≤ total_of value found
 
--- Beside one place, at which a node is new or now cheaper, the nodes are the same.
+-- Beside one place, at which a node is new or now cheaper and waits, the nodes are the same.
 pub record Updates {S : Type 0} (nodes after : List (Found S)) (j : ℕ) (m : Found S) : Type 0 where
   pub here : slice_get after j ≡ Some m
   pub others : (k : ℕ) → k ≢ j → slice_get after k ≡ slice_get nodes k
-  pub count : expanded_count after ≡ expanded_count nodes
   pub waits : is_expanded m.node ≡ false
-  pub waited : (n : Found S) → slice_get nodes j ≡ Some n → is_expanded n.node ≡ false
   pub same_state : (n : Found S) → slice_get nodes j ≡ Some n → n.state ≡ m.state
-  pub cheaper : (n : Found S) → slice_get nodes j ≡ Some n → m.node.cost ≤ n.node.cost
+  pub cheaper : (n : Found S) → slice_get nodes j ≡ Some n → m.node.cost < n.node.cost
   pub only : (k : ℕ) (n : Found S) → slice_get nodes k ≡ Some n → n.state ≡ m.state → k ≡ j
   pub longer : length nodes ≤ length after
+  pub less : (most : ℕ) → length after ≤ most → m.node.cost ≤ most * dearest → work_left most after ≤ work_left most nodes
 
 -- the node once it has this status
 abbrev pub marked_as : NodeStatus → Node → Node

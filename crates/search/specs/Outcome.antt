@@ -8,6 +8,8 @@ use Rattle.search.specs.declared.nodes.NodeStatus.TheVariants.{Open, Expanded, D
 use Rattle.search.specs.declared.best.Outcome.{Outcome}
 use Rattle.search.specs.declared.best.Outcome.TheVariants.{Found, Exhausted, States}
 use Rattle.packed_state.specs.Store.{AreDistinct}
+use Rattle.search.specs.Estimates.{IsConsistent}
+use Rattle.search.specs.DeadEnds.{DetectsDeadEnds}
 
 -- some list of actions leads from the initial state to this one, at this cost
 abbrev pub IsReachableAt : {S A : Type 0} → System S A → S → ℕ → Type 0
@@ -61,10 +63,10 @@ pub record AreFound {S A : Type 0} (t : System S A) (value : S → ℕ) (is_dead
   pub within_limit : length states ≤ max_states
   pub distinct : AreDistinct states
   pub reachable : (k : ℕ) (s : S) (node : Node) → slice_get states k ≡ Some s → slice_get nodes k ≡ Some node → IsReachableAt t s node.cost
-  -- no action costs more than 32 bits can say, and a way to a state takes each other state at most once
+  -- no action costs more than 32 bits can say, and a state is reached first from one that was found before
   pub cheap : (k : ℕ) (node : Node) → slice_get nodes k ≡ Some node → node.cost ≤ length states * 4294967295
-  -- an expanded state was reached by a cheapest way
-  pub expanded_cheapest : (k : ℕ) (s : S) (node : Node) → slice_get states k ≡ Some s → slice_get nodes k ≡ Some node → is_expanded node ≡ true
+  -- where the estimate is consistent, and dead ends are reported along steps, an expanded state was reached by a cheapest way
+  pub expanded_cheapest : IsConsistent t value → DetectsDeadEnds t is_dead → (k : ℕ) (s : S) (node : Node) → slice_get states k ≡ Some s → slice_get nodes k ≡ Some node → is_expanded node ≡ true
       → ReachingCostsAtLeast t s node.cost
   pub marked : AreMarked is_dead states nodes
   -- no state that is reported dead was expanded
@@ -97,13 +99,15 @@ IsCut is_dead s node = (is_expanded node ≡ false) × (is_dead s ≡ false)
 
 -- What is known of the found states where a search stops at the limit: they are as many as it may list, and they prove that
 -- each list that solves costs at least as much as the least sum of cost and estimate over their cuts, of which there is
--- one at least. No expanded state has a greater sum. A state whose expansion was not finished is a cut.
+-- one at least. No list that solves costs less than an expanded state with its estimate; where the estimate is consistent, no
+-- expanded state has a greater sum than the cuts. A state whose expansion was not finished is a cut.
 pub record IsAtLimit {S A : Type 0} (t : System S A) (value : S → ℕ) (is_dead : S → Bool) (max_states least : ℕ) (states : List S) (nodes : List Node) : Type 0 where
   pub found : AreFound t value is_dead (bound least) max_states states nodes
   pub full : length states ≡ max_states
   pub at_most_each_cut : (k : ℕ) (s : S) (node : Node) → slice_get states k ≡ Some s → slice_get nodes k ≡ Some node → IsCut is_dead s node → least ≤ node.cost + value s
   pub of_some_cut : (k : ℕ) × (s : S) × (node : Node) × (slice_get states k ≡ Some s) × (slice_get nodes k ≡ Some node) × IsCut is_dead s node × (node.cost + value s ≡ least)
-  pub expanded_within : AreExpandedWithin value least states nodes
+  pub expanded_no_dearer : (k : ℕ) (s : S) (node : Node) → slice_get states k ≡ Some s → slice_get nodes k ≡ Some node → is_expanded node ≡ true → CostsAtLeast t (node.cost + value s)
+  pub expanded_within : IsConsistent t value → AreExpandedWithin value least states nodes
   pub costs_at_least : CostsAtLeast t least
 
 -- The outcome of a search by this estimate and this test for dead ends is true: the steps are a cheapest list that solves,

@@ -1,5 +1,5 @@
 -- What a search keeps true from one step to the next.
-use Rattle.std.specs.Prelude.{◌≡◌, ◌≢◌, ℕ, ◌+◌, ◌≤◌, Bool, List, length, slice_get, Some, Contains, All}
+use Rattle.std.specs.Prelude.{◌≡◌, ◌≢◌, ℕ, ◌+◌, ◌≤◌, ◌<◌, ◌⊎◌, Bool, List, ◌∷◌, length, slice_get, Some, Contains, All}
 use Rattle.model.specs.Runs.{System}
 use Rattle.search.specs.declared.nodes.Node.{Node}
 use Rattle.packed_state.specs.Packed.{bits_of}
@@ -8,7 +8,7 @@ use Rattle.search.specs.declared.progress.Progress.{Progress}
 use Rattle.search.specs.declared.turns.Turn.{Turn}
 use Rattle.search.specs.OpenList.{waiting_in, IsOpenList}
 use Rattle.search.specs.Outcome.{AreMoreReachable}
-use Rattle.search.specs.Nodes.{Waiting, sum_of, estimate_of, place_of, entry, IsCurrent, IsWaiting, total_of, IsEntryOf, Found, found_of, expanded_count, AreNodes, IsFoundWithin, AreOpen, AreOpenBut, IsTurn}
+use Rattle.search.specs.Nodes.{Waiting, sum_of, estimate_of, place_of, entry, IsCurrent, IsWaiting, total_of, IsEntryOf, Found, found_of, work_left, AreNodes, IsFoundWithin, AreOpen, AreOpenBut, IsTurn}
 
 -- Of those that wait, the state whose turn it is has the least sum of cost and estimate; of equal sum, the least estimate;
 -- and of these it comes first. It leaves the open list, and the others stay in it.
@@ -23,6 +23,12 @@ pub record TakesNext (old new : List Waiting) (all : List Node) (turn : Turn) : 
   pub nearest : (w : Waiting) → Contains old w → IsCurrent all w → sum_of w ≡ sum_of next → estimate_of next ≤ estimate_of w
   pub first : (w : Waiting) → Contains old w → IsCurrent all w → sum_of w ≡ sum_of next → estimate_of w ≡ estimate_of next → place_of next ≤ place_of w
   pub rest : (w : Waiting) → Contains old w → IsCurrent all w → place_of w ≢ turn.id.0 → Contains new w
+
+-- the number is the least of this sum and those of the current entries
+pub record IsLeastWith (sum : ℕ) (open_list : List Waiting) (all : List Node) (least : ℕ) : Type 0 where
+  pub no_greater : least ≤ sum
+  pub at_most_each : (w : Waiting) → Contains open_list w → IsCurrent all w → least ≤ sum_of w
+  pub of_one : (sum ≡ least) ⊎ ((w : Waiting) × Contains open_list w × IsCurrent all w × (sum_of w ≡ least))
 
 -- the found states of a search
 abbrev pub nodes_in : {S Store : Type 0} → (Store → List S) → Progress Store → List (Found S)
@@ -49,17 +55,31 @@ module _ {S Store : Type 0} (t : System S ℕ) (value : S → ℕ) (is_dead : S 
     pub rest : (k : ℕ) (n : Found S) → slice_get (nodes_in states_of p) k ≡ Some n → IsWaiting is_dead n → k ≢ turn.id.0 → Contains (waiting_in p.open_list) (entry n.node.cost (value n.state) k)
     pub entries : All (IsEntryOf value is_dead (nodes_in states_of p)) (waiting_in p.open_list)
 
+  -- A search stops at the limit: the state whose turn it was waits again, but is not in the open list.
+  pub record IsStopped (turn : Turn) (max_states : ℕ) : Type 0 where
+    pub more : AreMoreReachable t value is_dead max_states
+    pub full : length (states_of p.store) ≡ max_states
+    pub one_each : length p.nodes.items ≡ length (states_of p.store)
+    pub found : Found S
+    pub occurs : slice_get (nodes_in states_of p) turn.id.0 ≡ Some found
+    pub waits : IsWaiting is_dead found
+    pub sum : turn.sum ≡ total_of value found
+    pub nodes : AreNodes t value is_dead (nodes_in states_of p) (entry found.node.cost (value found.state) turn.id.0 ∷ waiting_in p.open_list)
+    pub are_open : AreOpen t (nodes_in states_of p)
+    pub heap : IsOpenList p.open_list
+
   -- the state at this place is being expanded
   pub record IsExpanding (i : ℕ) : Type 0 where
     pub search : IsSearch
-    pub turn : IsTurn value (nodes_in states_of p) i
+    pub turn : IsTurn t value (nodes_in states_of p) i
     pub others_open : AreOpenBut t (nodes_in states_of p) i
 
 -- what was found stays found, at no higher cost, and the state that is being expanded stays as it is
 pub record Continues {S : Type 0} (old new : List (Found S)) (i : ℕ) : Type 0 where
   pub found : (s : S) (cost : ℕ) → IsFoundWithin old s cost → IsFoundWithin new s cost
   pub stays : (n : Found S) → slice_get old i ≡ Some n → slice_get new i ≡ Some n
-  pub count : expanded_count new ≡ expanded_count old
+  pub longer : length old ≤ length new
+  pub less : (most : ℕ) → length new ≤ most → work_left most new ≤ work_left most old
 
 -- from the node at this place the action leads to a state that is found, at no more than what that costs
 abbrev pub IsListed : {S : Type 0} → System S ℕ → List (Found S) → ℕ → ℕ → S → Type 0
@@ -78,13 +98,14 @@ pub record IsFull {S Store : Type 0} (t : System S ℕ) (value : S → ℕ) (is_
   pub full : length (states_of old.store) ≡ max_states
   pub store : states_of new.store ≡ states_of old.store
   pub nodes : new.nodes.items ≡ old.nodes.items
+  pub open_list : new.open_list ≡ old.open_list
 
 -- The states' turn is over.
 pub record Expands {S Store : Type 0} (t : System S ℕ) (value : S → ℕ) (is_dead : S → Bool) (states_of : Store → List S) (old new : Progress Store) (max_states : ℕ) : Type 0 where
   pub search : IsSearch t value is_dead states_of new
   pub are_open : AreOpen t (nodes_in states_of new)
   pub within : length (states_of new.store) ≤ max_states
-  pub count : expanded_count (nodes_in states_of new) ≡ expanded_count (nodes_in states_of old) + 1
+  pub less : work_left max_states (nodes_in states_of new) < work_left max_states (nodes_in states_of old)
 
 -- the buffers hold states of this width
 pub record AreWide {R : Type 0} (width : ℕ) (buffers : Buffers R) : Type 0 where

@@ -46,28 +46,35 @@ pub enum Outcome<S> {
 /// least estimate; and among these the one that was found first. A goal state is answered when its turn comes. With the
 /// estimate 0 (`NoEstimate`) that is uniform-cost search, or Dijkstra's algorithm.
 ///
+/// The estimate has to be admissible, and need not be consistent: a state that is reached at a lower cost after it was expanded
+/// waits again, and is expanded again when its turn comes (Martelli, On the Complexity of Admissible Search Algorithms, 1977).
+/// Where it is consistent, that does not happen.
+///
 /// A state that the guide reports dead is listed as a dead end, and never expanded; with `NoDeadEnd` there is none.
 ///
 /// `begin`, `go_on` and `finish` are the same search in parts, which may pause.
 ///
 /// What differs from these: the states are in a store, in the order in which they were found, and are named by
 /// their places there; actions are the system's numbers. Where a cheaper way to a waiting state is found, the old entry
-/// stays in the open list beside the new one, and is passed over when it comes up (lazy deletion). To an expanded state there
-/// is no cheaper way, since an estimate is consistent. Whether a state is a dead end is asked where it is found, and where a
-/// cheaper way to it is. At most `max_states` states are listed: where one more would have to be, the answer is `States`,
-/// with the sum of the state whose turn it is as the bound; that state is not expanded then, though some of its successors
-/// may be listed. Each turn writes into the same buffers, so that a state takes no memory but its place in the store, among
-/// the nodes and in the open list.
+/// stays in the open list beside the new one, and is passed over when it comes up (lazy deletion). Where one to an expanded
+/// state is found, the states that were reached from it keep their costs until it is expanded again, so that the actions along
+/// the parents may cost less than a state's node says; those to the state that is answered do not, since no list costs less.
+/// Whether a state is a dead end is asked where it is found, and where a cheaper way to it is. At most `max_states` states are
+/// listed: where one more would have to be, the answer is `States`, with the least sum of the states that wait then as the
+/// bound. The state whose turn it is is one of them: it is not expanded, though some of its successors may be listed. Each turn
+/// writes into the same buffers, so that a state takes no memory but its place in the store, among the nodes and in the open list.
 ///
 /// The clause promises what costs decide. A plan that is found is a cheapest one. `States` is reported only where more states
 /// than the limit are next to one that is not reported dead and, with its estimate, no dearer than any plan (`PrecedesPlans`):
 /// where there are no more of these, the answer is a plan, or that there is none. Its bound is the least sum of cost and
 /// estimate over the found states that are neither expanded nor reported dead, and the found states prove it (`IsAtLimit`). No
-/// state that is reported dead is expanded, and exactly these are marked dead among the found states. The clause leaves open
-/// which of several cheapest plans is answered, which states whose sum is as much as these cost are expanded before, and the
-/// order of the states in the store. Of that order, the contract of `next_waiting` says that it gives the state found first of
-/// those of the least estimate of those of the least sum; that this is the one to be expanded or answered, and that states are
-/// found in the order of the successors, is shown by tests alone.
+/// state that is reported dead is expanded, and exactly these are marked dead among the found states. No plan costs less than an
+/// expanded state with its estimate. Where the estimate is consistent, and what follows a state that is reported dead is reported
+/// dead too, an expanded state was reached by a cheapest way, and at the limit none has a greater sum than the bound. The clause
+/// leaves open which of several cheapest plans is answered, which states whose sum is as much as these cost are expanded before,
+/// and the order of the states in the store. Of that order, the contract of `next_waiting` says that it gives the state found first
+/// of those of the least estimate of those of the least sum; that this is the one to be expanded or answered, and that states
+/// are found in the order of the successors, is shown by tests alone.
 ///
 /// ```text
 /// let store = PooledStore::new(alloc, system.width())?;

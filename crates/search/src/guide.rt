@@ -3,8 +3,8 @@ ghost use Rattle.std.specs.Prelude.{◌≡◌, ℕ, ⊤, Bool, List, Some, IfOk,
 ghost use Rattle.std.proofs.Props.{props};
 ghost use Rattle.model.specs.Runs.{System};
 ghost use Rattle.packed_state.specs.Packed.{bits_of};
-ghost use Rattle.search.specs.Estimates.{IsConsistent, value_by};
-ghost use Rattle.search.specs.DeadEnds.{DetectsDeadEnds, IsValueUnlessDead};
+ghost use Rattle.search.specs.Estimates.{IsAdmissible, value_by};
+ghost use Rattle.search.specs.DeadEnds.{DetectsDeadEnds, ReportsDeadEnds, IsValueUnlessDead};
 
 use crate::dead_ends::DeadEnd;
 use crate::estimates::{Estimate, value_of};
@@ -15,8 +15,8 @@ use std::alloc::Global;
 /// What guides a search: an estimate of what is still to pay from each state of a transition system, which is at most what that
 /// costs, and a test for its dead ends, asked together.
 ///
-/// A state that is reported dead does not meet the goal, and each action that is applicable there leads to a state that is
-/// reported dead too; so it is a dead end. Not each dead end need be reported.
+/// Nothing is asked of what an action does to them: the estimate may fall by more than the action costs, and a state that follows
+/// a dead end need not be reported dead. Not each dead end need be reported.
 ///
 /// All that the questions work with is in a room, which is lent to them, so that none takes memory. While a state is expanded
 /// the room is at that state: what is known of it need not be found again for each successor.
@@ -77,18 +77,22 @@ pub trait Guide {
 
     ghost fits_at: { (guide : Self) (room : Self.Room) (bits : List Bool) → is_at guide room bits → fits guide room };
 
-    ghost is_consistent: { (guide : Self) → IsConsistent (system_of guide) (estimate_of guide) };
+    ghost is_admissible: { (guide : Self) → IsAdmissible (system_of guide) (estimate_of guide) };
 
-    ghost detects_dead_ends: { (guide : Self) → DetectsDeadEnds (system_of guide) (is_dead guide) };
+    ghost reports_dead_ends: { (guide : Self) → ReportsDeadEnds (system_of guide) (is_dead guide) };
 }
 
-/// An estimate and a test for dead ends that know nothing of each other, as a guide.
+/// An estimate and a test for dead ends that know nothing of each other, as a guide. Both keep laws along actions, which say more
+/// than a guide has to: the estimate is consistent (`E.is_consistent`), and what follows a state that is reported dead is
+/// reported dead too (`detects`).
 #[derive(Drop)]
 pub struct EstimateWithDeadEnds<'a, E: Estimate, D: DeadEnd> {
     estimate: &'a E,
     dead_ends: &'a D,
     ghost width: { D.width_of dead_ends.now ≡ E.width_of estimate.now } by { Prim.hlevel props },
     ghost detects: { DetectsDeadEnds (E.system_of estimate.now) (D.is_dead dead_ends.now) } by { Prim.hlevel props },
+    ghost admissible: { IsAdmissible (E.system_of estimate.now) (value_by (E.score_of estimate.now)) } by { Prim.hlevel props },
+    ghost reports: { ReportsDeadEnds (E.system_of estimate.now) (D.is_dead dead_ends.now) } by { Prim.hlevel props },
 }
 
 impl<'a, E: Estimate, D: DeadEnd> EstimateWithDeadEnds<'a, E, D> {
@@ -124,9 +128,9 @@ impl<E: Estimate, D: DeadEnd> Guide for EstimateWithDeadEnds<'_, E, D> {
 
     ghost fits_at = { λ _ _ _ _. tt };
 
-    ghost is_consistent = { λ guide. E.is_consistent guide.estimate.now };
+    ghost is_admissible = { λ guide. guide.admissible };
 
-    ghost detects_dead_ends = { λ guide. guide.detects };
+    ghost reports_dead_ends = { λ guide. guide.reports };
 
     fn room(&self, _alloc: Global) -> Result<i64, NoMemory> {
         Ok(0)

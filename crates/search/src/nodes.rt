@@ -22,7 +22,7 @@ pub(crate) struct ShortId {
 /// How far a search is with a found state.
 #[derive(Clone, Copy, Debug, PartialEq, Eq)]
 pub enum NodeStatus {
-    /// It is still to be expanded.
+    /// It is still to be expanded, for the first time or, since it was reached at a lower cost, again.
     Open,
     /// It was expanded: all its successors are among the found states.
     Expanded,
@@ -37,7 +37,8 @@ pub struct Node {
     pub cost: u64,
     /// Whether it is still to be expanded, was expanded, or is reported a dead end.
     pub status: NodeStatus,
-    /// The expanded state from which it was reached at this cost. Of the initial state it says nothing.
+    /// The state from which it was reached at this cost, which may itself be reached at a lower one since. Of the initial state it
+    /// says nothing.
     pub(crate) parent: ShortId,
     /// The action that leads to it from there.
     pub(crate) action: u32,

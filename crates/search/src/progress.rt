@@ -2,10 +2,9 @@
 ghost use Rattle.std.specs.Prelude.{◌≡◌, ◌≢◌, ℕ, ◌+◌, ◌<◌, ◌≤◌, ◌^◌, true, false, List, [], ◌∷◌, ◌++◌, length, slice_get, slice_set, Contains, All, MatchBool, MatchOption, IfOk, IfNone, IfSome, OnOk, OnSome, Some};
 ghost use Rattle.packed_state.specs.Packed.{bits_of};
 ghost use Rattle.packed_state.specs.Store.{IsPlaced};
-ghost use Rattle.search.specs.Outcome.{AreMoreReachable, IsAtLimit};
 ghost use Rattle.search.specs.Nodes.{Waiting, IsEntry, IsCurrent, AreOpen, IsPath, IsReachedIn};
 ghost use Rattle.search.specs.OpenList.{waiting_in, IsOpenList, JoinsBy};
-ghost use Rattle.search.specs.Progress.{TakesNext, nodes_in, IsSearch, IsAtTurn, IsExpanding, Reaches, IsFull, Expands, AreWide};
+ghost use Rattle.search.specs.Progress.{TakesNext, IsLeastWith, nodes_in, IsSearch, IsAtTurn, IsStopped, IsExpanding, Reaches, IsFull, Expands, AreWide};
 
 use crate::best::MAX_STATES;
 use crate::guide::Guide;
@@ -23,7 +22,7 @@ use std::cmp::Reverse;
 pub(crate) struct Progress<S> {
     pub(crate) store: S,
     pub(crate) nodes: Vec<Node>,
-    /// Each waiting state, beside entries that are stale: a cheaper way was found, or it was expanded.
+    /// Each waiting state, beside entries that are stale: a cheaper way was found, or it was expanded at this cost.
     pub(crate) open_list: OpenList,
 }
 
@@ -141,6 +140,20 @@ impl<S: StateStore> Progress<S> {
         None
     }
 
+    /// The least sum of cost and estimate of the states that wait, of which one has this sum and is not in the open list.
+    pub(crate) fn least_with(&mut self, sum: u64) -> u64
+        requires heap { IsOpenList self.old.open_list }
+        requires entries { All (IsEntry (length self.old.nodes.items)) (waiting_in self.old.open_list) }
+        ensures store { self.new.store ≡ self.old.store }
+        ensures nodes { self.new.nodes.items ≡ self.old.nodes.items }
+        ensures least { IsLeastWith sum (waiting_in self.old.open_list) self.old.nodes.items result }
+    {
+        match self.next_waiting() {
+            Some(next) => sum.min(next.sum),
+            None => sum,
+        }
+    }
+
     /// A new state waits by its estimate, unless it has none.
     fn add(&mut self, id: StateId, node: Node, estimate: Option<u64>) -> Result<(), NoMemory>
         requires sum { IfSome estimate (λ e. node.cost + e < 2 ^ 64) }
@@ -154,7 +167,7 @@ impl<S: StateStore> Progress<S> {
         self.enqueue(id, node.cost, estimate)
     }
 
-    /// A cheaper way to a state that is not expanded is kept in place of the dearer.
+    /// A cheaper way to a state is kept in place of the dearer. The state waits at this cost, also if it was expanded before.
     fn improve(&mut self, id: StateId, node: Node, estimate: Option<u64>) -> Result<(), NoMemory>
         requires found { id.0 < length self.old.nodes.items }
         requires sum { IfSome estimate (λ e. node.cost + e < 2 ^ 64) }
@@ -238,7 +251,7 @@ impl<S: StateStore> Progress<S> {
     }
 
     /// Lists the successors of the state whose turn it is, which the buffers hold; says whether the limit allows that.
-    /// Where it does not, the state is not expanded.
+    /// Where it does not, the state is not expanded: it waits still, but is not in the open list.
     pub(crate) fn expand<T: TransitionSystem, G: Guide>(
         &mut self,
         system: &T,
@@ -264,8 +277,7 @@ impl<S: StateStore> Progress<S> {
         ensures room { IfOk result (λ _. G.fits guide.now buffers.new.room) }
         ensures listed { IfOk result (λ is_listed. MatchBool is_listed
             (Expands (T.means system.now) (G.estimate_of guide.now) (G.is_dead guide.now) S.states self.old self.new max_states)
-            (AreMoreReachable (T.means system.now) (G.estimate_of guide.now) (G.is_dead guide.now) max_states
-            × IsAtLimit (T.means system.now) (G.estimate_of guide.now) (G.is_dead guide.now) max_states turn.sum (S.states self.new.store) self.new.nodes.items)) }
+            (IsStopped (T.means system.now) (G.estimate_of guide.now) (G.is_dead guide.now) S.states self.new turn max_states)) }
     {
         system.applicable(&buffers.state, &mut buffers.applicable)?;
         self.mark(turn.id, NodeStatus::Expanded);

@@ -110,8 +110,9 @@ pub fn go_on<T: TransitionSystem, G: Guide, S: StateStore>(
             }));
         }
         if !progress.expand(system, guide, &mut buffers, turn, max_states)? {
+            let bound = progress.least_with(turn.sum);
             return Ok(Halt::Ended(Outcome::States {
-                bound: turn.sum,
+                bound,
                 states: progress.into_states(),
             }));
         }

@@ -19,7 +19,7 @@ none-leads : {S : Type 0} (o : Option S) (next : S) → is_some o ≡ false → 
 none-leads None next none leads = absurd (cc)
 none-leads (Some s) next none leads = absurd (cc)
 
-no_door : (width : ℕ) (set next : List Bool) (room : Option ℕ) → room ≡ room_in set → through width [] set ≡ Some next → ⊥
+pub no_door : (width : ℕ) (set next : List Bool) (room : Option ℕ) → room ≡ room_in set → through width [] set ≡ Some next → ⊥
 no_door width set next None is leads = absurd (cc)
 no_door width set next (Some room) is leads = absurd (cc)
 

@@ -55,7 +55,7 @@ if-le : (b : Bool) (n most : ℕ) → n ≤ most → (if b then 0 else n) ≤ mo
 if-le true n most within = zero-le
 if-le false n most within = within
 
-cheapest-le : (b : Bool) (first_cost second_cost : ℕ) → min first_cost second_cost ≤ (if b then first_cost else second_cost)
+pub cheapest-le : (b : Bool) (first_cost second_cost : ℕ) → min first_cost second_cost ≤ (if b then first_cost else second_cost)
 cheapest-le true first_cost second_cost = min-le_left first_cost second_cost
 cheapest-le false first_cost second_cost = min-le_right first_cost second_cost
 

@@ -1,4 +1,4 @@
-//! Tests of packed states and both stores of them, of the search over a system that is here alone, of potentials, and of
+//! Tests of packed states and both stores of them, of the search over a system that is here alone, of potentials, of quotients, and of
 //! the certificates of answers over either store.
 #![tactic(auto)]
 
@@ -8,6 +8,8 @@ mod blind_rooms;
 mod dear_doors;
 #[cfg(test)]
 mod fairness;
+#[cfg(test)]
+mod far_signs;
 #[cfg(test)]
 mod laws;
 #[cfg(test)]
@@ -19,7 +21,11 @@ mod plain_certificates;
 #[cfg(test)]
 mod plain_tasks;
 #[cfg(test)]
+mod quotients;
+#[cfg(test)]
 mod refused_inserts;
+#[cfg(test)]
+mod reopened;
 #[cfg(test)]
 mod rooms;
 #[cfg(test)]

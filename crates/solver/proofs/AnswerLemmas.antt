@@ -15,8 +15,8 @@ use Rattle.packed_state.specs.declared.pooled.PooledStore.{PooledStore}
 use Rattle.certificate.specs.declared.states.Listed.{Listed}
 use Rattle.grounding.specs.declared.ground.Ground.{Ground}
 use Rattle.grounding.specs.Ground.{task_in, atoms_in}
-use Rattle.search.specs.Estimates.{IsConsistent}
-use Rattle.search.specs.DeadEnds.{DetectsDeadEnds}
+use Rattle.search.specs.Estimates.{IsAdmissible}
+use Rattle.search.specs.DeadEnds.{ReportsDeadEnds}
 use Rattle.search.proofs.Consistent.{lower_bound as lower_bound_of}
 use Rattle.search.proofs.DeadEnds.{are_dead_ends}
 use Rattle.search.specs.declared.nodes.Node.{Node}
@@ -95,13 +95,13 @@ module _ (g : Ground) (estimate : List Bool → ℕ) (is_dead : List Bool → Bo
         marked = found.marked;
       }
 
-  pub searched : (guide_system : System (List Bool) ℕ) → guide_system ≡ ground_system (task_in g) (atoms_in g) → IsConsistent guide_system estimate → DetectsDeadEnds guide_system is_dead
+  pub searched : (guide_system : System (List Bool) ℕ) → guide_system ≡ ground_system (task_in g) (atoms_in g) → IsAdmissible guide_system estimate → ReportsDeadEnds guide_system is_dead
       → (marks : List Listed) → AreMarksOf estimate is_dead (found_in outcome) marks → IsSearched g estimate is_dead limits.states outcome marks
-  searched guide_system same consistent detects marks marked = record {
+  searched guide_system same admissible reports marks marked = record {
     outcome_is = is;
     marked = marked;
-    lower_bound = subst (λ (t : System (List Bool) ℕ). IsLowerBound t estimate) same (lower_bound_of guide_system estimate consistent);
-    dead_ends = subst (λ (t : System (List Bool) ℕ). AreDeadEnds t is_dead) same (are_dead_ends guide_system is_dead detects);
+    lower_bound = subst (λ (t : System (List Bool) ℕ). IsLowerBound t estimate) same (lower_bound_of guide_system estimate admissible);
+    dead_ends = subst (λ (t : System (List Bool) ℕ). AreDeadEnds t is_dead) same (are_dead_ends guide_system is_dead reports);
   }
 
 pub found_among_more : {S A : Type 0} {t : System S A} {value : S → ℕ} {is_dead : S → Bool} {claim : Claim} {count most : ℕ} {states : List S} {nodes : List Node} → AreFound t value is_dead claim count states nodes

@@ -3,6 +3,7 @@ pub mod GroundLemmas
 pub mod PotentialLemmas
 pub mod GuidanceLemmas
 pub mod TablesLemmas
+pub mod ConsistentLemmas
 pub mod FoundLines
 pub mod ListingLemmas
 pub mod LimitLemmas

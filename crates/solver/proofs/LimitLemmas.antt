@@ -3,6 +3,7 @@ use Rattle.std.proofs.Common.{◌≡◌, ◌∙◌, ℕ, ◌≤◌, Bool, true, 
 use Rattle.std.specs.Prelude.{slice_get, Contains}
 use Rattle.std.proofs.lemmas.Bool.{lt-ltb}
 use Rattle.search.specs.declared.nodes.Node.{Node}
+use Rattle.search.specs.Estimates.{IsConsistent}
 use Rattle.search.specs.Outcome as search
 use Rattle.search.specs.Outcome.{AreFound, IsReachableAt}
 use Rattle.solver.specs.Listing.{found_certificate}
@@ -31,7 +32,7 @@ limit_claim t value is_dead max_states least states nodes limit low few =
     lt-ltb least 1152921504606846976 (omega (arith, paid, most, sum, limit.full, few))
 
 module _ (task : Task) (least most : ℕ) (guidance : Guidance) (states : List (List Bool)) (nodes : List Node) (known : List Atom) (numbered : known ≡ numbered_atoms task [])
-    (limit : search.IsAtLimit (ground_system task known) (estimate_by guidance) (reports_dead guidance) most least states nodes)
+    (consistent : IsConsistent (ground_system task known) (estimate_by guidance)) (limit : search.IsAtLimit (ground_system task known) (estimate_by guidance) (reports_dead guidance) most least states nodes)
     (certificate : Certificate) (is : certificate ≡ found_certificate (bound least) known guidance states nodes) where
   abbrev atoms : List Atom
   atoms = numbered_atoms task []
@@ -75,7 +76,7 @@ module _ (task : Task) (least most : ℕ) (guidance : Guidance) (states : List (
         let among = Contains-map (view task (bound least) most guidance states nodes) (search.lines_of (estimate_by guidance) (reports_dead guidance) states nodes) (search.line_of (estimate_by guidance) (reports_dead guidance) s n)
         (line_among (estimate_by guidance) (reports_dead guidance) states nodes k s n at_s at_n) in
         (line_for s n, estimate_by guidance s, (subst (λ (ls : List (Line State)). Contains ls (line_for s n)) (sym (listing task (bound least) most guidance states nodes)) among, cut_of_waits (estimate_by guidance) (reports_dead guidance) s n waits), sum);
-    open_within = open_within task (bound least) most guidance states nodes same_limit.found least same_limit.expanded_within;
+    open_within = open_within task (bound least) most guidance states nodes same_limit.found least (limit.expanded_within consistent);
   }
 
   pub at_limit_of : (max_states : ℕ) → most ≡ max_states → IsAtLimit task least max_states certificate

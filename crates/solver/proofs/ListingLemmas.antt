@@ -21,7 +21,7 @@ use Rattle.solver.proofs.GroundLemmas.{length-reachable, distinct_states}
 use Rattle.solver.specs.Guidance.{Guidance, by_potentials, by_tables, CanBeWritten, AreFairBy, estimate_by, reports_dead, version_by, values_by, first_value}
 use Rattle.solver.proofs.GuidanceLemmas.{AreLimits, limits_of, one_weight_each, weights_of_each, most_value, estimate-most, mark-passes, value-found, value-at-start, dead-found, fair-found}
 use Rattle.solver.proofs.FoundLines.{expanded_of_open, dead_of_reported, found_line, length-lines, node_at}
-use Rattle.model.specs.Task.{Task, Atom}
+use Rattle.model.specs.Task.{Task, Atom, Instance}
 use Rattle.model.specs.WellTyped.{is_task, is_atom}
 use Rattle.model.specs.Runs.{System}
 use Rattle.model.specs.Claims.{Claim, opened, cut, dead, Line, IsClosed}
@@ -30,6 +30,7 @@ use Rattle.model.specs.Fluents.{is_fluent, static_atoms}
 use Rattle.model.specs.NumberedAtoms.{occurs_in, are_distinct, numbered_atoms}
 use Rattle.model.specs.Grounding.{chosen, state_of_bits, ground_system, NamesKept}
 use Rattle.certificate_definitions.specs.Certificates.{two, three, Certificate, StateLine, is_number, is_claim, is_mark, is_dead_end_weight, is_state_line, keeps_limits, rise, state_of_line, lines_of, value_of, is_dead_end_of}
+use Rattle.certificate_definitions.proofs.WithoutExchanges.{lists_task}
 use Rattle.table_functions.specs.TableFunctions.{SeveralValues}
 use Rattle.model.proofs.ListLemmas.{map-Contains}
 use Rattle.model.proofs.LimitsLemmas.{numbered_again}
@@ -232,14 +233,17 @@ module _ (task : Task) (claim : Claim) (most : ℕ) (guidance : Guidance) (state
         atoms_are_distinct = pairs_apart atoms (numbered-distinct task []);
         states_are_distinct = subst (AllPairs (λ (k l : Line State). k.state ≢ l.state)) (sym listing)
             (states_apart (map view lines) (subst (λ (ss : List State). AreDistinct ss) (sym (listed_states states nodes found.one_for_each)) (distinct_states task states found_width found.distinct)));
-        listing_is_closed = subst (IsClosed (system_of task) (value_of task made) (is_dead_end_of task made) claim) (sym listing)
+        exchanges_are_symmetries = λ k d below. absurd (omega (arith, below));
+        listing_is_closed = subst (λ (t : System State Instance). IsClosed t (value_of task made) (is_dead_end_of task made) claim (lines_of task made)) (sym (lists_task task made refl))
+            (subst (IsClosed (system_of task) (value_of task made) (is_dead_end_of task made) claim) (sym listing)
             (closed_forth (ground_system task atoms) (system_of task) (state_of_bits task atoms) (NamesKept task) (ground_task_is_bisimilar task [] none_more)
             (λ bits. value_of task made (state_of_bits task atoms bits)) (value_of task made) (λ s. omega arith)
             (λ bits. is_dead_end_of task made (state_of_bits task atoms bits)) (is_dead_end_of task made) (λ s reported. reported) claim lines
             (closed_higher (ground_system task atoms) (estimate_by guidance) (λ bits. value_of task made (state_of_bits task atoms bits)) (reports_dead guidance) (λ bits. is_dead_end_of task made (state_of_bits task atoms bits)) claim lines
-            same_listing found.closed));
+            same_listing found.closed)));
       };
       within_limit = omega (arith, length-made found.one_for_each);
+      exchanges = refl;
       atoms = refl;
       within_limits = kept;
       version = known_version guidance;
@@ -274,7 +278,8 @@ module _ (task : Task) (claim : Claim) (most : ℕ) (guidance : Guidance) (state
           let listed = and_from (is_claim claim && nat_le (length atoms) 1048576 && nat_le (length made.lines) 16777216) (list_all (is_state_line (version_by guidance) (length atoms)) made.lines) counted
           (all_pass states nodes found_width small_value (λ k node at. omega (arith, found.cheap k node at, found.within_limit, few))) in
           let limits = limits_of (version_by guidance) (length atoms) (values_by guidance) written.within_limits in
-          λ i. (((((listed i && limits.value_count i) && limits.values i) && limits.dead_ends i) && limits.tables i) && limits.few_tables i) && limits.few_rows i
+          -- and there are no exchanges
+          λ i. (((((((listed i && limits.value_count i) && limits.values i) && limits.dead_ends i) && limits.tables i) && limits.few_tables i) && limits.few_rows i) && true) && true
         where
           all_pass : (ss : List (List Bool)) (ns : List Node) → ((k : ℕ) (bits : List Bool) → slice_get ss k ≡ Some bits → length bits ≡ length atoms)
               → ((k : ℕ) (bits : List Bool) → slice_get ss k ≡ Some bits → estimate_by guidance bits ≤ most_value)
@@ -299,6 +304,7 @@ more_allowed given le = record {
   claims = given.claims;
   closed = given.closed;
   within_limit = omega (arith, given.within_limit, le);
+  exchanges = given.exchanges;
   atoms = given.atoms;
   within_limits = given.within_limits;
   version = given.version;

@@ -30,6 +30,7 @@ abbrev pub found_certificate : Claim → List Atom → Guidance → List (List B
 found_certificate claim atoms guidance states nodes = record {
   version = version_by guidance;
   claim = claim;
+  exchanges = [];
   atoms = atoms;
   values = (values_by guidance).values;
   dead_ends = (values_by guidance).dead_ends;
@@ -39,11 +40,12 @@ found_certificate claim atoms guidance states nodes = record {
 
 -- The certificate is closed for the task, claims this, keeps the limits of a certificate's text, and lists at most
 -- `max_states` states by the numbered atoms, each at the place that is its number. It is of version 2, or of version 3 where
--- the search went by tables, and each listed state that its values report a dead end is listed as one.
+-- the search went by tables, without exchanges, and each listed state that its values report a dead end is listed as one.
 pub record IsShownBy (task : Task) (claim : Claim) (max_states : ℕ) (certificate : Certificate) : Type 0 where
   pub claims : certificate.claim ≡ claim
   pub closed : IsClosedFor task certificate
   pub within_limit : length certificate.lines ≤ max_states
+  pub exchanges : certificate.exchanges ≡ []
   pub atoms : certificate.atoms ≡ numbered_atoms task []
   pub within_limits : IsTrue (keeps_limits certificate)
   pub version : (certificate.version ≡ two) ⊎ (certificate.version ≡ three)

@@ -53,6 +53,7 @@ pub(crate) fn cert_of(
     let header = Header {
         version: guidance.version(),
         claim,
+        exchanges: Vec::new(alloc),
         atoms: copied(alloc, ground.atoms().as_slice())?,
         bounds: guidance.into_bounds(alloc)?,
     };

@@ -94,6 +94,8 @@ impl Guide for FairTables<'_, '_, '_> {
     ghost use Rattle.std.specs.Prelude.{length};
     ghost use Rattle.grounding.specs.Ground.{task_in, atoms_in};
     ghost use Rattle.model.specs.Grounding.{ground_system};
+    ghost use Rattle.search.proofs.Consistent.{admissible};
+    ghost use Rattle.search.proofs.DeadEnds.{reports_dead_ends};
     ghost use Rattle.table_functions.specs.TableFunctions.{functions_of, dead_ends_of, greatest_value, is_dead_by};
     ghost use Rattle.tables.specs.Several.{HasRowsFor};
     ghost use Rattle.tables.specs.StateRows.{KnowsRows};
@@ -115,9 +117,9 @@ impl Guide for FairTables<'_, '_, '_> {
 
     ghost fits_at = { λ _ _ _ at. at.0 };
 
-    ghost is_consistent = { λ guide. guide.guides.estimate };
+    ghost is_admissible = { λ guide. admissible (ground_system (task_in (ground_in guide)) (atoms_in (ground_in guide))) (greatest_value (functions_of (functions_in guide))) guide.guides.estimate };
 
-    ghost detects_dead_ends = { λ guide. guide.guides.dead_ends };
+    ghost reports_dead_ends = { λ guide. reports_dead_ends (ground_system (task_in (ground_in guide)) (atoms_in (ground_in guide))) (is_dead_by (dead_ends_of (functions_in guide))) guide.guides.dead_ends };
 
     fn room(&self, alloc: Global) -> Result<StateRows, NoMemory> {
         self.functions.state_rows(alloc)

@@ -4,6 +4,8 @@ ghost use Rattle.grounding.specs.Ground.{task_in, atoms_in};
 ghost use Rattle.certificate.specs.Certificate.{certificate_of, store_in};
 ghost use Rattle.cert_checker.specs.PackedLines.{IsPackedListing};
 ghost use Rattle.cert_checker.specs.Weights.{HaveTheirWeights};
+ghost use Rattle.cert_checker.specs.CheckedLines.{AreSymmetries};
+ghost use Rattle.cert_checker.specs.Represented.{Represents};
 ghost use Rattle.std.specs.Prelude.{length};
 ghost use Rattle.tables.specs.Several as values_in_memory;
 ghost use Rattle.certificate_definitions.specs.Certificates as certificates;
@@ -12,18 +14,23 @@ use certificate::Cert;
 use faults::NoMemory;
 use grounding::Ground;
 use packed_state::{Packed, StateStore};
+use representatives::Representatives;
 use std::alloc::Global;
 use tables::{Room, TableFunctions};
 
 /// A certificate of a ground task in which the certificate's atoms have the first numbers, with its states packed as the ground
-/// task's are, and its values with a weight for each numbered atom. Those of versions 1 and 2 are over no tables.
+/// task's are, its values with a weight for each numbered atom, and the representatives by its exchanges. The values of versions 1
+/// and 2 are over no tables, and each state represents itself there.
 #[derive(Drop)]
 pub(super) struct PackedListing<'a, 't> {
     pub(super) grounded: &'a Ground<'t>,
     pub(super) cert: &'a Cert,
     values: TableFunctions<'a>,
+    representatives: Representatives<'a, 't, 'a>,
     ghost listed: { IsPackedListing (task_in grounded.now) (atoms_in grounded.now) (certificate_of cert.now) (store_in cert.now) } by { Prim.hlevel props },
     ghost valued: { HaveTheirWeights (certificates.several_of (certificate_of cert.now)) (length (atoms_in grounded.now)) (values_in_memory.several_of values) } by { Prim.hlevel props },
+    ghost symmetric: { AreSymmetries (task_in grounded.now) (certificate_of cert.now) } by { Prim.hlevel props },
+    ghost represented: { Represents (task_in grounded.now) (atoms_in grounded.now) (certificate_of cert.now).exchanges representatives } by { Prim.hlevel props },
 }
 
 impl<'a, 't> PackedListing<'a, 't> {
@@ -33,6 +40,7 @@ impl<'a, 't> PackedListing<'a, 't> {
     ghost use Rattle.cert_checker.specs.FluentAtoms.{AreFluent};
     ghost use Rattle.cert_checker.specs.CheckedLines.{HasCost, IsListedAt, IsListedAs};
     ghost use Rattle.cert_checker.specs.PackedListing.{task_at, certificate_at, state_at, IsPacked, HasRoomIn};
+    ghost use Rattle.cert_checker.specs.Successors.{representative_in};
     ghost use Rattle.model.specs.NumberedAtoms.{numbered_atoms};
     ghost use Rattle.certificate_definitions.specs.Certificates.{is_dead_end_of, lines_of, value_of};
     ghost use Rattle.certificate_definitions.specs.CertificateRefusals.{IsListed};
@@ -42,17 +50,21 @@ impl<'a, 't> PackedListing<'a, 't> {
         grounded: &'a Ground<'t>,
         cert: &'a Cert,
         values: TableFunctions<'a>,
+        representatives: Representatives<'a, 't, 'a>,
     ) -> PackedListing<'a, 't>
         requires fluent { AreFluent (task_in grounded.now) (certificate_of cert.now).atoms }
         requires numbered { atoms_in grounded.now ≡ numbered_atoms (task_in grounded.now) (certificate_of cert.now).atoms }
         requires width { pooled_width (store_in cert.now) ≡ length (atoms_in grounded.now) }
         requires weights { HaveTheirWeights (certificates.several_of (certificate_of cert.now)) (length (atoms_in grounded.now)) (values_in_memory.several_of values) }
+        requires symmetric { AreSymmetries (task_in grounded.now) (certificate_of cert.now) }
+        requires represented { Represents (task_in grounded.now) (atoms_in grounded.now) (certificate_of cert.now).exchanges representatives }
         ensures same { (task_at result ≡ task_in grounded.now) × (certificate_at result ≡ certificate_of cert.now) }
     {
         PackedListing {
             grounded,
             cert,
             values,
+            representatives,
         }
     }
 
@@ -78,6 +90,15 @@ impl<'a, 't> PackedListing<'a, 't> {
             Some(place) => Some(self.cert.marks()[place as usize].cost),
             None => None,
         }
+    }
+
+    /// Makes the state its representative. No memory is taken.
+    pub(super) fn represent(&self, state: &mut Packed)
+        requires { IsPacked self.now state.old }
+        ensures packed { IsPacked self.now state.new }
+        ensures represented { state_at self.now state.new ≡ representative_in (task_at self.now) (certificate_at self.now) (state_at self.now state.old) }
+    {
+        self.representatives.represent(state);
     }
 
     /// Room to be lent to the calls that ask for the value of a state.

@@ -1,27 +1,31 @@
 //! Whether no action leads out of the listing at less than is claimed.
-ghost use Rattle.std.specs.Prelude.{◌≡◌, ◌≢◌, ℕ, ◌+◌, ◌<◌, ◌↔◌, AllPairs, List, length, slice_get, Option, None, Some, IsTrue, IfErr, IfOk, OnOk};
+ghost use Rattle.std.specs.Prelude.{◌≡◌, ◌≢◌, ℕ, ◌+◌, ◌<◌, ◌↔◌, AllPairs, List, length, map, slice_get, Option, None, Some, IsTrue, IfErr, IfOk, OnOk};
+ghost use Rattle.std.specs.List.{list_all};
 ghost use Rattle.task.specs.Task.{task_of};
 ghost use Rattle.packed_state.specs.Packed.{bits_of};
 ghost use Rattle.grounding.specs.Ground.{task_in, atoms_in, IsGroundOf};
 ghost use Rattle.certificate_reader.specs.Lines.{claim_of};
-ghost use Rattle.certificate.specs.Certificate.{certificate_of};
+ghost use Rattle.task_symmetries.specs.Exchange.{exchange_of};
+ghost use Rattle.packed_state.specs.PooledView.{pooled_width};
+ghost use Rattle.certificate.specs.Certificate.{certificate_of, store_in};
 ghost use Rattle.cert_checker.specs.CertChecker.{IsFirstRefusal, IsTrueRefusal};
 ghost use Rattle.cert_checker.specs.FluentAtoms.{AreFluent};
-ghost use Rattle.cert_checker.specs.CheckedLines.{CutsAreAllowed, IsCutClosed, IsFirstGrounded, IsLineClosed, IsOpenClosed, IsRightGrounded, IsRightUpTo, IsTrueAnyway, IsListedAs};
+ghost use Rattle.cert_checker.specs.CheckedLines.{AreSymmetries, CutsAreAllowed, IsCutClosed, IsFirstGrounded, IsLineClosed, IsOpenClosed, IsRightGrounded, IsRightUpTo, IsTrueAnyway, IsListedAs};
+ghost use Rattle.cert_checker.specs.Exchanged.{is_said};
 ghost use Rattle.cert_checker.specs.PackedListing.{task_at, atoms_at, certificate_at, state_at, IsPacked, HasRoomIn};
 ghost use Rattle.model.specs.Task as model_task;
-ghost use Rattle.model.specs.Meaning.{system_of};
 ghost use Rattle.model.specs.Meaning as meaning;
 ghost use Rattle.model.specs.Claims as claims;
 ghost use Rattle.model.specs.Claims.{opened, cut, dead, Allows, IsListedWithin};
 ghost use Rattle.model.specs.NumberedAtoms.{numbered_atoms};
 ghost use Rattle.model.specs.Grounding.{applicable_numbers};
-ghost use Rattle.certificate_definitions.specs.Certificates.{is_dead_end_of, lines_of, AreFairFor};
+ghost use Rattle.certificate_definitions.specs.Certificates.{is_dead_end_of, lines_of, listed_system, AreFairFor};
 ghost use Rattle.cert_checker.specs.Weights.{AreCounted};
 ghost use Rattle.certificate_definitions.specs.CertificateRefusals.{state_line};
 ghost use Rattle.cert_checker.specs.declared.refusal.Refusal.TheVariants as Refusal;
 
 use crate::checker::packed::PackedListing;
+use crate::checker::symmetry::{representatives_by, symmetric_exchanges};
 use crate::checker::values::fair_values;
 use crate::refusal::{Refusal, RefusalCode};
 use certificate::{Cert, Claim, Mark};
@@ -30,9 +34,10 @@ use packed_state::Packed;
 use std::alloc::Global;
 use tables::Room;
 use task::Task;
+use task_symmetries::Exchange;
 
-/// Grounds the task, and checks the certificate: whether its values are fair and that for dead ends is dead-fair, whether
-/// the initial state is listed at cost 0, and the state lines in order.
+/// Grounds the task, and checks the certificate: whether its exchanges are symmetries, its values are fair and that for dead ends is
+/// dead-fair, whether the initial state is listed at cost 0, and the state lines in order.
 pub(super) fn check_cert(
     alloc: Global,
     task: &Task,
@@ -40,6 +45,7 @@ pub(super) fn check_cert(
     max_instances: u32,
 ) -> Result<(), Refusal>
     requires counted { AreCounted cert }
+    requires said { IsTrue (list_all (is_said (task_of task.now)) (certificate_of cert).exchanges) }
     requires atoms { AreFluent (task_of task.now) (certificate_of cert).atoms }
     requires distinct { AllPairs (λ (k l : claims.Line meaning.State). k.state ≢ l.state) (lines_of (task_of task.now) (certificate_of cert)) }
     requires allowed { CutsAreAllowed (task_of task.now) (certificate_of cert) (length (lines_of (task_of task.now) (certificate_of cert))) }
@@ -75,6 +81,7 @@ fn ground_task<'t>(
 /// Checks the certificate by the ground task in which its atoms have the first numbers.
 fn check_grounded(alloc: Global, grounded: &Ground<'_>, cert: Cert) -> Result<(), Refusal>
     requires counted { AreCounted cert }
+    requires said { IsTrue (list_all (is_said (task_in grounded.now)) (certificate_of cert).exchanges) }
     requires fluent { AreFluent (task_in grounded.now) (certificate_of cert).atoms }
     requires numbered { atoms_in grounded.now ≡ numbered_atoms (task_in grounded.now) (certificate_of cert).atoms }
     ensures right { OnOk result (IsRightGrounded (task_in grounded.now) (certificate_of cert)) }
@@ -82,8 +89,30 @@ fn check_grounded(alloc: Global, grounded: &Ground<'_>, cert: Cert) -> Result<()
     ensures first { IfErr result (IsFirstGrounded (task_in grounded.now) (certificate_of cert)) }
 {
     let cert = cert.at_width(alloc, grounded.width())?;
-    let values = fair_values(alloc, &cert, grounded)?;
-    let packed = PackedListing::new(grounded, &cert, values);
+    let exchanges = symmetric_exchanges(alloc, &cert, grounded)?;
+    check_symmetric(alloc, grounded, &cert, exchanges.as_slice())
+}
+
+/// Checks the certificate, whose sets are as wide as the ground task's, by its exchanges, which are symmetries.
+fn check_symmetric(
+    alloc: Global,
+    grounded: &Ground<'_>,
+    cert: &Cert,
+    exchanges: &[Exchange],
+) -> Result<(), Refusal>
+    requires counted { AreCounted cert.now }
+    requires fluent { AreFluent (task_in grounded.now) (certificate_of cert.now).atoms }
+    requires numbered { atoms_in grounded.now ≡ numbered_atoms (task_in grounded.now) (certificate_of cert.now).atoms }
+    requires width { pooled_width (store_in cert.now) ≡ length (atoms_in grounded.now) }
+    requires exchanges { map exchange_of exchanges.now ≡ (certificate_of cert.now).exchanges }
+    requires symmetric { AreSymmetries (task_in grounded.now) (certificate_of cert.now) }
+    ensures right { OnOk result (IsRightGrounded (task_in grounded.now) (certificate_of cert.now)) }
+    ensures wrong { IfErr result (IsTrueAnyway (task_in grounded.now) (certificate_of cert.now)) }
+    ensures first { IfErr result (IsFirstGrounded (task_in grounded.now) (certificate_of cert.now)) }
+{
+    let representatives = representatives_by(alloc, grounded, exchanges)?;
+    let values = fair_values(alloc, cert, grounded)?;
+    let packed = PackedListing::new(grounded, cert, values, representatives);
     check_packed(alloc, &packed)
 }
 
@@ -99,14 +128,15 @@ fn check_packed(alloc: Global, listing: &PackedListing) -> Result<(), Refusal>
     check_lines(alloc, listing)
 }
 
-/// Whether the initial state is listed at cost 0.
+/// Whether the initial state, or its representative, is listed at cost 0.
 fn check_initial(alloc: Global, listing: &PackedListing) -> Result<(), Refusal>
-    ensures right { OnOk result (IsListedWithin (lines_of (task_at listing.now) (certificate_at listing.now)) (system_of (task_at listing.now)).initial 0) }
+    ensures right { OnOk result (IsListedWithin (lines_of (task_at listing.now) (certificate_at listing.now)) (listed_system (task_at listing.now) (certificate_at listing.now)).initial 0) }
     ensures wrong { IfErr result (IsTrueAnyway (task_at listing.now) (certificate_at listing.now)) }
     ensures first { AreFairFor (task_at listing.now) (certificate_at listing.now)
         → IfErr result (IsFirstGrounded (task_at listing.now) (certificate_at listing.now)) }
 {
-    let initial = listing.grounded.initial(alloc)?;
+    let mut initial = listing.grounded.initial(alloc)?;
+    listing.represent(&mut initial);
     if listing.cost_of(&initial) == Some(0) {
         Ok(())
     } else {
@@ -219,8 +249,8 @@ fn check_goal(
     }
 }
 
-/// Checks the successors of this open state, which is listed at this place and this cost. The numbers are those of the
-/// instances that are applicable in it.
+/// Checks the successors of this open state, which is listed at this place and this cost, by their representatives. The numbers are
+/// those of the instances that are applicable in it.
 fn check_successors(
     listing: &PackedListing,
     place: usize,
@@ -244,6 +274,7 @@ fn check_successors(
 {
     for &number in numbers {
         listing.grounded.step_into(number, state, next);
+        listing.represent(next);
         let Some(listed) = listing.cost_of(next) else {
             return Err(state_line(RefusalCode::SuccessorMissing, listing.cert, place));
         };

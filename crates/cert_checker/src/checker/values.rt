@@ -11,7 +11,7 @@ ghost use Rattle.certificate_definitions.specs.Certificates.{has_tables, AreFair
 ghost use Rattle.potential_functions.specs.PotentialFunctions.{PotentialFunction, AreInRange};
 ghost use Rattle.tables.specs.Several.{several_of};
 ghost use Rattle.cert_checker.specs.FluentAtoms.{AreFluent};
-ghost use Rattle.cert_checker.specs.CheckedLines.{IsFirstGrounded, IsTrueAnyway};
+ghost use Rattle.cert_checker.specs.CheckedLines.{IsFirstSymmetric, IsTrueAnyway};
 ghost use Rattle.cert_checker.specs.Weights.{HaveTheirWeights, AreCounted, AreWidened};
 ghost use Rattle.model.specs.NumberedAtoms.{numbered_atoms};
 
@@ -37,7 +37,7 @@ pub(super) fn fair_values<'a>(
     ensures weights { IfOk result (λ f. HaveTheirWeights (certificates.several_of (certificate_of cert.now)) (length (atoms_in grounded.now)) (several_of f)) }
     ensures fair { OnOk result (AreFairFor (task_in grounded.now) (certificate_of cert.now)) }
     ensures wrong { IfErr result (IsTrueAnyway (task_in grounded.now) (certificate_of cert.now)) }
-    ensures first { IfErr result (IsFirstGrounded (task_in grounded.now) (certificate_of cert.now)) }
+    ensures first { IfErr result (IsFirstSymmetric (task_in grounded.now) (certificate_of cert.now)) }
 {
     match cert.version() {
         Version::One | Version::Two => fair_without_tables(alloc, cert, grounded),
@@ -58,7 +58,7 @@ fn fair_without_tables<'a>(
     ensures weights { IfOk result (λ f. HaveTheirWeights (certificates.several_of (certificate_of cert.now)) (length (atoms_in grounded.now)) (several_of f)) }
     ensures fair { OnOk result (AreFairFor (task_in grounded.now) (certificate_of cert.now)) }
     ensures wrong { IfErr result (IsTrueAnyway (task_in grounded.now) (certificate_of cert.now)) }
-    ensures first { IfErr result (IsFirstGrounded (task_in grounded.now) (certificate_of cert.now)) }
+    ensures first { IfErr result (IsFirstSymmetric (task_in grounded.now) (certificate_of cert.now)) }
 {
     let value = fair_potentials(alloc, cert, grounded)?;
     let dead_ends = dead_fair_potentials(alloc, cert, grounded)?;
@@ -80,7 +80,7 @@ fn fair_with_tables<'a>(
     ensures weights { IfOk result (λ f. HaveTheirWeights (certificates.several_of (certificate_of cert.now)) (length (atoms_in grounded.now)) (several_of f)) }
     ensures fair { OnOk result (AreFairFor (task_in grounded.now) (certificate_of cert.now)) }
     ensures wrong { IfErr result (IsTrueAnyway (task_in grounded.now) (certificate_of cert.now)) }
-    ensures first { IfErr result (IsFirstGrounded (task_in grounded.now) (certificate_of cert.now)) }
+    ensures first { IfErr result (IsFirstSymmetric (task_in grounded.now) (certificate_of cert.now)) }
 {
     let bounds = cert.bounds();
     let width = grounded.width();
@@ -104,7 +104,7 @@ fn check_fairness(
     requires weights { HaveTheirWeights (certificates.several_of (certificate_of cert.now)) (length (atoms_in grounded.now)) (several_of functions.now) }
     ensures fair { OnOk result (AreFairFor (task_in grounded.now) (certificate_of cert.now)) }
     ensures wrong { IfErr result (IsTrueAnyway (task_in grounded.now) (certificate_of cert.now)) }
-    ensures first { IfErr result (IsFirstGrounded (task_in grounded.now) (certificate_of cert.now)) }
+    ensures first { IfErr result (IsFirstSymmetric (task_in grounded.now) (certificate_of cert.now)) }
 {
     match functions.fairness(alloc, grounded)? {
         ValuesFairness::Fair => Ok(()),

@@ -9,7 +9,7 @@ ghost use Rattle.certificate.specs.CertificateParts.{potential_of};
 ghost use Rattle.certificate_definitions.specs.Certificates as certificates;
 ghost use Rattle.certificate_definitions.specs.Certificates.{has_tables};
 ghost use Rattle.cert_checker.specs.FluentAtoms.{AreFluent};
-ghost use Rattle.cert_checker.specs.CheckedLines.{IsFirstGrounded, IsTrueAnyway};
+ghost use Rattle.cert_checker.specs.CheckedLines.{IsFirstSymmetric, IsTrueAnyway};
 ghost use Rattle.cert_checker.specs.Weights.{HasItsWeights};
 ghost use Rattle.model.specs.StaticallyFalse.{kept_instances};
 ghost use Rattle.model.specs.NumberedAtoms.{numbered_atoms};
@@ -36,7 +36,7 @@ pub(super) fn fair_potentials(
     ensures weights { IfOk result (λ p. HasItsWeights (certificates.potentials_of (certificate_of cert.now)) (length (atoms_in grounded.now)) (potentials_of p)) }
     ensures fair { OnOk result (AreFair (task_in grounded.now) (numbered_atoms (task_in grounded.now) (certificate_of cert.now).atoms) (certificates.potentials_of (certificate_of cert.now))) }
     ensures wrong { IfErr result (IsTrueAnyway (task_in grounded.now) (certificate_of cert.now)) }
-    ensures first { IfErr result (IsFirstGrounded (task_in grounded.now) (certificate_of cert.now)) }
+    ensures first { IfErr result (IsFirstSymmetric (task_in grounded.now) (certificate_of cert.now)) }
 {
     let potentials = at_width(alloc, &cert.bounds().values[0], grounded.width())?;
     match potentials.fair(alloc, grounded)? {
@@ -60,7 +60,7 @@ pub(super) fn dead_fair_potentials(
     ensures weights { IfOk result (λ p. HasItsWeights (certificate_of cert.now).dead_ends (length (atoms_in grounded.now)) (potentials_of p)) }
     ensures dead_fair { OnOk result (AreDeadFair (task_in grounded.now) (numbered_atoms (task_in grounded.now) (certificate_of cert.now).atoms) (certificate_of cert.now).dead_ends) }
     ensures wrong { IfErr result (IsTrueAnyway (task_in grounded.now) (certificate_of cert.now)) }
-    ensures first { IfErr result (IsFirstGrounded (task_in grounded.now) (certificate_of cert.now)) }
+    ensures first { IfErr result (IsFirstSymmetric (task_in grounded.now) (certificate_of cert.now)) }
 {
     let potentials = at_width(alloc, &cert.bounds().dead_ends, grounded.width())?;
     match dead_fairness(alloc, &potentials, grounded)? {

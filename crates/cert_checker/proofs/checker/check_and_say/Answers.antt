@@ -8,6 +8,7 @@ use Rattle.certificate.specs.Certificate.{certificate_of}
 use Rattle.cert_checker.specs.CertChecker.{IsNoFault}
 use Rattle.cert_checker.specs.Checking.{Refuses}
 use Rattle.cert_checker.proofs.AcceptLemmas.{accepts_read, counts_judged, none_at_fault, not_refused, refuses_read}
+use Rattle.cert_checker.proofs.ExchangesLemmas.{exchanges_of_text}
 use Rattle.cert_checker.proofs.FirstLemmas.{cuts_allowed}
 use Rattle.cert_checker.proofs.SaidLemmas.{whole_said}
 use Rattle.progress_lines.proofs.SaidLemmas.{said_after, said_of_more}
@@ -30,6 +31,11 @@ pub judge-requires-clause-fluent : goal.judge-requires-clause-fluent
 judge-requires-clause-fluent g c =
     let read = c.in_ok-cert.ensures.read in
     record { fluent = read.fluent; distinct = read.distinct }
+
+pub judge-requires-clause-said : goal.judge-requires-clause-said
+judge-requires-clause-said g c =
+    let read = c.in_ok-cert.ensures.read in
+    exchanges_of_text (task_of c.args.task.now) read.text (certificate_of c.in_ok-cert.cert) read.is_text
 
 pub judge-requires-clause-allowed : goal.judge-requires-clause-allowed
 judge-requires-clause-allowed g c = cuts_allowed (task_of c.args.task.now) (certificate_of c.in_ok-cert.cert) c.in_ok-cert.ensures.read.allowed

@@ -24,7 +24,7 @@ pub answer-requires-clause-holds : goal.answer-requires-clause-holds
 answer-requires-clause-holds c =
     let task = task_of c.args.task.now in
     let cert = certificate_of c.args.cert in
-    subst (ClaimHolds (system_of task)) (sym c.claim-claim.ensures) (closed_holds task cert (closed_for task cert c.args.max_instances c.in_ok-check_cert.ensures.right))
+    subst (ClaimHolds (system_of task)) (sym c.claim-claim.ensures) (closed_holds task cert c.args.task.now.well_typed (closed_for task cert c.args.max_instances c.in_ok-check_cert.ensures.right))
 
 pub returns-clause-closed : goal.returns-clause-closed
 returns-clause-closed c =

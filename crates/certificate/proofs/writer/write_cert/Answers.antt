@@ -8,27 +8,42 @@ use Rattle.table_rows.specs.Tables.{table_of}
 use Rattle.devices.specs.Devices.{AppendsBeginning}
 use Rattle.certificate_definitions.specs.CertificateText.{last, whole_line}
 use Rattle.certificate_definitions.specs.CertificateNames.{certificate_text}
-use Rattle.certificate.specs.CertificateParts.{constants_in}
-use Rattle.certificate.specs.Gathering.{IsPassedOn, table_text}
-use Rattle.certificate.proofs.WholeText.{head, head_of, atoms_text, tables_text, states_text, last_text, to_atoms, to_tables, to_states, by_atoms, by_tables, by_states, head_held, part_held, part_begun, last_begun, last_held, all_begun, all_where_ok}
+use Rattle.certificate.specs.CertificateParts.{constants_in, exchange_in}
+use Rattle.certificate.specs.Gathering.{IsPassedOn, swap_line, table_text}
+use Rattle.certificate.proofs.WholeText.{head, head_of, exchanges_text, atoms_text, tables_text, states_text, last_text, to_exchanges, to_atoms, to_tables, to_states, by_exchanges, by_atoms, by_tables, by_states, head_held, part_held, part_begun, last_begun, last_held, all_begun, all_where_ok}
 use Rattle.certificate.specs.Certificate.{certificate_of}
 use Rattle.certificate.proofs.writer.write_cert.Goals as goal
-use Rattle.certificate.proofs.writer.write_cert.Goals.{In_ok-add_head, In_ok-write_atoms, After-write_tables, In_ok-write_tables, In_ok-write_states, In_ok-add_last}
+use Rattle.certificate.proofs.writer.write_cert.Goals.{After-write_exchanges, In_ok-add_head, In_ok-write_exchanges, In_ok-write_atoms, After-write_tables, In_ok-write_tables, In_ok-write_states, In_ok-add_last}
 use Rattle.certificate.proofs.writer.write_cert.Given.{Over}
 
--- what is passed on, or held, once the beginning, the atoms, the tables, the states and the last line were added
+-- what is passed on, or held, once the beginning, the exchanges, the atoms, the tables, the states and the last line were added
 first : (g : Over) (c : In_ok-add_head g) → IsPassedOn (g.W.Sink.taken c.args.out.now) (g.W.Sink.taken c.args.out.now) [] c.add_head.new.text.items
     (head_of (certificate_of c.args.cert.now))
 first g c =
     head_held (g.W.Sink.taken c.args.out.now) c.new-held.result.items _ (head_of (certificate_of c.args.cert.now)) c.new-held.ensures.items
     (c.in_ok-add_head.ensures ∙ (λ i. c.new-held.result.items ++ head (c.version.ensures i) (c.claim.ensures i) (constants_in (c.version.ensures i) (c.bounds.ensures.bounds i))))
 
-second : (g : Over) (c : In_ok-write_atoms g) → IsPassedOn (g.W.Sink.taken c.args.out.now) (g.W.Sink.taken c.args.out.now) [] c.add_head.new.text.items
+-- the exchanges that are written are the certificate's
+exchanges_are : (g : Over) (c : After-write_exchanges g)
+    → flat_map (swap_line (task_of c.args.task.now)) (map exchange_in c.exchanges.result.now) ≡ exchanges_text (task_of c.args.task.now) (certificate_of c.args.cert.now)
+exchanges_are g c = ap (flat_map (swap_line (task_of c.args.task.now))) c.exchanges.ensures.exchanges
+
+exchanged : (g : Over) (c : In_ok-write_exchanges g)
+    → flat_map (swap_line (task_of c.args.task.now)) (map exchange_in c.exchanges.result.now) ≡ exchanges_text (task_of c.args.task.now) (certificate_of c.args.cert.now)
+    → IsPassedOn (g.W.Sink.taken c.args.out.now) (g.W.Sink.taken c.args.out.now) [] c.add_head.new.text.items
     (head_of (certificate_of c.args.cert.now))
+    → IsPassedOn (g.W.Sink.taken c.args.out.now) (g.W.Sink.taken c.write_exchanges.new.out) [] c.write_exchanges.new.held.items
+    (to_exchanges (task_of c.args.task.now) (certificate_of c.args.cert.now))
+exchanged g c are first =
+    part_held _ _ _ (head_of (certificate_of c.args.cert.now)) first (g.W.Sink.taken c.write_exchanges.new.out) _ (exchanges_text (task_of c.args.task.now) (certificate_of c.args.cert.now))
+    (subst (IsPassedOn _ _ _ _) are c.in_ok-write_exchanges.ensures.text)
+
+second : (g : Over) (c : In_ok-write_atoms g) → IsPassedOn (g.W.Sink.taken c.args.out.now) (g.W.Sink.taken c.write_exchanges.new.out) [] c.write_exchanges.new.held.items
+    (to_exchanges (task_of c.args.task.now) (certificate_of c.args.cert.now))
     → IsPassedOn (g.W.Sink.taken c.args.out.now) (g.W.Sink.taken c.write_atoms.new.out) [] c.write_atoms.new.held.items
     (to_atoms (task_of c.args.task.now) (certificate_of c.args.cert.now))
 second g c first =
-    part_held _ _ _ (head_of (certificate_of c.args.cert.now)) first (g.W.Sink.taken c.write_atoms.new.out) _ (atoms_text (task_of c.args.task.now) (certificate_of c.args.cert.now)) c.in_ok-write_atoms.ensures.text
+    part_held _ _ _ (to_exchanges (task_of c.args.task.now) (certificate_of c.args.cert.now)) first (g.W.Sink.taken c.write_atoms.new.out) _ (atoms_text (task_of c.args.task.now) (certificate_of c.args.cert.now)) c.in_ok-write_atoms.ensures.text
 
 -- the tables that are written are the certificate's
 tables_are : (g : Over) (c : After-write_tables g) → flat_map table_text (map table_of c.deref.result.now) ≡ tables_text (certificate_of c.args.cert.now)
@@ -60,11 +75,20 @@ whole g c fourth =
     last_held _ _ _ (to_states task cert) fourth _ (certificate_text task cert) (last_text cert) (by_states task cert)
     (◌∙◌ {A = List ℕ} c.in_ok-add_last.ensures (ap (λ n. c.write_states.new.held.items ++ whole_line (last n)) c.line_count.ensures))
 
+pub returns-in_err-write_exchanges-clause-beginning : goal.returns-in_err-write_exchanges-clause-beginning
+returns-in_err-write_exchanges-clause-beginning g c =
+    let task = task_of c.args.task.now in
+    let cert = certificate_of c.args.cert.now in
+    let at = goal.at.returns-in_err-write_exchanges-clause-beginning g c in
+    part_begun _ _ _ (head_of cert) (first g at.In_ok-add_head) _ (certificate_text task cert) (exchanges_text task cert) _ (by_exchanges task cert)
+    (subst (λ text. AppendsBeginning (g.W.Sink.taken c.args.out.now) (g.W.Sink.taken c.write_exchanges.new.out) (c.add_head.new.text.items ++ text)) (exchanges_are g at.After-write_exchanges) c.write_exchanges.ensures.beginning)
+
 pub returns-in_err-write_atoms-clause-beginning : goal.returns-in_err-write_atoms-clause-beginning
 returns-in_err-write_atoms-clause-beginning g c =
     let task = task_of c.args.task.now in
     let cert = certificate_of c.args.cert.now in
-    part_begun _ _ _ (head_of cert) (first g (goal.at.returns-in_err-write_atoms-clause-beginning g c).In_ok-add_head) _ (certificate_text task cert) (atoms_text task cert) _ (by_atoms task cert)
+    let at = goal.at.returns-in_err-write_atoms-clause-beginning g c in
+    part_begun _ _ _ (to_exchanges task cert) (exchanged g at.In_ok-write_exchanges (exchanges_are g at.After-write_exchanges) (first g at.In_ok-add_head)) _ (certificate_text task cert) (atoms_text task cert) _ (by_atoms task cert)
     c.write_atoms.ensures.beginning
 
 pub returns-in_err-write_tables-clause-beginning : goal.returns-in_err-write_tables-clause-beginning
@@ -72,7 +96,7 @@ returns-in_err-write_tables-clause-beginning g c =
     let task = task_of c.args.task.now in
     let cert = certificate_of c.args.cert.now in
     let at = goal.at.returns-in_err-write_tables-clause-beginning g c in
-    part_begun _ _ _ (to_atoms task cert) (second g at.In_ok-write_atoms (first g at.In_ok-add_head)) _ (certificate_text task cert) (tables_text cert) _ (by_tables task cert)
+    part_begun _ _ _ (to_atoms task cert) (second g at.In_ok-write_atoms (exchanged g at.In_ok-write_exchanges (exchanges_are g at.After-write_exchanges) (first g at.In_ok-add_head))) _ (certificate_text task cert) (tables_text cert) _ (by_tables task cert)
     (subst (λ text. AppendsBeginning (g.W.Sink.taken c.write_atoms.new.out) (g.W.Sink.taken c.write_tables.new.out) (c.write_atoms.new.held.items ++ text)) (tables_are g at.After-write_tables) c.write_tables.ensures.beginning)
 
 pub returns-in_err-write_states-clause-beginning : goal.returns-in_err-write_states-clause-beginning
@@ -80,7 +104,7 @@ returns-in_err-write_states-clause-beginning g c =
     let task = task_of c.args.task.now in
     let cert = certificate_of c.args.cert.now in
     let at = goal.at.returns-in_err-write_states-clause-beginning g c in
-    part_begun _ _ _ (to_tables task cert) (third g at.In_ok-write_tables (tables_are g at.After-write_tables) (second g at.In_ok-write_atoms (first g at.In_ok-add_head))) _ (certificate_text task cert) (states_text cert) _ (by_states task cert)
+    part_begun _ _ _ (to_tables task cert) (third g at.In_ok-write_tables (tables_are g at.After-write_tables) (second g at.In_ok-write_atoms (exchanged g at.In_ok-write_exchanges (exchanges_are g at.After-write_exchanges) (first g at.In_ok-add_head)))) _ (certificate_text task cert) (states_text cert) _ (by_states task cert)
     c.write_states.ensures.beginning
 
 pub returns-in_err-add_last-clause-beginning : goal.returns-in_err-add_last-clause-beginning
@@ -89,14 +113,14 @@ returns-in_err-add_last-clause-beginning g c =
     let cert = certificate_of c.args.cert.now in
     let at = goal.at.returns-in_err-add_last-clause-beginning g c in
     last_begun _ _ _ (to_states task cert)
-    (fourth g at.In_ok-write_states (third g at.In_ok-write_tables (tables_are g at.After-write_tables) (second g at.In_ok-write_atoms (first g at.In_ok-add_head))))
+    (fourth g at.In_ok-write_states (third g at.In_ok-write_tables (tables_are g at.After-write_tables) (second g at.In_ok-write_atoms (exchanged g at.In_ok-write_exchanges (exchanges_are g at.After-write_exchanges) (first g at.In_ok-add_head)))))
     (certificate_text task cert) (last_text cert) (by_states task cert)
 
 pub returns-clause-text : goal.returns-clause-text
 returns-clause-text g c =
     let at = goal.at.returns-clause-text g c in
     all_where_ok _ _ _ (certificate_text (task_of c.args.task.now) (certificate_of c.args.cert.now))
-    (whole g at.In_ok-add_last (fourth g at.In_ok-write_states (third g at.In_ok-write_tables (tables_are g at.After-write_tables) (second g at.In_ok-write_atoms (first g at.In_ok-add_head)))))
+    (whole g at.In_ok-add_last (fourth g at.In_ok-write_states (third g at.In_ok-write_tables (tables_are g at.After-write_tables) (second g at.In_ok-write_atoms (exchanged g at.In_ok-write_exchanges (exchanges_are g at.After-write_exchanges) (first g at.In_ok-add_head))))))
     _ c.write_all.result
     (subst (λ bytes. OnOk c.write_all.result (Appends (g.W.Sink.taken c.write_states.new.out) (g.W.Sink.taken c.write_all.new.sink) bytes)) c.as_slice.ensures.value c.write_all.ensures.ok)
 
@@ -104,6 +128,6 @@ pub returns-clause-beginning : goal.returns-clause-beginning
 returns-clause-beginning g c =
     let at = goal.at.returns-clause-beginning g c in
     all_begun _ _ _ (certificate_text (task_of c.args.task.now) (certificate_of c.args.cert.now))
-    (whole g at.In_ok-add_last (fourth g at.In_ok-write_states (third g at.In_ok-write_tables (tables_are g at.After-write_tables) (second g at.In_ok-write_atoms (first g at.In_ok-add_head)))))
+    (whole g at.In_ok-add_last (fourth g at.In_ok-write_states (third g at.In_ok-write_tables (tables_are g at.After-write_tables) (second g at.In_ok-write_atoms (exchanged g at.In_ok-write_exchanges (exchanges_are g at.After-write_exchanges) (first g at.In_ok-add_head))))))
     _
     (subst (AppendsBeginning (g.W.Sink.taken c.write_states.new.out) (g.W.Sink.taken c.write_all.new.sink)) c.as_slice.ensures.value c.write_all.ensures.beginning)

@@ -1,19 +1,18 @@
-use Rattle.std.proofs.Common.{List, Bool, ◌≡◌, ℕ, ◌+◌, length, ap, sym, ◌∙◌, subst, arith, Some, get_or, true, false}
+use Rattle.std.proofs.Common.{List, Bool, ◌≡◌, ℕ, length, ap, sym, ◌∙◌, subst, arith, Some, get_or, true, false}
 use Rattle.std.specs.Prelude.{slice_get}
 use Rattle.search.specs.OpenList.{waiting_in}
-use Rattle.std.proofs.lemmas.List.Sums.{count_by-le-length}
 use Rattle.std.proofs.lemmas.Option.{same_Some, get_or_from_slice_get, slice_get_within}
 use Rattle.packed_state.specs.Packed.{bits_of}
 use Rattle.model.specs.Claims.{bound}
 use Rattle.model.specs.Runs.{System}
-use Rattle.search.specs.Estimates.{IsConsistent}
-use Rattle.search.specs.DeadEnds.{DetectsDeadEnds}
-use Rattle.search.specs.Outcome.{is_expanded, AreFound, AreExpandedWithin}
-use Rattle.search.specs.Nodes.{Found, found_of, expanded_count, IsEntryOf}
-use Rattle.search.proofs.Linked.{length-found_of}
+use Rattle.search.specs.Estimates.{IsAdmissible}
+use Rattle.search.specs.DeadEnds.{ReportsDeadEnds}
+use Rattle.search.specs.Outcome.{AreFound, AreExpandedWithin}
+use Rattle.search.specs.Nodes.{found_of, IsEntryOf}
 use Rattle.search.proofs.Closed.{reached_in, optimal, unsolvable}
 use Rattle.search.proofs.OpenList.{All-among}
 use Rattle.search.proofs.Steps.{entries_of, at_turn, none_waits}
+use Rattle.search.proofs.Stopped.{entries_stopped, at_limit}
 use Rattle.search.proofs.under_way.go_on.Goals as goal
 
 pub turns-init : goal.turns-init
@@ -64,9 +63,9 @@ returns-then-meets_goal g c =
     let same_cost : next.found.node.cost ≡ c.index.result.now.cost = cc in
     let path = rw c.in-Some.ensures.nodes at c.in_ok-steps.ensures.path in
     let short = rw c.in-Some.ensures.nodes at c.in_ok-steps.ensures.short in
-    let consistent = subst (λ (u : System (List Bool) ℕ). IsConsistent u value) c.requires.made_for (g.met.G.Guide.is_consistent c.args.guide.now) in
-    let reports = subst (λ (u : System (List Bool) ℕ). DetectsDeadEnds u is_dead) c.requires.made_for (g.met.G.Guide.detects_dead_ends c.args.guide.now) in
-    let best = optimal _ _ _ _ _ search.one_each _ search.nodes consistent reports id next.found c.in_ok-steps.steps.items c.args.max_states
+    let admissible = subst (λ (u : System (List Bool) ℕ). IsAdmissible u value) c.requires.made_for (g.met.G.Guide.is_admissible c.args.guide.now) in
+    let reports = subst (λ (u : System (List Bool) ℕ). ReportsDeadEnds u is_dead) c.requires.made_for (g.met.G.Guide.reports_dead_ends c.args.guide.now) in
+    let best = optimal _ _ _ _ _ search.one_each _ search.nodes admissible reports id next.found c.in_ok-steps.steps.items c.args.max_states
     c.turns.invariant.are_open next.occurs next.least meets path short c.turns.invariant.within in (
       best.0,
       best.1 ∙ same_cost,
@@ -114,17 +113,23 @@ pub expand-requires-clause-within : goal.expand-requires-clause-within
 expand-requires-clause-within g c =
     rw c.in-Some.ensures.store c.turns.invariant.within
 
+-- what the search needs where it stopped at the limit
+pub least_with-bound-requires-clause-heap : goal.least_with-bound-requires-clause-heap
+least_with-bound-requires-clause-heap g c =
+    let not_listed : c.in_ok-expand.field-0 ≡ false = c.if-not-branch.true in
+    (rw not_listed at c.in_ok-expand.ensures.listed).heap
+
+pub least_with-bound-requires-clause-entries : goal.least_with-bound-requires-clause-entries
+least_with-bound-requires-clause-entries g c =
+    let not_listed : c.in_ok-expand.field-0 ≡ false = c.if-not-branch.true in
+    entries_stopped (g.T.TransitionSystem.means c.args.system.now) (g.G.Guide.estimate_of c.args.guide.now) (g.G.Guide.is_dead c.args.guide.now) g.S.StateStore.states
+    c.expand.new.self c.in-Some.turn c.args.max_states (rw not_listed at c.in_ok-expand.ensures.listed)
+
 pub turns-smaller : goal.turns-smaller
 turns-smaller g c =
-    let states = g.S.StateStore.states c.turns.progress.store in
-    let all = c.turns.progress.nodes.items in
     let listed : c.in_ok-expand.field-0 ≡ true = c.if-not-branch.false in
     let expands = rw listed at c.in_ok-expand.ensures.listed in
-    let after = found_of (g.S.StateStore.states c.expand.new.self.store) c.expand.new.self.nodes.items in
-    let count : expanded_count after ≡ expanded_count (found_of states all) + 1 = rw (c.in-Some.ensures.store, c.in-Some.ensures.nodes) at expands.count in
-    let long = length-found_of (g.S.StateStore.states c.expand.new.self.store) c.expand.new.self.nodes.items expands.search.one_each in
-    let most = count_by-le-length (λ (n : Found (List Bool)). is_expanded n.node) after in
-    omega (arith, count, long, most, expands.within)
+    rw (c.in-Some.ensures.store, c.in-Some.ensures.nodes) at expands.less
 
 pub turns-preserved : goal.turns-preserved
 turns-preserved g c =
@@ -134,17 +139,25 @@ turns-preserved g c =
 
 pub returns-then-not-branch : goal.returns-then-not-branch
 returns-then-not-branch g c =
-    let stopped : c.in_ok-expand.field-0 ≡ false = c.if-not-branch.true in
-    rw (c.into_states-then-not-branch.ensures.store, c.into_states-then-not-branch.ensures.nodes) (rw stopped at c.in_ok-expand.ensures.listed)
+    let not_listed : c.in_ok-expand.field-0 ≡ false = c.if-not-branch.true in
+    let stopped = rw not_listed at c.in_ok-expand.ensures.listed in
+    let value = g.G.Guide.estimate_of c.args.guide.now in
+    let is_dead = g.G.Guide.is_dead c.args.guide.now in
+    let admissible = subst (λ (u : System (List Bool) ℕ). IsAdmissible u value) c.requires.made_for (g.met.G.Guide.is_admissible c.args.guide.now) in
+    let reports = subst (λ (u : System (List Bool) ℕ). ReportsDeadEnds u is_dead) c.requires.made_for (g.met.G.Guide.reports_dead_ends c.args.guide.now) in
+    rw (c.into_states-then-not-branch.ensures.store, c.into_states-then-not-branch.ensures.nodes, c.least_with-bound.ensures.store, c.least_with-bound.ensures.nodes) (
+      stopped.more,
+      at_limit (g.T.TransitionSystem.means c.args.system.now) value is_dead g.S.StateStore.states c.expand.new.self c.in-Some.turn c.args.max_states stopped admissible reports c.least_with-bound.result c.least_with-bound.ensures.least,
+    )
 
 pub returns-in_default : goal.returns-in_default
 returns-in_default g c =
     let search = c.turns.invariant.search in
     let value = g.G.Guide.estimate_of c.args.guide.now in
     let is_dead = g.G.Guide.is_dead c.args.guide.now in
-    let consistent = subst (λ (u : System (List Bool) ℕ). IsConsistent u value) c.requires.made_for (g.met.G.Guide.is_consistent c.args.guide.now) in
-    let reports = subst (λ (u : System (List Bool) ℕ). DetectsDeadEnds u is_dead) c.requires.made_for (g.met.G.Guide.detects_dead_ends c.args.guide.now) in
-    let result = unsolvable _ _ _ _ _ search.one_each _ search.nodes consistent reports c.args.max_states c.turns.invariant.are_open
+    let admissible = subst (λ (u : System (List Bool) ℕ). IsAdmissible u value) c.requires.made_for (g.met.G.Guide.is_admissible c.args.guide.now) in
+    let reports = subst (λ (u : System (List Bool) ℕ). ReportsDeadEnds u is_dead) c.requires.made_for (g.met.G.Guide.reports_dead_ends c.args.guide.now) in
+    let result = unsolvable _ _ _ _ _ search.one_each _ search.nodes admissible reports c.args.max_states c.turns.invariant.are_open
     (none_waits _ _ _ _ _ _ search.one_each search.nodes c.in_default.ensures.none) c.turns.invariant.within in
     (result.0, rw (c.into_states.ensures.store, c.in_default.ensures.store, c.into_states.ensures.nodes, c.in_default.ensures.nodes) result.1)
 

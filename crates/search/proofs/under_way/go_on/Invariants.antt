@@ -1,5 +1,4 @@
-use Rattle.std.proofs.Common.{◌-◌}
-use Rattle.search.specs.Nodes.{expanded_count}
+use Rattle.search.specs.Nodes.{work_left}
 use Rattle.search.specs.Progress.{nodes_in}
 use Rattle.search.specs.UnderWay.{IsUnderWay}
 use Rattle.search.proofs.under_way.go_on.Given as goal
@@ -14,4 +13,4 @@ invariant-turns g l =
 
 abbrev pub decreases-turns : goal.decreases-turns
 decreases-turns g l =
-    l.max_states - expanded_count (nodes_in g.S.StateStore.states l.progress)
+    work_left l.max_states (nodes_in g.S.StateStore.states l.progress)

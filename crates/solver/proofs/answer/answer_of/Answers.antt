@@ -17,6 +17,7 @@ use Rattle.solver.specs.Guided.{found_in, AreMarksOf}
 use Rattle.solver.specs.Written.{guidance_of}
 use Rattle.solver.proofs.AnswerLemmas.{all_instances_of_plan, most_of_limit, found_among_more, claim_allowed, limit_allowed, plan_named, plan_optimal, plan_cost, task_unsolvable, task_costs_at_least, more_of_task}
 use Rattle.solver.proofs.ListingLemmas.{shown, opened_within, settled_or_high}
+use Rattle.solver.proofs.ConsistentLemmas.{consistent_by}
 use Rattle.solver.proofs.LimitLemmas.{at_limit_of}
 use Rattle.solver.proofs.answer.answer_of.Goals as goal
 
@@ -177,5 +178,5 @@ returns-in_ok-cert-in-States c =
       shown task (bound least) most guidance states nodes atoms numbered reported.1.found cert made most reported.1.found.within_limit c.requires.typed
           c.requires.guidance.written c.requires.guidance.fair c.in_ok-cert-in-States.cert.within_limits,
       settled_or_high task (bound least) most guidance states nodes atoms numbered reported.1.found cert made c.requires.guidance.improved c.requires.guidance.dead_ends_improved c.requires.guidance.no_lower,
-      at_limit_of task least most guidance states nodes atoms numbered reported.1 cert made most refl,
+      at_limit_of task least most guidance states nodes atoms numbered (consistent_by c.args.ground.now numbered guidance c.requires.guidance.written c.requires.guidance.fair) reported.1 cert made most refl,
     )

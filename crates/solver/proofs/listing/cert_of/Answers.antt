@@ -3,7 +3,7 @@ use Rattle.task.specs.TaskParts.{atom_of}
 use Rattle.packed_state.specs.PooledView.{pooled_states}
 use Rattle.certificate_reader.specs.Lines.{claim_of}
 use Rattle.certificate.specs.ListedSets.{lines_with}
-use Rattle.certificate.specs.CertificateParts.{certificate_with}
+use Rattle.certificate.specs.CertificateParts.{certificate_with, exchange_in}
 use Rattle.grounding.specs.Ground.{task_in, atoms_in}
 use Rattle.model.specs.NumberedAtoms.{are_distinct}
 use Rattle.model.proofs.GroundTaskLemmas.{numbered-distinct}
@@ -20,7 +20,7 @@ copied-requires c = ap are_distinct (ap (map atom_of) c.as_slice.ensures.keys �
 
 -- the certificate of the parts is that of what was found
 made : (c : In_ok-into_bounds)
-    → certificate_with (record { version = c.version.result; claim = c.args.claim; atoms = c.in_ok-copied.field-0; bounds = c.in_ok-into_bounds.field-0 }) (record { marks = c.args.marks; sets = c.args.found.store })
+    → certificate_with (record { version = c.version.result; claim = c.args.claim; exchanges = c.new.result; atoms = c.in_ok-copied.field-0; bounds = c.in_ok-into_bounds.field-0 }) (record { marks = c.args.marks; sets = c.args.found.store })
     ≡ found_certificate (claim_of c.args.claim) (atoms_in c.args.ground.now) (guidance_of c.args.guidance) (pooled_states c.args.found.store) c.args.found.nodes.items
 made c =
     let guidance = guidance_of c.args.guidance in
@@ -29,7 +29,8 @@ made c =
     let atoms = c.in_ok-copied.ensures ∙ ap (map atom_of) c.as_slice.ensures.keys ∙ c.atoms.ensures in
     let lines = ap (λ ms. lines_with ms states) c.requires.marks ∙ lines_of_marks (estimate_by guidance) (reports_dead guidance) states nodes in
     let bounds = c.in_ok-into_bounds.ensures in
-    λ i. record { version = c.version.ensures i; claim = claim_of c.args.claim; atoms = atoms i; values = (bounds i).values; dead_ends = (bounds i).dead_ends; tables = (bounds i).tables; lines = lines i }
+    let exchanges = ap (map exchange_in) c.new.ensures.items in
+    λ i. record { version = c.version.ensures i; claim = claim_of c.args.claim; exchanges = exchanges i; atoms = atoms i; values = (bounds i).values; dead_ends = (bounds i).dead_ends; tables = (bounds i).tables; lines = lines i }
 
 pub from_parts-requires-clause-limits : goal.from_parts-requires-clause-limits
 from_parts-requires-clause-limits c =

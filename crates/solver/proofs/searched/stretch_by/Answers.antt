@@ -44,7 +44,7 @@ returns-in_ok-marks-in-Ended g c =
     let halt = subst (IsTrueHalt t estimate is_dead (g.G.Guide.fits guide) pooled_states pooled_width (length (atoms_in known)) c.args.pause c.states.result) c.in-Ended.is c.in_ok-outcome.ensures in
     let is = subst (λ (n : ℕ). IsTrueOutcome t estimate is_dead pooled_states n outcome) c.states.ensures halt in
     let marks = c.in_ok-marks-in-Ended.marks.items in
-    searched known estimate is_dead c.args.limits outcome is (g.G.Guide.system_of guide) c.requires.system (g.met.G.Guide.is_consistent guide) (g.met.G.Guide.detects_dead_ends guide) marks
+    searched known estimate is_dead c.args.limits outcome is (g.G.Guide.system_of guide) c.requires.system (g.met.G.Guide.is_admissible guide) (g.met.G.Guide.reports_dead_ends guide) marks
     (subst (λ (f : FoundStates PooledStore). AreMarksOf estimate is_dead f marks) c.found_in.ensures c.in_ok-marks-in-Ended.ensures)
 
 pub returns-in-Paused : goal.returns-in-Paused

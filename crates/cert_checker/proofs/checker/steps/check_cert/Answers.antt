@@ -1,5 +1,7 @@
 use Rattle.std.proofs.Common.{◌≡◌, List, Option, subst, sym}
-use Rattle.std.specs.Prelude.{IfErr, OnOk}
+use Rattle.std.specs.Prelude.{IfErr, IsTrue, OnOk}
+use Rattle.std.specs.List.{list_all}
+use Rattle.cert_checker.specs.Exchanged.{is_said}
 use Rattle.std.proofs.lemmas.Result.{IfErr-weaker, on_ok_weaker}
 use Rattle.task.specs.Task.{task_of}
 use Rattle.certificate.specs.Certificate.{certificate_of}
@@ -14,6 +16,9 @@ use Rattle.cert_checker.proofs.checker.steps.check_cert.Goals as goal
 -- the ground task is that of the task
 pub check_grounded-requires-clause-fluent : goal.check_grounded-requires-clause-fluent
 check_grounded-requires-clause-fluent c = subst (λ t. AreFluent t (certificate_of c.args.cert).atoms) (sym c.in_ok-grounded.ensures.right.task) c.requires.atoms
+
+pub check_grounded-requires-clause-said : goal.check_grounded-requires-clause-said
+check_grounded-requires-clause-said c = subst (λ t. IsTrue (list_all (is_said t) (certificate_of c.args.cert).exchanges)) (sym c.in_ok-grounded.ensures.right.task) c.requires.said
 
 pub check_grounded-requires-clause-numbered : goal.check_grounded-requires-clause-numbered
 check_grounded-requires-clause-numbered c =

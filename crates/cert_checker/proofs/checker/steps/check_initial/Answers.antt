@@ -1,29 +1,41 @@
+use Rattle.std.proofs.Common.{◌≡◌, ◌∙◌, ap}
 use Rattle.certificate.specs.Certificate.{store_in}
 use Rattle.packed_state.specs.Packed.{bits_of}
 use Rattle.cert_checker.specs.PackedListing.{task_at, atoms_at, certificate_at, state_at}
-use Rattle.model.specs.Meaning.{initial_state}
-use Rattle.certificate_definitions.specs.Certificates.{lines_of}
+use Rattle.cert_checker.specs.Successors.{representative_in}
+use Rattle.certificate_definitions.specs.Certificates.{lines_of, listed_system}
 use Rattle.cert_checker.proofs.CertCheckerLemmas.{listed_at_none}
 use Rattle.cert_checker.proofs.OrderLemmas.{atoms_right, states_right_all, first_initial}
 use Rattle.cert_checker.proofs.PackedListingLemmas.{initial_there, listed_apart}
 use Rattle.cert_checker.proofs.RefusalsLemmas.{not_listed_at_none}
 use Rattle.cert_checker.proofs.checker.steps.check_initial.Goals as goal
+use Rattle.cert_checker.proofs.checker.steps.check_initial.Goals.{After-represent}
+
+-- it is the state at which the listed system starts
+starts : (c : After-represent) → state_at c.args.listing.now c.represent.new.state ≡ (listed_system (task_at c.args.listing.now) (certificate_at c.args.listing.now)).initial
+starts c =
+    let listing = c.args.listing.now in
+    c.represent.ensures.represented
+    ∙ ap (representative_in (task_at listing) (certificate_at listing))
+    (initial_there (task_at listing) (atoms_at listing) (certificate_at listing) (store_in listing.cert.now) listing.listed (bits_of c.in_ok-initial.initial) c.in_ok-initial.ensures)
 
 pub returns-then-eq-clause-right : goal.returns-then-eq-clause-right
 returns-then-eq-clause-right c =
     let listing = c.args.listing.now in
     let task = task_at listing in
-    listed_at_none (lines_of task (certificate_at listing)) (state_at listing c.in_ok-initial.initial) (initial_state task) c.cost_of.result c.cost_of.ensures c.if-eq.ensures
-    (initial_there task (atoms_at listing) (certificate_at listing) (store_in listing.cert.now) listing.listed (bits_of c.in_ok-initial.initial) c.in_ok-initial.ensures)
+    let cert = certificate_at listing in
+    listed_at_none (lines_of task cert) (state_at listing c.represent.new.state) (listed_system task cert).initial c.cost_of.result c.cost_of.ensures c.if-eq.ensures
+    (starts (goal.at.returns-then-eq-clause-right c).After-represent)
 
 pub returns-clause-wrong : goal.returns-clause-wrong
 returns-clause-wrong c =
     λ plan most.
     let listing = c.args.listing.now in
     let task = task_at listing in
-    not_listed_at_none (lines_of task (certificate_at listing)) (state_at listing c.in_ok-initial.initial) (initial_state task) c.cost_of.result
-    (listed_apart task (atoms_at listing) (certificate_at listing) (store_in listing.cert.now) listing.listed) c.cost_of.ensures c.if-eq.ensures
-    (initial_there task (atoms_at listing) (certificate_at listing) (store_in listing.cert.now) listing.listed (bits_of c.in_ok-initial.initial) c.in_ok-initial.ensures)
+    let cert = certificate_at listing in
+    not_listed_at_none (lines_of task cert) (state_at listing c.represent.new.state) (listed_system task cert).initial c.cost_of.result
+    (listed_apart task (atoms_at listing) cert (store_in listing.cert.now) listing.listed) c.cost_of.ensures c.if-eq.ensures
+    (starts (goal.at.returns-clause-wrong c).After-represent)
 
 pub returns-clause-first : goal.returns-clause-first
 returns-clause-first c =
@@ -31,4 +43,4 @@ returns-clause-first c =
     let listing = c.args.listing.now in
     let task = task_at listing in
     let cert = certificate_at listing in
-    first_initial task cert plan most (atoms_right task cert listing.listed.fluent) (states_right_all task cert distinct allowed) within fair
+    first_initial task cert plan most (atoms_right task cert listing.listed.fluent) (states_right_all task cert distinct allowed) within listing.symmetric fair

@@ -27,7 +27,7 @@ begun : (c : In_ok-check_initial) (most : ℕ) → AreApart (task_at c.args.list
 begun c most distinct allowed within =
     let listing = c.args.listing.now in
     let keeps = listing.cert.now.within_limits in
-    right_from (task_at listing) (certificate_at listing) most keeps (rows_apart (tables_in listing.cert.now)) distinct listing.listed.fluent allowed within c.requires c.in_ok-check_initial.ensures.right
+    right_from (task_at listing) (certificate_at listing) most keeps (rows_apart (tables_in listing.cert.now)) distinct listing.listed.fluent allowed within listing.symmetric c.requires c.in_ok-check_initial.ensures.right
 
 pub returns-clause-right : goal.returns-clause-right
 returns-clause-right c =

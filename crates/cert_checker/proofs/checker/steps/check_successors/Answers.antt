@@ -1,17 +1,18 @@
 use Rattle.certificate.specs.Certificate.{store_in}
-use Rattle.std.proofs.Common.{◌≡◌, ◌+◌, ℕ, Some, map, get_or, refl, subst, sym, arith}
+use Rattle.std.proofs.Common.{◌≡◌, ◌∙◌, ◌+◌, ℕ, Some, ap, map, get_or, refl, subst, sym, arith}
 use Rattle.std.proofs.lemmas.List.{get_or_default}
 use Rattle.packed_state.specs.Packed.{bits_of}
 use Rattle.cert_checker.specs.declared.refusal.RefusalCode.TheVariants.{SuccessorMissing, SuccessorDearer}
 use Rattle.cert_checker.specs.CertChecker.{IsFirstToLeave}
 use Rattle.cert_checker.specs.CheckedLines.{IsListedAt}
-use Rattle.cert_checker.specs.PackedListing.{IsPacked, task_at, atoms_at, certificate_at, state_at}
+use Rattle.cert_checker.specs.Successors.{listed_successors, represented, representative_in}
+use Rattle.cert_checker.proofs.RepresentedLemmas.{listed_by}
+use Rattle.cert_checker.specs.PackedListing.{task_at, atoms_at, certificate_at, state_at}
 use Rattle.model.specs.Task.{Instance}
-use Rattle.model.specs.Meaning.{State, step, system_of}
+use Rattle.model.specs.Meaning.{State, system_of}
 use Rattle.model.specs.Grounding.{ground_system}
-use Rattle.model.specs.Instances.{successors_of}
 use Rattle.model.specs.Claims.{opened, Line}
-use Rattle.certificate_definitions.specs.Certificates.{lines_of}
+use Rattle.certificate_definitions.specs.Certificates.{lines_of, listed_system}
 use Rattle.certificate_definitions.specs.CertificateRefusals.{successor_missing, successor_dearer, state_line, IsListed}
 use Rattle.cert_checker.proofs.CertCheckerLemmas.{AllListed-none, AllListed-more, listed_within, open_closed}
 use Rattle.model.proofs.GroundTaskLemmas.{length-step}
@@ -20,45 +21,54 @@ use Rattle.cert_checker.proofs.PackedListingLemmas.{listed_apart, successors_the
 use Rattle.cert_checker.proofs.OrderLemmas.{first_in_line, open_here}
 use Rattle.cert_checker.proofs.FirstLemmas.{reported_first, first_to_leave}
 use Rattle.cert_checker.proofs.RefusalsLemmas.{reported, leads_there, wrong_missing, wrong_dearer, listed_somewhere, not_within}
-use Rattle.cert_checker.proofs.checker.steps.check_successors.Goals.{After-step_into}
+use Rattle.cert_checker.proofs.checker.steps.check_successors.Goals.{After-represent}
 use Rattle.cert_checker.proofs.checker.steps.check_successors.Goals as goal
 
--- the instance of the number, and the state to which it leads
-abbrev view : After-step_into → ℕ → Instance × State
-view c = leads_by (task_at c.args.listing.now) (atoms_at c.args.listing.now) (bits_of c.args.state.now)
+-- the instance of the number, and what stands for the state to which it leads
+abbrev view : After-represent → ℕ → Instance × State
+view c number =
+    let listing = c.args.listing.now in
+    represented (task_at listing) (certificate_at listing) (leads_by (task_at listing) (atoms_at listing) (bits_of c.args.state.now) number)
 
-abbrev there : After-step_into → Instance × State
+abbrev there : After-represent → Instance × State
 there c = view c (get_or c.args.numbers.now c.loop-number.number-index 0)
 
-is_there : (c : After-step_into) → (there c).1 ≡ state_at c.args.listing.now c.step_into.new.into
-is_there c = next_by (task_at c.args.listing.now) (atoms_at c.args.listing.now) (bits_of c.args.state.now) (get_or c.args.numbers.now c.loop-number.number-index 0) _ c.step_into.ensures
+is_there : (c : After-represent) → (there c).1 ≡ state_at c.args.listing.now c.represent.new.state
+is_there c =
+    let listing = c.args.listing.now in
+    ap (representative_in (task_at listing) (certificate_at listing))
+    (next_by (task_at listing) (atoms_at listing) (bits_of c.args.state.now) (get_or c.args.numbers.now c.loop-number.number-index 0) _ c.step_into.ensures)
+    ∙ sym c.represent.ensures.represented
 
-cost_there : (c : After-step_into) → (ground_system (task_at c.args.listing.now) (atoms_at c.args.listing.now)).cost (get_or c.args.numbers.now c.loop-number.number-index 0)
+cost_there : (c : After-represent) → (ground_system (task_at c.args.listing.now) (atoms_at c.args.listing.now)).cost (get_or c.args.numbers.now c.loop-number.number-index 0)
     ≡ (system_of (task_at c.args.listing.now)).cost (there c).0
 cost_there c = cost_by (task_at c.args.listing.now) (atoms_at c.args.listing.now) (bits_of c.args.state.now) (get_or c.args.numbers.now c.loop-number.number-index 0) _ c.step_into.ensures
 
-packed : (c : After-step_into) → IsPacked c.args.listing.now c.step_into.new.into
-packed c = length-step (task_at c.args.listing.now) (atoms_at c.args.listing.now) (bits_of c.args.state.now) _ (get_or c.args.numbers.now c.loop-number.number-index 0) c.step_into.ensures
-
-all_there : (c : After-step_into) → map (view c) c.args.numbers.now ≡ successors_of (task_at c.args.listing.now) (state_at c.args.listing.now c.args.state.now)
+all_there : (c : After-represent) → map (view c) c.args.numbers.now ≡ listed_successors (task_at c.args.listing.now) (certificate_at c.args.listing.now) (state_at c.args.listing.now c.args.state.now)
 all_there c =
     let listing = c.args.listing.now in
-    successors_there (task_at listing) (atoms_at listing) (certificate_at listing) (store_in listing.cert.now) listing.listed (bits_of c.args.state.now) c.args.numbers.now c.requires.numbers
+    let task = task_at listing in
+    listed_by task (certificate_at listing) (leads_by task (atoms_at listing) (bits_of c.args.state.now)) c.args.numbers.now (state_at listing c.args.state.now)
+    (successors_there task (atoms_at listing) (certificate_at listing) (store_in listing.cert.now) listing.listed (bits_of c.args.state.now) c.args.numbers.now c.requires.numbers)
 
-leads : (c : After-step_into) → step (task_at c.args.listing.now) (state_at c.args.listing.now c.args.state.now) (there c).0 ≡ Some (there c).1
+leads : (c : After-represent) → (listed_system (task_at c.args.listing.now) (certificate_at c.args.listing.now)).step (state_at c.args.listing.now c.args.state.now) (there c).0 ≡ Some (there c).1
 leads c =
     let numbers = c.args.numbers.now in
     let k = c.loop-number.number-index in
-    leads_there (task_at c.args.listing.now) _ (view c) numbers k (get_or numbers k 0) c.loop-number-test.true (get_or_default numbers k 0 _ c.loop-number-test.true) (all_there c)
+    leads_there (task_at c.args.listing.now) (certificate_at c.args.listing.now) _ (view c) numbers k (get_or numbers k 0) c.loop-number-test.true (get_or_default numbers k 0 _ c.loop-number-test.true) (all_there c)
 
 -- of the successors it is the first that may be at fault
-leaves : (c : After-step_into) → IsFirstToLeave (task_at c.args.listing.now) (certificate_at c.args.listing.now) (state_line (certificate_at c.args.listing.now) c.args.place)
+leaves : (c : After-represent) → IsFirstToLeave (task_at c.args.listing.now) (certificate_at c.args.listing.now) (state_line (certificate_at c.args.listing.now) c.args.place)
     (record { state = state_at c.args.listing.now c.args.state.now; cost = c.args.cost; mark = opened }) (there c).0 (there c).1
 leaves c =
     let numbers = c.args.numbers.now in
     let k = c.loop-number.number-index in
     first_to_leave (task_at c.args.listing.now) (certificate_at c.args.listing.now) c.args.place _ c.args.cost (view c) numbers k (get_or numbers k 0) c.requires.listed c.loop-number-test.true
     (get_or_default numbers k 0 _ c.loop-number-test.true) (all_there c) c.loop-number.invariant.listed
+
+pub represent-requires : goal.represent-requires
+represent-requires c =
+    length-step (task_at c.args.listing.now) (atoms_at c.args.listing.now) (bits_of c.args.state.now) _ (get_or c.args.numbers.now c.loop-number.number-index 0) c.step_into.ensures
 
 pub loop-number-init : goal.loop-number-init
 loop-number-init c = record {
@@ -80,11 +90,11 @@ loop-number-preserved c =
     let cert = certificate_at listing in
     let numbers = c.args.numbers.now in
     let number = get_or numbers c.loop-number.number-index 0 in
-    let here = (goal.at.loop-number-preserved c).After-step_into in
+    let here = (goal.at.loop-number-preserved c).After-represent in
     let step = cost_there here in
     let listed = subst (λ s. IsListedAt (lines_of (task_at listing) cert) s c.in-Some.listed) (sym (is_there here)) c.in-Some.ensures in
     record {
-      next = packed here;
+      next = c.represent.ensures.packed;
       listed = AllListed-more (task_at listing) cert c.args.cost (view here) numbers c.loop-number.number-index number c.loop-number-test.true
           (get_or_default numbers c.loop-number.number-index 0 number c.loop-number-test.true)
           c.loop-number.invariant.listed (listed_within (lines_of (task_at listing) cert) (there here).1 c.in-Some.listed _ listed (omega (arith, step, c.from.ensures, c.cost.ensures, c.if-listed-cost.false)));
@@ -97,21 +107,19 @@ pub returns-clause-right : goal.returns-clause-right
 returns-clause-right c =
     let listing = c.args.listing.now in
     let task = task_at listing in
+    let cert = certificate_at listing in
     let bits = bits_of c.args.state.now in
     let numbers = c.args.numbers.now in
-    open_closed task (certificate_at listing) (state_at listing c.args.state.now) c.args.cost (leads_by task (atoms_at listing) bits) numbers c.loop-number.number-index c.loop-number-test.false
-    (successors_there task (atoms_at listing) (certificate_at listing) (store_in listing.cert.now) listing.listed bits numbers c.requires.numbers) c.loop-number.invariant.listed c.requires.goal
-
-pub returns-in_default-clause-next : goal.returns-in_default-clause-next
-returns-in_default-clause-next c =
-    packed (goal.at.returns-in_default-clause-next c).After-step_into
+    open_closed task cert (state_at listing c.args.state.now) c.args.cost (λ n. represented task cert (leads_by task (atoms_at listing) bits n)) numbers c.loop-number.number-index c.loop-number-test.false
+    (listed_by task cert (leads_by task (atoms_at listing) bits) numbers (state_at listing c.args.state.now)
+    (successors_there task (atoms_at listing) cert (store_in listing.cert.now) listing.listed bits numbers c.requires.numbers)) c.loop-number.invariant.listed c.requires.goal
 
 pub returns-in_default-clause-wrong : goal.returns-in_default-clause-wrong
 returns-in_default-clause-wrong c =
     let listing = c.args.listing.now in
     let task = task_at listing in
     let cert = certificate_at listing in
-    let here = (goal.at.returns-in_default-clause-wrong c).After-step_into in
+    let here = (goal.at.returns-in_default-clause-wrong c).After-represent in
     reported task cert c.state_line.result SuccessorMissing (state_line cert c.args.place) c.state_line.ensures
     (wrong_missing task cert c.args.place (state_at listing c.args.state.now) c.args.cost (there here).0 (there here).1 c.requires.listed (leads here)
     (subst (λ s. ¬ IsListed (lines_of task cert) s) (sym (is_there here)) c.in_default.ensures))
@@ -121,16 +129,12 @@ returns-then-listed-cost-clause-wrong c =
     let listing = c.args.listing.now in
     let task = task_at listing in
     let cert = certificate_at listing in
-    let here = (goal.at.returns-then-listed-cost-clause-wrong c).After-step_into in
+    let here = (goal.at.returns-then-listed-cost-clause-wrong c).After-represent in
     let step = cost_there here in
     let listed = subst (λ s. IsListedAt (lines_of task cert) s c.in-Some.listed) (sym (is_there here)) c.in-Some.ensures in
     reported task cert c.state_line-then-listed-cost.result SuccessorDearer (state_line cert c.args.place) c.state_line-then-listed-cost.ensures
     (wrong_dearer task cert c.args.place (state_at listing c.args.state.now) c.args.cost (there here).0 (there here).1 c.in-Some.listed
     (listed_apart task (atoms_at listing) cert (store_in listing.cert.now) listing.listed) c.requires.listed (leads here) listed (omega (arith, step, c.from.ensures, c.cost.ensures, c.if-listed-cost.true)))
-
-pub returns-then-listed-cost-clause-next : goal.returns-then-listed-cost-clause-next
-returns-then-listed-cost-clause-next c =
-    packed (goal.at.returns-then-listed-cost-clause-next c).After-step_into
 
 pub returns-in_default-clause-first : goal.returns-in_default-clause-first
 returns-in_default-clause-first c =
@@ -139,7 +143,7 @@ returns-in_default-clause-first c =
     let task = task_at listing in
     let cert = certificate_at listing in
     let line : Line State = record { state = state_at listing c.args.state.now; cost = c.args.cost; mark = opened } in
-    let here = (goal.at.returns-in_default-clause-first c).After-step_into in
+    let here = (goal.at.returns-in_default-clause-first c).After-represent in
     reported_first task cert plan most c.state_line.result SuccessorMissing (state_line cert c.args.place) c.state_line.ensures
     (first_in_line task cert plan most c.args.place successor_missing right refl (open_here task cert c.args.place line c.requires.listed refl c.requires.goal))
     (line, (there here).0, (there here).1, leaves here, subst (λ s. ¬ IsListed (lines_of task cert) s) (sym (is_there here)) c.in_default.ensures)
@@ -151,7 +155,7 @@ returns-then-listed-cost-clause-first c =
     let task = task_at listing in
     let cert = certificate_at listing in
     let line : Line State = record { state = state_at listing c.args.state.now; cost = c.args.cost; mark = opened } in
-    let here = (goal.at.returns-then-listed-cost-clause-first c).After-step_into in
+    let here = (goal.at.returns-then-listed-cost-clause-first c).After-represent in
     let step = cost_there here in
     let listed = subst (λ s. IsListedAt (lines_of task cert) s c.in-Some.listed) (sym (is_there here)) c.in-Some.ensures in
     reported_first task cert plan most c.state_line-then-listed-cost.result SuccessorDearer (state_line cert c.args.place) c.state_line-then-listed-cost.ensures

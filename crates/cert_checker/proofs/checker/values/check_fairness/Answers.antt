@@ -37,7 +37,7 @@ returns-in-Instance-clause-wrong c =
 
 pub returns-in-Instance-clause-first : goal.returns-in-Instance-clause-first
 returns-in-Instance-clause-first c =
-    λ distinct allowed plan most within.
+    λ symmetric distinct allowed plan most within.
     let task = task_in c.args.grounded.now in
     let cert = certificate_of c.args.cert.now in
     let values = several_of c.args.functions.now in
@@ -46,7 +46,7 @@ returns-in-Instance-clause-first c =
     let report = reports (goal.at.returns-in-Instance-clause-first c).In_ok-fairness (reported.Instance place c.in-Instance.number) c.in-Instance.is in
     let both = unfair_by_tables task cert c.requires.version values width c.requires.weights c.in-Instance.number (instance_of c.kept_instance.result) c.kept_instance.ensures place report in (
       place,
-      first_asked task cert unfair place plan most refl (atoms_right task cert c.requires.fluent) (states_right_all task cert distinct allowed) within
+      first_asked task cert unfair place plan most refl (atoms_right task cert c.requires.fluent) (states_right_all task cert distinct allowed) within symmetric
           (earlier_asked task cert c.requires.version values width c.requires.weights place report.function report.first.named report.first.earlier),
       both.1,
     )
@@ -61,7 +61,7 @@ returns-in-Goals-clause-wrong c =
 
 pub returns-in-Goals-clause-first : goal.returns-in-Goals-clause-first
 returns-in-Goals-clause-first c =
-    λ distinct allowed plan most within.
+    λ symmetric distinct allowed plan most within.
     let task = task_in c.args.grounded.now in
     let cert = certificate_of c.args.cert.now in
     let values = several_of c.args.functions.now in
@@ -70,7 +70,7 @@ returns-in-Goals-clause-first c =
     let report = reports (goal.at.returns-in-Goals-clause-first c).In_ok-fairness (reported.Goals place) c.in-Goals.is in (
       place,
       unfair_at_goals_by_tables task cert c.requires.version values width c.requires.weights place report,
-      first_asked task cert unfair_goal place plan most refl (atoms_right task cert c.requires.fluent) (states_right_all task cert distinct allowed) within
+      first_asked task cert unfair_goal place plan most refl (atoms_right task cert c.requires.fluent) (states_right_all task cert distinct allowed) within symmetric
           (instances_asked_there task cert c.requires.version values width c.requires.weights place report.function report.first.named report.first.earlier report.instances),
     )
 
@@ -85,7 +85,7 @@ returns-in-DeadEndInstance-clause-wrong c =
 
 pub returns-in-DeadEndInstance-clause-first : goal.returns-in-DeadEndInstance-clause-first
 returns-in-DeadEndInstance-clause-first c =
-    λ distinct allowed plan most within.
+    λ symmetric distinct allowed plan most within.
     let task = task_in c.args.grounded.now in
     let cert = certificate_of c.args.cert.now in
     let values = several_of c.args.functions.now in
@@ -94,7 +94,7 @@ returns-in-DeadEndInstance-clause-first c =
     let both =
     dead_unfair_by_tables task cert c.requires.version values width c.requires.weights c.in-DeadEndInstance.number (instance_of c.kept_instance-in-DeadEndInstance.result)
     c.kept_instance-in-DeadEndInstance.ensures report in (
-      first_asked task cert dead_unfair (length cert.values) plan most refl (atoms_right task cert c.requires.fluent) (states_right_all task cert distinct allowed) within
+      first_asked task cert dead_unfair (length cert.values) plan most refl (atoms_right task cert c.requires.fluent) (states_right_all task cert distinct allowed) within symmetric
           (values_asked_by_tables task cert c.requires.version values width c.requires.weights report.values),
       both.1,
     )
@@ -113,11 +113,11 @@ returns-in-DeadEndGoals-clause-wrong c =
 
 pub returns-in-DeadEndGoals-clause-first : goal.returns-in-DeadEndGoals-clause-first
 returns-in-DeadEndGoals-clause-first c =
-    λ distinct allowed plan most within.
+    λ symmetric distinct allowed plan most within.
     let task = task_in c.args.grounded.now in
     let cert = certificate_of c.args.cert.now in
     let values = several_of c.args.functions.now in
     let width = length (atoms_in c.args.grounded.now) in
     let report = reports (goal.at.returns-in-DeadEndGoals-clause-first c).In_ok-fairness reported.DeadEndGoals c.in-DeadEndGoals.is in
-    first_asked task cert dead_unfair_goal (length cert.values) plan most refl (atoms_right task cert c.requires.fluent) (states_right_all task cert distinct allowed) within
+    first_asked task cert dead_unfair_goal (length cert.values) plan most refl (atoms_right task cert c.requires.fluent) (states_right_all task cert distinct allowed) within symmetric
     (dead_instances_asked_by_tables task cert c.requires.version values width c.requires.weights report.values report.instances)

@@ -77,12 +77,12 @@ returns-in-Instance-clause-wrong c =
 
 pub returns-in-Instance-clause-first : goal.returns-in-Instance-clause-first
 returns-in-Instance-clause-first c =
-    λ distinct allowed plan most within.
+    λ symmetric distinct allowed plan most within.
     let task = task_in c.args.grounded.now in
     let atoms = atoms_in c.args.grounded.now in
     let cert = certificate_of c.args.cert.now in
     let p = potentials_of c.in_ok-potentials.potentials in (
-      first_asked task cert dead_unfair (length cert.values) plan most refl (atoms_right task cert c.requires.fluent) (states_right_all task cert distinct allowed) within
+      first_asked task cert dead_unfair (length cert.values) plan most refl (atoms_right task cert c.requires.fluent) (states_right_all task cert distinct allowed) within symmetric
           (values_are_asked (goal.at.returns-in-Instance-clause-first c).In_ok-potentials),
       first_dead_to_lose_in task cert cert.version c.requires.version (instance_of c.kept_instance.result)
           (first_reported nothing task cert cert.dead_ends atoms p c.requires.numbered (has (goal.at.returns-in-Instance-clause-first c).In_ok-potentials) c.in-Instance.number
@@ -107,11 +107,11 @@ returns-in-Goal-clause-wrong c =
 
 pub returns-in-Goal-clause-first : goal.returns-in-Goal-clause-first
 returns-in-Goal-clause-first c =
-    λ distinct allowed plan most within.
+    λ symmetric distinct allowed plan most within.
     let task = task_in c.args.grounded.now in
     let atoms = atoms_in c.args.grounded.now in
     let cert = certificate_of c.args.cert.now in
     let p = potentials_of c.in_ok-potentials.potentials in
-    first_asked task cert dead_unfair_goal (length cert.values) plan most refl (atoms_right task cert c.requires.fluent) (states_right_all task cert distinct allowed) within
+    first_asked task cert dead_unfair_goal (length cert.values) plan most refl (atoms_right task cert c.requires.fluent) (states_right_all task cert distinct allowed) within symmetric
     (dead_instances_asked task cert (values_are_asked (goal.at.returns-in-Goal-clause-first c).In_ok-potentials) (none_dead_unfair_in task cert cert.version c.requires.version
     (instances_reported nothing task cert cert.dead_ends atoms p c.requires.numbered (has (goal.at.returns-in-Goal-clause-first c).In_ok-potentials) (subst (DetectsDead task atoms p) c.in-Goal.is c.in_ok-dead_fairness.ensures).0)))

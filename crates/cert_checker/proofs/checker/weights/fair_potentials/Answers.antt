@@ -81,13 +81,13 @@ returns-in-Instance-clause-wrong c =
 
 pub returns-in-Instance-clause-first : goal.returns-in-Instance-clause-first
 returns-in-Instance-clause-first c =
-    λ distinct allowed plan most within.
+    λ symmetric distinct allowed plan most within.
     let task = task_in c.args.grounded.now in
     let atoms = atoms_in c.args.grounded.now in
     let cert = certificate_of c.args.cert.now in
     let p = potentials_of c.in_ok-potentials.potentials in (
       0,
-      first_asked task cert unfair 0 plan most refl (atoms_right task cert c.requires.fluent) (states_right_all task cert distinct allowed) within (none_asked task cert),
+      first_asked task cert unfair 0 plan most refl (atoms_right task cert c.requires.fluent) (states_right_all task cert distinct allowed) within symmetric (none_asked task cert),
       first_to_lose_in task cert cert.version c.requires.version (instance_of c.kept_instance.result)
           (first_reported (cost_of task) task cert (certificates.potentials_of cert) atoms p c.requires.numbered (has (goal.at.returns-in-Instance-clause-first c).In_ok-potentials) c.in-Instance.number
           (instance_of c.kept_instance.result) (subst (Reports task atoms p) c.in-Instance.is c.in_ok-fair.ensures) c.kept_instance.ensures),
@@ -113,7 +113,7 @@ returns-in-Goal-clause-wrong c =
 
 pub returns-in-Goal-clause-first : goal.returns-in-Goal-clause-first
 returns-in-Goal-clause-first c =
-    λ distinct allowed plan most within.
+    λ symmetric distinct allowed plan most within.
     let task = task_in c.args.grounded.now in
     let atoms = atoms_in c.args.grounded.now in
     let cert = certificate_of c.args.cert.now in
@@ -122,7 +122,7 @@ returns-in-Goal-clause-first c =
     let report = subst (Reports task atoms p) c.in-Goal.is c.in_ok-fair.ensures in (
       0,
       unfair_at_goals here report.1,
-      first_asked task cert unfair_goal 0 plan most refl (atoms_right task cert c.requires.fluent) (states_right_all task cert distinct allowed) within
+      first_asked task cert unfair_goal 0 plan most refl (atoms_right task cert c.requires.fluent) (states_right_all task cert distinct allowed) within symmetric
           (instances_asked task cert 0 (none_asked task cert)
           (none_unfair_in task cert cert.version c.requires.version (instances_reported (cost_of task) task cert (certificates.potentials_of cert) atoms p c.requires.numbered (has here) report.0) 0)),
     )

@@ -5,6 +5,12 @@ use Rattle.certificate_definitions.specs.CertificateMachine.{in_body}
 use Rattle.certificate_reader.specs.Stages.{IsStep, body_of, format_of}
 use Rattle.certificate_reader.proofs.stage.Body.after.Goals as goal
 
+pub returns-in-Swap : goal.returns-in-Swap
+returns-in-Swap c =
+    let is = ap text_line_of c.in-Swap.is in
+    subst (λ line. IsStep (in_body (body_of c.args.self)) line c.after_swap.result) (sym is)
+    (c.after_swap.ensures (map name_of c.in-Swap.objects.items) (subst (λ line. IsTrue (is_line (format_of c.args.self.format) line)) is c.requires.line))
+
 pub returns-in-Weight : goal.returns-in-Weight
 returns-in-Weight c =
     let is = ap text_line_of c.in-Weight.is in

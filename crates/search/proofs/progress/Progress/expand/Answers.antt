@@ -1,19 +1,20 @@
-use Rattle.std.proofs.Common.{◌≡◌, ℕ, Bool, List, ◌+◌, get_or, drop, set, sym, ap, ◌∙◌, subst, arith, Some, true, false}
+use Rattle.std.proofs.Common.{◌≡◌, ◌≢◌, ℕ, Bool, List, ◌+◌, length, get_or, drop, set, refl, sym, ap, ◌∙◌, subst, arith, Some, true, false}
 use Rattle.std.specs.Prelude.{IsTrue, is_some, slice_get}
 use Rattle.search.specs.declared.nodes.NodeStatus.TheVariants.{Open, Expanded}
 use Rattle.search.specs.OpenList.{waiting_in}
-use Rattle.std.proofs.lemmas.List.{drop_more, drop_all}
+use Rattle.std.proofs.lemmas.List.{drop_more, drop_all, length-set}
 use Rattle.std.proofs.lemmas.Option.{same_Some}
 use Rattle.model.proofs.ListLemmas.{Contains-here}
 use Rattle.packed_state.specs.Packed.{bits_of}
 use Rattle.model.specs.Runs.{System}
-use Rattle.search.specs.Estimates.{IsConsistent}
-use Rattle.search.specs.DeadEnds.{DetectsDeadEnds}
+use Rattle.search.specs.Estimates.{IsAdmissible}
+use Rattle.search.specs.DeadEnds.{ReportsDeadEnds}
 use Rattle.search.specs.declared.nodes.Node.{Node}
 use Rattle.search.specs.Nodes.{Found, found_of, total_of, marked_as, marked}
-use Rattle.search.proofs.Linked.{found_of-get}
-use Rattle.search.proofs.Marked.{open_all}
-use Rattle.search.proofs.Stopped.{at_limit}
+use Rattle.search.proofs.Linked.{found_of-get, found_of-set, length-found_of}
+use Rattle.search.proofs.Lists.{get-set_here, get-set_other}
+use Rattle.search.proofs.Marked.{open_all, nodes_unmarked, open_unmarked}
+use Rattle.search.proofs.Work.{less_then}
 use Rattle.search.proofs.Steps.{HasBegun, turn_begins, left_start, left_more, left_end, occurs_still, continues_same, continues_trans}
 use Rattle.search.proofs.progress.Progress.expand.Given.{Over}
 use Rattle.search.proofs.progress.Progress.expand.Goals.{After-deref-action-items}
@@ -26,13 +27,13 @@ is_state g c =
     same_Some _ turn.found.state (sym c.requires.state ∙ (found_of-get (g.S.StateStore.states c.args.self.now.store) c.args.self.now.nodes.items c.args.turn.id.0 turn.found turn.occurs).0)
 
 -- what guides the search keeps its laws
-consistent : (g : Over) (c : After-deref-action-items g) → IsConsistent (g.T.TransitionSystem.means c.args.system.now) (g.G.Guide.estimate_of c.args.guide.now)
-consistent g c =
-    subst (λ (u : System (List Bool) ℕ). IsConsistent u (g.G.Guide.estimate_of c.args.guide.now)) c.requires.made_for (g.met.G.Guide.is_consistent c.args.guide.now)
+admissible : (g : Over) (c : After-deref-action-items g) → IsAdmissible (g.T.TransitionSystem.means c.args.system.now) (g.G.Guide.estimate_of c.args.guide.now)
+admissible g c =
+    subst (λ (u : System (List Bool) ℕ). IsAdmissible u (g.G.Guide.estimate_of c.args.guide.now)) c.requires.made_for (g.met.G.Guide.is_admissible c.args.guide.now)
 
-reports : (g : Over) (c : After-deref-action-items g) → DetectsDeadEnds (g.T.TransitionSystem.means c.args.system.now) (g.G.Guide.is_dead c.args.guide.now)
+reports : (g : Over) (c : After-deref-action-items g) → ReportsDeadEnds (g.T.TransitionSystem.means c.args.system.now) (g.G.Guide.is_dead c.args.guide.now)
 reports g c =
-    subst (λ (u : System (List Bool) ℕ). DetectsDeadEnds u (g.G.Guide.is_dead c.args.guide.now)) c.requires.made_for (g.met.G.Guide.detects_dead_ends c.args.guide.now)
+    subst (λ (u : System (List Bool) ℕ). ReportsDeadEnds u (g.G.Guide.is_dead c.args.guide.now)) c.requires.made_for (g.met.G.Guide.reports_dead_ends c.args.guide.now)
 
 has_begun : (g : Over) (c : After-deref-action-items g) → HasBegun (g.T.TransitionSystem.means c.args.system.now) (g.G.Guide.estimate_of c.args.guide.now) (g.G.Guide.is_dead c.args.guide.now)
     (found_of (g.S.StateStore.states c.args.self.now.store) c.args.self.now.nodes.items) (g.S.StateStore.states c.mark.new.self.store) c.mark.new.self.nodes.items
@@ -42,7 +43,7 @@ has_begun g c =
     let t = g.T.TransitionSystem.means c.args.system.now in
     let states = g.S.StateStore.states c.args.self.now.store in
     let all = c.args.self.now.nodes.items in
-    turn_begins t _ _ (consistent g c) (reports g c) states all
+    turn_begins t _ _ (admissible g c) (reports g c) states all
     turn.open_list _ turn.one_each turn.nodes _ turn.found turn.occurs turn.waits turn.least turn.rest turn.entries
     (subst (λ x. t.meets_goal x ≡ false) (is_state g c) c.requires.no_goal) c.requires.open _ _ (ap g.S.StateStore.states c.mark.ensures.store)
     (c.mark.ensures.nodes turn.found.node (found_of-get states all _ turn.found turn.occurs).1)
@@ -131,15 +132,32 @@ returns-then-not-branch-clause-listed g c =
     let one : Found (List Bool) = marked Expanded c.requires.turn.found in
     let same : one ≡ e.turn.found = same_Some one e.turn.found (sym (inv.continues.stays one (has_begun g here).occurs) ∙ e.turn.occurs) in
     let sum : c.args.turn.sum ≡ total_of value e.turn.found = c.requires.turn.sum ∙ ap (total_of value) same in
+    let t = g.T.TransitionSystem.means c.args.system.now in
+    let nodes = found_of states all in
     let back = c.mark-then-not-branch.new.self in
     let stored : g.S.StateStore.states back.store ≡ states = ap g.S.StateStore.states c.mark-then-not-branch.ensures.store ∙ full.store in
     let stood : slice_get c.reach.new.self.nodes.items i ≡ Some e.turn.found.node = ap (λ (ns : List Node). slice_get ns i) full.nodes ∙ (found_of-get states all i e.turn.found e.turn.occurs).1 in
     let taken_back : back.nodes.items ≡ set all i (marked_as Open e.turn.found.node) =
-    c.mark-then-not-branch.ensures.nodes e.turn.found.node stood ∙ ap (λ (ns : List Node). set ns i (marked_as Open e.turn.found.node)) full.nodes in (
-      full.more,
-      at_limit (g.T.TransitionSystem.means c.args.system.now) value is_dead states all (waiting_in c.loop-action.self.open_list) e.search.one_each e.search.nodes i e.turn e.others_open
-          (consistent g here) (reports g here) (g.S.StateStore.states back.store) back.nodes.items c.args.max_states c.args.turn.sum stored taken_back full.full sum,
-    )
+    c.mark-then-not-branch.ensures.nodes e.turn.found.node stood ∙ ap (λ (ns : List Node). set ns i (marked_as Open e.turn.found.node)) full.nodes in
+    let waiting : Found (List Bool) = marked Open e.turn.found in
+    let after = found_of (g.S.StateStore.states back.store) back.nodes.items in
+    let is : after ≡ set nodes i waiting =
+    ap (λ (ss : List (List Bool)). found_of ss back.nodes.items) stored ∙ ap (found_of states) taken_back ∙ found_of-set states all i e.turn.found (marked_as Open e.turn.found.node) e.turn.occurs in
+    let occurs : slice_get after i ≡ Some waiting = ap (λ (ns : List (Found (List Bool))). slice_get ns i) is ∙ get-set_here nodes i waiting e.turn.found e.turn.occurs in
+    let others : (k : ℕ) → k ≢ i → slice_get after k ≡ slice_get nodes k = λ k other. ap (λ (ns : List (Found (List Bool))). slice_get ns k) is ∙ get-set_other nodes i waiting k other in
+    let long : length after ≡ length nodes = ap length is ∙ length-set nodes i waiting in
+    record {
+      more = full.more;
+      full = ap length stored ∙ full.full;
+      one_each = ap length taken_back ∙ length-set all i (marked_as Open e.turn.found.node) ∙ e.search.one_each ∙ sym (ap length stored);
+      found = waiting;
+      occurs = occurs;
+      waits = (refl, e.search.nodes.alive i e.turn.found e.turn.occurs e.turn.expanded);
+      sum = sum;
+      nodes = rw (c.mark-then-not-branch.ensures.open_list, full.open_list) (nodes_unmarked t value is_dead nodes after i e.turn occurs others (waiting_in c.loop-action.self.open_list) e.search.nodes long);
+      are_open = open_unmarked t value is_dead nodes after i e.turn occurs others e.others_open;
+      heap = rw (c.mark-then-not-branch.ensures.open_list, full.open_list) e.search.heap;
+    }
 
 pub returns-clause-listed : goal.returns-clause-listed
 returns-clause-listed g c =
@@ -153,5 +171,5 @@ returns-clause-listed g c =
       search = e.search;
       are_open = open_all t nodes c.args.turn.id.0 e.turn.found e.turn.occurs (left_end t nodes c.args.turn.id.0 e.turn.found e.turn.occurs (drop c.loop-action.action-index numbers) none inv.left) e.others_open;
       within = inv.within;
-      count = inv.continues.count ∙ (has_begun g (goal.at.returns-clause-listed g c).After-deref-action-items).count;
+      less = less_then _ _ _ (inv.continues.less c.args.max_states (omega (arith, inv.within, length-found_of (g.S.StateStore.states c.loop-action.self.store) c.loop-action.self.nodes.items e.search.one_each))) ((has_begun g (goal.at.returns-clause-listed g c).After-deref-action-items).less c.args.max_states);
     }

@@ -1,12 +1,12 @@
-use Rattle.std.proofs.Common.{◌≡◌, ℕ, ◌+◌, ◌<◌, ◌≤◌, List, [], ◌∷◌, length, get_or, Bool, ap, sym, subst, refl, ◌∙◌, arith, vec_len, Some, false}
+use Rattle.std.proofs.Common.{◌≡◌, ℕ, ◌+◌, ◌<◌, ◌≤◌, List, [], ◌∷◌, length, get_or, ap, sym, subst, refl, ◌∙◌, arith, vec_len, Some, false}
 use Rattle.std.specs.Prelude.{Contains, slice_get}
+use Rattle.search.specs.declared.open_list.OpenList.{OpenList}
 use Rattle.search.specs.OpenList.{waiting_in}
 use Rattle.std.proofs.lemmas.List.{length-append}
 use Rattle.std.proofs.lemmas.Option.{get_or_from_slice_get, slice_get_read, slice_get_within}
 use Rattle.packed_state.specs.Packed.{bits_of}
 use Rattle.packed_state.specs.Store.{IsPlaced}
 use Rattle.search.specs.declared.nodes.Node.{Node}
-use Rattle.model.specs.Runs.{System}
 use Rattle.search.specs.Estimates.{IsConsistent}
 use Rattle.search.specs.Outcome.{is_expanded_status, is_dead_status}
 use Rattle.search.specs.Nodes.{found_of}
@@ -29,13 +29,14 @@ read_parent g c =
     (found_of-get (g.S.StateStore.states c.args.self.now.store) all i turn.found turn.occurs).1
 
 -- what it costs leaves room for one step more
-limits : (g : Over) (c : After-from g) → c.index-before.result.now.cost + 4294967295 ≤ 72057594021150720
+limits : (g : Over) (c : After-from g) → c.index-before.result.now.cost + 4294967295 ≤ 72057598316118015
 limits g c =
     let e = c.requires.expanding in
     let states = g.S.StateStore.states c.args.self.now.store in
     let all = c.args.self.now.nodes.items in
-    subst (λ (n : Node). n.cost + 4294967295 ≤ 72057594021150720) (sym (read_parent g c))
-    (turn_limits (g.G.Guide.estimate_of c.args.guide.now) (found_of states all) c.args.parent.now.id.0 c.args.max_states e.turn (omega (arith, length-found_of states all e.search.one_each, c.requires.within)) c.requires.limit)
+    subst (λ (n : Node). n.cost + 4294967295 ≤ 72057598316118015) (sym (read_parent g c))
+    (turn_limits (g.T.TransitionSystem.means c.args.system.now) (g.G.Guide.estimate_of c.args.guide.now) (g.G.Guide.is_dead c.args.guide.now) (found_of states all) (waiting_in c.args.self.now.open_list) e.search.nodes
+    c.args.parent.now.id.0 c.args.max_states e.turn (omega (arith, length-found_of states all e.search.one_each, c.requires.within)) c.requires.limit)
 
 -- the action leads from the state whose turn it is to the successor
 leads : (g : Over) (c : After-from g) → (g.T.TransitionSystem.means c.args.system.now).step c.requires.expanding.turn.found.state c.args.to.action ≡ Some (bits_of c.args.to.state.now)
@@ -45,13 +46,13 @@ leads g c =
     leads_from (g.T.TransitionSystem.means c.args.system.now) states _ turn.found.state _ c.args.parent.now.id.0 c.args.to.action c.requires.parent
     (found_of-get states c.args.self.now.nodes.items c.args.parent.now.id.0 turn.found turn.occurs).0 c.requires.leads
 
--- and the estimate falls there by no more than what it costs
-falls : (g : Over) (c : After-from g) → g.G.Guide.estimate_of c.args.guide.now c.requires.expanding.turn.found.state
-    ≤ (g.T.TransitionSystem.means c.args.system.now).cost c.args.to.action + g.G.Guide.estimate_of c.args.guide.now (bits_of c.args.to.state.now)
-falls g c =
-    let value = g.G.Guide.estimate_of c.args.guide.now in
-    (subst (λ (u : System (List Bool) ℕ). IsConsistent u value) c.requires.made_for (g.met.G.Guide.is_consistent c.args.guide.now)).falls_by_no_more
-    c.requires.expanding.turn.found.state (bits_of c.args.to.state.now) c.args.to.action (leads g c)
+-- and a consistent estimate falls there by no more than what it costs
+falls : (g : Over) (c : After-from g) → (action : ℕ) → action ≡ c.args.to.action → IsConsistent (g.T.TransitionSystem.means c.args.system.now) (g.G.Guide.estimate_of c.args.guide.now)
+    → g.G.Guide.estimate_of c.args.guide.now c.requires.expanding.turn.found.state
+    ≤ (g.T.TransitionSystem.means c.args.system.now).cost action + g.G.Guide.estimate_of c.args.guide.now (bits_of c.args.to.state.now)
+falls g c action is consistent =
+    let t = g.T.TransitionSystem.means c.args.system.now in
+    consistent.falls_by_no_more c.requires.expanding.turn.found.state (bits_of c.args.to.state.now) action (ap (t.step c.requires.expanding.turn.found.state) is ∙ leads g c)
 
 -- a state that is not new has its place, and a node
 was_listed : (g : Over) (c : In-Some g) → c.in-Some.is_new ≡ false → (slice_get (g.S.StateStore.states c.args.self.now.store) c.in-Some.id.0 ≡ Some (bits_of c.args.to.state.now))
@@ -101,6 +102,7 @@ returns-in_default-clause-listed g c =
       full = full.1;
       store = full.2;
       nodes = refl {A = List Node};
+      open_list = refl {A = OpenList};
     }
 
 pub index-requires : goal.index-requires
@@ -132,7 +134,7 @@ returns-in_ok-add-clause-listed g c =
     e.search.one_each e.search.nodes e.turn e.others_open s
     c.child.result (ap is_expanded_status c.child.ensures.status ∙ marks.0) c.child.ensures.parent
     (omega (arith, c.child.ensures.cost, same, c.from.ensures, c.cost.ensures, paid)) (omega (arith, c.cost.ensures, paid))
-    (subst (λ a. (g.T.TransitionSystem.means c.args.system.now).step e.turn.found.state a ≡ Some s) (sym c.child.ensures.action) (leads g here)) (omega (arith, falls g here, paid))
+    (subst (λ a. (g.T.TransitionSystem.means c.args.system.now).step e.turn.found.state a ≡ Some s) (sym c.child.ensures.action) (leads g here)) (falls g here c.child.result.action c.child.ensures.action)
     (ap is_dead_status c.child.ensures.status ∙ marks.1)
     new.0 (g.S.StateStore.states c.add.new.self.store) c.add.new.self.nodes.items c.in-Some.id.0 (waiting_in c.add.new.self.open_list)
     (stored ∙ new.1) c.in_ok-add.ensures.nodes new.2
@@ -169,7 +171,7 @@ returns-in_ok-improve-clause-listed g c =
     e.search.one_each e.search.nodes e.turn e.others_open s
     c.child-then-cost-index.result (ap is_expanded_status c.child-then-cost-index.ensures.status ∙ marks.0) c.child-then-cost-index.ensures.parent
     (omega (arith, c.child-then-cost-index.ensures.cost, same, c.from.ensures, c.cost.ensures, paid)) (omega (arith, c.cost.ensures, paid))
-    (subst (λ a. (g.T.TransitionSystem.means c.args.system.now).step e.turn.found.state a ≡ Some s) (sym c.child-then-cost-index.ensures.action) (leads g here)) (omega (arith, falls g here, paid))
+    (subst (λ a. (g.T.TransitionSystem.means c.args.system.now).step e.turn.found.state a ≡ Some s) (sym c.child-then-cost-index.ensures.action) (leads g here)) (falls g here c.child-then-cost-index.result.action c.child-then-cost-index.ensures.action)
     (ap is_dead_status c.child-then-cost-index.ensures.status ∙ marks.1)
     c.in-Some.id.0 c.index.result.now known.0 was (omega (arith, c.child-then-cost-index.ensures.cost, c.if-cost-index.true))
     (g.S.StateStore.states c.improve.new.self.store) c.improve.new.self.nodes.items (waiting_in c.improve.new.self.open_list)

@@ -1,0 +1,16 @@
+-- What is known of the exchanges that are given.
+use Rattle.std.specs.Prelude.{ℕ, ◌≤◌, List, length, map, IsTrue}
+use Rattle.std.specs.List.{list_all}
+use Rattle.model.specs.Task.{Task}
+use Rattle.symmetries.specs.Symmetries.{is_symmetry}
+use Rattle.task_symmetries.specs.declared.exchange.Exchange.{Exchange}
+use Rattle.task_symmetries.specs.Exchange.{exchange_of}
+
+-- how many are given at most
+abbrev pub most : ℕ
+most = 1048576
+
+-- each is a symmetry of the task, and they are not too many
+pub record AreTested (task : Task) (exchanges : List Exchange) : Type 0 where
+  pub symmetries : IsTrue (list_all (is_symmetry task) (map exchange_of exchanges))
+  pub few : length exchanges ≤ most

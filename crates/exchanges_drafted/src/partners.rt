@@ -1,0 +1,161 @@
+//! Objects that have to change places together: the facts that an exchange breaks say which further ones it needs.
+use crate::colours::colour_of;
+use crate::facts::{Fact, Facts};
+use faults::NoMemory;
+use std::alloc::Global;
+use task::ObjectId;
+
+/// The most pairs of an exchange.
+const MAX_PAIRS: usize = 32;
+
+/// How often facts are looked at for partners in all, at most, beside some times for each of them.
+const MAX_LOOKS: usize = 5_000;
+
+/// And how often for each of them.
+const LOOKS_AT_EACH: usize = 8;
+
+/// What partners are found by.
+#[derive(Drop)]
+pub(crate) struct Partners<'f> {
+    facts: &'f Facts,
+    colours: &'f [u64],
+    /// The pairs of the exchange that is tried.
+    pairs: Vec<(ObjectId, ObjectId)>,
+    /// How often facts may still be looked at.
+    looks_left: usize,
+}
+
+impl<'f> Partners<'f> {
+    /// Nothing is tried yet.
+    pub(crate) fn new(alloc: Global, facts: &'f Facts, colours: &'f [u64]) -> Partners<'f> {
+        Partners {
+            facts,
+            colours,
+            pairs: Vec::new(alloc),
+            looks_left: facts
+                .count()
+                .saturating_mul(LOOKS_AT_EACH)
+                .saturating_add(MAX_LOOKS),
+        }
+    }
+
+    /// The pairs that were found last.
+    pub(crate) fn pairs(&self) -> &[(ObjectId, ObjectId)] {
+        &self.pairs
+    }
+
+    /// Whether pairs are found that change places with the two objects, so that the facts that name any of them are kept.
+    pub(crate) fn find(
+        &mut self,
+        alloc: Global,
+        one: ObjectId,
+        other: ObjectId,
+    ) -> Result<bool, NoMemory> {
+        self.pairs.clear();
+        self.pairs.push((one, other))?;
+        for place in 0..MAX_PAIRS {
+            let Some(pair) = self.pairs.get(place) else {
+                return Ok(true);
+            };
+            let (first, second) = *pair;
+            let kept = self.keep(alloc, first, second)? && self.keep(alloc, second, first)?;
+            if !kept {
+                return Ok(false);
+            }
+        }
+        Ok(false)
+    }
+
+    /// Adds pairs until the facts that name the object are kept, where the other one is its image. Whether that was done.
+    fn keep(&mut self, alloc: Global, object: ObjectId, image: ObjectId) -> Result<bool, NoMemory> {
+        let facts = self.facts;
+        for place in facts.places_of(object) {
+            if let Some(fact) = facts.at(*place) {
+                if !self.keep_fact(alloc, fact, image)? {
+                    return Ok(false);
+                }
+            }
+        }
+        Ok(true)
+    }
+
+    /// Adds pairs until the image of the fact, which names this object, is a fact. Whether that was done.
+    fn keep_fact(&mut self, alloc: Global, fact: &Fact, image: ObjectId) -> Result<bool, NoMemory> {
+        if self.is_kept(alloc, fact)? {
+            return Ok(true);
+        }
+        let facts = self.facts;
+        for place in facts.places_of(image) {
+            if self.looks_left == 0 || self.pairs.len() > MAX_PAIRS {
+                return Ok(false);
+            }
+            if let Some(other) = facts.at(*place) {
+                if self.match_up(alloc, fact, other)? {
+                    return Ok(true);
+                }
+            }
+        }
+        Ok(false)
+    }
+
+    /// Adds pairs by which the second fact is the image of the first. Whether there are such, and the second is not the image of
+    /// another one.
+    fn match_up(&mut self, alloc: Global, fact: &Fact, other: &Fact) -> Result<bool, NoMemory> {
+        let may_be = fact.source == other.source
+            && fact.predicate == other.predicate
+            && fact.objects.len() == other.objects.len();
+        if !may_be || self.is_kept(alloc, other)? {
+            return Ok(false);
+        }
+        let before = self.pairs.len();
+        for (object, image) in fact.objects.iter().zip(&other.objects) {
+            if !self.pair(*object, *image)? {
+                self.pairs.truncate(before);
+                return Ok(false);
+            }
+        }
+        Ok(true)
+    }
+
+    /// Makes the second object the image of the first, unless one of them has another image, or they cannot be alike. Whether it is
+    /// its image then.
+    fn pair(&mut self, object: ObjectId, image: ObjectId) -> Result<bool, NoMemory> {
+        if self.image_of(object) == image {
+            return Ok(true);
+        }
+        let free = self.image_of(object) == object && self.image_of(image) == image;
+        if !free || colour_of(self.colours, object) != colour_of(self.colours, image) {
+            return Ok(false);
+        }
+        self.pairs.push((object, image))?;
+        Ok(true)
+    }
+
+    /// The object that comes into the place of this one.
+    fn image_of(&self, object: ObjectId) -> ObjectId {
+        for (one, other) in &self.pairs {
+            if *one == object {
+                return *other;
+            }
+            if *other == object {
+                return *one;
+            }
+        }
+        object
+    }
+
+    /// Whether the image of the fact is a fact, as a look shows.
+    fn is_kept(&mut self, alloc: Global, fact: &Fact) -> Result<bool, NoMemory> {
+        self.looks_left = self.looks_left.saturating_sub(1);
+        let mut objects = Vec::new(alloc);
+        for object in &fact.objects {
+            objects.push(self.image_of(*object))?;
+        }
+        let image = Fact {
+            source: fact.source,
+            predicate: fact.predicate,
+            objects,
+        };
+        Ok(self.facts.contain(&image))
+    }
+}

@@ -1,0 +1,134 @@
+//! Certificates in which one state stands for all that exchanges of objects take into one another.
+use certificate::{Bounds, Cert, Claim, Header, Mark, Potential, StateLine, Version, write_cert};
+use devices::Memory;
+use faults::NoMemory;
+use indexmap::IndexSet;
+use std::alloc::{AllocError, Global};
+use std::process::Abort;
+use std::test::Fail;
+use task::{Atom, ObjectId};
+use test_texts::{LAMPS, atom, on_task};
+
+/// Objects that change places, two by two.
+type Pairs = &'static [(ObjectId, ObjectId)];
+
+/// An exchange of two lamps of [`LAMPS`], and one of four.
+const TWO: Pairs = &[(ObjectId(0), ObjectId(1))];
+
+const FOUR: Pairs = &[(ObjectId(2), ObjectId(3)), (ObjectId(15), ObjectId(0))];
+
+/// The potential function of this constant, in which the atom has this weight.
+fn potential(alloc: Global, constant: i64, weight: i64) -> Result<Potential, AllocError> {
+    Ok(Potential {
+        constant,
+        weights: vec![in alloc; weight; 1]?,
+    })
+}
+
+/// One value, and no dead ends.
+fn bounds(alloc: Global) -> Result<Bounds, AllocError> {
+    let values = vec![in alloc; potential(alloc, 1, -1)?]?;
+    Ok(Bounds {
+        values,
+        dead_ends: potential(alloc, 0, 0)?,
+        tables: Vec::new(alloc),
+    })
+}
+
+/// The first lamp is lit.
+fn atoms(alloc: Global) -> Result<IndexSet<Atom>, NoMemory> {
+    let mut atoms = IndexSet::new(alloc);
+    atoms.insert(atom(0, &[0]))?;
+    Ok(atoms)
+}
+
+/// The exchanges of these objects.
+fn exchanges(alloc: Global, all: &[Pairs]) -> Result<Vec<Vec<(ObjectId, ObjectId)>>, AllocError> {
+    let mut exchanges = Vec::new(alloc);
+    for pairs in all {
+        exchanges.push(pairs.to_vec(alloc)?)?;
+    }
+    Ok(exchanges)
+}
+
+/// What comes before the state.
+fn header(alloc: Global, version: Version, all: &[Pairs]) -> Result<Header, NoMemory> {
+    let exchanges = exchanges(alloc, all)?;
+    let atoms = atoms(alloc)?;
+    Ok(Header {
+        version,
+        claim: Claim::Bound(0),
+        exchanges,
+        atoms,
+        bounds: bounds(alloc)?,
+    })
+}
+
+/// The line of the state.
+fn line(alloc: Global) -> Result<StateLine, AllocError> {
+    Ok(StateLine {
+        cost: 0,
+        mark: Mark::Open,
+        atoms: vec![in alloc; 0]?,
+    })
+}
+
+/// A certificate of an atom and these exchanges, if one of this version may have them.
+fn cert(alloc: Global, version: Version, all: &[Pairs]) -> Result<Option<Cert>, NoMemory> {
+    let lines = vec![in alloc; line(alloc)?]?;
+    Cert::new(alloc, header(alloc, version, all)?, &lines)
+}
+
+/// The text of the one with both.
+const TEXT: &[u8] =
+    b"pddl-cert 3\nclaim bound 0\nconstant 1 0\nswap a b\nswap c d p a\natom -1 0 (on a)\nopen 0 0\nend 1\n";
+
+#[test]
+fn a_certificate_with_exchanges_is_written(rt: HostRuntime) -> Result<(), Fail> {
+    let cert = cert(rt.alloc(), Version::Three, &[TWO, FOUR])?.ok_or("beyond the limits")?;
+    on_task(&rt, rt.alloc(), &LAMPS, |rt, alloc, task| {
+        let mut out = Memory::empty(alloc);
+        assert!(rt; write_cert(alloc, task, &cert, &mut out).is_ok());
+        assert_eq!(rt; out.as_slice(), TEXT);
+        Ok(())
+    })
+}
+
+/// Whether a certificate of this version may have these exchanges.
+fn is_there(alloc: Global, version: Version, all: &[Pairs]) -> Result<bool, NoMemory> {
+    let cert = cert(alloc, version, all)?;
+    Ok(cert.is_some())
+}
+
+#[test]
+fn exchanges_are_of_version_3(rt: HostRuntime) -> Result<(), Fail> {
+    let are_there = [
+        is_there(rt.alloc(), Version::One, &[TWO])?,
+        is_there(rt.alloc(), Version::Two, &[TWO])?,
+        is_there(rt.alloc(), Version::Three, &[TWO])?,
+    ];
+    assert_eq!(rt; are_there, [false, false, true]);
+    Ok(())
+}
+
+#[test]
+fn an_exchange_has_a_pair(rt: HostRuntime) -> Result<(), Fail> {
+    let is_there = is_there(rt.alloc(), Version::Three, &[TWO, &[]])?;
+    assert!(rt; !is_there);
+    Ok(())
+}
+
+/// Whether the certificate has the two exchanges.
+fn has_both(cert: &Cert) -> bool {
+    match cert.exchanges() {
+        [first, second] => first.as_slice() == TWO && second.as_slice() == FOUR,
+        _ => false,
+    }
+}
+
+#[test]
+fn exchanges_are_kept_and_have_lines(rt: HostRuntime) -> Result<(), Fail> {
+    let cert = cert(rt.alloc(), Version::Three, &[TWO, FOUR])?.ok_or("beyond the limits")?;
+    assert_eq!(rt; (has_both(&cert), cert.first_state_line()), (true, 7));
+    Ok(())
+}

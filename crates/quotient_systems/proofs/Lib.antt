@@ -1,0 +1,4 @@
+pub mod Guides
+pub mod Applicable
+pub mod Steps
+pub mod Walk
