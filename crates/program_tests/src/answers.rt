@@ -14,7 +14,7 @@ use solver::{Answer, Limits, solve};
 use std::alloc::Global;
 use std::test::Fail;
 use task::Task;
-use test_texts::{HOP, on_task};
+use test_texts::{FOUR_BALLS, HOP, on_task};
 
 /// Whether the certificate of the plan is accepted, with the plan and without.
 fn is_plan_shown(
@@ -45,6 +45,17 @@ fn is_shown(alloc: Global, task: &Task, limits: Limits) -> Result<bool, Fail> {
 fn a_plan_is_shown_by_its_certificate(rt: HostRuntime) -> Result<(), Fail> {
     let limits = Limits::new(3, 3).ok_or("no limits")?;
     on_task(&rt, rt.alloc(), &HOP, |rt, alloc, task| {
+        assert!(rt; is_shown(alloc, task, limits)?);
+        Ok(())
+    })
+}
+
+/// But for the names of balls and grippers there are 24 states: the robot is in either room, and of the four balls none to four are
+/// there, one to three where it carries one, and none to two where it carries two.
+#[test]
+fn states_that_differ_in_names_are_listed_once(rt: HostRuntime) -> Result<(), Fail> {
+    let limits = Limits::new(24, 1_000).ok_or("no limits")?;
+    on_task(&rt, rt.alloc(), &FOUR_BALLS, |rt, alloc, task| {
         assert!(rt; is_shown(alloc, task, limits)?);
         Ok(())
     })

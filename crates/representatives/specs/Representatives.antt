@@ -1,11 +1,15 @@
 -- The code's representatives, in the terms of the definitions.
 use Rattle.std.specs.Prelude.{ℕ, List, map}
 use Rattle.grounding.specs.Ground.{task_in, atoms_in}
+use Rattle.grounding.specs.declared.ground.Ground.{Ground}
 use Rattle.task_symmetries.specs.Exchange.{exchange_of}
 use Rattle.model.specs.Task.{Task, Atom}
 use Rattle.symmetries.specs.Exchanges.{Exchange}
 use Rattle.representatives.specs.declared.representatives.Representatives.{Representatives}
 use Rattle.representatives.specs.Pairs.{swaps_in}
+
+abbrev pub ground_of : Representatives → Ground
+ground_of r = r.ground.now
 
 abbrev pub task_of : Representatives → Task
 task_of r = task_in r.ground.now

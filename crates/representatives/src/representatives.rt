@@ -41,7 +41,7 @@ impl<'g, 't, 'e> Representatives<'g, 't, 'e> {
     ghost use Rattle.symmetries.specs.Symmetries.{is_symmetry};
     ghost use Rattle.symmetries.specs.Quotients.{packed_representative};
     ghost use Rattle.representatives.specs.Places.{is_earlier_at, swapped_at, FindsFrom};
-    ghost use Rattle.representatives.specs.Representatives.{task_of, atoms_of, exchanges_of, swaps_of};
+    ghost use Rattle.representatives.specs.Representatives.{ground_of, task_of, atoms_of, exchanges_of, swaps_of};
     ghost use Rattle.representatives.specs.Names.{name_in};
     ghost use Rattle.representatives.specs.NewNames.{IsRenamed, IsRenamedBy};
 
@@ -59,6 +59,7 @@ impl<'g, 't, 'e> Representatives<'g, 't, 'e> {
         ensures task { IfOk result (λ made. IfSome made (λ r. task_of r ≡ task_in ground.now)) }
         ensures atoms { IfOk result (λ made. IfSome made (λ r. atoms_of r ≡ atoms_in ground.now)) }
         ensures exchanges { IfOk result (λ made. IfSome made (λ r. exchanges_of r ≡ map exchange_of exchanges.now)) }
+        ensures ground { IfOk result (λ made. IfSome made (λ r. ground_of r ≡ ground.now)) }
     {
         let mut swaps = Vec::new(alloc);
         for exchange in exchanges {
@@ -80,8 +81,16 @@ impl<'g, 't, 'e> Representatives<'g, 't, 'e> {
     pub fn ground(&self) -> &'g Ground<'t>
         ensures task { task_in result.now ≡ task_of self.now }
         ensures atoms { atoms_in result.now ≡ atoms_of self.now }
+        ensures ground { result.now ≡ ground_of self.now }
     {
         self.ground
+    }
+
+    /// The exchanges.
+    pub fn exchanges(&self) -> &'e [Exchange]
+        ensures { map exchange_of result.now ≡ exchanges_of self.now }
+    {
+        self.exchanges
     }
 
     /// Makes a state its representative: as long as the image by one of the exchanges comes before it, the first such image

@@ -1,4 +1,4 @@
--- What the answer to the ground task says of its task, and what a list of instances that solves says of them.
+-- What the answer says of the task, and what a list of instances that solves says of them.
 use Rattle.std.proofs.Common.{◌≡◌, ℕ, ◌+◌, ◌<◌, ◌≤◌, ◌*◌, Bool, true, false, List, [], ◌∷◌, length, map, get_or, ◌∙◌, None, Some, refl, sym, ap, subst, arith, ℤ}
 use Rattle.std.specs.Prelude.{nat_le, slice_get, Contains, All, IsTrue}
 use Rattle.std.specs.Option.{option_and_then}
@@ -13,7 +13,6 @@ use Rattle.formulas.specs.State.{instance_of}
 use Rattle.packed_state.specs.PooledView.{pooled_states}
 use Rattle.packed_state.specs.declared.pooled.PooledStore.{PooledStore}
 use Rattle.certificate.specs.declared.states.Listed.{Listed}
-use Rattle.grounding.specs.declared.ground.Ground.{Ground}
 use Rattle.grounding.specs.Ground.{task_in, atoms_in}
 use Rattle.search.specs.Estimates.{IsAdmissible}
 use Rattle.search.specs.DeadEnds.{ReportsDeadEnds}
@@ -27,7 +26,14 @@ use Rattle.search.specs.Outcome.{lines_of, AreFound, IsTrueOutcome}
 use Rattle.solver.specs.Reachable.{AreMoreReachable}
 use Rattle.solver.specs.Limit.{is_limit}
 use Rattle.solver.proofs.ByCost.{more_by_cost}
-use Rattle.solver.proofs.GroundLemmas.{length-reachable, more_reachable, numbers_named, one_named}
+use Rattle.symmetries.specs.Exchanges.{Exchange}
+use Rattle.symmetries.specs.Quotients.{quotient_of}
+use Rattle.quotient_systems.specs.RealPlans.{IsCarriedOut}
+use Rattle.solver.specs.ListedSystem as listed_system
+use Rattle.solver.specs.ListedSystem.{ground_in, exchanges_in, IsListed}
+use Rattle.solver.specs.declared.listed_system.ListedSystem.{ListedSystem}
+use Rattle.solver.proofs.ListedLemmas.{DoesAs, does, length-reachable, more_reachable, task_costs_at_least}
+use Rattle.solver.proofs.GroundLemmas.{numbers_named, one_named}
 use Rattle.solver.specs.Guidance.{Guidance, estimate_by, reports_dead, CanBeWritten}
 use Rattle.solver.specs.Guided.{found_in, AreMarksOf, CanBeMarked, IsSearched}
 use Rattle.solver.specs.declared.limits.Limits.{Limits}
@@ -45,8 +51,10 @@ use Rattle.model.specs.NumberedAtoms.{numbered_atoms}
 use Rattle.model.specs.Grounding.{ground_system, StandsFor, NamesKept}
 use Rattle.model.proofs.ClaimsLemmas.{claim-of_closed}
 use Rattle.model.proofs.InstancesLemmas.{is_instance-of_step}
-use Rattle.model.proofs.BisimulationLemmas.{same_cost, bound_forth}
-use Rattle.model.proofs.GroundTaskLemmas.{ground_task_is_bisimilar, ground_task_solves_alike}
+use Rattle.model.specs.Bisimulation.{IsBisimulation}
+use Rattle.model.specs.WellTyped.{is_task}
+use Rattle.model.proofs.BisimulationLemmas.{same_cost, solves_forth}
+use Rattle.model.proofs.GroundTaskLemmas.{ground_task_is_bisimilar}
 
 all_instances_run : (task : Task) (plan : List Instance) (s end : State) → run (system_of task) s plan ≡ Some end → list_all (is_instance task) plan ≡ true
 all_instances_run task [] s end runs = refl
@@ -74,34 +82,38 @@ found_of t estimate is_dead max_states (Exhausted found) told = (none, told.1)
 found_of t estimate is_dead max_states (States least found) told = (bound least, told.1.found)
 
 -- they are as wide as the atoms are many
-pub found_widths : (task : Task) (atoms : List Atom) {estimate : List Bool → ℕ} {is_dead : List Bool → Bool} {claim : Claim} {most : ℕ} (states : List (List Bool)) (nodes : List Node)
-    → AreFound (ground_system task atoms) estimate is_dead claim most states nodes → All (λ (bits : List Bool). length bits ≡ length atoms) states
-found_widths task atoms states nodes found k d below =
+pub found_widths : (task : Task) (exchanges : List Exchange) (t : System (List Bool) ℕ) → DoesAs task exchanges t → {estimate : List Bool → ℕ} {is_dead : List Bool → Bool} {claim : Claim} {most : ℕ} (states : List (List Bool)) (nodes : List Node)
+    → AreFound t estimate is_dead claim most states nodes → All (λ (bits : List Bool). length bits ≡ length (numbered_atoms task [])) states
+found_widths task exchanges t by states nodes found k d below =
     let (node, there) = node_at nodes k (omega (arith, below, found.one_for_each)) in
     let reached = found.reachable k (get_or states k d) node (slice_get-get_or states k d below) there in
-    length-reachable task atoms (get_or states k d) (reached.0, reached.1)
+    length-reachable task exchanges t by (get_or states k d) (reached.0, reached.1)
 
 -- so each has its mark
-module _ (g : Ground) (estimate : List Bool → ℕ) (is_dead : List Bool → Bool) (limits : Limits) (outcome : Outcome PooledStore)
-    (is : IsTrueOutcome (ground_system (task_in g) (atoms_in g)) estimate is_dead pooled_states limits.states outcome) where
-  pub can_be_marked : CanBeMarked (length (atoms_in g)) is_dead (found_in outcome)
+module _ (system : ListedSystem) (listed : IsListed system) (estimate : List Bool → ℕ) (is_dead : List Bool → Bool) (limits : Limits) (outcome : Outcome PooledStore)
+    (is : IsTrueOutcome (listed_system.system_of system) estimate is_dead pooled_states limits.states outcome) where
+  abbrev t : System (List Bool) ℕ
+  t = listed_system.system_of system
+
+  pub can_be_marked : CanBeMarked (length (atoms_in (ground_in system))) is_dead (found_in outcome)
   can_be_marked =
-      let (claim, found) = found_of (ground_system (task_in g) (atoms_in g)) estimate is_dead limits.states outcome is in
+      let (claim, found) = found_of t estimate is_dead limits.states outcome is in
       let most = most_of_limit limits.states limits.states_within in
       record {
         one_for_each = found.one_for_each;
         few = omega (arith, found.within_limit, most);
-        width = found_widths (task_in g) (atoms_in g) (pooled_states (found_in outcome).store) (found_in outcome).nodes.items found;
+        width = subst (λ (l : List Atom). All (λ (bits : List Bool). length bits ≡ length l) (pooled_states (found_in outcome).store)) (sym listed.atoms)
+            (found_widths (task_in (ground_in system)) (exchanges_in system) t (does system listed) (pooled_states (found_in outcome).store) (found_in outcome).nodes.items found);
         marked = found.marked;
       }
 
-  pub searched : (guide_system : System (List Bool) ℕ) → guide_system ≡ ground_system (task_in g) (atoms_in g) → IsAdmissible guide_system estimate → ReportsDeadEnds guide_system is_dead
-      → (marks : List Listed) → AreMarksOf estimate is_dead (found_in outcome) marks → IsSearched g estimate is_dead limits.states outcome marks
+  pub searched : (guide_system : System (List Bool) ℕ) → guide_system ≡ t → IsAdmissible guide_system estimate → ReportsDeadEnds guide_system is_dead
+      → (marks : List Listed) → AreMarksOf estimate is_dead (found_in outcome) marks → IsSearched system estimate is_dead limits.states outcome marks
   searched guide_system same admissible reports marks marked = record {
     outcome_is = is;
     marked = marked;
-    lower_bound = subst (λ (t : System (List Bool) ℕ). IsLowerBound t estimate) same (lower_bound_of guide_system estimate admissible);
-    dead_ends = subst (λ (t : System (List Bool) ℕ). AreDeadEnds t is_dead) same (are_dead_ends guide_system is_dead reports);
+    lower_bound = subst (λ (u : System (List Bool) ℕ). IsLowerBound u estimate) same (lower_bound_of guide_system estimate admissible);
+    dead_ends = subst (λ (u : System (List Bool) ℕ). AreDeadEnds u is_dead) same (are_dead_ends guide_system is_dead reports);
   }
 
 pub found_among_more : {S A : Type 0} {t : System S A} {value : S → ℕ} {is_dead : S → Bool} {claim : Claim} {count most : ℕ} {states : List S} {nodes : List Node} → AreFound t value is_dead claim count states nodes
@@ -168,71 +180,72 @@ cheap_plan t value is_dead cost max_states states nodes plan solves found low lo
     let cheap = bound_within t value is_dead cost states nodes max_states found low lower dead_ends plan solves in
     lt-ltb cost 1152921504606846976 (omega (arith, cheap, few_found))
 
--- ---- what the ground task's answer says of its task
+-- ---- what the answer says of the task
+
+module _ (task : Task) (exchanges : List Exchange) (t : System (List Bool) ℕ) (by : DoesAs task exchanges t) where
+  abbrev atoms : List Atom
+  atoms = numbered_atoms task []
+
+  -- what the numbers of a cheapest list stand for is a cheapest plan
+  pub plan_optimal : is_task task ≡ true → (numbers : List ℕ) (plan : List Instance) → IsCarriedOut t (system_of task) numbers plan → IsOptimal t numbers → IsOptimal (system_of task) plan
+  plan_optimal well numbers plan carried optimal = (
+    carried.solves optimal.0,
+    subst (CostsAtLeast (system_of task)) (sym carried.cost) (task_costs_at_least task exchanges t by well (cost_of_all t numbers) optimal.1),
+  )
+
+  -- the values of found states are small, where so few atoms have numbers
+  found_values : (count : ℕ) → count ≡ length atoms → (guidance : Guidance) (claim : Claim) (max_states : ℕ) (states : List (List Bool)) (nodes : List Node)
+      → AreFound t (estimate_by guidance) (reports_dead guidance) claim max_states states nodes → CanBeWritten count guidance → count ≤ 1048576
+      → (k : ℕ) (bits : List Bool) → slice_get states k ≡ Some bits → estimate_by guidance bits ≤ most_value
+  found_values count same guidance claim max_states states nodes found written few_atoms k bits at =
+      let (node, there) = node_at nodes k (omega (arith, slice_get_within states k bits at, found.one_for_each)) in
+      let reached = found.reachable k bits node at there in
+      let wide = length-reachable task exchanges t by bits (reached.0, reached.1) in
+      estimate-most count guidance written.within_limits bits (omega (arith, few_atoms, wide, same))
+
+  -- a claim that is shown by values of so few atoms is a certificate's: that of a plan, and that of a search that stops at the limit
+  pub claim_allowed : (count : ℕ) → count ≡ length atoms → (guidance : Guidance) (cost max_states : ℕ) (states : List (List Bool)) (nodes : List Node) (plan : List ℕ) → Solves t plan
+      → AreFound t (estimate_by guidance) (reports_dead guidance) (bound cost) max_states states nodes → CanBeWritten count guidance
+      → IsLowerBound t (estimate_by guidance) → AreDeadEnds t (reports_dead guidance)
+      → count ≤ 1048576 → max_states ≤ 16777216 → is_claim (bound cost) ≡ true
+  claim_allowed count same guidance cost max_states states nodes plan solves found written lower dead_ends few_atoms few =
+      cheap_plan t (estimate_by guidance) (reports_dead guidance) cost max_states states nodes plan solves found
+      (found_values count same guidance (bound cost) max_states states nodes found written few_atoms) lower dead_ends few
+
+  pub limit_allowed : (count : ℕ) → count ≡ length atoms → (guidance : Guidance) (least max_states : ℕ) (states : List (List Bool)) (nodes : List Node)
+      → search.IsAtLimit t (estimate_by guidance) (reports_dead guidance) max_states least states nodes → CanBeWritten count guidance
+      → count ≤ 1048576 → max_states ≤ 16777216 → is_claim (bound least) ≡ true
+  limit_allowed count same guidance least max_states states nodes limit written few_atoms few =
+      limit_claim t (estimate_by guidance) (reports_dead guidance) max_states least states nodes limit
+      (found_values count same guidance (bound least) max_states states nodes limit.found written few_atoms) few
+
+  pub more_of_listed : (value : List Bool → ℕ) (is_dead : List Bool → Bool) (max_states : ℕ) → search.AreMoreReachable t value is_dead max_states
+      → AreMoreReachable (quotient_of task atoms exchanges) max_states
+  more_of_listed value is_dead max_states more = more_reachable task exchanges t by max_states (more_by_cost t value is_dead max_states more)
+
+-- ---- a plan of the ground task
 
 module _ (task : Task) (atoms : List Atom) (numbered : atoms ≡ numbered_atoms task []) where
   abbrev none_more : All (λ (a : Atom). IsTrue (is_fluent task a.predicate)) []
   none_more = λ k d below. absurd (omega (arith, below))
 
-  abbrev ground : System (List Bool) ℕ
-  ground = ground_system task (numbered_atoms task [])
+  abbrev both : (l : List Atom) → l ≡ numbered_atoms task [] → IsBisimulation (ground_system task l) (system_of task) (StandsFor task l) (NamesKept task)
+  both l is = subst (λ (m : List Atom). IsBisimulation (ground_system task m) (system_of task) (StandsFor task m) (NamesKept task)) (sym is) (ground_task_is_bisimilar task [] none_more)
 
-  -- the numbers of a cheapest list are those of kept instances, and these solve the task as cheaply
-  pub plan_named : (numbers : List ℕ) → IsOptimal (ground_system task atoms) numbers → All (λ (n : ℕ). n < length (kept_instances task)) numbers
-  plan_named numbers optimal =
-      let other = (ground_task_solves_alike task [] none_more).optimal numbers (subst (λ (l : List Atom). IsOptimal (ground_system task l) numbers) numbered optimal) in
+  -- the numbers of a list that solves are those of kept instances
+  pub plan_named : (numbers : List ℕ) → Solves (ground_system task atoms) numbers → All (λ (n : ℕ). n < length (kept_instances task)) numbers
+  plan_named numbers solves =
+      let other = solves_forth (ground_system task atoms) (system_of task) (StandsFor task atoms) (NamesKept task) (both atoms numbered) numbers solves in
       numbers_named task numbers other.0 other.1
 
-  pub plan_optimal : (numbers : List ℕ) (plan : List Instance) → AllZip (NamesKept task) numbers plan → IsOptimal (ground_system task atoms) numbers → IsOptimal (system_of task) plan
-  plan_optimal numbers plan named optimal =
-      let other = (ground_task_solves_alike task [] none_more).optimal numbers (subst (λ (l : List Atom). IsOptimal (ground_system task l) numbers) numbered optimal) in
-      subst (λ (p : List Instance). IsOptimal (system_of task) p) (one_named task numbers other.0 plan other.1 named) other.2
-
-  pub plan_cost : (numbers : List ℕ) (plan : List Instance) (cost : ℕ) → AllZip (NamesKept task) numbers plan → cost_of_all (ground_system task atoms) numbers ≡ cost → cost_of_all (system_of task) plan ≡ cost
-  plan_cost numbers plan cost named is =
-      sym (same_cost ground (system_of task) (StandsFor task (numbered_atoms task [])) (NamesKept task) (ground_task_is_bisimilar task [] none_more) numbers plan named)
-      ∙ ap (λ (l : List Atom). cost_of_all (ground_system task l) numbers) (sym numbered) ∙ is
-
-  pub task_unsolvable : IsUnsolvable (ground_system task atoms) → IsUnsolvable (system_of task)
-  task_unsolvable unsolvable = (ground_task_solves_alike task [] none_more).unsolvable (subst (λ (l : List Atom). IsUnsolvable (ground_system task l)) numbered unsolvable)
-
-  -- the values of found states are small, where so few atoms have numbers
-  found_values : (guidance : Guidance) (claim : Claim) (max_states : ℕ) (states : List (List Bool)) (nodes : List Node)
-      → AreFound (ground_system task atoms) (estimate_by guidance) (reports_dead guidance) claim max_states states nodes → CanBeWritten (length atoms) guidance → length atoms ≤ 1048576
-      → (k : ℕ) (bits : List Bool) → slice_get states k ≡ Some bits → estimate_by guidance bits ≤ most_value
-  found_values guidance claim max_states states nodes found written few_atoms k bits at =
-      let (node, there) = node_at nodes k (omega (arith, slice_get_within states k bits at, found.one_for_each)) in
-      let reached = found.reachable k bits node at there in
-      let wide = length-reachable task atoms bits (reached.0, reached.1) in
-      estimate-most (length atoms) guidance written.within_limits bits (omega (arith, few_atoms, wide))
-
-  -- a claim that is shown by values of so few atoms is a certificate's: that of a plan, and that of a search that stops at the limit
-  pub claim_allowed : (guidance : Guidance) (cost max_states : ℕ) (states : List (List Bool)) (nodes : List Node) (plan : List ℕ) → Solves (ground_system task atoms) plan
-      → AreFound (ground_system task atoms) (estimate_by guidance) (reports_dead guidance) (bound cost) max_states states nodes → CanBeWritten (length atoms) guidance
-      → IsLowerBound (ground_system task atoms) (estimate_by guidance) → AreDeadEnds (ground_system task atoms) (reports_dead guidance)
-      → length atoms ≤ 1048576 → max_states ≤ 16777216 → is_claim (bound cost) ≡ true
-  claim_allowed guidance cost max_states states nodes plan solves found written lower dead_ends few_atoms few =
-      cheap_plan (ground_system task atoms) (estimate_by guidance) (reports_dead guidance) cost max_states states nodes plan solves found
-      (found_values guidance (bound cost) max_states states nodes found written few_atoms) lower dead_ends few
-
-  pub limit_allowed : (guidance : Guidance) (least max_states : ℕ) (states : List (List Bool)) (nodes : List Node)
-      → search.IsAtLimit (ground_system task atoms) (estimate_by guidance) (reports_dead guidance) max_states least states nodes → CanBeWritten (length atoms) guidance
-      → length atoms ≤ 1048576 → max_states ≤ 16777216 → is_claim (bound least) ≡ true
-  limit_allowed guidance least max_states states nodes limit written few_atoms few =
-      limit_claim (ground_system task atoms) (estimate_by guidance) (reports_dead guidance) max_states least states nodes limit
-      (found_values guidance (bound least) max_states states nodes limit.found written few_atoms) few
-
-  -- what each list costs at least that solves the ground task, each that solves the task costs too
-  pub task_costs_at_least : (least : ℕ) → CostsAtLeast (ground_system task atoms) least → CostsAtLeast (system_of task) least
-  task_costs_at_least least lower =
-      bound_forth ground (system_of task) (StandsFor task (numbered_atoms task [])) (NamesKept task) (ground_task_is_bisimilar task [] none_more) least
-      (subst (λ (l : List Atom). CostsAtLeast (ground_system task l) least) numbered lower)
-
-  pub more_of_task : (value : List Bool → ℕ) (is_dead : List Bool → Bool) (max_states : ℕ) → search.AreMoreReachable (ground_system task atoms) value is_dead max_states
-      → AreMoreReachable (system_of task) max_states
-  more_of_task value is_dead max_states more =
-      more_reachable task max_states
-      (subst (λ (l : List Atom). AreMoreReachable (ground_system task l) max_states) numbered (more_by_cost (ground_system task atoms) value is_dead max_states more))
+  -- and these are carried out as they are
+  pub plan_carried_out : (numbers : List ℕ) (plan : List Instance) → AllZip (NamesKept task) numbers plan → IsCarriedOut (ground_system task atoms) (system_of task) numbers plan
+  plan_carried_out numbers plan named = record {
+    solves = λ solves.
+        let other = solves_forth (ground_system task atoms) (system_of task) (StandsFor task atoms) (NamesKept task) (both atoms numbered) numbers solves in
+        subst (λ (p : List Instance). Solves (system_of task) p) (one_named task numbers other.0 plan other.1 named) other.2;
+    cost = sym (same_cost (ground_system task atoms) (system_of task) (StandsFor task atoms) (NamesKept task) (both atoms numbered) numbers plan named);
+  }
 
 -- as many instances as numbers
 pub plan_length : (task : Task) (numbers : List ℕ) (plan : List code.Instance) → AllZip (NamesKept task) numbers (map instance_of plan) → length plan ≡ length numbers

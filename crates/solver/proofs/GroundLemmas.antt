@@ -32,23 +32,6 @@ are_applicable task atoms bits number = (
   ] refl some,
 )
 
--- ---- the width of packed states
-
-module _ (task : Task) (atoms : List Atom) where
-  pub length-initial : length (ground_system task atoms).initial ≡ length atoms
-  length-initial = length-map atoms _
-
-  length-run : (plan : List ℕ) (bits end : List Bool) → length bits ≡ length atoms → run (ground_system task atoms) bits plan ≡ Some end → length end ≡ length atoms
-  length-run [] bits end long runs = let same : bits ≡ end = cc in ap length (sym same) ∙ long
-  length-run (n ∷ plan) bits end long runs =
-      elim (ground_step task atoms bits n) as (λ o. ground_step task atoms bits n ≡ o → option_and_then (λ next. run (ground_system task atoms) next plan) o ≡ Some end → length end ≡ length atoms) [
-        | None ↦ λ _ none. absurd (cc)
-        | Some next ↦ λ leads on. length-run plan next end (length-step task atoms bits next n leads) on
-      ] refl runs
-
-  pub length-reachable : (bits : List Bool) → IsReachable (ground_system task atoms) bits → length bits ≡ length atoms
-  length-reachable bits reached = length-run reached.0 (ground_system task atoms).initial bits length-initial reached.1
-
 -- ---- states and packed states
 
 -- distinct states have distinct views, where the view keeps them apart
@@ -75,9 +58,6 @@ module _ (task : Task) where
   abbrev view : List Bool → State
   view = state_of_bits task atoms
 
-  abbrev both : IsBisimulation (ground_system task atoms) (system_of task) (λ bits s. view bits ≡ s) (NamesKept task)
-  both = ground_task_is_bisimilar task [] none_more
-
   -- packed states of the atoms' length that stand for one state are the same
   pub one_state : (bits bits' : List Bool) → length bits ≡ length atoms → length bits' ≡ length atoms → view bits ≡ view bits' → bits ≡ bits'
   one_state bits bits' long long' same =
@@ -87,39 +67,6 @@ module _ (task : Task) where
   pub distinct_states : (states : List (List Bool)) → ((k : ℕ) (bits : List Bool) → slice_get states k ≡ Some bits → length bits ≡ length atoms) → AreDistinct states → AreDistinct (map view states)
   distinct_states states long distinct =
       distinct_views view states (λ j k s s' at_j at_k same. one_state s s' (long j s at_j) (long k s' at_k) same) distinct
-
-  -- ---- reachable states, and limits
-
-  precedes : (bits : List Bool) → PrecedesPlans (ground_system task atoms) bits → PrecedesPlans (system_of task) (view bits)
-  precedes bits (is_initial is) = is_initial (ap view is ∙ both.initial)
-  precedes bits (is_next actions before number runs missed cheap leads) =
-      let other = run_forth (ground_system task atoms) (system_of task) (λ b s. view b ≡ s) (NamesKept task) both actions (ground_system task atoms).initial (system_of task).initial before both.initial runs in
-      let next = both.forth before other.1 number bits other.4 leads in
-      let paid = same_cost (ground_system task atoms) (system_of task) (λ b s. view b ≡ s) (NamesKept task) both actions other.0 other.2 in
-      is_next other.0 other.1 next.0 other.3 (sym (both.goals before other.1 other.4) ∙ missed)
-      (subst (λ cost. CostsAtLeast (system_of task) cost) paid (bound_forth (ground_system task atoms) (system_of task) (λ b s. view b ≡ s) (NamesKept task) both (cost_of_all (ground_system task atoms) actions) cheap))
-      (next.3 ∙ ap Some (sym next.4))
-
-  -- what is reachable in the ground task is so in the task, at the same cost
-  pub reached_at : (bits : List Bool) (cost : ℕ) → IsReachableAt (ground_system task atoms) bits cost → IsReachableAt (system_of task) (view bits) cost
-  reached_at bits cost (actions, runs, paid) =
-      let other = run_forth (ground_system task atoms) (system_of task) (λ b s. view b ≡ s) (NamesKept task) both actions (ground_system task atoms).initial (system_of task).initial bits both.initial runs in
-      let as_much = same_cost (ground_system task atoms) (system_of task) (λ b s. view b ≡ s) (NamesKept task) both actions other.0 other.2 in
-      (other.0, other.3 ∙ ap Some (sym other.4), sym as_much ∙ paid)
-
-  reached : (bits : List Bool) → IsReachable (ground_system task atoms) bits → IsReachable (system_of task) (view bits)
-  reached bits (actions, runs) = let there = reached_at bits (cost_of_all (ground_system task atoms) actions) (actions, runs, refl) in (there.0, there.1)
-
-  pub more_reachable : (max_states : ℕ) → AreMoreReachable (ground_system task atoms) max_states → AreMoreReachable (system_of task) max_states
-  more_reachable max_states (states, distinct, preceding, more) = (
-    map view states,
-    distinct_states states (λ k bits at. length-reachable task atoms bits (preceding bits (Contains-got states k bits at)).0) distinct,
-    λ s among.
-        let from = map-Contains view states s among in
-        let (reaches, comes) = preceding from.0 from.1 in
-        subst (λ (t : State). IsReachable (system_of task) t × PrecedesPlans (system_of task) t) from.2 (reached from.0 reaches, precedes from.0 comes),
-    omega (arith, more, length-map states view),
-  )
 
 -- ---- named instances
 

@@ -15,6 +15,7 @@ use Rattle.model.specs.Grounding.{bits_of_state, state_of_bits, ground_system}
 use Rattle.model.proofs.LimitsLemmas.{numbered_again}
 use Rattle.model.proofs.GroundTaskLemmas.{initial-numbered, packs_states}
 use Rattle.search.specs.declared.nodes.Node.{Node}
+use Rattle.symmetries.specs.Exchanges.{Exchange}
 use Rattle.certificate_definitions.specs.Certificates.{Version, two, three, Certificate, is_value_count, is_weight, is_mark, are_potentials, is_dead_end_weight, are_tables, are_weights, has_tables, is_row, is_table, rows_of, rise, value_of, is_dead_end_of, AreFairFor}
 use Rattle.certificate.specs.CertificateParts.{are_bounds}
 use Rattle.potential_functions.specs.PotentialFunctions as potential
@@ -199,27 +200,27 @@ module _ (task : Task) where
       subst (λ (those : List Atom). in_state task those f (initial_state task) ≡ f (ground_system task atoms).initial) (sym (numbered_again task))
       (ap (λ b. if b then f (bits_of_state atoms (initial_state task)) else 0) (numbered-has task atoms (initial_state task) (initial-numbered task [])))
 
-  module _ (claim : Claim) (states : List (List Bool)) (nodes : List Node) (bits : List Bool) (long : length bits ≡ length atoms) where
+  module _ (claim : Claim) (exchanges : List Exchange) (states : List (List Bool)) (nodes : List Node) (bits : List Bool) (long : length bits ≡ length atoms) where
     -- the certificate gives a state the estimate by which it was found
-    pub value-found : (guidance : Guidance) → value_of task (found_certificate claim atoms guidance states nodes) (state_of_bits task atoms bits) ≡ estimate_by guidance bits
+    pub value-found : (guidance : Guidance) → value_of task (found_certificate claim exchanges atoms guidance states nodes) (state_of_bits task atoms bits) ≡ estimate_by guidance bits
     value-found (by_potentials p dead_ends) = value-packed task p bits long
     value-found (by_tables s) = packed (greatest_value (functions_of s)) bits long
 
     -- and reports it a dead end where it was found so
-    pub dead-found : (guidance : Guidance) → is_dead_end_of task (found_certificate claim atoms guidance states nodes) (state_of_bits task atoms bits) ≡ reports_dead guidance bits
+    pub dead-found : (guidance : Guidance) → is_dead_end_of task (found_certificate claim exchanges atoms guidance states nodes) (state_of_bits task atoms bits) ≡ reports_dead guidance bits
     dead-found (by_potentials p dead_ends) = ap (nat_le 1) (value-packed task dead_ends bits long)
     dead-found (by_tables s) = ap (nat_le 1) (packed (value (dead_ends_of s)) bits long)
 
   -- so it is of the initial state
-  pub value-at-start : (claim : Claim) (states : List (List Bool)) (nodes : List Node) (guidance : Guidance)
-      → value_of task (found_certificate claim atoms guidance states nodes) (initial_state task) ≡ estimate_by guidance (ground_system task atoms).initial
-  value-at-start claim states nodes (by_potentials p dead_ends) = refl
-  value-at-start claim states nodes (by_tables s) = packed-start (greatest_value (functions_of s))
+  pub value-at-start : (claim : Claim) (exchanges : List Exchange) (states : List (List Bool)) (nodes : List Node) (guidance : Guidance)
+      → value_of task (found_certificate claim exchanges atoms guidance states nodes) (initial_state task) ≡ estimate_by guidance (ground_system task atoms).initial
+  value-at-start claim exchanges states nodes (by_potentials p dead_ends) = refl
+  value-at-start claim exchanges states nodes (by_tables s) = packed-start (greatest_value (functions_of s))
 
   -- its atoms are numbered as they are, so what is fair is fair for it
-  pub fair-found : (claim : Claim) (states : List (List Bool)) (nodes : List Node) (guidance : Guidance) → AreFairBy task atoms guidance → AreFairFor task (found_certificate claim atoms guidance states nodes)
-  fair-found claim states nodes (by_potentials p dead_ends) fair = record {
+  pub fair-found : (claim : Claim) (exchanges : List Exchange) (states : List (List Bool)) (nodes : List Node) (guidance : Guidance) → AreFairBy task atoms guidance → AreFairFor task (found_certificate claim exchanges atoms guidance states nodes)
+  fair-found claim exchanges states nodes (by_potentials p dead_ends) fair = record {
     values = subst (λ (l : List Atom). potentials.AreFair task l p) (sym (numbered_again task)) fair.0;
     dead_ends = subst (λ (l : List Atom). potentials.AreDeadFair task l dead_ends) (sym (numbered_again task)) fair.1;
   }
-  fair-found claim states nodes (by_tables s) fair = subst (λ (l : List Atom). fair_tables.AreFair task l s) (sym (numbered_again task)) fair
+  fair-found claim exchanges states nodes (by_tables s) fair = subst (λ (l : List Atom). fair_tables.AreFair task l s) (sym (numbered_again task)) fair

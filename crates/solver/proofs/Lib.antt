@@ -1,7 +1,11 @@
 pub mod TypedLemmas
 pub mod GroundLemmas
+pub mod ListedLemmas
+pub mod ListedGuides
+pub mod ExchangeLemmas
 pub mod PotentialLemmas
 pub mod GuidanceLemmas
+pub mod PotentialGuidance
 pub mod TablesLemmas
 pub mod ConsistentLemmas
 pub mod FoundLines

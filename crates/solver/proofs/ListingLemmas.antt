@@ -6,6 +6,7 @@ use Rattle.std.specs.Option.{option_map}
 use Rattle.std.specs.FinSet.{from_list}
 use Rattle.std.proofs.lemmas.Bool.{and_parts, and_from, not-true, true≢false, lt-ltb, le-leb}
 use Rattle.std.proofs.lemmas.List.{length-map}
+use Rattle.std.proofs.lemmas.List.Elements.{All-cons, All-nil}
 use Rattle.std.proofs.lemmas.Simd.{map-map}
 use Rattle.std.proofs.lemmas.Option.{slice_get-get_or, slice_get_within, slice_get-map}
 use Rattle.packed_state.specs.Sets.{has}
@@ -17,7 +18,7 @@ use Rattle.potential_functions.specs.Settled.{initial_value}
 use Rattle.solver.specs.Improved.{AreSettledOrHigh, AreDeadSettledOrHigh, HasSettledOrHigh}
 use Rattle.solver.specs.Listing.{numbers_in, state_line, found_certificate, IsShownBy, AreOpenWithin}
 use Rattle.solver.proofs.TypedLemmas.{numbered_typed}
-use Rattle.solver.proofs.GroundLemmas.{length-reachable, distinct_states}
+use Rattle.solver.proofs.GroundLemmas.{distinct_states}
 use Rattle.solver.specs.Guidance.{Guidance, by_potentials, by_tables, CanBeWritten, AreFairBy, estimate_by, reports_dead, version_by, values_by, first_value}
 use Rattle.solver.proofs.GuidanceLemmas.{AreLimits, limits_of, one_weight_each, weights_of_each, most_value, estimate-most, mark-passes, value-found, value-at-start, dead-found, fair-found}
 use Rattle.solver.proofs.FoundLines.{expanded_of_open, dead_of_reported, found_line, length-lines, node_at}
@@ -29,13 +30,16 @@ use Rattle.model.specs.Meaning.{State, system_of, initial_state}
 use Rattle.model.specs.Fluents.{is_fluent, static_atoms}
 use Rattle.model.specs.NumberedAtoms.{occurs_in, are_distinct, numbered_atoms}
 use Rattle.model.specs.Grounding.{chosen, state_of_bits, ground_system, NamesKept}
-use Rattle.certificate_definitions.specs.Certificates.{two, three, Certificate, StateLine, is_number, is_claim, is_mark, is_dead_end_weight, is_state_line, keeps_limits, rise, state_of_line, lines_of, value_of, is_dead_end_of}
-use Rattle.certificate_definitions.proofs.WithoutExchanges.{lists_task}
+use Rattle.certificate_definitions.specs.Certificates.{two, three, Certificate, StateLine, is_number, is_claim, is_mark, is_dead_end_weight, is_state_line, keeps_limits, rise, state_of_line, lines_of, listed_system, are_exchanges, value_of, is_dead_end_of}
+use Rattle.symmetries.specs.Exchanges.{Exchange}
+use Rattle.symmetries.specs.Symmetries.{is_symmetry}
+use Rattle.symmetries.specs.Quotients.{keeps_atoms, quotient_of}
+use Rattle.solver.proofs.ListedLemmas.{DoesAs, length-reachable}
 use Rattle.table_functions.specs.TableFunctions.{SeveralValues}
 use Rattle.model.proofs.ListLemmas.{map-Contains}
 use Rattle.model.proofs.LimitsLemmas.{numbered_again}
 use Rattle.model.proofs.NumberingLemmas.{occurs_in-got}
-use Rattle.model.proofs.GroundTaskLemmas.{numbered-distinct, numbered-fluent, ground_task_is_bisimilar}
+use Rattle.model.proofs.GroundTaskLemmas.{numbered-distinct, numbered-fluent}
 use Rattle.model.proofs.BisimilarListings.{closed_forth}
 
 -- ---- a packed state by its numbers
@@ -138,13 +142,28 @@ pairs_apart (a ∷ atoms) distinct zero (suc j) d before within =
 pairs_apart (a ∷ atoms) distinct (suc i) (suc j) d before within =
     pairs_apart atoms (and_parts (not (occurs_in atoms a)) (are_distinct atoms) distinct).1 i j d (omega (arith, before)) (omega (arith, within))
 
+-- ---- the exchanges
+
+-- each is a symmetry that keeps these atoms, if all are symmetries and all keep them
+each_passes : {task : Task} {atoms : List Atom} (exchanges : List Exchange) → list_all (is_symmetry task) exchanges ≡ true → list_all (keeps_atoms atoms) exchanges ≡ true
+    → All (λ (e : Exchange). IsTrue (is_symmetry task e && keeps_atoms atoms e)) exchanges
+each_passes {task} {atoms} [] symmetric kept = All-nil (λ (e : Exchange). IsTrue (is_symmetry task e && keeps_atoms atoms e))
+each_passes {task} {atoms} (e ∷ exchanges) symmetric kept =
+    let (is, all) = and_parts (is_symmetry task e) (list_all (is_symmetry task) exchanges) symmetric in
+    let (keeps_it, keep_all) = and_parts (keeps_atoms atoms e) (list_all (keeps_atoms atoms) exchanges) kept in
+    All-cons (λ (x : Exchange). IsTrue (is_symmetry task x && keeps_atoms atoms x)) e exchanges (and_from (is_symmetry task e) (keeps_atoms atoms e) is keeps_it) (each_passes exchanges all keep_all)
+
+-- what is listed where the atoms are the numbered ones
+pub lists_by : (task : Task) (c : Certificate) → c.atoms ≡ numbered_atoms task [] → listed_system task c ≡ quotient_of task (numbered_atoms task []) c.exchanges
+lists_by task c numbered = ap (λ (l : List Atom). quotient_of task l c.exchanges) (ap (numbered_atoms task) numbered ∙ numbered_again task)
+
 -- ---- the certificate
 
 known_version : (guidance : Guidance) → (version_by guidance ≡ two) ⊎ (version_by guidance ≡ three)
 known_version (by_potentials p dead_ends) = inl refl
 known_version (by_tables s) = inr refl
 
-module _ (task : Task) (claim : Claim) (most : ℕ) (guidance : Guidance) (states : List (List Bool)) (nodes : List Node) where
+module _ (task : Task) (claim : Claim) (most : ℕ) (exchanges : List Exchange) (guidance : Guidance) (states : List (List Bool)) (nodes : List Node) where
   abbrev atoms : List Atom
   atoms = numbered_atoms task []
 
@@ -158,7 +177,7 @@ module _ (task : Task) (claim : Claim) (most : ℕ) (guidance : Guidance) (state
   lines = search.lines_of (estimate_by guidance) (reports_dead guidance) states nodes
 
   abbrev pub made : Certificate
-  made = found_certificate claim atoms guidance states nodes
+  made = found_certificate claim exchanges atoms guidance states nodes
 
   abbrev entry : StateLine → Line State
   entry l = record { state = state_of_line task made l; cost = l.cost; mark = l.mark }
@@ -188,20 +207,20 @@ module _ (task : Task) (claim : Claim) (most : ℕ) (guidance : Guidance) (state
       let (k, s, n, there, here, from) = found_line (estimate_by guidance) (reports_dead guidance) states nodes line among in
       (k, s, n, there, here, sym is ∙ ap view from)
 
-  module _ (found : AreFound (ground_system task atoms) (estimate_by guidance) (reports_dead guidance) claim most states nodes) where
+  module _ (t : System (List Bool) ℕ) (known : DoesAs task exchanges t) (found : AreFound t (estimate_by guidance) (reports_dead guidance) claim most states nodes) where
     pub found_width : (k : ℕ) (bits : List Bool) → slice_get states k ≡ Some bits → length bits ≡ length atoms
     found_width k bits at =
         let (node, there) = node_at nodes k (omega (arith, slice_get_within states k bits at, found.one_for_each)) in
         let reached = found.reachable k bits node at there in
-        length-reachable task atoms bits (reached.0, reached.1)
+        length-reachable task exchanges t known bits (reached.0, reached.1)
 
     -- the certificate gives a listed state the value by which it was found
     pub same_value : (k : ℕ) (bits : List Bool) → slice_get states k ≡ Some bits → value_of task made (state_of_bits task atoms bits) ≡ estimate_by guidance bits
-    same_value k bits at = value-found task claim states nodes bits (found_width k bits at) guidance
+    same_value k bits at = value-found task claim exchanges states nodes bits (found_width k bits at) guidance
 
     -- and reports it a dead end where it was found so
     same_dead : (k : ℕ) (bits : List Bool) → slice_get states k ≡ Some bits → is_dead_end_of task made (state_of_bits task atoms bits) ≡ reports_dead guidance bits
-    same_dead k bits at = dead-found task claim states nodes bits (found_width k bits at) guidance
+    same_dead k bits at = dead-found task claim exchanges states nodes bits (found_width k bits at) guidance
 
     same_listing : (line : Line (List Bool)) → Contains lines line
         → (estimate_by guidance line.state ≤ value_of task made (state_of_bits task atoms line.state)) × (reports_dead guidance line.state ≡ true → is_dead_end_of task made (state_of_bits task atoms line.state) ≡ true)
@@ -224,7 +243,7 @@ module _ (task : Task) (claim : Claim) (most : ℕ) (guidance : Guidance) (state
         one_weight_an_atom = weights_of_each (length atoms) values.values limits.values;
         one_dead_end_weight_an_atom = one_weight_each (is_dead_end_weight (version_by guidance)) (length atoms) values.dead_ends limits.dead_ends;
         tables_are_over_atoms = limits.tables;
-        are_fair = fair-found task claim states nodes guidance fair;
+        are_fair = fair-found task claim exchanges states nodes guidance fair;
         rows_are_distinct = written.rows_are_distinct;
         atoms_are_fluent = λ k d below.
             let a = get_or atoms k d in
@@ -233,13 +252,13 @@ module _ (task : Task) (claim : Claim) (most : ℕ) (guidance : Guidance) (state
         atoms_are_distinct = pairs_apart atoms (numbered-distinct task []);
         states_are_distinct = subst (AllPairs (λ (k l : Line State). k.state ≢ l.state)) (sym listing)
             (states_apart (map view lines) (subst (λ (ss : List State). AreDistinct ss) (sym (listed_states states nodes found.one_for_each)) (distinct_states task states found_width found.distinct)));
-        exchanges_are_symmetries = λ k d below. absurd (omega (arith, below));
-        listing_is_closed = subst (λ (t : System State Instance). IsClosed t (value_of task made) (is_dead_end_of task made) claim (lines_of task made)) (sym (lists_task task made refl))
-            (subst (IsClosed (system_of task) (value_of task made) (is_dead_end_of task made) claim) (sym listing)
-            (closed_forth (ground_system task atoms) (system_of task) (state_of_bits task atoms) (NamesKept task) (ground_task_is_bisimilar task [] none_more)
+        exchanges_are_symmetries = subst (λ (l : List Atom). All (λ (e : Exchange). IsTrue (is_symmetry task e && keeps_atoms l e)) exchanges) (sym (numbered_again task)) (each_passes exchanges known.symmetries known.kept);
+        listing_is_closed = subst (λ (t : System State Instance). IsClosed t (value_of task made) (is_dead_end_of task made) claim (lines_of task made)) (sym (lists_by task made refl))
+            (subst (IsClosed (quotient_of task atoms exchanges) (value_of task made) (is_dead_end_of task made) claim) (sym listing)
+            (closed_forth t (quotient_of task atoms exchanges) (state_of_bits task atoms) (NamesKept task) known.both
             (λ bits. value_of task made (state_of_bits task atoms bits)) (value_of task made) (λ s. omega arith)
             (λ bits. is_dead_end_of task made (state_of_bits task atoms bits)) (is_dead_end_of task made) (λ s reported. reported) claim lines
-            (closed_higher (ground_system task atoms) (estimate_by guidance) (λ bits. value_of task made (state_of_bits task atoms bits)) (reports_dead guidance) (λ bits. is_dead_end_of task made (state_of_bits task atoms bits)) claim lines
+            (closed_higher t (estimate_by guidance) (λ bits. value_of task made (state_of_bits task atoms bits)) (reports_dead guidance) (λ bits. is_dead_end_of task made (state_of_bits task atoms bits)) claim lines
             same_listing found.closed)));
       };
       within_limit = omega (arith, length-made found.one_for_each);
@@ -266,7 +285,7 @@ module _ (task : Task) (claim : Claim) (most : ℕ) (guidance : Guidance) (state
         let cost_same : line.cost ≡ n.cost = ap (λ (l : Line State). l.cost) is in
         omega (arith, cheap, same, value_same, cost_same)
 
-    module _ (written : CanBeWritten (length atoms) guidance) (few_atoms : length atoms ≤ 1048576) where
+    module _ (written : CanBeWritten (length atoms) guidance) (few_atoms : length atoms ≤ 1048576) (exchanges_written : are_exchanges (version_by guidance) exchanges ≡ true) (few_exchanges : length exchanges ≤ 1048576) where
       small_value : (k : ℕ) (bits : List Bool) → slice_get states k ≡ Some bits → estimate_by guidance bits ≤ most_value
       small_value k bits at = estimate-most (length atoms) guidance written.within_limits bits (omega (arith, few_atoms, found_width k bits at))
 
@@ -278,8 +297,8 @@ module _ (task : Task) (claim : Claim) (most : ℕ) (guidance : Guidance) (state
           let listed = and_from (is_claim claim && nat_le (length atoms) 1048576 && nat_le (length made.lines) 16777216) (list_all (is_state_line (version_by guidance) (length atoms)) made.lines) counted
           (all_pass states nodes found_width small_value (λ k node at. omega (arith, found.cheap k node at, found.within_limit, few))) in
           let limits = limits_of (version_by guidance) (length atoms) (values_by guidance) written.within_limits in
-          -- and there are no exchanges
-          λ i. (((((((listed i && limits.value_count i) && limits.values i) && limits.dead_ends i) && limits.tables i) && limits.few_tables i) && limits.few_rows i) && true) && true
+          let few_enough = le-leb (length exchanges) 1048576 few_exchanges in
+          λ i. (((((((listed i && limits.value_count i) && limits.values i) && limits.dead_ends i) && limits.tables i) && limits.few_tables i) && limits.few_rows i) && exchanges_written i) && few_enough i
         where
           all_pass : (ss : List (List Bool)) (ns : List Node) → ((k : ℕ) (bits : List Bool) → slice_get ss k ≡ Some bits → length bits ≡ length atoms)
               → ((k : ℕ) (bits : List Bool) → slice_get ss k ≡ Some bits → estimate_by guidance bits ≤ most_value)
@@ -311,23 +330,21 @@ more_allowed given le = record {
   dead_ends_are_reported = given.dead_ends_are_reported;
 }
 
-module _ (task : Task) (claim : Claim) (most : ℕ) (guidance : Guidance) (states : List (List Bool)) (nodes : List Node) (known : List Atom) (numbered : known ≡ numbered_atoms task [])
-    (found : AreFound (ground_system task known) (estimate_by guidance) (reports_dead guidance) claim most states nodes) (certificate : Certificate) (is : certificate ≡ found_certificate claim known guidance states nodes) where
-  pub same_found : AreFound (ground_system task (numbered_atoms task [])) (estimate_by guidance) (reports_dead guidance) claim most states nodes
-  same_found = subst (λ (l : List Atom). AreFound (ground_system task l) (estimate_by guidance) (reports_dead guidance) claim most states nodes) numbered found
-
-  pub is_made : made task claim most guidance states nodes ≡ certificate
-  is_made = sym (is ∙ ap (λ (l : List Atom). found_certificate claim l guidance states nodes) numbered)
+module _ (task : Task) (claim : Claim) (most : ℕ) (exchanges : List Exchange) (guidance : Guidance) (states : List (List Bool)) (nodes : List Node) (known : List Atom) (numbered : known ≡ numbered_atoms task [])
+    (t : System (List Bool) ℕ) (by : DoesAs task exchanges t) (found : AreFound t (estimate_by guidance) (reports_dead guidance) claim most states nodes)
+    (certificate : Certificate) (is : certificate ≡ found_certificate claim exchanges known guidance states nodes) where
+  pub is_made : made task claim most exchanges guidance states nodes ≡ certificate
+  is_made = sym (is ∙ ap (λ (l : List Atom). found_certificate claim exchanges l guidance states nodes) numbered)
 
   pub shown : (max_states : ℕ) → length states ≤ max_states → is_task task ≡ true → CanBeWritten (length known) guidance → AreFairBy task known guidance → keeps_limits certificate ≡ true
       → IsShownBy task claim max_states certificate
   shown max_states le well written fair kept =
       more_allowed (subst (IsShownBy task claim (length states)) is_made
-      (shown_by task claim most guidance states nodes same_found well (subst (λ (l : List Atom). CanBeWritten (length l) guidance) numbered written)
+      (shown_by task claim most exchanges guidance states nodes t by found well (subst (λ (l : List Atom). CanBeWritten (length l) guidance) numbered written)
       (subst (λ (l : List Atom). AreFairBy task l guidance) numbered fair) (ap keeps_limits is_made ∙ kept))) le
 
   pub opened_within : (cost : ℕ) → AreExpandedWithin (estimate_by guidance) cost states nodes → AreOpenWithin task cost certificate
-  opened_within cost within = subst (AreOpenWithin task cost) is_made (open_within task claim most guidance states nodes same_found cost within)
+  opened_within cost within = subst (AreOpenWithin task cost) is_made (open_within task claim most exchanges guidance states nodes t by found cost within)
 
   pub settled_or_high : AreSettledOrHigh task known (first_value guidance) → AreDeadSettledOrHigh task known (values_by guidance).dead_ends
       → initial_value task known (first_value guidance) ≤ estimate_by guidance (ground_system task known).initial → HasSettledOrHigh task certificate
@@ -338,11 +355,11 @@ module _ (task : Task) (claim : Claim) (most : ℕ) (guidance : Guidance) (state
         no_lower = subst (λ (n : ℕ). initial_value task known (first_value guidance) ≤ n) (sym at_start) start;
       })
     where
-      at_start : value_of task (found_certificate claim known guidance states nodes) (initial_state task) ≡ estimate_by guidance (ground_system task known).initial
-      at_start = subst (λ (l : List Atom). value_of task (found_certificate claim l guidance states nodes) (initial_state task) ≡ estimate_by guidance (ground_system task l).initial) (sym numbered)
-          (value-at-start task claim states nodes guidance)
+      at_start : value_of task (found_certificate claim exchanges known guidance states nodes) (initial_state task) ≡ estimate_by guidance (ground_system task known).initial
+      at_start = subst (λ (l : List Atom). value_of task (found_certificate claim exchanges l guidance states nodes) (initial_state task) ≡ estimate_by guidance (ground_system task l).initial) (sym numbered)
+          (value-at-start task claim exchanges states nodes guidance)
 
-  pub within_limits : CanBeWritten (length known) guidance → is_claim claim ≡ true → length known ≤ 1048576 → most ≤ 16777216 → keeps_limits certificate ≡ true
-  within_limits written small few_atoms few =
+  pub within_limits : CanBeWritten (length known) guidance → is_claim claim ≡ true → length known ≤ 1048576 → most ≤ 16777216 → are_exchanges (version_by guidance) exchanges ≡ true → length exchanges ≤ 1048576 → keeps_limits certificate ≡ true
+  within_limits written small few_atoms few exchanges_written few_exchanges =
       ap keeps_limits (sym is_made)
-      ∙ keeps task claim most guidance states nodes same_found (subst (λ (l : List Atom). CanBeWritten (length l) guidance) numbered written) (subst (λ (l : List Atom). length l ≤ 1048576) numbered few_atoms) small few
+      ∙ keeps task claim most exchanges guidance states nodes t by found (subst (λ (l : List Atom). CanBeWritten (length l) guidance) numbered written) (subst (λ (l : List Atom). length l ≤ 1048576) numbered few_atoms) exchanges_written few_exchanges small few

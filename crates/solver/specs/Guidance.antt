@@ -34,8 +34,12 @@ abbrev pub version_by : Guidance → Version
 version_by (by_potentials p dead_ends) = two
 version_by (by_tables s) = three
 
+-- potentials as values over no tables
+abbrev pub over_no_tables : PotentialFunction → PotentialFunction → SeveralValues
+over_no_tables p dead_ends = record { values = p ∷ []; dead_ends = dead_ends; tables = [] }
+
 abbrev pub values_by : Guidance → SeveralValues
-values_by (by_potentials p dead_ends) = record { values = p ∷ []; dead_ends = dead_ends; tables = [] }
+values_by (by_potentials p dead_ends) = over_no_tables p dead_ends
 values_by (by_tables s) = s
 
 -- the first value, 0 where there is none

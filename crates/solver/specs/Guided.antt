@@ -1,8 +1,7 @@
 -- What a search may go by, if its certificate is to have it, and what it came to.
-use Rattle.std.specs.Prelude.{◌≡◌, ℕ, ◌≤◌, Bool, List, All, length, map}
+use Rattle.std.specs.Prelude.{◌≡◌, ℕ, ◌≤◌, Bool, IsTrue, List, All, length, map}
 use Rattle.packed_state.specs.PooledView.{pooled_states}
 use Rattle.packed_state.specs.declared.pooled.PooledStore.{PooledStore}
-use Rattle.grounding.specs.declared.ground.Ground.{Ground}
 use Rattle.grounding.specs.Ground.{task_in, atoms_in}
 use Rattle.certificate.specs.CertificateParts.{listed_of}
 use Rattle.certificate.specs.declared.states.Listed.{Listed}
@@ -15,18 +14,24 @@ use Rattle.search.specs.Outcome.{AreMarked, IsTrueOutcome}
 use Rattle.search.specs.declared.best.Outcome.{Outcome}
 use Rattle.search.specs.declared.best.Outcome.TheVariants.{Found, Exhausted, States}
 use Rattle.search.specs.declared.nodes.FoundStates.{FoundStates}
-use Rattle.solver.specs.Guidance.{Guidance, CanBeWritten, AreFairBy, estimate_by, first_value, values_by}
+use Rattle.solver.specs.Guidance.{Guidance, CanBeWritten, AreFairBy, estimate_by, first_value, values_by, version_by}
 use Rattle.solver.specs.Improved.{AreSettledOrHigh, AreDeadSettledOrHigh}
+use Rattle.solver.specs.ListedSystem.{ground_in, exchanges_in, system_of}
+use Rattle.solver.specs.declared.listed_system.ListedSystem.{ListedSystem}
+use Rattle.certificate_definitions.specs.Certificates.{are_exchanges}
 use Rattle.solver.specs.Listing.{mark_of_line}
 
--- A certificate of the ground task can have the guidance, its values are fair, the first and that of dead ends are settled or
--- high, and the initial state's lower bound is at least its first value.
-pub record IsGuidanceFor (g : Ground) (guidance : Guidance) : Type 0 where
-  pub written : CanBeWritten (length (atoms_in g)) guidance
-  pub fair : AreFairBy (task_in g) (atoms_in g) guidance
-  pub improved : AreSettledOrHigh (task_in g) (atoms_in g) (first_value guidance)
-  pub dead_ends_improved : AreDeadSettledOrHigh (task_in g) (atoms_in g) (values_by guidance).dead_ends
-  pub no_lower : initial_value (task_in g) (atoms_in g) (first_value guidance) ≤ estimate_by guidance (ground_system (task_in g) (atoms_in g)).initial
+-- A certificate of the ground task can have the guidance beside the exchanges, its values are fair, the first and that of dead ends
+-- are settled or high, and the lower bound of the task's initial state is at least its first value.
+pub record IsGuidanceFor (system : ListedSystem) (guidance : Guidance) : Type 0 where
+  pub written : CanBeWritten (length (atoms_in (ground_in system))) guidance
+  pub exchanges : IsTrue (are_exchanges (version_by guidance) (exchanges_in system))
+  pub fair : AreFairBy (task_in (ground_in system)) (atoms_in (ground_in system)) guidance
+  pub improved : AreSettledOrHigh (task_in (ground_in system)) (atoms_in (ground_in system)) (first_value guidance)
+  pub dead_ends_improved : AreDeadSettledOrHigh (task_in (ground_in system)) (atoms_in (ground_in system)) (values_by guidance).dead_ends
+  pub no_lower :
+      initial_value (task_in (ground_in system)) (atoms_in (ground_in system)) (first_value guidance)
+      ≤ estimate_by guidance (ground_system (task_in (ground_in system)) (atoms_in (ground_in system))).initial
 
 -- the states that a search found
 abbrev pub found_in : Outcome PooledStore → FoundStates PooledStore
@@ -45,9 +50,9 @@ pub record CanBeMarked (atom_count : ℕ) (is_dead : List Bool → Bool) (found 
   pub width : All (λ (bits : List Bool). length bits ≡ atom_count) (pooled_states found.store)
   pub marked : AreMarked is_dead (pooled_states found.store) found.nodes.items
 
--- A search of the ground task by an estimate and a test for dead ends came to this outcome, with these marks.
-pub record IsSearched (g : Ground) (estimate : List Bool → ℕ) (is_dead : List Bool → Bool) (max_states : ℕ) (outcome : Outcome PooledStore) (marks : List Listed) : Type 0 where
-  pub outcome_is : IsTrueOutcome (ground_system (task_in g) (atoms_in g)) estimate is_dead pooled_states max_states outcome
+-- A search of the system by an estimate and a test for dead ends came to this outcome, with these marks.
+pub record IsSearched (system : ListedSystem) (estimate : List Bool → ℕ) (is_dead : List Bool → Bool) (max_states : ℕ) (outcome : Outcome PooledStore) (marks : List Listed) : Type 0 where
+  pub outcome_is : IsTrueOutcome (system_of system) estimate is_dead pooled_states max_states outcome
   pub marked : AreMarksOf estimate is_dead (found_in outcome) marks
-  pub lower_bound : IsLowerBound (ground_system (task_in g) (atoms_in g)) estimate
-  pub dead_ends : AreDeadEnds (ground_system (task_in g) (atoms_in g)) is_dead
+  pub lower_bound : IsLowerBound (system_of system) estimate
+  pub dead_ends : AreDeadEnds (system_of system) is_dead

@@ -1,5 +1,7 @@
 pub mod Limit
 pub mod Improved
+pub mod Exchanges
+pub mod ListedSystem
 pub mod Guidance
 pub mod Written
 pub mod SeveralOver

@@ -7,6 +7,7 @@ use Rattle.search.specs.Outcome as search
 use Rattle.model.specs.Task.{Task, Atom}
 use Rattle.model.specs.Meaning.{State}
 use Rattle.model.specs.Claims.{Claim, opened, dead, Line}
+use Rattle.symmetries.specs.Exchanges.{Exchange}
 use Rattle.certificate_definitions.specs.Certificates.{two, three, Certificate, StateLine, IsClosedFor, keeps_limits, lines_of, value_of, is_dead_end_of}
 use Rattle.certificate.specs.ListedSets.{Marked}
 use Rattle.model.specs.NumberedAtoms.{numbered_atoms}
@@ -24,13 +25,13 @@ state_line line = record { cost = line.cost; mark = line.mark; atoms = numbers_i
 abbrev pub mark_of_line : {S : Type 0} → Line S → Marked
 mark_of_line line = record { cost = line.cost; mark = line.mark }
 
--- the certificate that lists these states, which were found by this guidance, each expanded one as open, each other as a dead
--- end where it is reported one, and else as a cut with its estimate
-abbrev pub found_certificate : Claim → List Atom → Guidance → List (List Bool) → List Node → Certificate
-found_certificate claim atoms guidance states nodes = record {
+-- the certificate that lists these states, which were found by this guidance and stand for others by these exchanges, each expanded
+-- one as open, each other as a dead end where it is reported one, and else as a cut with its estimate
+abbrev pub found_certificate : Claim → List Exchange → List Atom → Guidance → List (List Bool) → List Node → Certificate
+found_certificate claim exchanges atoms guidance states nodes = record {
   version = version_by guidance;
   claim = claim;
-  exchanges = [];
+  exchanges = exchanges;
   atoms = atoms;
   values = (values_by guidance).values;
   dead_ends = (values_by guidance).dead_ends;
@@ -40,7 +41,7 @@ found_certificate claim atoms guidance states nodes = record {
 
 -- The certificate is closed for the task, claims this, keeps the limits of a certificate's text, and lists at most
 -- `max_states` states by the numbered atoms, each at the place that is its number. It is of version 2, or of version 3 where
--- the search went by tables, without exchanges, and each listed state that its values report a dead end is listed as one.
+-- the search went by tables or exchanges, and each listed state that its values report a dead end is listed as one.
 pub record IsShownBy (task : Task) (claim : Claim) (max_states : ℕ) (certificate : Certificate) : Type 0 where
   pub claims : certificate.claim ≡ claim
   pub closed : IsClosedFor task certificate

@@ -1,5 +1,6 @@
 -- What is said of a task while it is solved: the lines, and what makes them true.
-use Rattle.std.specs.Prelude.{◌≡◌, ℕ, ◌≤◌, Bool, true, false, List, [], ◌++◌, length, map, codes, count_by, Option, Contains, ⊤}
+use Rattle.std.specs.Prelude.{◌≡◌, ℕ, ◌≤◌, Bool, true, false, List, [], ◌++◌, length, map, codes, count_by, Option, Contains, IsTrue, ⊤}
+use Rattle.std.specs.List.{list_all}
 use Rattle.std.specs.Fmt.{decimal}
 use Rattle.devices.specs.Devices.{IsWritten}
 use Rattle.progress_lines.specs.Said.{Stream}
@@ -12,7 +13,9 @@ use Rattle.model.specs.Runs.{System, CostsAtLeast, IsReachable}
 use Rattle.model.specs.Meaning.{system_of}
 use Rattle.model.specs.NumberedAtoms.{numbered_atoms}
 use Rattle.model.specs.StaticallyFalse.{kept_instances}
-use Rattle.model.specs.Grounding.{ground_system}
+use Rattle.symmetries.specs.Exchanges.{Exchange}
+use Rattle.symmetries.specs.Symmetries.{is_symmetry}
+use Rattle.symmetries.specs.Quotients.{quotient_of}
 use Rattle.certificate_definitions.specs.Certificates.{Certificate, IsClosedFor}
 use Rattle.model.specs.Claims.{Mark, opened, cut, dead}
 use Rattle.certificate.specs.Certificate.{certificate_of}
@@ -36,6 +39,11 @@ line_of (End listed expanded) =
 abbrev pub AreReachable : {S A : Type 0} → System S A → ℕ → Type 0
 AreReachable {S} t count = (states : List S) × AreDistinct states × ((s : S) → Contains states s → IsReachable t s) × (length states ≡ count)
 
+-- where one state stands for all that some symmetries of the task take into one another; without any each stands for itself
+abbrev pub AreReachableBySymmetries : Task → ℕ → Type 0
+AreReachableBySymmetries task count =
+    (exchanges : List Exchange) × IsTrue (list_all (is_symmetry task) exchanges) × AreReachable (quotient_of task (numbered_atoms task []) exchanges) count
+
 -- what is said of a certificate at the end: how many states it lists, and how many of them are open
 abbrev pub is_opened : Mark → Bool
 is_opened opened = true
@@ -49,11 +57,11 @@ abbrev pub report_of : Certificate → Report
 report_of certificate = End (length certificate.lines) (count_by is_open (map marked certificate.lines))
 
 -- The report is true of the task: so many of its instances are kept, and so many of its atoms have numbers; or every list of instances that
--- solves it costs at least the bound, so many states of the ground task are reachable, and no more of them were expanded; or a
--- closed certificate of it lists so many states, so many of them as open. Of a limit nothing is claimed.
+-- solves it costs at least the bound, so many states are reachable, of which one may stand for others, and no more of them were expanded; or
+-- a closed certificate of it lists so many states, so many of them as open. Of a limit nothing is claimed.
 abbrev pub IsTrueReport : Task → Report → Type 0
 IsTrueReport task (Ground instances atoms) = (instances ≡ length (kept_instances task)) × (atoms ≡ length (numbered_atoms task []))
-IsTrueReport task (Search bound listed expanded) = CostsAtLeast (system_of task) bound × AreReachable (ground_system task (numbered_atoms task [])) listed × (expanded ≤ listed)
+IsTrueReport task (Search bound listed expanded) = CostsAtLeast (system_of task) bound × AreReachableBySymmetries task listed × (expanded ≤ listed)
 IsTrueReport task (Limit option) = ⊤
 IsTrueReport task (End listed expanded) = (certificate : Certificate) × IsClosedFor task certificate × (End listed expanded ≡ report_of certificate)
 

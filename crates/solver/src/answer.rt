@@ -2,13 +2,17 @@
 ghost use Rattle.std.specs.Prelude.{◌≡◌, [], count_by, IfOk, IsTrue, OnOk, map, ℕ};
 ghost use Rattle.task.specs.Task.{task_of};
 ghost use Rattle.grounding.specs.Ground.{task_in, atoms_in, IsGroundOf};
-ghost use Rattle.potentials_improved.specs.FairPotentials.{potentials_in, ground_in};
+ghost use Rattle.potentials_improved.specs.FairPotentials as fair;
+ghost use Rattle.potentials_improved.specs.FairPotentials.{potentials_in};
 ghost use Rattle.solver.specs.Guidance.{estimate_by, reports_dead};
 ghost use Rattle.solver.specs.Guided.{IsGuidanceFor, IsSearched};
+ghost use Rattle.solver.specs.Exchanges.{AreExchangesFor};
+ghost use Rattle.task_symmetries.specs.Exchange.{exchange_of};
 ghost use Rattle.solver.specs.Improved.{AreSettledOrHigh, AreDeadSettledOrHigh};
 ghost use Rattle.progress_lines.specs.Said.{GoesOn};
 ghost use Rattle.solver.specs.Said.{HasEnded, IsTrueLine, IsTrueReport, is_open, report_of};
 ghost use Rattle.model.specs.NumberedAtoms.{numbered_atoms};
+ghost use Rattle.solver.specs.ListedSystem.{ground_in, IsListed};
 ghost use Rattle.solver.specs.Solver.{IsTrueAnswer};
 ghost use Rattle.solver.specs.Written.{guidance_of};
 ghost use Rattle.solver.specs.declared.answer.Answer.TheVariants.{Unknown};
@@ -17,9 +21,12 @@ ghost use Rattle.certificate.specs.CertificateParts.{listed_of};
 ghost use Rattle.model.specs.Task as model;
 ghost use Rattle.model.specs.WellTyped.{is_task};
 
-use crate::guidance::{Guidance, potential_of};
+use crate::exchanges::exchanges_of;
+use crate::guidance::{Guidance, guidance_by, potential_of};
 use crate::improved::improved;
 use crate::limits::Limits;
+use crate::listed_guide::ListedGuide;
+use crate::listed_system::ListedSystem;
 use crate::listing::cert_of;
 use crate::parts::{Given, Parts, search_in_parts};
 use crate::reports::{RaisedBy, Report, say};
@@ -32,9 +39,11 @@ use formulas::Plan;
 use grounding::{Ground, GroundLimit};
 use potentials_improved::{DeadFair, Fair, Groundwork};
 use progress_lines::Unheard;
+use representatives::Representatives;
 use search::{EstimateWithDeadEnds, Outcome};
 use std::alloc::Global;
 use task::Task;
+use task_symmetries::Exchange;
 
 /// What is found out of a task.
 #[derive(Drop)]
@@ -91,9 +100,14 @@ pub enum Exceeded {
 /// certificate has beside them and which are settled or high as well, states are reported as dead ends: they are listed, and
 /// the search goes no further from them.
 ///
+/// Where objects are interchangeable, one state is searched and listed for all those that exchanges of them take into one another
+/// (orbit space search: Domshlak, Katz and Shleyfman, "Symmetry Breaking in Deterministic Planning as Forward Search", 2015). The
+/// certificate has the exchanges, each of which is a symmetry of the task; the plan is one of the task itself. Which exchanges are
+/// found is not said.
+///
 /// A certificate then lists at most 100,000 states. Where more would have to be listed, `Unknown(Exceeded::States { .. })` has a
-/// certificate of 100,000, and in it the bound is the least sum of cost and value of a state that is still to be expanded: no
-/// open state has a greater sum. Two limits are reported before any potentials are looked for: `Unknown(Exceeded::Instances)`
+/// certificate of 100,000, and in it the bound is the least sum of cost and value of a state that is still to be expanded: if it
+/// has no exchanges, no open state has a greater sum. Two limits are reported before any potentials are looked for: `Unknown(Exceeded::Instances)`
 /// exactly where the task has more than 10,000 kept instances, which are those that are statically applicable, and
 /// `Unknown(Exceeded::Atoms)` exactly where it has no more, and more than 1,048,576 atoms would have numbers.
 pub fn solve(alloc: Global, task: &Task, limits: Limits) -> Result<Answer, NoMemory>
@@ -195,7 +209,8 @@ fn solve_ground<E: Sink>(
     ensures ended { IfOk result (HasEnded E.wants_memory (E.failures err.new) (E.taken err.new)) }
 {
     say(alloc, ground_report(ground), err)?;
-    let answer = solve_said(alloc, ground, limits, err)?;
+    let exchanges = exchanges_of(alloc, ground)?;
+    let answer = solve_by_exchanges(alloc, ground, &exchanges, limits, err)?;
     say_end(alloc, &answer, err)?;
     Ok(answer)
 }
@@ -211,56 +226,82 @@ fn ground_report(ground: &Ground<'_>) -> Report
     }
 }
 
-/// The same once it is said how large the ground task is, but for the end.
-fn solve_said<E: Sink>(
+/// The same once it is said how large the ground task is, but for the end, by these exchanges.
+fn solve_by_exchanges<E: Sink>(
     alloc: Global,
     ground: &Ground<'_>,
+    exchanges: &[Exchange],
     limits: Limits,
     err: &mut E,
 ) -> Result<Answer, NoMemory>
     requires typed { IsTrue (is_task (task_in ground.now)) }
     requires ground { IsGroundOf (task_in ground.now) [] limits.instances ground.now }
+    requires exchanges { AreExchangesFor ground.now (map exchange_of exchanges.now) }
     ensures answer { IfOk result (IsTrueAnswer (task_in ground.now) limits.states limits.instances) }
     ensures said { GoesOn (IsTrueLine (task_in ground.now)) E.wants_memory (E.failures err.old) (E.taken err.old) (E.failures err.new) (E.taken err.new) }
 {
+    if exchanges.is_empty() {
+        return solve_listed(alloc, ListedSystem::Ground(ground), limits, err);
+    }
+    match Representatives::new(alloc, ground, exchanges)? {
+        Some(representatives) => {
+            solve_listed(alloc, ListedSystem::Quotient(&representatives), limits, err)
+        }
+        None => unreachable!(),
+    }
+}
+
+/// The same where states of this system are searched and listed.
+fn solve_listed<E: Sink>(
+    alloc: Global,
+    system: ListedSystem<'_, '_>,
+    limits: Limits,
+    err: &mut E,
+) -> Result<Answer, NoMemory>
+    requires listed { IsListed system }
+    requires ground { IsGroundOf (task_in (ground_in system)) [] limits.instances (ground_in system) }
+    ensures answer { IfOk result (IsTrueAnswer (task_in (ground_in system)) limits.states limits.instances) }
+    ensures said { GoesOn (IsTrueLine (task_in (ground_in system))) E.wants_memory (E.failures err.old) (E.taken err.old) (E.failures err.new) (E.taken err.new) }
+{
+    let ground = system.ground();
     let groundwork = Groundwork::new(alloc, ground)?;
     let estimate: Fair<'_, '_> = improved(alloc, ground, &groundwork)?;
     let dead_ends: DeadFair<'_, '_> = improved(alloc, ground, &groundwork)?;
     drop(groundwork);
-    solve_by_potentials(alloc, ground, &estimate, &dead_ends, limits, err)
+    solve_by_potentials(alloc, system, &estimate, &dead_ends, limits, err)
 }
 
 /// The same by these potentials, or by tables if such are found on the way that are better.
 fn solve_by_potentials<E: Sink>(
     alloc: Global,
-    ground: &Ground<'_>,
+    system: ListedSystem<'_, '_>,
     estimate: &Fair<'_, '_>,
     dead_ends: &DeadFair<'_, '_>,
     limits: Limits,
     err: &mut E,
 ) -> Result<Answer, NoMemory>
-    requires typed { IsTrue (is_task (task_in ground.now)) }
-    requires ground { IsGroundOf (task_in ground.now) [] limits.instances ground.now }
-    requires estimate { ground_in estimate.now ≡ ground.now }
-    requires improved { AreSettledOrHigh (task_in ground.now) (atoms_in ground.now) (potentials_in estimate.now) }
-    requires dead_ends { ground_in dead_ends.now ≡ ground.now }
-    requires dead_ends_improved { AreDeadSettledOrHigh (task_in ground.now) (atoms_in ground.now) (potentials_in dead_ends.now) }
-    ensures answer { IfOk result (IsTrueAnswer (task_in ground.now) limits.states limits.instances) }
-    ensures said { GoesOn (IsTrueLine (task_in ground.now)) E.wants_memory (E.failures err.old) (E.taken err.old) (E.failures err.new) (E.taken err.new) }
+    requires listed { IsListed system }
+    requires ground { IsGroundOf (task_in (ground_in system)) [] limits.instances (ground_in system) }
+    requires estimate { fair.ground_in estimate.now ≡ ground_in system }
+    requires improved { AreSettledOrHigh (task_in (ground_in system)) (atoms_in (ground_in system)) (potentials_in estimate.now) }
+    requires dead_ends { fair.ground_in dead_ends.now ≡ ground_in system }
+    requires dead_ends_improved { AreDeadSettledOrHigh (task_in (ground_in system)) (atoms_in (ground_in system)) (potentials_in dead_ends.now) }
+    ensures answer { IfOk result (IsTrueAnswer (task_in (ground_in system)) limits.states limits.instances) }
+    ensures said { GoesOn (IsTrueLine (task_in (ground_in system))) E.wants_memory (E.failures err.old) (E.taken err.old) (E.failures err.new) (E.taken err.new) }
 {
-    let guide = EstimateWithDeadEnds::new(estimate, dead_ends);
+    let fair = EstimateWithDeadEnds::new(estimate, dead_ends);
+    let guide = ListedGuide::new(&fair, system);
     let given = Given {
         potentials: estimate.potentials(),
         dead_ends: dead_ends.potentials(),
     };
-    match search_in_parts(alloc, ground, &guide, given, limits, err)? {
+    match search_in_parts(alloc, system, &guide, given, limits, err)? {
         Parts::ByTables(answer) => Ok(answer),
         Parts::ByGuide(searched) => {
-            let guidance = Guidance::Potentials {
-                value: potential_of(alloc, given.potentials)?,
-                dead_ends: potential_of(alloc, given.dead_ends)?,
-            };
-            answer_of(alloc, ground, guidance, searched, limits)
+            let value = potential_of(alloc, given.potentials)?;
+            let dead_ends = potential_of(alloc, given.dead_ends)?;
+            let guidance = guidance_by(alloc, system, value, dead_ends)?;
+            answer_of(alloc, system, guidance, searched, limits)
         }
     }
 }
@@ -268,16 +309,16 @@ fn solve_by_potentials<E: Sink>(
 /// The answer that a search by the guidance came to, with its certificate.
 pub(crate) fn answer_of(
     alloc: Global,
-    ground: &Ground<'_>,
+    system: ListedSystem<'_, '_>,
     guidance: Guidance,
     searched: Searched,
     limits: Limits,
 ) -> Result<Answer, NoMemory>
-    requires typed { IsTrue (is_task (task_in ground.now)) }
-    requires ground { IsGroundOf (task_in ground.now) [] limits.instances ground.now }
-    requires guidance { IsGuidanceFor ground.now (guidance_of guidance) }
-    requires searched { IsSearched ground.now (estimate_by (guidance_of guidance)) (reports_dead (guidance_of guidance)) limits.states searched.outcome searched.marks.items }
-    ensures { IfOk result (IsTrueAnswer (task_in ground.now) limits.states limits.instances) }
+    requires listed { IsListed system }
+    requires ground { IsGroundOf (task_in (ground_in system)) [] limits.instances (ground_in system) }
+    requires guidance { IsGuidanceFor system (guidance_of guidance) }
+    requires searched { IsSearched system (estimate_by (guidance_of guidance)) (reports_dead (guidance_of guidance)) limits.states searched.outcome searched.marks.items }
+    ensures { IfOk result (IsTrueAnswer (task_in (ground_in system)) limits.states limits.instances) }
 {
     let Searched { outcome, marks } = searched;
     match outcome {
@@ -286,19 +327,19 @@ pub(crate) fn answer_of(
             cost,
             states,
         } => {
-            let steps = plan_of(alloc, ground, &steps)?;
+            let steps = plan_of(alloc, system, &steps)?;
             let claim = Claim::Bound(cost);
-            let cert = cert_of(alloc, ground, guidance, claim, marks, states)?;
+            let cert = cert_of(alloc, system, guidance, claim, marks, states)?;
             Ok(Answer::Plan { steps, cost, cert })
         }
         Outcome::Exhausted { states } => {
             let claim = Claim::Unsolvable;
-            let cert = cert_of(alloc, ground, guidance, claim, marks, states)?;
+            let cert = cert_of(alloc, system, guidance, claim, marks, states)?;
             Ok(Answer::Unsolvable { cert })
         }
         Outcome::States { bound, states } => {
             let claim = Claim::Bound(bound);
-            let cert = cert_of(alloc, ground, guidance, claim, marks, states)?;
+            let cert = cert_of(alloc, system, guidance, claim, marks, states)?;
             Ok(Answer::Unknown(Exceeded::States { bound, cert }))
         }
     }

@@ -9,8 +9,6 @@ ghost use Rattle.certificate.specs.CertificateParts.{are_bounds, bounds_of, pote
 ghost use Rattle.certificate_definitions.specs.Certificates.{three};
 ghost use Rattle.grounding.specs.Ground.{task_in, atoms_in, IsGroundOf};
 ghost use Rattle.model.specs.Grounding.{ground_system};
-ghost use Rattle.model.specs.NumberedAtoms.{numbered_atoms};
-ghost use Rattle.model.specs.WellTyped.{is_task};
 ghost use Rattle.packed_state.specs.PooledView.{pooled_width};
 ghost use Rattle.potential_functions.specs.Settled.{initial_value};
 ghost use Rattle.potentials.specs.Potentials.{potentials_of};
@@ -18,6 +16,7 @@ ghost use Rattle.solver.specs.Attempts.{IfDone};
 ghost use Rattle.solver.specs.Guidance.{by_tables, estimate_by, first_value, reports_dead};
 ghost use Rattle.solver.specs.Guided.{IsSearched};
 ghost use Rattle.solver.specs.Improved.{AreSettledOrHigh, AreDeadSettledOrHigh};
+ghost use Rattle.solver.specs.ListedSystem.{ground_in, IsListed};
 ghost use Rattle.solver.specs.SeveralOver.{several_over};
 ghost use Rattle.progress_lines.specs.Said.{GoesOn};
 ghost use Rattle.solver.specs.Said.{IsTrueLine};
@@ -33,6 +32,8 @@ use crate::answer::{Answer, answer_of};
 use crate::attempt::Attempt;
 use crate::guidance::{Guidance, potential_of};
 use crate::limits::Limits;
+use crate::listed_guide::ListedGuide;
+use crate::listed_system::ListedSystem;
 use crate::searched::{Searched, search_by};
 use crate::stopped::Stopped;
 use certificate::{Bounds, Potential, Version};
@@ -40,6 +41,7 @@ use devices::Sink;
 use faults::NoMemory;
 use grounding::Ground;
 use potentials::Potentials;
+use search::TransitionSystem;
 use std::alloc::Global;
 use table_guides::FairTables;
 use table_rows::Table;
@@ -49,22 +51,22 @@ use tables_drafted::{DraftedTables, Wanted, drafted_tables};
 /// The answer by tables, if such are found that are better than the potentials of a search that pauses so.
 pub(crate) fn solve_by_tables<E: Sink>(
     alloc: Global,
-    ground: &Ground<'_>,
+    system: ListedSystem<'_, '_>,
     stopped: &Stopped<'_>,
     limits: Limits,
     err: &mut E,
 ) -> Result<Attempt<Answer>, NoMemory>
-    requires typed { IsTrue (is_task (task_in ground.now)) }
-    requires ground { IsGroundOf (task_in ground.now) [] limits.instances ground.now }
+    requires listed { IsListed system }
+    requires ground { IsGroundOf (task_in (ground_in system)) [] limits.instances (ground_in system) }
     requires stopped { IsStopped stopped.now.store.now stopped.now.nodes.now }
-    requires store_width { pooled_width stopped.now.store.now ≡ length (atoms_in ground.now) }
-    requires width { length (potentials_of stopped.now.potentials.now).weights ≡ length (atoms_in ground.now) }
-    requires improved { AreSettledOrHigh (task_in ground.now) (atoms_in ground.now) (potentials_of stopped.now.potentials.now) }
-    requires dead_ends_improved { AreDeadSettledOrHigh (task_in ground.now) (atoms_in ground.now) (potentials_of stopped.now.dead_ends.now) }
-    ensures answer { IfOk result (IfDone (IsTrueAnswer (task_in ground.now) limits.states limits.instances)) }
-    ensures said { GoesOn (IsTrueLine (task_in ground.now)) E.wants_memory (E.failures err.old) (E.taken err.old) (E.failures err.new) (E.taken err.new) }
+    requires store_width { pooled_width stopped.now.store.now ≡ length (atoms_in (ground_in system)) }
+    requires width { length (potentials_of stopped.now.potentials.now).weights ≡ length (atoms_in (ground_in system)) }
+    requires improved { AreSettledOrHigh (task_in (ground_in system)) (atoms_in (ground_in system)) (potentials_of stopped.now.potentials.now) }
+    requires dead_ends_improved { AreDeadSettledOrHigh (task_in (ground_in system)) (atoms_in (ground_in system)) (potentials_of stopped.now.dead_ends.now) }
+    ensures answer { IfOk result (IfDone (IsTrueAnswer (task_in (ground_in system)) limits.states limits.instances)) }
+    ensures said { GoesOn (IsTrueLine (task_in (ground_in system))) E.wants_memory (E.failures err.old) (E.taken err.old) (E.failures err.new) (E.taken err.new) }
 {
-    let Some(draft) = drafted(alloc, ground, stopped)? else {
+    let Some(draft) = drafted(alloc, system, stopped)? else {
         return Ok(Attempt::InVain);
     };
     let DraftedTables {
@@ -77,18 +79,18 @@ pub(crate) fn solve_by_tables<E: Sink>(
         dead_ends: potential_of(alloc, &dead_ends)?,
         tables,
     };
-    if !bounds.keep_limits(Version::Three, ground.width() as usize) {
+    if !bounds.keep_limits(Version::Three, system.width() as usize) {
         return Ok(Attempt::InVain);
     }
     answer_by_tables(
-        alloc, ground, bounds, values, dead_ends, stopped, limits, err,
+        alloc, system, bounds, values, dead_ends, stopped, limits, err,
     )
 }
 
 /// Tables that may be better than the potentials of a search that pauses so.
 fn drafted(
     alloc: Global,
-    ground: &Ground<'_>,
+    system: ListedSystem<'_, '_>,
     stopped: &Stopped<'_>,
 ) -> Result<Option<DraftedTables>, NoMemory>
     requires stopped { IsStopped stopped.now.store.now stopped.now.nodes.now }
@@ -100,9 +102,10 @@ fn drafted(
         potentials: stopped.potentials,
         dead_ends: stopped.dead_ends,
         states: &states,
+        starts: system.starts_among(&states),
         effort: stopped.effort,
     };
-    let draft = drafted_tables(alloc, ground, &wanted)?;
+    let draft = drafted_tables(alloc, system.ground(), &wanted)?;
     Ok(draft)
 }
 
@@ -121,7 +124,7 @@ fn written(alloc: Global, values: &[Potentials]) -> Result<Vec<Potential>, NoMem
 /// search that pauses goes by.
 fn answer_by_tables<E: Sink>(
     alloc: Global,
-    ground: &Ground<'_>,
+    system: ListedSystem<'_, '_>,
     bounds: Bounds,
     values: Vec<Potentials>,
     dead_ends: Potentials,
@@ -129,27 +132,27 @@ fn answer_by_tables<E: Sink>(
     limits: Limits,
     err: &mut E,
 ) -> Result<Attempt<Answer>, NoMemory>
-    requires typed { IsTrue (is_task (task_in ground.now)) }
-    requires ground { IsGroundOf (task_in ground.now) [] limits.instances ground.now }
-    requires within_limits { IsTrue (are_bounds three (length (atoms_in ground.now)) (bounds_of bounds)) }
+    requires listed { IsListed system }
+    requires ground { IsGroundOf (task_in (ground_in system)) [] limits.instances (ground_in system) }
+    requires within_limits { IsTrue (are_bounds three (length (atoms_in (ground_in system))) (bounds_of bounds)) }
     requires values { map potentials_of values.items ≡ (bounds_of bounds).values }
     requires dead_ends { potentials_of dead_ends ≡ (bounds_of bounds).dead_ends }
     requires first { first_value (by_tables (bounds_of bounds)) ≡ potentials_of stopped.now.potentials.now }
     requires stopped { IsStopped stopped.now.store.now stopped.now.nodes.now }
-    requires store_width { pooled_width stopped.now.store.now ≡ length (atoms_in ground.now) }
-    requires width { length (potentials_of stopped.now.potentials.now).weights ≡ length (atoms_in ground.now) }
-    requires improved { AreSettledOrHigh (task_in ground.now) (atoms_in ground.now) (potentials_of stopped.now.potentials.now) }
-    requires dead_ends_improved { AreDeadSettledOrHigh (task_in ground.now) (atoms_in ground.now) (bounds_of bounds).dead_ends }
-    ensures answer { IfOk result (IfDone (IsTrueAnswer (task_in ground.now) limits.states limits.instances)) }
-    ensures said { GoesOn (IsTrueLine (task_in ground.now)) E.wants_memory (E.failures err.old) (E.taken err.old) (E.failures err.new) (E.taken err.new) }
+    requires store_width { pooled_width stopped.now.store.now ≡ length (atoms_in (ground_in system)) }
+    requires width { length (potentials_of stopped.now.potentials.now).weights ≡ length (atoms_in (ground_in system)) }
+    requires improved { AreSettledOrHigh (task_in (ground_in system)) (atoms_in (ground_in system)) (potentials_of stopped.now.potentials.now) }
+    requires dead_ends_improved { AreDeadSettledOrHigh (task_in (ground_in system)) (atoms_in (ground_in system)) (bounds_of bounds).dead_ends }
+    ensures answer { IfOk result (IfDone (IsTrueAnswer (task_in (ground_in system)) limits.states limits.instances)) }
+    ensures said { GoesOn (IsTrueLine (task_in (ground_in system))) E.wants_memory (E.failures err.old) (E.taken err.old) (E.failures err.new) (E.taken err.new) }
 {
     let attempt = search_by_tables(
-        alloc, ground, &bounds, values, dead_ends, stopped, limits, err,
+        alloc, system, &bounds, values, dead_ends, stopped, limits, err,
     )?;
     match attempt {
         Attempt::Done(searched) => {
             let guidance = Guidance::Tables(bounds);
-            let answer = answer_of(alloc, ground, guidance, searched, limits)?;
+            let answer = answer_of(alloc, system, guidance, searched, limits)?;
             Ok(Attempt::Done(answer))
         }
         Attempt::Promising => Ok(Attempt::Promising),
@@ -161,7 +164,7 @@ fn answer_by_tables<E: Sink>(
 /// time than the test of fairness.
 fn search_by_tables<E: Sink>(
     alloc: Global,
-    ground: &Ground<'_>,
+    system: ListedSystem<'_, '_>,
     bounds: &Bounds,
     values: Vec<Potentials>,
     dead_ends: Potentials,
@@ -169,18 +172,19 @@ fn search_by_tables<E: Sink>(
     limits: Limits,
     err: &mut E,
 ) -> Result<Attempt<Searched>, NoMemory>
-    requires atoms { atoms_in ground.now ≡ numbered_atoms (task_in ground.now) [] }
-    requires within_limits { IsTrue (are_bounds three (length (atoms_in ground.now)) (bounds_of bounds.now)) }
+    requires listed { IsListed system }
+    requires within_limits { IsTrue (are_bounds three (length (atoms_in (ground_in system))) (bounds_of bounds.now)) }
     requires values { map potentials_of values.items ≡ (bounds_of bounds.now).values }
     requires dead_ends { potentials_of dead_ends ≡ (bounds_of bounds.now).dead_ends }
     requires stopped { IsStopped stopped.now.store.now stopped.now.nodes.now }
-    requires store_width { pooled_width stopped.now.store.now ≡ length (atoms_in ground.now) }
-    requires width { length (potentials_of stopped.now.potentials.now).weights ≡ length (atoms_in ground.now) }
-    ensures fair { IfOk result (IfDone (λ _. AreFair (task_in ground.now) (atoms_in ground.now) (bounds_of bounds.now))) }
-    ensures no_lower { IfOk result (IfDone (λ _. initial_value (task_in ground.now) (atoms_in ground.now) (potentials_of stopped.now.potentials.now) ≤ estimate_by (by_tables (bounds_of bounds.now)) (ground_system (task_in ground.now) (atoms_in ground.now)).initial)) }
-    ensures searched { IfOk result (IfDone (λ s. IsSearched ground.now (estimate_by (by_tables (bounds_of bounds.now))) (reports_dead (by_tables (bounds_of bounds.now))) limits.states s.outcome s.marks.items)) }
-    ensures said { GoesOn (IsTrueLine (task_in ground.now)) E.wants_memory (E.failures err.old) (E.taken err.old) (E.failures err.new) (E.taken err.new) }
+    requires store_width { pooled_width stopped.now.store.now ≡ length (atoms_in (ground_in system)) }
+    requires width { length (potentials_of stopped.now.potentials.now).weights ≡ length (atoms_in (ground_in system)) }
+    ensures fair { IfOk result (IfDone (λ _. AreFair (task_in (ground_in system)) (atoms_in (ground_in system)) (bounds_of bounds.now))) }
+    ensures no_lower { IfOk result (IfDone (λ _. initial_value (task_in (ground_in system)) (atoms_in (ground_in system)) (potentials_of stopped.now.potentials.now) ≤ estimate_by (by_tables (bounds_of bounds.now)) (ground_system (task_in (ground_in system)) (atoms_in (ground_in system))).initial)) }
+    ensures searched { IfOk result (IfDone (λ s. IsSearched system (estimate_by (by_tables (bounds_of bounds.now))) (reports_dead (by_tables (bounds_of bounds.now))) limits.states s.outcome s.marks.items)) }
+    ensures said { GoesOn (IsTrueLine (task_in (ground_in system))) E.wants_memory (E.failures err.old) (E.taken err.old) (E.failures err.new) (E.taken err.new) }
 {
+    let ground = system.ground();
     let Some(functions) = functions_over(alloc, ground, &bounds.tables, values, dead_ends)? else {
         return Ok(Attempt::InVain);
     };
@@ -189,7 +193,7 @@ fn search_by_tables<E: Sink>(
     }
     let saving = stopped.saving_by(alloc, &functions)?;
     if saving.is_worth(bounds.tables.len()) {
-        return search_if_fair(alloc, ground, functions, limits, err);
+        return search_if_fair(alloc, system, functions, limits, err);
     }
     if saving.is_promising() {
         return Ok(Attempt::Promising);
@@ -217,21 +221,23 @@ fn starts_no_lower(
 /// What a search by these values comes to, if they are fair.
 fn search_if_fair<E: Sink>(
     alloc: Global,
-    ground: &Ground<'_>,
+    system: ListedSystem<'_, '_>,
     functions: TableFunctions<'_>,
     limits: Limits,
     err: &mut E,
 ) -> Result<Attempt<Searched>, NoMemory>
-    requires atoms { atoms_in ground.now ≡ numbered_atoms (task_in ground.now) [] }
-    requires width { width_of functions ≡ length (atoms_in ground.now) }
-    ensures fair { IfOk result (IfDone (λ _. AreFair (task_in ground.now) (atoms_in ground.now) (several_of functions.entry))) }
-    ensures searched { IfOk result (IfDone (λ s. IsSearched ground.now (estimate_by (by_tables (several_of functions.entry))) (reports_dead (by_tables (several_of functions.entry))) limits.states s.outcome s.marks.items)) }
-    ensures said { GoesOn (IsTrueLine (task_in ground.now)) E.wants_memory (E.failures err.old) (E.taken err.old) (E.failures err.new) (E.taken err.new) }
+    requires listed { IsListed system }
+    requires width { width_of functions ≡ length (atoms_in (ground_in system)) }
+    ensures fair { IfOk result (IfDone (λ _. AreFair (task_in (ground_in system)) (atoms_in (ground_in system)) (several_of functions.entry))) }
+    ensures searched { IfOk result (IfDone (λ s. IsSearched system (estimate_by (by_tables (several_of functions.entry))) (reports_dead (by_tables (several_of functions.entry))) limits.states s.outcome s.marks.items)) }
+    ensures said { GoesOn (IsTrueLine (task_in (ground_in system))) E.wants_memory (E.failures err.old) (E.taken err.old) (E.failures err.new) (E.taken err.new) }
 {
+    let ground = system.ground();
     match functions.fairness(alloc, ground)? {
         ValuesFairness::Fair => {
-            let guide = FairTables::new(alloc, functions, ground)?;
-            let searched = search_by(alloc, ground, &guide, limits, err)?;
+            let fair = FairTables::new(alloc, functions, ground)?;
+            let guide = ListedGuide::new(&fair, system);
+            let searched = search_by(alloc, system, &guide, limits, err)?;
             Ok(Attempt::Done(searched))
         }
         _ => Ok(Attempt::InVain),

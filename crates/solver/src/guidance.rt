@@ -4,8 +4,9 @@ ghost use Rattle.certificate.specs.CertificateParts as parts;
 ghost use Rattle.certificate_reader.specs.Lines.{version_of};
 ghost use Rattle.potentials_improved.specs.Potentials.{potentials_of};
 ghost use Rattle.solver.specs.Guidance as guidance;
-ghost use Rattle.solver.specs.Written.{guidance_of};
+ghost use Rattle.solver.specs.Written.{guidance_of, by_potentials_of};
 
+use crate::listed_system::ListedSystem;
 use certificate::{Bounds, Potential, Version};
 use faults::NoMemory;
 use potentials_improved::Potentials;
@@ -43,6 +44,24 @@ impl Guidance {
         match self {
             Guidance::Potentials { value, dead_ends } => bounds_of(alloc, value, dead_ends),
             Guidance::Tables(bounds) => Ok(bounds),
+        }
+    }
+}
+
+/// These potentials: where there are exchanges, as values over no tables, since version 2 has no exchanges.
+pub(crate) fn guidance_by(
+    alloc: Global,
+    system: ListedSystem<'_, '_>,
+    value: Potential,
+    dead_ends: Potential,
+) -> Result<Guidance, NoMemory>
+    ensures { IfOk result (λ made. guidance_of made ≡ by_potentials_of system (parts.potential_of value) (parts.potential_of dead_ends)) }
+{
+    match system {
+        ListedSystem::Ground(_) => Ok(Guidance::Potentials { value, dead_ends }),
+        ListedSystem::Quotient(_) => {
+            let bounds = bounds_of(alloc, value, dead_ends)?;
+            Ok(Guidance::Tables(bounds))
         }
     }
 }

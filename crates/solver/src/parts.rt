@@ -1,14 +1,12 @@
 //! A search by potentials that pauses to look for tables.
-ghost use Rattle.std.specs.Prelude.{◌≡◌, [], IfOk, IsTrue, length};
+ghost use Rattle.std.specs.Prelude.{◌≡◌, [], IfOk, length};
 ghost use Rattle.grounding.specs.Ground.{task_in, atoms_in, IsGroundOf};
-ghost use Rattle.model.specs.Grounding.{ground_system};
-ghost use Rattle.model.specs.NumberedAtoms.{numbered_atoms};
-ghost use Rattle.model.specs.WellTyped.{is_task};
 ghost use Rattle.packed_state.specs.PooledView.{pooled_width};
 ghost use Rattle.potentials.specs.Potentials.{potentials_of};
 ghost use Rattle.search.specs.UnderWay.{store_in, nodes_of};
 ghost use Rattle.solver.specs.Attempts.{IfDone};
 ghost use Rattle.solver.specs.Improved.{AreSettledOrHigh, AreDeadSettledOrHigh};
+ghost use Rattle.solver.specs.ListedSystem.{ground_in, system_of, IsListed};
 ghost use Rattle.progress_lines.specs.Said.{GoesOn};
 ghost use Rattle.solver.specs.Said.{IsTrueLine};
 ghost use Rattle.solver.specs.Solver.{IsTrueAnswer};
@@ -19,11 +17,11 @@ use crate::answer::Answer;
 use crate::attempt::Attempt;
 use crate::by_tables::solve_by_tables;
 use crate::limits::Limits;
+use crate::listed_system::ListedSystem;
 use crate::searched::{Searched, Stretch, begin_by, finish_by, go_on_by};
 use crate::stopped::Stopped;
 use devices::Sink;
 use faults::NoMemory;
-use grounding::Ground;
 use packed_state::PooledStore;
 use potentials::Potentials;
 use search::{Guide, Search};
@@ -78,86 +76,86 @@ enum Part<R> {
     InVain(Search<PooledStore, R>),
 }
 
-/// What a search of the ground task by the guide comes to, which goes by these potentials; or the answer by tables, if such are
+/// What a search of the system by the guide comes to, which goes by these potentials; or the answer by tables, if such are
 /// found at a pause that are better.
 pub(crate) fn search_in_parts<G: Guide, E: Sink>(
     alloc: Global,
-    ground: &Ground<'_>,
+    system: ListedSystem<'_, '_>,
     guide: &G,
     given: Given<'_>,
     limits: Limits,
     err: &mut E,
 ) -> Result<Parts, NoMemory>
-    requires typed { IsTrue (is_task (task_in ground.now)) }
-    requires ground { IsGroundOf (task_in ground.now) [] limits.instances ground.now }
-    requires system { G.system_of guide.now ≡ ground_system (task_in ground.now) (atoms_in ground.now) }
-    requires guide_width { G.width_of guide.now ≡ length (atoms_in ground.now) }
-    requires width { length (potentials_of given.potentials.now).weights ≡ length (atoms_in ground.now) }
-    requires improved { AreSettledOrHigh (task_in ground.now) (atoms_in ground.now) (potentials_of given.potentials.now) }
-    requires dead_ends_improved { AreDeadSettledOrHigh (task_in ground.now) (atoms_in ground.now) (potentials_of given.dead_ends.now) }
-    ensures end { IfOk result (IsTrueEnd ground.now (G.estimate_of guide.now) (G.is_dead guide.now) limits) }
-    ensures said { GoesOn (IsTrueLine (task_in ground.now)) E.wants_memory (E.failures err.old) (E.taken err.old) (E.failures err.new) (E.taken err.new) }
+    requires listed { IsListed system }
+    requires ground { IsGroundOf (task_in (ground_in system)) [] limits.instances (ground_in system) }
+    requires system { G.system_of guide.now ≡ system_of system }
+    requires guide_width { G.width_of guide.now ≡ length (atoms_in (ground_in system)) }
+    requires width { length (potentials_of given.potentials.now).weights ≡ length (atoms_in (ground_in system)) }
+    requires improved { AreSettledOrHigh (task_in (ground_in system)) (atoms_in (ground_in system)) (potentials_of given.potentials.now) }
+    requires dead_ends_improved { AreDeadSettledOrHigh (task_in (ground_in system)) (atoms_in (ground_in system)) (potentials_of given.dead_ends.now) }
+    ensures end { IfOk result (IsTrueEnd system (G.estimate_of guide.now) (G.is_dead guide.now) limits) }
+    ensures said { GoesOn (IsTrueLine (task_in (ground_in system))) E.wants_memory (E.failures err.old) (E.taken err.old) (E.failures err.new) (E.taken err.new) }
 {
-    let search = begin_by(alloc, ground, guide, limits)?;
-    match search_to_pause(alloc, ground, guide, search, given, QUICK, limits, err)? {
+    let search = begin_by(alloc, system, guide, limits)?;
+    match search_to_pause(alloc, system, guide, search, given, QUICK, limits, err)? {
         Part::Ended(parts) => Ok(parts),
-        Part::Promising(search) => search_on(alloc, ground, guide, search, given, limits, err),
-        Part::InVain(search) => search_to_end(alloc, ground, guide, search, limits, err),
+        Part::Promising(search) => search_on(alloc, system, guide, search, given, limits, err),
+        Part::InVain(search) => search_to_end(alloc, system, guide, search, limits, err),
     }
 }
 
 /// The same after the first pause.
 fn search_on<G: Guide, E: Sink>(
     alloc: Global,
-    ground: &Ground<'_>,
+    system: ListedSystem<'_, '_>,
     guide: &G,
     search: Search<PooledStore, G::Room>,
     given: Given<'_>,
     limits: Limits,
     err: &mut E,
 ) -> Result<Parts, NoMemory>
-    requires typed { IsTrue (is_task (task_in ground.now)) }
-    requires ground { IsGroundOf (task_in ground.now) [] limits.instances ground.now }
-    requires system { G.system_of guide.now ≡ ground_system (task_in ground.now) (atoms_in ground.now) }
-    requires guide_width { G.width_of guide.now ≡ length (atoms_in ground.now) }
-    requires under_way { IsUnderWay ground.now (G.estimate_of guide.now) (G.is_dead guide.now) (G.fits guide.now) limits.states search }
-    requires width { length (potentials_of given.potentials.now).weights ≡ length (atoms_in ground.now) }
-    requires improved { AreSettledOrHigh (task_in ground.now) (atoms_in ground.now) (potentials_of given.potentials.now) }
-    requires dead_ends_improved { AreDeadSettledOrHigh (task_in ground.now) (atoms_in ground.now) (potentials_of given.dead_ends.now) }
-    ensures end { IfOk result (IsTrueEnd ground.now (G.estimate_of guide.now) (G.is_dead guide.now) limits) }
-    ensures said { GoesOn (IsTrueLine (task_in ground.now)) E.wants_memory (E.failures err.old) (E.taken err.old) (E.failures err.new) (E.taken err.new) }
+    requires listed { IsListed system }
+    requires ground { IsGroundOf (task_in (ground_in system)) [] limits.instances (ground_in system) }
+    requires system { G.system_of guide.now ≡ system_of system }
+    requires guide_width { G.width_of guide.now ≡ length (atoms_in (ground_in system)) }
+    requires under_way { IsUnderWay system (G.estimate_of guide.now) (G.is_dead guide.now) (G.fits guide.now) limits.states search }
+    requires width { length (potentials_of given.potentials.now).weights ≡ length (atoms_in (ground_in system)) }
+    requires improved { AreSettledOrHigh (task_in (ground_in system)) (atoms_in (ground_in system)) (potentials_of given.potentials.now) }
+    requires dead_ends_improved { AreDeadSettledOrHigh (task_in (ground_in system)) (atoms_in (ground_in system)) (potentials_of given.dead_ends.now) }
+    ensures end { IfOk result (IsTrueEnd system (G.estimate_of guide.now) (G.is_dead guide.now) limits) }
+    ensures said { GoesOn (IsTrueLine (task_in (ground_in system))) E.wants_memory (E.failures err.old) (E.taken err.old) (E.failures err.new) (E.taken err.new) }
 {
-    match search_to_pause(alloc, ground, guide, search, given, THOROUGH, limits, err)? {
+    match search_to_pause(alloc, system, guide, search, given, THOROUGH, limits, err)? {
         Part::Ended(parts) => Ok(parts),
-        Part::Promising(search) => search_to_end(alloc, ground, guide, search, limits, err),
-        Part::InVain(search) => search_to_end(alloc, ground, guide, search, limits, err),
+        Part::Promising(search) => search_to_end(alloc, system, guide, search, limits, err),
+        Part::InVain(search) => search_to_end(alloc, system, guide, search, limits, err),
     }
 }
 
 /// The same after the last pause.
 fn search_to_end<G: Guide, E: Sink>(
     alloc: Global,
-    ground: &Ground<'_>,
+    system: ListedSystem<'_, '_>,
     guide: &G,
     search: Search<PooledStore, G::Room>,
     limits: Limits,
     err: &mut E,
 ) -> Result<Parts, NoMemory>
-    requires atoms { atoms_in ground.now ≡ numbered_atoms (task_in ground.now) [] }
-    requires system { G.system_of guide.now ≡ ground_system (task_in ground.now) (atoms_in ground.now) }
-    requires guide_width { G.width_of guide.now ≡ length (atoms_in ground.now) }
-    requires under_way { IsUnderWay ground.now (G.estimate_of guide.now) (G.is_dead guide.now) (G.fits guide.now) limits.states search }
-    ensures end { IfOk result (IsTrueEnd ground.now (G.estimate_of guide.now) (G.is_dead guide.now) limits) }
-    ensures said { GoesOn (IsTrueLine (task_in ground.now)) E.wants_memory (E.failures err.old) (E.taken err.old) (E.failures err.new) (E.taken err.new) }
+    requires listed { IsListed system }
+    requires system { G.system_of guide.now ≡ system_of system }
+    requires guide_width { G.width_of guide.now ≡ length (atoms_in (ground_in system)) }
+    requires under_way { IsUnderWay system (G.estimate_of guide.now) (G.is_dead guide.now) (G.fits guide.now) limits.states search }
+    ensures end { IfOk result (IsTrueEnd system (G.estimate_of guide.now) (G.is_dead guide.now) limits) }
+    ensures said { GoesOn (IsTrueLine (task_in (ground_in system))) E.wants_memory (E.failures err.old) (E.taken err.old) (E.failures err.new) (E.taken err.new) }
 {
-    let searched = finish_by(alloc, ground, guide, search, limits, err)?;
+    let searched = finish_by(alloc, system, guide, search, limits, err)?;
     Ok(Parts::ByGuide(searched))
 }
 
 /// The search up to a pause, and a look for tables there. There is no pause where no more states may be listed.
 fn search_to_pause<G: Guide, E: Sink>(
     alloc: Global,
-    ground: &Ground<'_>,
+    system: ListedSystem<'_, '_>,
     guide: &G,
     search: Search<PooledStore, G::Room>,
     given: Given<'_>,
@@ -165,24 +163,24 @@ fn search_to_pause<G: Guide, E: Sink>(
     limits: Limits,
     err: &mut E,
 ) -> Result<Part<G::Room>, NoMemory>
-    requires typed { IsTrue (is_task (task_in ground.now)) }
-    requires ground { IsGroundOf (task_in ground.now) [] limits.instances ground.now }
-    requires system { G.system_of guide.now ≡ ground_system (task_in ground.now) (atoms_in ground.now) }
-    requires guide_width { G.width_of guide.now ≡ length (atoms_in ground.now) }
-    requires under_way { IsUnderWay ground.now (G.estimate_of guide.now) (G.is_dead guide.now) (G.fits guide.now) limits.states search }
-    requires width { length (potentials_of given.potentials.now).weights ≡ length (atoms_in ground.now) }
-    requires improved { AreSettledOrHigh (task_in ground.now) (atoms_in ground.now) (potentials_of given.potentials.now) }
-    requires dead_ends_improved { AreDeadSettledOrHigh (task_in ground.now) (atoms_in ground.now) (potentials_of given.dead_ends.now) }
-    ensures part { IfOk result (IsTruePart ground.now (G.estimate_of guide.now) (G.is_dead guide.now) (G.fits guide.now) limits) }
-    ensures said { GoesOn (IsTrueLine (task_in ground.now)) E.wants_memory (E.failures err.old) (E.taken err.old) (E.failures err.new) (E.taken err.new) }
+    requires listed { IsListed system }
+    requires ground { IsGroundOf (task_in (ground_in system)) [] limits.instances (ground_in system) }
+    requires system { G.system_of guide.now ≡ system_of system }
+    requires guide_width { G.width_of guide.now ≡ length (atoms_in (ground_in system)) }
+    requires under_way { IsUnderWay system (G.estimate_of guide.now) (G.is_dead guide.now) (G.fits guide.now) limits.states search }
+    requires width { length (potentials_of given.potentials.now).weights ≡ length (atoms_in (ground_in system)) }
+    requires improved { AreSettledOrHigh (task_in (ground_in system)) (atoms_in (ground_in system)) (potentials_of given.potentials.now) }
+    requires dead_ends_improved { AreDeadSettledOrHigh (task_in (ground_in system)) (atoms_in (ground_in system)) (potentials_of given.dead_ends.now) }
+    ensures part { IfOk result (IsTruePart system (G.estimate_of guide.now) (G.is_dead guide.now) (G.fits guide.now) limits) }
+    ensures said { GoesOn (IsTrueLine (task_in (ground_in system))) E.wants_memory (E.failures err.old) (E.taken err.old) (E.failures err.new) (E.taken err.new) }
 {
     if pause.states >= limits.states() {
         return Ok(Part::InVain(search));
     }
-    match go_on_by(alloc, ground, guide, search, pause.states, limits, err)? {
+    match go_on_by(alloc, system, guide, search, pause.states, limits, err)? {
         Stretch::Ended(searched) => Ok(Part::Ended(Parts::ByGuide(searched))),
         Stretch::Paused(search) => {
-            match solve_at_pause(alloc, ground, &search, given, pause.effort, limits, err)? {
+            match solve_at_pause(alloc, system, &search, given, pause.effort, limits, err)? {
                 Attempt::Done(answer) => Ok(Part::Ended(Parts::ByTables(answer))),
                 Attempt::Promising => Ok(Part::Promising(search)),
                 Attempt::InVain => Ok(Part::InVain(search)),
@@ -194,22 +192,22 @@ fn search_to_pause<G: Guide, E: Sink>(
 /// The answer by tables, if such are found that are better than the potentials of this search.
 fn solve_at_pause<R, E: Sink>(
     alloc: Global,
-    ground: &Ground<'_>,
+    system: ListedSystem<'_, '_>,
     search: &Search<PooledStore, R>,
     given: Given<'_>,
     effort: Effort,
     limits: Limits,
     err: &mut E,
 ) -> Result<Attempt<Answer>, NoMemory>
-    requires typed { IsTrue (is_task (task_in ground.now)) }
-    requires ground { IsGroundOf (task_in ground.now) [] limits.instances ground.now }
+    requires listed { IsListed system }
+    requires ground { IsGroundOf (task_in (ground_in system)) [] limits.instances (ground_in system) }
     requires stopped { IsStopped (store_in search.now) (nodes_of search.now) }
-    requires store_width { pooled_width (store_in search.now) ≡ length (atoms_in ground.now) }
-    requires width { length (potentials_of given.potentials.now).weights ≡ length (atoms_in ground.now) }
-    requires improved { AreSettledOrHigh (task_in ground.now) (atoms_in ground.now) (potentials_of given.potentials.now) }
-    requires dead_ends_improved { AreDeadSettledOrHigh (task_in ground.now) (atoms_in ground.now) (potentials_of given.dead_ends.now) }
-    ensures answer { IfOk result (IfDone (IsTrueAnswer (task_in ground.now) limits.states limits.instances)) }
-    ensures said { GoesOn (IsTrueLine (task_in ground.now)) E.wants_memory (E.failures err.old) (E.taken err.old) (E.failures err.new) (E.taken err.new) }
+    requires store_width { pooled_width (store_in search.now) ≡ length (atoms_in (ground_in system)) }
+    requires width { length (potentials_of given.potentials.now).weights ≡ length (atoms_in (ground_in system)) }
+    requires improved { AreSettledOrHigh (task_in (ground_in system)) (atoms_in (ground_in system)) (potentials_of given.potentials.now) }
+    requires dead_ends_improved { AreDeadSettledOrHigh (task_in (ground_in system)) (atoms_in (ground_in system)) (potentials_of given.dead_ends.now) }
+    ensures answer { IfOk result (IfDone (IsTrueAnswer (task_in (ground_in system)) limits.states limits.instances)) }
+    ensures said { GoesOn (IsTrueLine (task_in (ground_in system))) E.wants_memory (E.failures err.old) (E.taken err.old) (E.failures err.new) (E.taken err.new) }
 {
     let Some(bound) = search.bound() else {
         return Ok(Attempt::InVain);
@@ -222,5 +220,5 @@ fn solve_at_pause<R, E: Sink>(
         dead_ends: given.dead_ends,
         effort,
     };
-    solve_by_tables(alloc, ground, &stopped, limits, err)
+    solve_by_tables(alloc, system, &stopped, limits, err)
 }

@@ -2,32 +2,32 @@
 //!
 //! What is said of the states is asked of the guide where the search ends, so that what the guide works with, as the tables of
 //! values, can go into the certificate and is in memory once.
-ghost use Rattle.std.specs.Prelude.{◌≡◌, ◌<◌, ◌≤◌, [], count_by, if◌then◌else◌, length, IfOk};
+ghost use Rattle.std.specs.Prelude.{◌≡◌, count_by, if◌then◌else◌, length, IfOk};
 ghost use Rattle.certificate.specs.CertificateParts as parts;
 ghost use Rattle.certificate_reader.specs.Lines as lines;
 ghost use Rattle.grounding.specs.Ground.{task_in, atoms_in};
 ghost use Rattle.model.specs.Claims as model;
-ghost use Rattle.model.specs.Grounding.{ground_system};
-ghost use Rattle.model.specs.NumberedAtoms.{numbered_atoms};
 ghost use Rattle.packed_state.specs.Packed.{bits_of};
 ghost use Rattle.search.specs.Outcome.{is_expanded, is_marked_dead, line_of};
 ghost use Rattle.solver.specs.Guided as guided;
 ghost use Rattle.solver.specs.Guided.{AreMarksOf, CanBeMarked, IsSearched};
+ghost use Rattle.solver.specs.ListedSystem.{ground_in, system_of, IsListed};
 ghost use Rattle.progress_lines.specs.Said.{GoesOn};
 ghost use Rattle.solver.specs.Said.{IsTrueLine};
 ghost use Rattle.solver.specs.Stretches.{AreOpenIn, IsStretch, IsUnderWay};
 ghost use Rattle.solver.specs.Listing.{mark_of_line};
 
 use crate::limits::Limits;
+use crate::listed_system::ListedSystem;
 use crate::pauses::{Milestone, is_news, next_pause};
 use crate::reports::{Report, say};
-use crate::system::GroundSystem;
 use certificate::{Listed, Mark};
 use devices::Sink;
 use faults::NoMemory;
-use grounding::Ground;
 use packed_state::{Packed, PooledStore, StateStore};
-use search::{FoundStates, Guide, Halt, Node, NodeStatus, Outcome, Search, begin, go_on};
+use search::{
+    FoundStates, Guide, Halt, Node, NodeStatus, Outcome, Search, TransitionSystem, begin, go_on,
+};
 use std::alloc::Global;
 
 /// What a search came to, and what its certificate says of each state that it found, in order.
@@ -46,35 +46,34 @@ pub(crate) enum Stretch<R> {
     Paused(Search<PooledStore, R>),
 }
 
-/// A search of the ground task by the guide, which has found the initial state alone.
+/// A search of the system by the guide, which has found the initial state alone.
 pub(crate) fn begin_by<G: Guide>(
     alloc: Global,
-    ground: &Ground<'_>,
+    system: ListedSystem<'_, '_>,
     guide: &G,
     limits: Limits,
 ) -> Result<Search<PooledStore, G::Room>, NoMemory>
-    requires { G.width_of guide.now ≡ length (atoms_in ground.now) }
-    ensures { IfOk result (IsUnderWay ground.now (G.estimate_of guide.now) (G.is_dead guide.now) (G.fits guide.now) limits.states) }
+    requires { G.width_of guide.now ≡ length (atoms_in (ground_in system)) }
+    ensures { IfOk result (IsUnderWay system (G.estimate_of guide.now) (G.is_dead guide.now) (G.fits guide.now) limits.states) }
 {
-    let store = PooledStore::new(alloc, ground.width())?;
-    begin(alloc, &GroundSystem(ground), guide, store)
+    let store = PooledStore::new(alloc, system.width())?;
+    begin(alloc, &system, guide, store)
 }
 
 /// Goes on with it until it ends, or so many states are listed.
 fn stretch_by<G: Guide>(
     alloc: Global,
-    ground: &Ground<'_>,
+    system: ListedSystem<'_, '_>,
     guide: &G,
     search: Search<PooledStore, G::Room>,
     pause: u32,
     limits: Limits,
 ) -> Result<Stretch<G::Room>, NoMemory>
-    requires system { G.system_of guide.now ≡ ground_system (task_in ground.now) (atoms_in ground.now) }
-    requires width { G.width_of guide.now ≡ length (atoms_in ground.now) }
-    requires under_way { IsUnderWay ground.now (G.estimate_of guide.now) (G.is_dead guide.now) (G.fits guide.now) limits.states search }
-    ensures { IfOk result (IsStretch ground.now (G.estimate_of guide.now) (G.is_dead guide.now) (G.fits guide.now) pause limits.states) }
+    requires system { G.system_of guide.now ≡ system_of system }
+    requires width { G.width_of guide.now ≡ length (atoms_in (ground_in system)) }
+    requires under_way { IsUnderWay system (G.estimate_of guide.now) (G.is_dead guide.now) (G.fits guide.now) limits.states search }
+    ensures { IfOk result (IsStretch system (G.estimate_of guide.now) (G.is_dead guide.now) (G.fits guide.now) pause limits.states) }
 {
-    let system = GroundSystem(ground);
     match go_on(alloc, &system, guide, search, pause, limits.states())? {
         Halt::Ended(outcome) => {
             let marks = marks(alloc, guide, found_in(&outcome))?;
@@ -88,26 +87,26 @@ fn stretch_by<G: Guide>(
 /// was said, or twice as many states are listed.
 pub(crate) fn go_on_by<G: Guide, E: Sink>(
     alloc: Global,
-    ground: &Ground<'_>,
+    system: ListedSystem<'_, '_>,
     guide: &G,
     search: Search<PooledStore, G::Room>,
     pause: u32,
     limits: Limits,
     err: &mut E,
 ) -> Result<Stretch<G::Room>, NoMemory>
-    requires atoms { atoms_in ground.now ≡ numbered_atoms (task_in ground.now) [] }
-    requires system { G.system_of guide.now ≡ ground_system (task_in ground.now) (atoms_in ground.now) }
-    requires width { G.width_of guide.now ≡ length (atoms_in ground.now) }
-    requires under_way { IsUnderWay ground.now (G.estimate_of guide.now) (G.is_dead guide.now) (G.fits guide.now) limits.states search }
-    ensures stretch { IfOk result (IsStretch ground.now (G.estimate_of guide.now) (G.is_dead guide.now) (G.fits guide.now) pause limits.states) }
-    ensures said { GoesOn (IsTrueLine (task_in ground.now)) E.wants_memory (E.failures err.old) (E.taken err.old) (E.failures err.new) (E.taken err.new) }
+    requires listed { IsListed system }
+    requires system { G.system_of guide.now ≡ system_of system }
+    requires width { G.width_of guide.now ≡ length (atoms_in (ground_in system)) }
+    requires under_way { IsUnderWay system (G.estimate_of guide.now) (G.is_dead guide.now) (G.fits guide.now) limits.states search }
+    ensures stretch { IfOk result (IsStretch system (G.estimate_of guide.now) (G.is_dead guide.now) (G.fits guide.now) pause limits.states) }
+    ensures said { GoesOn (IsTrueLine (task_in (ground_in system))) E.wants_memory (E.failures err.old) (E.taken err.old) (E.failures err.new) (E.taken err.new) }
 {
     let mut search = search;
     let mut said = None;
     'stretches: while search.store().len() < pause as usize {
         let next = next_pause(search.store().len(), pause);
-        said = say_news(alloc, ground, guide, &search, said, err)?;
-        match stretch_by(alloc, ground, guide, search, next, limits)? {
+        said = say_news(alloc, system, guide, &search, said, err)?;
+        match stretch_by(alloc, system, guide, search, next, limits)? {
             Stretch::Ended(searched) => return Ok(Stretch::Ended(searched)),
             Stretch::Paused(paused) => search = paused,
         }
@@ -118,22 +117,22 @@ pub(crate) fn go_on_by<G: Guide, E: Sink>(
 /// Says how far a search is, if there is anything new to say after what was said last: what was said last from now on.
 fn say_news<G: Guide, E: Sink>(
     alloc: Global,
-    ground: &Ground<'_>,
+    system: ListedSystem<'_, '_>,
     guide: &G,
     search: &Search<PooledStore, G::Room>,
     last: Option<Milestone>,
     err: &mut E,
 ) -> Result<Option<Milestone>, NoMemory>
-    requires atoms { atoms_in ground.now ≡ numbered_atoms (task_in ground.now) [] }
-    requires system { G.system_of guide.now ≡ ground_system (task_in ground.now) (atoms_in ground.now) }
-    requires open { AreOpenIn ground.now (G.estimate_of guide.now) (G.is_dead guide.now) search.now }
-    ensures { GoesOn (IsTrueLine (task_in ground.now)) E.wants_memory (E.failures err.old) (E.taken err.old) (E.failures err.new) (E.taken err.new) }
+    requires listed { IsListed system }
+    requires system { G.system_of guide.now ≡ system_of system }
+    requires open { AreOpenIn system (G.estimate_of guide.now) (G.is_dead guide.now) search.now }
+    ensures { GoesOn (IsTrueLine (task_in (ground_in system))) E.wants_memory (E.failures err.old) (E.taken err.old) (E.failures err.new) (E.taken err.new) }
 {
     let now = Milestone::of(search);
     if !is_news(last, now) {
         return Ok(last);
     }
-    say_progress(alloc, ground, guide, search, err)?;
+    say_progress(alloc, system, guide, search, err)?;
     Ok(now)
 }
 
@@ -141,15 +140,15 @@ fn say_news<G: Guide, E: Sink>(
 /// waits, nothing is said, as the search is about to end.
 fn say_progress<G: Guide, E: Sink>(
     alloc: Global,
-    ground: &Ground<'_>,
+    system: ListedSystem<'_, '_>,
     guide: &G,
     search: &Search<PooledStore, G::Room>,
     err: &mut E,
 ) -> Result<(), NoMemory>
-    requires atoms { atoms_in ground.now ≡ numbered_atoms (task_in ground.now) [] }
-    requires system { G.system_of guide.now ≡ ground_system (task_in ground.now) (atoms_in ground.now) }
-    requires open { AreOpenIn ground.now (G.estimate_of guide.now) (G.is_dead guide.now) search.now }
-    ensures { GoesOn (IsTrueLine (task_in ground.now)) E.wants_memory (E.failures err.old) (E.taken err.old) (E.failures err.new) (E.taken err.new) }
+    requires listed { IsListed system }
+    requires system { G.system_of guide.now ≡ system_of system }
+    requires open { AreOpenIn system (G.estimate_of guide.now) (G.is_dead guide.now) search.now }
+    ensures { GoesOn (IsTrueLine (task_in (ground_in system))) E.wants_memory (E.failures err.old) (E.taken err.old) (E.failures err.new) (E.taken err.new) }
 {
     let Some(bound) = search.bound() else {
         return Ok(());
@@ -180,41 +179,41 @@ fn expanded_in(nodes: &[Node]) -> usize
 /// Goes on with it until it ends.
 pub(crate) fn finish_by<G: Guide, E: Sink>(
     alloc: Global,
-    ground: &Ground<'_>,
+    system: ListedSystem<'_, '_>,
     guide: &G,
     search: Search<PooledStore, G::Room>,
     limits: Limits,
     err: &mut E,
 ) -> Result<Searched, NoMemory>
-    requires atoms { atoms_in ground.now ≡ numbered_atoms (task_in ground.now) [] }
-    requires system { G.system_of guide.now ≡ ground_system (task_in ground.now) (atoms_in ground.now) }
-    requires width { G.width_of guide.now ≡ length (atoms_in ground.now) }
-    requires under_way { IsUnderWay ground.now (G.estimate_of guide.now) (G.is_dead guide.now) (G.fits guide.now) limits.states search }
-    ensures searched { IfOk result (λ s. IsSearched ground.now (G.estimate_of guide.now) (G.is_dead guide.now) limits.states s.outcome s.marks.items) }
-    ensures said { GoesOn (IsTrueLine (task_in ground.now)) E.wants_memory (E.failures err.old) (E.taken err.old) (E.failures err.new) (E.taken err.new) }
+    requires listed { IsListed system }
+    requires system { G.system_of guide.now ≡ system_of system }
+    requires width { G.width_of guide.now ≡ length (atoms_in (ground_in system)) }
+    requires under_way { IsUnderWay system (G.estimate_of guide.now) (G.is_dead guide.now) (G.fits guide.now) limits.states search }
+    ensures searched { IfOk result (λ s. IsSearched system (G.estimate_of guide.now) (G.is_dead guide.now) limits.states s.outcome s.marks.items) }
+    ensures said { GoesOn (IsTrueLine (task_in (ground_in system))) E.wants_memory (E.failures err.old) (E.taken err.old) (E.failures err.new) (E.taken err.new) }
 {
-    match go_on_by(alloc, ground, guide, search, u32::MAX, limits, err)? {
+    match go_on_by(alloc, system, guide, search, u32::MAX, limits, err)? {
         Stretch::Ended(searched) => Ok(searched),
         Stretch::Paused(_) => unreachable!(),
     }
 }
 
-/// What a search of the ground task by the guide comes to.
+/// What a search of the system by the guide comes to.
 pub(crate) fn search_by<G: Guide, E: Sink>(
     alloc: Global,
-    ground: &Ground<'_>,
+    system: ListedSystem<'_, '_>,
     guide: &G,
     limits: Limits,
     err: &mut E,
 ) -> Result<Searched, NoMemory>
-    requires atoms { atoms_in ground.now ≡ numbered_atoms (task_in ground.now) [] }
-    requires system { G.system_of guide.now ≡ ground_system (task_in ground.now) (atoms_in ground.now) }
-    requires width { G.width_of guide.now ≡ length (atoms_in ground.now) }
-    ensures searched { IfOk result (λ s. IsSearched ground.now (G.estimate_of guide.now) (G.is_dead guide.now) limits.states s.outcome s.marks.items) }
-    ensures said { GoesOn (IsTrueLine (task_in ground.now)) E.wants_memory (E.failures err.old) (E.taken err.old) (E.failures err.new) (E.taken err.new) }
+    requires listed { IsListed system }
+    requires system { G.system_of guide.now ≡ system_of system }
+    requires width { G.width_of guide.now ≡ length (atoms_in (ground_in system)) }
+    ensures searched { IfOk result (λ s. IsSearched system (G.estimate_of guide.now) (G.is_dead guide.now) limits.states s.outcome s.marks.items) }
+    ensures said { GoesOn (IsTrueLine (task_in (ground_in system))) E.wants_memory (E.failures err.old) (E.taken err.old) (E.failures err.new) (E.taken err.new) }
 {
-    let search = begin_by(alloc, ground, guide, limits)?;
-    finish_by(alloc, ground, guide, search, limits, err)
+    let search = begin_by(alloc, system, guide, limits)?;
+    finish_by(alloc, system, guide, search, limits, err)
 }
 
 /// The states that were found.

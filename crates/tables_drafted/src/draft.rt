@@ -5,7 +5,7 @@ ghost use Rattle.tables_drafted.specs.ValuePotentials.{potentials_in_value};
 
 use crate::chosen::{Choosing, Value};
 use crate::collected::{Collected, Collecting, costs_of};
-use crate::states::{rows_of_all, samples, values_of_all};
+use crate::states::{rows_of_all, samples, starts, values_of_all};
 use crate::written::{Writing, part_of, weight_of_dead};
 use atom_groups::{Variables, found_groups};
 use costs_divided::{Costs, NO_WAY, distances};
@@ -79,6 +79,8 @@ pub struct Wanted<'a> {
     pub dead_ends: &'a Potentials,
     /// The states. The initial one counts too, and some on random walks from it.
     pub states: &'a [Vec<u32>],
+    /// States that may be reached as well as those that follow the initial one, by their true atoms.
+    pub starts: &'a [Vec<u32>],
     /// How much is looked at.
     pub effort: Effort,
 }
@@ -124,7 +126,16 @@ fn draft_over(
     let Some(steps) = Steps::new(alloc, ground, variables)? else {
         return Ok(None);
     };
-    let known = known_over(alloc, ground, variables, &steps, &states, wanted.effort)?;
+    let starts = starts(alloc, variables, tables.states(), wanted.starts)?;
+    let known = known_over(
+        alloc,
+        ground,
+        variables,
+        &steps,
+        &starts,
+        &states,
+        wanted.effort,
+    )?;
     drop(steps);
     let draft = draft_by(alloc, variables, &known, &atoms, &states, tables, wanted)?;
     Ok(draft)
@@ -136,11 +147,13 @@ fn known_over<'a, 't>(
     ground: &'a Ground<'t>,
     variables: &'a Variables,
     steps: &'a Steps,
+    starts: &'a [Vec<u32>],
     states: &'a [Vec<u32>],
     effort: Effort,
 ) -> Result<Known, NoMemory> {
     let goals = GoalValues::new(alloc, variables, ground.goal_literals())?;
-    let known = collected(alloc, ground, variables, steps, &goals, states, effort)?;
+    let reaching = Reaching::new(alloc, variables, steps, &goals, starts, LIMITS)?;
+    let known = collected(alloc, ground, variables, &goals, reaching, states, effort)?;
     Ok(known)
 }
 
@@ -149,18 +162,13 @@ fn collected<'a, 't>(
     alloc: Global,
     ground: &'a Ground<'t>,
     variables: &'a Variables,
-    steps: &'a Steps,
     goals: &'a GoalValues,
+    reaching: Reaching<'a>,
     states: &'a [Vec<u32>],
     effort: Effort,
 ) -> Result<Known, NoMemory> {
-    let initial: &[u32] = match states.first() {
-        Some(values) => values,
-        None => &[],
-    };
     let shutters = Shutters::new(alloc, ground)?;
     let costs = costs_of(alloc, ground, &shutters)?;
-    let reaching = Reaching::new(alloc, variables, steps, goals, initial, LIMITS)?;
     let mut collecting = Collecting {
         ground,
         variables,

@@ -43,6 +43,17 @@ pub(crate) fn rows_of_all(
     Ok(all)
 }
 
+/// The values of variables in the states that rows are reached from: the first one of these states, and then these others.
+pub(crate) fn starts(
+    alloc: Global,
+    variables: &Variables,
+    states: &[Vec<u32>],
+    others: &[Vec<u32>],
+) -> Result<Vec<Vec<u32>>, NoMemory> {
+    let first = samples(alloc, states.get(..1).unwrap_or(&[]), others)?;
+    values_of_all(alloc, variables, &first)
+}
+
 /// The true atoms of the first one of these states, then of those that a search found, and then of the others.
 pub(crate) fn samples(
     alloc: Global,

@@ -3,12 +3,14 @@ use Rattle.std.specs.Prelude.{IfOk, IfSome, IsTrue}
 use Rattle.certificate.specs.CertificateParts.{are_bounds, bounds_of}
 use Rattle.certificate_definitions.specs.Certificates.{three}
 use Rattle.faults.specs.declared.refused.NoMemory.{NoMemory}
+use Rattle.grounding.specs.declared.ground.Ground.{Ground}
 use Rattle.grounding.specs.Ground.{task_in, atoms_in}
+use Rattle.solver.specs.ListedSystem.{ground_in}
 use Rattle.model.specs.Grounding.{ground_system}
 use Rattle.potential_functions.specs.Settled.{initial_value}
 use Rattle.potentials.specs.Potentials.{potentials_of}
 use Rattle.table_functions.specs.FairTables.{AreFair}
-use Rattle.table_functions.specs.TableFunctions.{SeveralValues}
+use Rattle.table_functions.specs.TableFunctions.{SeveralValues, functions_of, greatest_value}
 use Rattle.table_rows.specs.Tables.{table_of}
 use Rattle.tables.specs.declared.several.TableFunctions.{TableFunctions}
 use Rattle.tables.specs.Several.{several_of, width_of}
@@ -30,7 +32,8 @@ same g c = λ i. record { values = c.requires.values i; dead_ends = c.requires.d
 
 pub functions_over-requires : goal.functions_over-requires
 functions_over-requires g c = record {
-  within_limits = subst (λ (s : SeveralValues). IsTrue (are_bounds three (length (atoms_in c.args.ground.now)) s)) (sym (same g (goal.at.functions_over-requires g c).After-deref)) c.requires.within_limits;
+  within_limits = subst (λ (s : SeveralValues). IsTrue (are_bounds three (length (atoms_in c.ground.result.now)) s)) (sym (same g (goal.at.functions_over-requires g c).After-deref))
+      (subst (λ (k : Ground). IsTrue (are_bounds three (length (atoms_in k)) (bounds_of c.args.bounds.now))) (sym c.ground.ensures) c.requires.within_limits);
 }
 
 -- and so are those in memory
@@ -39,11 +42,11 @@ in_memory g c =
     subst (λ (o : Option TableFunctions). IfSome o (λ (f : TableFunctions). several_of f ≡ several_over c.args.values.items c.args.dead_ends c.deref.result.now)) c.in-Some.is c.in_ok-functions.ensures
     ∙ (λ i. record { values = c.requires.values i; dead_ends = c.requires.dead_ends i; tables = map table_of (c.deref.ensures.value i) })
 
-width : (g : Over) (c : In-Some g) → width_of c.in-Some.functions ≡ length (atoms_in c.args.ground.now)
-width g c = ap (λ (s : SeveralValues). length s.dead_ends.weights) (in_memory g c) ∙ dead_ends_weighed (length (atoms_in c.args.ground.now)) (bounds_of c.args.bounds.now) c.requires.within_limits
+width : (g : Over) (c : In-Some g) → width_of c.in-Some.functions ≡ length (atoms_in (ground_in c.args.system))
+width g c = ap (λ (s : SeveralValues). length s.dead_ends.weights) (in_memory g c) ∙ dead_ends_weighed (length (atoms_in (ground_in c.args.system))) (bounds_of c.args.bounds.now) c.requires.within_limits
 
 pub starts_no_lower-requires-clause-functions : goal.starts_no_lower-requires-clause-functions
-starts_no_lower-requires-clause-functions g c = width g (goal.at.starts_no_lower-requires-clause-functions g c).In-Some
+starts_no_lower-requires-clause-functions g c = width g (goal.at.starts_no_lower-requires-clause-functions g c).In-Some ∙ ap (λ (k : Ground). length (atoms_in k)) (sym c.ground.ensures)
 
 pub saving_by-requires-clause-width : goal.saving_by-requires-clause-width
 saving_by-requires-clause-width g c = width g (goal.at.saving_by-requires-clause-width g c).In-Some ∙ sym c.requires.store_width
@@ -60,18 +63,21 @@ whatever (Err e) is = tt
 
 pub returns-then-is_worth-clause-no_lower : goal.returns-then-is_worth-clause-no_lower
 returns-then-is_worth-clause-no_lower g c =
-    let known = c.args.ground.now in
+    let known = ground_in c.args.system in
+    let first = potentials_of c.args.stopped.now.potentials.now in
     let start = (ground_system (task_in known) (atoms_in known)).initial in
     whatever c.search_if_fair.result
-    (subst (λ (s : SeveralValues). initial_value (task_in known) (atoms_in known) (potentials_of c.args.stopped.now.potentials.now) ≤ estimate_by (by_tables s) start)
-    (in_memory g (goal.at.returns-then-is_worth-clause-no_lower g c).In-Some) (c.in_ok-starts_no_lower.ensures c.if-not-branch.false))
+    (subst (λ (s : SeveralValues). initial_value (task_in known) (atoms_in known) first ≤ estimate_by (by_tables s) start)
+    (in_memory g (goal.at.returns-then-is_worth-clause-no_lower g c).In-Some)
+    (subst (λ (k : Ground). initial_value (task_in k) (atoms_in k) first ≤ greatest_value (functions_of (several_of c.in-Some.functions)) (ground_system (task_in k) (atoms_in k)).initial) c.ground.ensures
+    (c.in_ok-starts_no_lower.ensures c.if-not-branch.false)))
 
 pub returns-then-is_worth-clause-fair : goal.returns-then-is_worth-clause-fair
 returns-then-is_worth-clause-fair g c =
-    subst (λ (s : SeveralValues). IfOk c.search_if_fair.result (IfDone (λ (_ : Searched). AreFair (task_in c.args.ground.now) (atoms_in c.args.ground.now) s)))
+    subst (λ (s : SeveralValues). IfOk c.search_if_fair.result (IfDone (λ (_ : Searched). AreFair (task_in (ground_in c.args.system)) (atoms_in (ground_in c.args.system)) s)))
     (in_memory g (goal.at.returns-then-is_worth-clause-fair g c).In-Some) c.search_if_fair.ensures.fair
 
 pub returns-then-is_worth-clause-searched : goal.returns-then-is_worth-clause-searched
 returns-then-is_worth-clause-searched g c =
-    subst (λ (s : SeveralValues). IfOk c.search_if_fair.result (IfDone (λ (f : Searched). IsSearched c.args.ground.now (estimate_by (by_tables s)) (reports_dead (by_tables s)) c.args.limits.states f.outcome f.marks.items)))
+    subst (λ (s : SeveralValues). IfOk c.search_if_fair.result (IfDone (λ (f : Searched). IsSearched c.args.system (estimate_by (by_tables s)) (reports_dead (by_tables s)) c.args.limits.states f.outcome f.marks.items)))
     (in_memory g (goal.at.returns-then-is_worth-clause-searched g c).In-Some) c.search_if_fair.ensures.searched

@@ -3,12 +3,14 @@ use Rattle.task.specs.TaskParts.{atom_of}
 use Rattle.packed_state.specs.PooledView.{pooled_states}
 use Rattle.certificate_reader.specs.Lines.{claim_of}
 use Rattle.certificate.specs.ListedSets.{lines_with}
-use Rattle.certificate.specs.CertificateParts.{certificate_with, exchange_in}
+use Rattle.certificate.specs.CertificateParts.{certificate_with}
 use Rattle.grounding.specs.Ground.{task_in, atoms_in}
 use Rattle.model.specs.NumberedAtoms.{are_distinct}
 use Rattle.model.proofs.GroundTaskLemmas.{numbered-distinct}
 use Rattle.solver.specs.Guidance.{estimate_by, reports_dead}
+use Rattle.solver.specs.ListedSystem.{ground_in, exchanges_in, system_of}
 use Rattle.solver.specs.Listing.{found_certificate}
+use Rattle.solver.proofs.ListedLemmas.{does}
 use Rattle.solver.specs.Written.{guidance_of}
 use Rattle.solver.proofs.FoundLines.{lines_of_marks, as_many_marks}
 use Rattle.solver.proofs.ListingLemmas.{within_limits}
@@ -16,27 +18,28 @@ use Rattle.solver.proofs.listing.cert_of.Goals as goal
 use Rattle.solver.proofs.listing.cert_of.Goals.{In_ok-into_bounds}
 
 pub copied-requires : goal.copied-requires
-copied-requires c = ap are_distinct (ap (map atom_of) c.as_slice.ensures.keys ∙ c.atoms.ensures ∙ c.requires.atoms) ∙ numbered-distinct (task_in c.args.ground.now) []
+copied-requires c = ap are_distinct (ap (map atom_of) c.as_slice.ensures.keys ∙ c.atoms.ensures ∙ ap atoms_in c.ground.ensures ∙ c.requires.listed.atoms) ∙ numbered-distinct (task_in (ground_in c.args.system)) []
 
 -- the certificate of the parts is that of what was found
 made : (c : In_ok-into_bounds)
-    → certificate_with (record { version = c.version.result; claim = c.args.claim; exchanges = c.new.result; atoms = c.in_ok-copied.field-0; bounds = c.in_ok-into_bounds.field-0 }) (record { marks = c.args.marks; sets = c.args.found.store })
-    ≡ found_certificate (claim_of c.args.claim) (atoms_in c.args.ground.now) (guidance_of c.args.guidance) (pooled_states c.args.found.store) c.args.found.nodes.items
+    → certificate_with (record { version = c.version.result; claim = c.args.claim; exchanges = c.in_ok-written_exchanges.field-0; atoms = c.in_ok-copied.field-0; bounds = c.in_ok-into_bounds.field-0 }) (record { marks = c.args.marks; sets = c.args.found.store })
+    ≡ found_certificate (claim_of c.args.claim) (exchanges_in c.args.system) (atoms_in (ground_in c.args.system)) (guidance_of c.args.guidance) (pooled_states c.args.found.store) c.args.found.nodes.items
 made c =
     let guidance = guidance_of c.args.guidance in
     let states = pooled_states c.args.found.store in
     let nodes = c.args.found.nodes.items in
-    let atoms = c.in_ok-copied.ensures ∙ ap (map atom_of) c.as_slice.ensures.keys ∙ c.atoms.ensures in
+    let atoms = c.in_ok-copied.ensures ∙ ap (map atom_of) c.as_slice.ensures.keys ∙ c.atoms.ensures ∙ ap atoms_in c.ground.ensures in
     let lines = ap (λ ms. lines_with ms states) c.requires.marks ∙ lines_of_marks (estimate_by guidance) (reports_dead guidance) states nodes in
     let bounds = c.in_ok-into_bounds.ensures in
-    let exchanges = ap (map exchange_in) c.new.ensures.items in
+    let exchanges = c.in_ok-written_exchanges.ensures in
     λ i. record { version = c.version.ensures i; claim = claim_of c.args.claim; exchanges = exchanges i; atoms = atoms i; values = (bounds i).values; dead_ends = (bounds i).dead_ends; tables = (bounds i).tables; lines = lines i }
 
 pub from_parts-requires-clause-limits : goal.from_parts-requires-clause-limits
 from_parts-requires-clause-limits c =
-    let known = c.args.ground.now in
-    within_limits (task_in known) (claim_of c.args.claim) 16777216 (guidance_of c.args.guidance) (pooled_states c.args.found.store) c.args.found.nodes.items (atoms_in known) c.requires.atoms c.requires.found _
-    (made (goal.at.from_parts-requires-clause-limits c).In_ok-into_bounds) c.requires.guidance c.requires.claim c.requires.few (omega arith)
+    let known = ground_in c.args.system in
+    within_limits (task_in known) (claim_of c.args.claim) 16777216 (exchanges_in c.args.system) (guidance_of c.args.guidance) (pooled_states c.args.found.store) c.args.found.nodes.items (atoms_in known) c.requires.listed.atoms
+    (system_of c.args.system) (does c.args.system c.requires.listed) c.requires.found _
+    (made (goal.at.from_parts-requires-clause-limits c).In_ok-into_bounds) c.requires.guidance c.requires.claim c.requires.few (omega arith) c.requires.exchanges c.requires.listed.few
 
 pub from_parts-requires-clause-marked : goal.from_parts-requires-clause-marked
 from_parts-requires-clause-marked c =

@@ -14,4 +14,4 @@ pub returns : goal.returns
 returns g c =
     let limit = c.args.limits.states in
     let some = leb-true 1 limit (and_parts (nat_le 1 limit) (nat_le limit 16777216) c.args.limits.states_within).0 in
-    for_limit (IsUnderWay c.args.ground.now (g.G.Guide.estimate_of c.args.guide.now) (g.G.Guide.is_dead c.args.guide.now) (g.G.Guide.fits c.args.guide.now)) c.begin.result limit c.begin.ensures some
+    for_limit (IsUnderWay c.args.system (g.G.Guide.estimate_of c.args.guide.now) (g.G.Guide.is_dead c.args.guide.now) (g.G.Guide.fits c.args.guide.now)) c.begin.result limit c.begin.ensures some

@@ -1,5 +1,6 @@
 use Rattle.std.proofs.Common.{◌-◌, length}
 use Rattle.grounding.specs.Ground.{task_in}
+use Rattle.solver.specs.ListedSystem.{ground_in}
 use Rattle.packed_state.specs.PooledView.{pooled_states}
 use Rattle.search.specs.UnderWay.{store_in}
 use Rattle.progress_lines.specs.Said.{GoesOn}
@@ -10,8 +11,8 @@ use Rattle.solver.proofs.searched.go_on_by.Given as goal
 -- the search is under way, and what was said is true
 abbrev pub invariant-stretches : goal.invariant-stretches
 invariant-stretches g l = record {
-  under_way : IsUnderWay l.ground (g.G.Guide.estimate_of l.guide) (g.G.Guide.is_dead l.guide) (g.G.Guide.fits l.guide) l.limits.states l.search;
-  said : GoesOn (IsTrueLine (task_in l.ground)) g.E.Sink.wants_memory (g.E.Sink.failures l.initial.err) (g.E.Sink.taken l.initial.err) (g.E.Sink.failures l.err) (g.E.Sink.taken l.err);
+  under_way : IsUnderWay l.system (g.G.Guide.estimate_of l.guide) (g.G.Guide.is_dead l.guide) (g.G.Guide.fits l.guide) l.limits.states l.search;
+  said : GoesOn (IsTrueLine (task_in (ground_in l.system))) g.E.Sink.wants_memory (g.E.Sink.failures l.initial.err) (g.E.Sink.taken l.initial.err) (g.E.Sink.failures l.err) (g.E.Sink.taken l.err);
 }
 
 abbrev pub decreases-stretches : goal.decreases-stretches

@@ -1,10 +1,9 @@
 use Rattle.std.proofs.Common.{◌≡◌, ◌∙◌, ◌≤◌, ℕ, Bool, List, length, sym, ap, subst, arith}
 use Rattle.std.proofs.lemmas.List.Sums.{count_by-le-length}
-use Rattle.grounding.specs.Ground.{task_in, atoms_in}
-use Rattle.model.specs.Task.{Atom}
+use Rattle.grounding.specs.Ground.{task_in}
+use Rattle.solver.specs.ListedSystem.{ground_in, exchanges_in, system_of}
 use Rattle.model.specs.Runs.{System}
 use Rattle.model.specs.Claims.{IsLowerBound, AreDeadEnds}
-use Rattle.model.specs.Grounding.{ground_system}
 use Rattle.packed_state.specs.PooledView.{pooled_states}
 use Rattle.packed_state.specs.declared.pooled.PooledStore.{PooledStore}
 use Rattle.search.proofs.Consistent.{lower_bound}
@@ -12,18 +11,19 @@ use Rattle.search.proofs.DeadEnds.{are_dead_ends}
 use Rattle.search.specs.OpenList.{IsLeastSum}
 use Rattle.search.specs.Outcome.{is_expanded}
 use Rattle.solver.specs.Said.{AreReachable}
-use Rattle.solver.proofs.AnswerLemmas.{task_costs_at_least}
+use Rattle.solver.proofs.ListedLemmas.{does, task_costs_at_least, as_many_reachable}
 use Rattle.solver.proofs.PauseLemmas.{bound_holds, distinct, reachable}
 use Rattle.solver.proofs.searched.say_progress.Goals as goal
 
 pub returns : goal.returns
 returns g c =
-    let known = c.args.ground.now in
+    let known = c.args.system in
     let guide = c.args.guide.now in
-    let task = task_in known in
+    let task = task_in (ground_in known) in
     let estimate = g.G.Guide.estimate_of guide in
     let is_dead = g.G.Guide.is_dead guide in
-    let t = ground_system task (atoms_in known) in
+    let t = system_of known in
+    let by = does known c.requires.listed in
     let p = c.args.search.now.progress in
     let search = c.requires.open.0 in
     let guided = g.G.Guide.system_of guide in
@@ -37,7 +37,7 @@ returns g c =
     let few : c.expanded_in-expanded.result ≤ c.len-listed.result =
     omega (arith, c.expanded_in-expanded.ensures, count_by-le-length is_expanded c.nodes.result.now, ap length c.nodes.ensures, search.one_each, count) in
     c.say.ensures.said task (
-      task_costs_at_least task (atoms_in known) c.requires.atoms c.in-Some.bound costs,
-      subst (λ (atoms : List Atom). AreReachable (ground_system task atoms) c.len-listed.result) c.requires.atoms found,
+      task_costs_at_least task (exchanges_in known) t by c.requires.listed.typed c.in-Some.bound costs,
+      (exchanges_in known, c.requires.listed.symmetries, as_many_reachable task (exchanges_in known) t by c.len-listed.result found),
       few,
     )

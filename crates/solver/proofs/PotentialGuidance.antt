@@ -1,0 +1,95 @@
+-- Potentials as what a search of the system whose states are listed goes by: in version 2, or as values over no tables.
+use Rattle.std.proofs.Common.{◌≡◌, ◌∙◌, ℕ, zero, suc, ◌≤◌, Bool, true, List, [], ◌∷◌, length, max, refl, sym, ap, subst, arith}
+use Rattle.std.specs.Prelude.{All, AllPairs, IsTrue, ◌≢◌, ◌&&◌}
+use Rattle.std.proofs.lemmas.List.Elements.{All-cons, All-nil}
+use Rattle.certificate_definitions.specs.Certificates.{three}
+use Rattle.grounding.specs.Ground.{task_in, atoms_in}
+use Rattle.model.specs.Task.{Task, Atom}
+use Rattle.model.specs.Grounding.{ground_system}
+use Rattle.potential_functions.specs.PotentialFunctions as potential
+use Rattle.potential_functions.specs.PotentialFunctions.{PotentialFunction, AreInRange}
+use Rattle.potential_functions.specs.Fair as potentials
+use Rattle.potential_functions.specs.Settled.{initial_value}
+use Rattle.table_functions.specs.TableFunctions as tables
+use Rattle.table_functions.specs.TableFunctions.{Row, Table, functions_of, dead_ends_of, greatest_value}
+use Rattle.table_functions.specs.FairTables as fair_tables
+use Rattle.table_functions.specs.Laws.{without_tables}
+use Rattle.table_functions.proofs.WithoutTables.{potentials_are_table_functions}
+use Rattle.solver.specs.Guidance.{by_potentials, by_tables, over_no_tables, estimate_by, reports_dead, CanBeWritten, AreFairBy}
+use Rattle.solver.specs.Guided.{IsGuidanceFor}
+use Rattle.solver.specs.Improved.{AreSettledOrHigh, AreDeadSettledOrHigh}
+use Rattle.solver.specs.ListedSystem.{ground_in, IsListed}
+use Rattle.solver.specs.Written.{by_potentials_of}
+use Rattle.solver.specs.declared.listed_system.ListedSystem.{ListedSystem}
+use Rattle.solver.specs.declared.listed_system.ListedSystem.TheVariants as listed
+use Rattle.solver.proofs.GuidanceLemmas.{potentials-written}
+use Rattle.solver.proofs.PotentialLemmas.{potentials-pass}
+
+or_nothing : (n : ℕ) → max n 0 ≡ n
+or_nothing n = omega arith
+
+module _ (task : Task) (atoms : List Atom) (p dead_ends : PotentialFunction) where
+  estimates-over_none : (bits : List Bool) → greatest_value (functions_of (over_no_tables p dead_ends)) bits ≡ potential.value p bits
+  estimates-over_none bits = or_nothing _ ∙ (potentials_are_table_functions task atoms p).values bits
+
+  reports-over_none : (bits : List Bool) → tables.is_dead_by (dead_ends_of (over_no_tables p dead_ends)) bits ≡ potential.is_dead_by dead_ends bits
+  reports-over_none bits = (potentials_are_table_functions task atoms dead_ends).dead_ends bits
+
+  fair-over_none : AreFairBy task atoms (by_potentials p dead_ends) → fair_tables.AreFair task atoms (over_no_tables p dead_ends)
+  fair-over_none (fair, dead_fair) = record {
+    values = All-cons (fair_tables.IsFair task atoms) (without_tables p) [] ((potentials_are_table_functions task atoms p).fair _ _ fair) (All-nil (fair_tables.IsFair task atoms));
+    dead_ends =
+        let there = (potentials_are_table_functions task atoms dead_ends).fair potentials.nothing (fair_tables.is_asked task atoms []) dead_fair in
+        record {
+          instances = λ k d below asked. let here = there.instances k d below asked in record { closed = here.closed; within = here.within };
+          goals = record { within = there.goals.within };
+        };
+  }
+
+-- the estimates and the dead ends are those of the potentials
+pub same_estimates : (system : ListedSystem) (p dead_ends : PotentialFunction) → estimate_by (by_potentials_of system p dead_ends) ≡ potential.value p
+same_estimates (listed.Ground g) p dead_ends = refl
+same_estimates (listed.Quotient r) p dead_ends = let k = ground_in (listed.Quotient r) in λ i bits. estimates-over_none (task_in k) (atoms_in k) p dead_ends bits i
+
+pub same_reports : (system : ListedSystem) (p dead_ends : PotentialFunction) → reports_dead (by_potentials_of system p dead_ends) ≡ potential.is_dead_by dead_ends
+same_reports (listed.Ground g) p dead_ends = refl
+same_reports (listed.Quotient r) p dead_ends = let k = ground_in (listed.Quotient r) in λ i bits. reports-over_none (task_in k) (atoms_in k) p dead_ends bits i
+
+written-over_none : (count : ℕ) (p dead_ends : PotentialFunction) → AreInRange p → AreInRange dead_ends → length p.weights ≡ count → length dead_ends.weights ≡ count → CanBeWritten count (by_tables (over_no_tables p dead_ends))
+written-over_none count p dead_ends range dead_range long dead_long =
+    let value_passes = potentials-pass p count range long in
+    let dead_ends_pass = potentials-pass dead_ends count dead_range dead_long in
+    record {
+      within_limits = λ i. ((((true && (value_passes i && true)) && dead_ends_pass i) && true) && true) && true;
+      rows_are_distinct = All-nil (λ (t : Table). AllPairs (λ (q r : Row). q.atoms ≢ r.atoms) t.rows);
+    }
+
+-- potentials that are fair and dead-fair, and settled or high
+pub record AreGood (system : ListedSystem) (p dead_ends : PotentialFunction) : Type 0 where
+  pub range : AreInRange p
+  pub dead_range : AreInRange dead_ends
+  pub long : length p.weights ≡ length (atoms_in (ground_in system))
+  pub dead_long : length dead_ends.weights ≡ length (atoms_in (ground_in system))
+  pub fair : AreFairBy (task_in (ground_in system)) (atoms_in (ground_in system)) (by_potentials p dead_ends)
+  pub improved : AreSettledOrHigh (task_in (ground_in system)) (atoms_in (ground_in system)) p
+  pub dead_ends_improved : AreDeadSettledOrHigh (task_in (ground_in system)) (atoms_in (ground_in system)) dead_ends
+
+pub guides_by_potentials : (system : ListedSystem) → IsListed system → (p dead_ends : PotentialFunction) → AreGood system p dead_ends → IsGuidanceFor system (by_potentials_of system p dead_ends)
+guides_by_potentials (listed.Ground g) known p dead_ends good = record {
+  written = potentials-written (length (atoms_in g.now)) p dead_ends good.range good.dead_range good.long good.dead_long;
+  exchanges = refl;
+  fair = good.fair;
+  improved = good.improved;
+  dead_ends_improved = good.dead_ends_improved;
+  no_lower = omega arith;
+}
+guides_by_potentials (listed.Quotient r) known p dead_ends good =
+    let k = ground_in (listed.Quotient r) in
+    record {
+      written = written-over_none (length (atoms_in k)) p dead_ends good.range good.dead_range good.long good.dead_long;
+      exchanges = known.written;
+      fair = fair-over_none (task_in k) (atoms_in k) p dead_ends good.fair;
+      improved = good.improved;
+      dead_ends_improved = good.dead_ends_improved;
+      no_lower = let same = estimates-over_none (task_in k) (atoms_in k) p dead_ends (ground_system (task_in k) (atoms_in k)).initial in omega (arith, same);
+    }

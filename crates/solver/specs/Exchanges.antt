@@ -1,0 +1,16 @@
+-- The exchanges by which a task is searched.
+use Rattle.std.specs.Prelude.{ℕ, ◌≤◌, IsTrue, List, length}
+use Rattle.std.specs.List.{list_all}
+use Rattle.grounding.specs.declared.ground.Ground.{Ground}
+use Rattle.grounding.specs.Ground.{task_in, atoms_in}
+use Rattle.symmetries.specs.Exchanges.{Exchange}
+use Rattle.symmetries.specs.Symmetries.{is_symmetry}
+use Rattle.symmetries.specs.Quotients.{keeps_atoms}
+use Rattle.certificate_definitions.specs.Certificates.{three, are_exchanges}
+
+-- They are symmetries of the task, the image of each numbered atom is one, and a certificate can have them.
+pub record AreExchangesFor (g : Ground) (exchanges : List Exchange) : Type 0 where
+  pub symmetries : IsTrue (list_all (is_symmetry (task_in g)) exchanges)
+  pub kept : IsTrue (list_all (keeps_atoms (atoms_in g)) exchanges)
+  pub written : IsTrue (are_exchanges three exchanges)
+  pub few : length exchanges ≤ 1048576

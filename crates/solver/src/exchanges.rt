@@ -1,0 +1,67 @@
+//! The exchanges of objects by which a task is searched.
+ghost use Rattle.std.specs.Prelude.{◌≡◌, ◌<◌, IfOk, IsTrue, OnOk, length, map};
+ghost use Rattle.grounding.specs.Ground.{task_in};
+ghost use Rattle.symmetries.specs.Symmetries.{is_symmetry};
+ghost use Rattle.certificate.specs.CertificateParts.{exchange_in};
+ghost use Rattle.task_symmetries.specs.Exchange.{exchange_of};
+ghost use Rattle.solver.specs.Exchanges.{AreExchangesFor};
+
+use exchanges_drafted::{MAX_EXCHANGES, drafted_exchanges};
+use faults::NoMemory;
+use grounding::Ground;
+use std::alloc::Global;
+use task::ObjectId;
+use task_symmetries::{Exchange, exchanged_numbers};
+
+/// So many atoms may be looked at for all exchanges together, at most. Those that come after are left out.
+const MAX_LOOKS: usize = 4_194_304;
+
+/// Exchanges of objects that are symmetries of the task, and take each numbered atom to a numbered one.
+pub(crate) fn exchanges_of(alloc: Global, ground: &Ground<'_>) -> Result<Vec<Exchange>, NoMemory>
+    ensures { IfOk result (λ kept. AreExchangesFor ground.now (map exchange_of kept.items)) }
+{
+    let drafts = drafted_exchanges(alloc, ground.task())?;
+    let most = MAX_EXCHANGES.min(MAX_LOOKS / (ground.atoms().len() + 1));
+    let mut kept = Vec::new(alloc);
+    for exchange in drafts {
+        if kept.len() < most {
+            keep(alloc, ground, exchange, &mut kept)?;
+        }
+    }
+    Ok(kept)
+}
+
+/// Adds the exchange, if some objects change places, and it takes each numbered atom to a numbered one.
+fn keep(
+    alloc: Global,
+    ground: &Ground<'_>,
+    exchange: Exchange,
+    kept: &mut Vec<Exchange>,
+) -> Result<(), NoMemory>
+    requires symmetry { IsTrue (is_symmetry (task_in ground.now) (exchange_of exchange)) }
+    requires room { length kept.old.items < 1048576 }
+    ensures { OnOk result (AreExchangesFor ground.now (map exchange_of kept.old.items) → AreExchangesFor ground.now (map exchange_of kept.new.items)) }
+{
+    if exchange.pairs().is_empty() {
+        return Ok(());
+    }
+    let numbers = exchanged_numbers(alloc, ground.atoms(), &exchange)?;
+    if numbers.is_some() {
+        kept.push(exchange)?;
+    }
+    Ok(())
+}
+
+/// The pairs of objects of all exchanges, in order.
+pub(crate) fn written_exchanges(
+    alloc: Global,
+    exchanges: &[Exchange],
+) -> Result<Vec<Vec<(ObjectId, ObjectId)>>, NoMemory>
+    ensures { IfOk result (λ written. map exchange_in written.items ≡ map exchange_of exchanges.now) }
+{
+    let mut written = Vec::with_capacity(alloc, exchanges.len())?;
+    for exchange in exchanges {
+        written.push(Vec::from_slice(alloc, exchange.pairs())?)?;
+    }
+    Ok(written)
+}
