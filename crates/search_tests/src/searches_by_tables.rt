@@ -14,10 +14,10 @@ ghost use Rattle.table_guides.specs.FairTables.{ground_in};
 
 use faults::NoMemory;
 use grounding::{Ground, GroundFault};
+use listed_systems::GroundSystem;
 use packed_state::PooledStore;
 use potentials::Potentials;
 use search::{Outcome, best_first};
-use solver::GroundSystem;
 use std::alloc::Global;
 use std::test::Fail;
 use table_guides::FairTables;

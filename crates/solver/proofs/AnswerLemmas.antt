@@ -23,17 +23,17 @@ use Rattle.search.specs.Outcome as search
 use Rattle.search.specs.declared.best.Outcome.{Outcome}
 use Rattle.search.specs.declared.best.Outcome.TheVariants.{Found, Exhausted, States}
 use Rattle.search.specs.Outcome.{lines_of, AreFound, IsTrueOutcome}
-use Rattle.solver.specs.Reachable.{AreMoreReachable}
+use Rattle.listed_systems.specs.Reachable.{AreMoreReachable}
 use Rattle.solver.specs.Limit.{is_limit}
 use Rattle.solver.proofs.ByCost.{more_by_cost}
 use Rattle.symmetries.specs.Exchanges.{Exchange}
 use Rattle.symmetries.specs.Quotients.{quotient_of}
 use Rattle.quotient_systems.specs.RealPlans.{IsCarriedOut}
-use Rattle.solver.specs.ListedSystem as listed_system
-use Rattle.solver.specs.ListedSystem.{ground_in, exchanges_in, IsListed}
-use Rattle.solver.specs.declared.listed_system.ListedSystem.{ListedSystem}
-use Rattle.solver.proofs.ListedLemmas.{DoesAs, does, length-reachable, more_reachable, task_costs_at_least}
-use Rattle.solver.proofs.GroundLemmas.{numbers_named, one_named}
+use Rattle.listed_systems.specs.ListedSystem as listed_system
+use Rattle.listed_systems.specs.ListedSystem.{ground_in, exchanges_in, IsListed}
+use Rattle.listed_systems.specs.declared.listed_system.ListedSystem.{ListedSystem}
+use Rattle.listed_systems.proofs.ListedLemmas.{DoesAs, does, length-reachable, more_reachable, task_costs_at_least}
+use Rattle.listed_systems.proofs.GroundLemmas.{numbers_named, one_named}
 use Rattle.solver.specs.Guidance.{Guidance, estimate_by, reports_dead, CanBeWritten}
 use Rattle.solver.specs.Guided.{found_in, AreMarksOf, CanBeMarked, IsSearched}
 use Rattle.solver.specs.declared.limits.Limits.{Limits}
@@ -222,31 +222,3 @@ module _ (task : Task) (exchanges : List Exchange) (t : System (List Bool) ℕ) 
   pub more_of_listed : (value : List Bool → ℕ) (is_dead : List Bool → Bool) (max_states : ℕ) → search.AreMoreReachable t value is_dead max_states
       → AreMoreReachable (quotient_of task atoms exchanges) max_states
   more_of_listed value is_dead max_states more = more_reachable task exchanges t by max_states (more_by_cost t value is_dead max_states more)
-
--- ---- a plan of the ground task
-
-module _ (task : Task) (atoms : List Atom) (numbered : atoms ≡ numbered_atoms task []) where
-  abbrev none_more : All (λ (a : Atom). IsTrue (is_fluent task a.predicate)) []
-  none_more = λ k d below. absurd (omega (arith, below))
-
-  abbrev both : (l : List Atom) → l ≡ numbered_atoms task [] → IsBisimulation (ground_system task l) (system_of task) (StandsFor task l) (NamesKept task)
-  both l is = subst (λ (m : List Atom). IsBisimulation (ground_system task m) (system_of task) (StandsFor task m) (NamesKept task)) (sym is) (ground_task_is_bisimilar task [] none_more)
-
-  -- the numbers of a list that solves are those of kept instances
-  pub plan_named : (numbers : List ℕ) → Solves (ground_system task atoms) numbers → All (λ (n : ℕ). n < length (kept_instances task)) numbers
-  plan_named numbers solves =
-      let other = solves_forth (ground_system task atoms) (system_of task) (StandsFor task atoms) (NamesKept task) (both atoms numbered) numbers solves in
-      numbers_named task numbers other.0 other.1
-
-  -- and these are carried out as they are
-  pub plan_carried_out : (numbers : List ℕ) (plan : List Instance) → AllZip (NamesKept task) numbers plan → IsCarriedOut (ground_system task atoms) (system_of task) numbers plan
-  plan_carried_out numbers plan named = record {
-    solves = λ solves.
-        let other = solves_forth (ground_system task atoms) (system_of task) (StandsFor task atoms) (NamesKept task) (both atoms numbered) numbers solves in
-        subst (λ (p : List Instance). Solves (system_of task) p) (one_named task numbers other.0 plan other.1 named) other.2;
-    cost = sym (same_cost (ground_system task atoms) (system_of task) (StandsFor task atoms) (NamesKept task) (both atoms numbered) numbers plan named);
-  }
-
--- as many instances as numbers
-pub plan_length : (task : Task) (numbers : List ℕ) (plan : List code.Instance) → AllZip (NamesKept task) numbers (map instance_of plan) → length plan ≡ length numbers
-plan_length task numbers plan named = sym (length-map plan instance_of) ∙ AllZip-long (NamesKept task) numbers (map instance_of plan) named

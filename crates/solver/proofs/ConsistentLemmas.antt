@@ -17,9 +17,9 @@ use Rattle.solver.specs.Guidance.{Guidance, by_potentials, by_tables, estimate_b
 use Rattle.solver.proofs.GuidanceLemmas.{limits_of, one_weight_each, weights_of_each}
 use Rattle.solver.proofs.PotentialLemmas.{value_by-value}
 use Rattle.solver.proofs.TablesLemmas.{scopes_within}
-use Rattle.solver.specs.ListedSystem.{ground_in, exchanges_in, system_of, IsListed}
-use Rattle.solver.specs.declared.listed_system.ListedSystem.{ListedSystem}
-use Rattle.solver.specs.declared.listed_system.ListedSystem.TheVariants as listed
+use Rattle.listed_systems.specs.ListedSystem.{ground_in, exchanges_in, system_of, IsListed}
+use Rattle.listed_systems.specs.declared.listed_system.ListedSystem.{ListedSystem}
+use Rattle.listed_systems.specs.declared.listed_system.ListedSystem.TheVariants as listed
 
 module _ (g : Ground) (numbered : atoms_in g ≡ numbered_atoms (task_in g) []) where
   pub consistent_by : (guidance : Guidance) → CanBeWritten (length (atoms_in g)) guidance → AreFairBy (task_in g) (atoms_in g) guidance

@@ -1,8 +1,4 @@
 pub mod TypedLemmas
-pub mod GroundLemmas
-pub mod ListedLemmas
-pub mod ListedGuides
-pub mod ExchangeLemmas
 pub mod PotentialLemmas
 pub mod GuidanceLemmas
 pub mod PotentialGuidance

@@ -9,7 +9,7 @@ use Rattle.search.specs.Outcome.{AreFound, IsReachableAt}
 use Rattle.solver.specs.Listing.{found_certificate}
 use Rattle.solver.specs.AtLimit.{IsCutOf, IsAtLimit}
 use Rattle.symmetries.specs.Exchanges.{Exchange}
-use Rattle.solver.proofs.ListedLemmas.{DoesAs, reached_at}
+use Rattle.listed_systems.proofs.ListedLemmas.{DoesAs, reached_at}
 use Rattle.solver.specs.Guidance.{Guidance, estimate_by, reports_dead}
 use Rattle.solver.proofs.GuidanceLemmas.{most_value}
 use Rattle.solver.proofs.FoundLines.{waits_of_cut, cut_of_waits, line_among}

@@ -18,7 +18,7 @@ use Rattle.potential_functions.specs.Settled.{initial_value}
 use Rattle.solver.specs.Improved.{AreSettledOrHigh, AreDeadSettledOrHigh, HasSettledOrHigh}
 use Rattle.solver.specs.Listing.{numbers_in, state_line, found_certificate, IsShownBy, AreOpenWithin}
 use Rattle.solver.proofs.TypedLemmas.{numbered_typed}
-use Rattle.solver.proofs.GroundLemmas.{distinct_states}
+use Rattle.listed_systems.proofs.GroundLemmas.{distinct_states}
 use Rattle.solver.specs.Guidance.{Guidance, by_potentials, by_tables, CanBeWritten, AreFairBy, estimate_by, reports_dead, version_by, values_by, first_value}
 use Rattle.solver.proofs.GuidanceLemmas.{AreLimits, limits_of, one_weight_each, weights_of_each, most_value, estimate-most, mark-passes, value-found, value-at-start, dead-found, fair-found}
 use Rattle.solver.proofs.FoundLines.{expanded_of_open, dead_of_reported, found_line, length-lines, node_at}
@@ -34,7 +34,7 @@ use Rattle.certificate_definitions.specs.Certificates.{two, three, Certificate, 
 use Rattle.symmetries.specs.Exchanges.{Exchange}
 use Rattle.symmetries.specs.Symmetries.{is_symmetry}
 use Rattle.symmetries.specs.Quotients.{keeps_atoms, quotient_of}
-use Rattle.solver.proofs.ListedLemmas.{DoesAs, length-reachable}
+use Rattle.listed_systems.proofs.ListedLemmas.{DoesAs, length-reachable}
 use Rattle.table_functions.specs.TableFunctions.{SeveralValues}
 use Rattle.model.proofs.ListLemmas.{map-Contains}
 use Rattle.model.proofs.LimitsLemmas.{numbered_again}

@@ -25,23 +25,6 @@ use Rattle.model.proofs.ListLemmas.{Contains-got, Contains-cases, Contains-map, 
 pub width_at : (width : ℕ) (states : List (List Bool)) → All (λ (bits : List Bool). length bits ≡ width) states → (k : ℕ) (bits : List Bool) → slice_get states k ≡ Some bits → length bits ≡ width
 width_at width states all k bits at = All-contains (λ (b : List Bool). length b ≡ width) states bits all (Contains-got states k bits at)
 
--- ---- the instances
-
-zip_push : {A B : Type 0} (R : A → B → Type 0) (xs : List A) (ys : List B) (x : A) (y : B) → AllZip R xs ys → R x y → AllZip R (xs ++ x ∷ []) (ys ++ y ∷ [])
-zip_push R [] [] x y all here = (here, tt)
-zip_push R [] (z ∷ ys) x y all here = absurd (all)
-zip_push R (z ∷ xs) [] x y all here = absurd (all)
-zip_push R (a ∷ xs) (b ∷ ys) x y all here = (all.0, zip_push R xs ys x y all.1 here)
-
-pub named_next : (steps new : List code.Instance) (one : code.Instance) (task : Task) (numbers : List ℕ) (i d : ℕ) → i < length numbers → AllZip (NamesKept task) (take i numbers) (map instance_of steps)
-    → new ≡ steps ++ one ∷ [] → NamesKept task (get_or numbers i d) (instance_of one) → AllZip (NamesKept task) (take (i + 1) numbers) (map instance_of new)
-named_next steps new one task numbers i d below so_far pushed here =
-    let first = take_more numbers i d below in
-    let second = ap (map instance_of) pushed ∙ map-append instance_of steps (one ∷ []) in
-    subst (λ (ns : List ℕ). AllZip (NamesKept task) ns (map instance_of new)) (sym first)
-    (subst (λ (l : List Instance). AllZip (NamesKept task) (take i numbers ++ get_or numbers i d ∷ []) l) (sym second)
-    (zip_push (NamesKept task) (take i numbers) (map instance_of steps) (get_or numbers i d) (instance_of one) so_far here))
-
 -- ---- the atoms
 
 -- where no atom is twice, the one at a place does not occur before it
@@ -71,12 +54,3 @@ atoms_next keys new one atoms i d distinct below so_far inserted is =
         absurd (none_before (map atom_of atoms) i (atom_of one) distinct occurs
         (subst (λ (front : List Atom). Contains front (atom_of one)) (so_far ∙ sym (take-map atom_of i atoms))
         (Contains-map atom_of keys one (Contains-from_any (λ a b alike. one_atom a b (equal_atoms a b alike)) one keys found))))
-
--- the instance that has the number
-pub names_kept : (task : Task) (instances : List code.Instance) (n : ℕ) (there one : code.Instance) → map instance_of instances ≡ kept_instances task → slice_get instances n ≡ Some there
-    → one.schema ≡ there.schema → one.objects.items ≡ there.objects.items → NamesKept task n (instance_of one)
-names_kept task instances n there one kept at schema objects =
-    ap (λ (l : List Instance). slice_get l n) (sym kept)
-    ∙ slice_get-map instance_of instances n
-    ∙ ap (option_map instance_of) at
-    ∙ (λ i. Some (record { schema = (sym schema i).0; objects = map object_of (sym objects i) }))

@@ -18,10 +18,10 @@ use Rattle.table_functions.proofs.WithoutTables.{potentials_are_table_functions}
 use Rattle.solver.specs.Guidance.{by_potentials, by_tables, over_no_tables, estimate_by, reports_dead, CanBeWritten, AreFairBy}
 use Rattle.solver.specs.Guided.{IsGuidanceFor}
 use Rattle.solver.specs.Improved.{AreSettledOrHigh, AreDeadSettledOrHigh}
-use Rattle.solver.specs.ListedSystem.{ground_in, IsListed}
+use Rattle.listed_systems.specs.ListedSystem.{ground_in, IsListed}
 use Rattle.solver.specs.Written.{by_potentials_of}
-use Rattle.solver.specs.declared.listed_system.ListedSystem.{ListedSystem}
-use Rattle.solver.specs.declared.listed_system.ListedSystem.TheVariants as listed
+use Rattle.listed_systems.specs.declared.listed_system.ListedSystem.{ListedSystem}
+use Rattle.listed_systems.specs.declared.listed_system.ListedSystem.TheVariants as listed
 use Rattle.solver.proofs.GuidanceLemmas.{potentials-written}
 use Rattle.solver.proofs.PotentialLemmas.{potentials-pass}
 

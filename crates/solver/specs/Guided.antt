@@ -16,8 +16,8 @@ use Rattle.search.specs.declared.best.Outcome.TheVariants.{Found, Exhausted, Sta
 use Rattle.search.specs.declared.nodes.FoundStates.{FoundStates}
 use Rattle.solver.specs.Guidance.{Guidance, CanBeWritten, AreFairBy, estimate_by, first_value, values_by, version_by}
 use Rattle.solver.specs.Improved.{AreSettledOrHigh, AreDeadSettledOrHigh}
-use Rattle.solver.specs.ListedSystem.{ground_in, exchanges_in, system_of}
-use Rattle.solver.specs.declared.listed_system.ListedSystem.{ListedSystem}
+use Rattle.listed_systems.specs.ListedSystem.{ground_in, exchanges_in, system_of}
+use Rattle.listed_systems.specs.declared.listed_system.ListedSystem.{ListedSystem}
 use Rattle.certificate_definitions.specs.Certificates.{are_exchanges}
 use Rattle.solver.specs.Listing.{mark_of_line}
 

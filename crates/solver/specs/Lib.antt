@@ -1,7 +1,5 @@
 pub mod Limit
 pub mod Improved
-pub mod Exchanges
-pub mod ListedSystem
 pub mod Guidance
 pub mod Written
 pub mod SeveralOver
@@ -9,7 +7,6 @@ pub mod Guided
 pub mod Listing
 pub mod AtLimit
 pub mod Attempts
-pub mod Reachable
 pub mod Solver
 pub mod Stopped
 pub mod Stretches

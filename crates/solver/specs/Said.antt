@@ -1,15 +1,15 @@
 -- What is said of a task while it is solved: the lines, and what makes them true.
-use Rattle.std.specs.Prelude.{◌≡◌, ℕ, ◌≤◌, Bool, true, false, List, [], ◌++◌, length, map, codes, count_by, Option, Contains, IsTrue, ⊤}
+use Rattle.std.specs.Prelude.{◌≡◌, ℕ, ◌≤◌, Bool, true, false, List, [], ◌++◌, length, map, codes, count_by, Option, IsTrue, ⊤}
 use Rattle.std.specs.List.{list_all}
 use Rattle.std.specs.Fmt.{decimal}
 use Rattle.devices.specs.Devices.{IsWritten}
 use Rattle.progress_lines.specs.Said.{Stream}
-use Rattle.packed_state.specs.Store.{AreDistinct}
+use Rattle.listed_systems.specs.Reachable.{AreReachable}
 use Rattle.solver.specs.declared.reports.Report.{Report}
 use Rattle.solver.specs.declared.reports.Report.TheVariants.{Ground, Search, Limit, End}
 use Rattle.solver.specs.declared.reports.RaisedBy.TheVariants as raised_by
 use Rattle.model.specs.Task.{Task}
-use Rattle.model.specs.Runs.{System, CostsAtLeast, IsReachable}
+use Rattle.model.specs.Runs.{CostsAtLeast}
 use Rattle.model.specs.Meaning.{system_of}
 use Rattle.model.specs.NumberedAtoms.{numbered_atoms}
 use Rattle.model.specs.StaticallyFalse.{kept_instances}
@@ -34,10 +34,6 @@ line_of (Limit raised_by.States) = codes "progress=limit raise=--states\n"
 line_of (Limit raised_by.Instances) = codes "progress=limit raise=--instances\n"
 line_of (End listed expanded) =
     codes "progress=end listed=" ++ (decimal listed ++ (codes " expanded=" ++ (decimal expanded ++ codes "\n")))
-
--- so many different states are reachable
-abbrev pub AreReachable : {S A : Type 0} → System S A → ℕ → Type 0
-AreReachable {S} t count = (states : List S) × AreDistinct states × ((s : S) → Contains states s → IsReachable t s) × (length states ≡ count)
 
 -- where one state stands for all that some symmetries of the task take into one another; without any each stands for itself
 abbrev pub AreReachableBySymmetries : Task → ℕ → Type 0

@@ -9,7 +9,7 @@ use Rattle.solver.specs.declared.answer.Exceeded.TheVariants.{Instances, Atoms, 
 use Rattle.solver.specs.Improved.{HasSettledOrHigh}
 use Rattle.solver.specs.Listing.{IsShownBy, AreOpenWithin}
 use Rattle.solver.specs.AtLimit.{IsAtLimit}
-use Rattle.solver.specs.Reachable.{AreMoreReachable}
+use Rattle.listed_systems.specs.Reachable.{AreMoreReachable}
 use Rattle.model.specs.Task.{Task}
 use Rattle.model.specs.Runs.{cost_of_all, CostsAtLeast, IsOptimal, IsUnsolvable}
 use Rattle.model.specs.Claims.{bound, none}

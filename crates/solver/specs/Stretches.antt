@@ -14,8 +14,8 @@ use Rattle.solver.specs.declared.parts.Part.TheVariants as part
 use Rattle.solver.specs.declared.parts.Parts.{Parts}
 use Rattle.solver.specs.declared.parts.Parts.TheVariants.{ByTables, ByGuide}
 use Rattle.solver.specs.declared.limits.Limits.{Limits}
-use Rattle.solver.specs.ListedSystem.{ground_in, system_of}
-use Rattle.solver.specs.declared.listed_system.ListedSystem.{ListedSystem}
+use Rattle.listed_systems.specs.ListedSystem.{ground_in, system_of}
+use Rattle.listed_systems.specs.declared.listed_system.ListedSystem.{ListedSystem}
 use Rattle.solver.specs.Guided.{IsSearched}
 use Rattle.solver.specs.Solver.{IsTrueAnswer}
 

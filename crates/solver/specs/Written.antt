@@ -2,8 +2,8 @@
 use Rattle.certificate.specs.CertificateParts.{bounds_of, potential_of}
 use Rattle.potential_functions.specs.PotentialFunctions.{PotentialFunction}
 use Rattle.solver.specs.Guidance.{Guidance, by_potentials, by_tables, over_no_tables}
-use Rattle.solver.specs.declared.listed_system.ListedSystem.{ListedSystem}
-use Rattle.solver.specs.declared.listed_system.ListedSystem.TheVariants as listed
+use Rattle.listed_systems.specs.declared.listed_system.ListedSystem.{ListedSystem}
+use Rattle.listed_systems.specs.declared.listed_system.ListedSystem.TheVariants as listed
 use Rattle.solver.specs.declared.guidance.Guidance as written
 use Rattle.solver.specs.declared.guidance.Guidance.TheVariants.{Potentials, Tables}
 

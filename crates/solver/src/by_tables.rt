@@ -16,7 +16,7 @@ ghost use Rattle.solver.specs.Attempts.{IfDone};
 ghost use Rattle.solver.specs.Guidance.{by_tables, estimate_by, first_value, reports_dead};
 ghost use Rattle.solver.specs.Guided.{IsSearched};
 ghost use Rattle.solver.specs.Improved.{AreSettledOrHigh, AreDeadSettledOrHigh};
-ghost use Rattle.solver.specs.ListedSystem.{ground_in, IsListed};
+ghost use Rattle.listed_systems.specs.ListedSystem.{ground_in, IsListed};
 ghost use Rattle.solver.specs.SeveralOver.{several_over};
 ghost use Rattle.progress_lines.specs.Said.{GoesOn};
 ghost use Rattle.solver.specs.Said.{IsTrueLine};
@@ -32,14 +32,13 @@ use crate::answer::{Answer, answer_of};
 use crate::attempt::Attempt;
 use crate::guidance::{Guidance, potential_of};
 use crate::limits::Limits;
-use crate::listed_guide::ListedGuide;
-use crate::listed_system::ListedSystem;
 use crate::searched::{Searched, search_by};
 use crate::stopped::Stopped;
 use certificate::{Bounds, Potential, Version};
 use devices::Sink;
 use faults::NoMemory;
 use grounding::Ground;
+use listed_systems::{ListedGuide, ListedSystem};
 use potentials::Potentials;
 use search::TransitionSystem;
 use std::alloc::Global;
@@ -102,11 +101,19 @@ fn drafted(
         potentials: stopped.potentials,
         dead_ends: stopped.dead_ends,
         states: &states,
-        starts: system.starts_among(&states),
+        starts: starts_among(system, &states),
         effort: stopped.effort,
     };
     let draft = drafted_tables(alloc, system.ground(), &wanted)?;
     Ok(draft)
+}
+
+/// Of found states those that no instances lead to from the initial state of the task, maybe: in a quotient a state stands for others.
+fn starts_among<'s>(system: ListedSystem<'_, '_>, states: &'s [Vec<u32>]) -> &'s [Vec<u32>] {
+    match system {
+        ListedSystem::Ground(_) => &[],
+        ListedSystem::Quotient(_) => states,
+    }
 }
 
 /// The same constants and weights of all values, as a certificate has them.

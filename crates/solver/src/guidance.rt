@@ -6,9 +6,9 @@ ghost use Rattle.potentials_improved.specs.Potentials.{potentials_of};
 ghost use Rattle.solver.specs.Guidance as guidance;
 ghost use Rattle.solver.specs.Written.{guidance_of, by_potentials_of};
 
-use crate::listed_system::ListedSystem;
 use certificate::{Bounds, Potential, Version};
 use faults::NoMemory;
+use listed_systems::ListedSystem;
 use potentials_improved::Potentials;
 use std::alloc::Global;
 

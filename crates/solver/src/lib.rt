@@ -4,23 +4,16 @@
 mod answer;
 mod attempt;
 mod by_tables;
-mod exchanges;
 mod guidance;
 mod improved;
 mod limits;
-mod listed_guide;
-mod listed_system;
 mod listing;
 mod parts;
 mod pauses;
 mod reports;
 mod searched;
-mod steps;
 mod stopped;
-mod system;
 
 pub use answer::{Answer, Exceeded, solve, solve_and_say};
 pub use limits::{Limits, MAX_LIMIT};
-pub use listed_system::ListedSystem;
 pub use reports::{RaisedBy, Report};
-pub use system::GroundSystem;

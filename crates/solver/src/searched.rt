@@ -11,19 +11,19 @@ ghost use Rattle.packed_state.specs.Packed.{bits_of};
 ghost use Rattle.search.specs.Outcome.{is_expanded, is_marked_dead, line_of};
 ghost use Rattle.solver.specs.Guided as guided;
 ghost use Rattle.solver.specs.Guided.{AreMarksOf, CanBeMarked, IsSearched};
-ghost use Rattle.solver.specs.ListedSystem.{ground_in, system_of, IsListed};
+ghost use Rattle.listed_systems.specs.ListedSystem.{ground_in, system_of, IsListed};
 ghost use Rattle.progress_lines.specs.Said.{GoesOn};
 ghost use Rattle.solver.specs.Said.{IsTrueLine};
 ghost use Rattle.solver.specs.Stretches.{AreOpenIn, IsStretch, IsUnderWay};
 ghost use Rattle.solver.specs.Listing.{mark_of_line};
 
 use crate::limits::Limits;
-use crate::listed_system::ListedSystem;
 use crate::pauses::{Milestone, is_news, next_pause};
 use crate::reports::{Report, say};
 use certificate::{Listed, Mark};
 use devices::Sink;
 use faults::NoMemory;
+use listed_systems::ListedSystem;
 use packed_state::{Packed, PooledStore, StateStore};
 use search::{
     FoundStates, Guide, Halt, Node, NodeStatus, Outcome, Search, TransitionSystem, begin, go_on,

@@ -17,13 +17,13 @@ use Rattle.model.specs.NumberedAtoms.{numbered_atoms}
 use Rattle.symmetries.specs.Quotients.{quotient_of}
 use Rattle.quotient_systems.specs.RealPlans.{IsCarriedOut}
 use Rattle.certificate_definitions.specs.Certificates.{Certificate}
-use Rattle.solver.specs.Reachable.{AreMoreReachable}
-use Rattle.solver.specs.ListedSystem.{ground_in, exchanges_in, system_of}
+use Rattle.listed_systems.specs.Reachable.{AreMoreReachable}
+use Rattle.listed_systems.specs.ListedSystem.{ground_in, exchanges_in, system_of}
 use Rattle.solver.specs.Guidance.{estimate_by, reports_dead}
 use Rattle.solver.specs.Guided.{found_in, AreMarksOf}
 use Rattle.solver.specs.Written.{guidance_of}
 use Rattle.solver.proofs.AnswerLemmas.{all_instances_of_plan, most_of_limit, found_among_more, claim_allowed, limit_allowed, plan_optimal, more_of_listed}
-use Rattle.solver.proofs.ListedLemmas.{does, task_unsolvable, task_costs_at_least}
+use Rattle.listed_systems.proofs.ListedLemmas.{does, task_unsolvable, task_costs_at_least}
 use Rattle.solver.proofs.ListingLemmas.{lists_by, shown, opened_within, settled_or_high}
 use Rattle.solver.proofs.ConsistentLemmas.{consistent_where_none}
 use Rattle.solver.proofs.LimitLemmas.{at_limit_of}

@@ -11,11 +11,11 @@ use Rattle.potentials_improved.specs.FairPotentials.{potentials_in}
 use Rattle.search.specs.Estimates.{value_by}
 use Rattle.solver.specs.Guidance.{Guidance, estimate_by, reports_dead}
 use Rattle.solver.specs.Guided.{IsGuidanceFor, IsSearched}
-use Rattle.solver.specs.ListedSystem as listed_system
-use Rattle.solver.specs.ListedSystem.{ground_in, system_over}
+use Rattle.listed_systems.specs.ListedSystem as listed_system
+use Rattle.listed_systems.specs.ListedSystem.{ground_in, system_over}
 use Rattle.solver.specs.Stretches.{IsTrueEnd}
 use Rattle.solver.specs.Written.{guidance_of, by_potentials_of}
-use Rattle.solver.proofs.ListedGuides.{over_ground}
+use Rattle.listed_systems.proofs.ListedGuides.{over_ground}
 use Rattle.solver.proofs.PotentialGuidance.{AreGood, guides_by_potentials, same_estimates, same_reports}
 use Rattle.solver.proofs.PotentialLemmas.{value_by-value}
 use Rattle.solver.proofs.answer.solve_by_potentials.Goals as goal

@@ -11,7 +11,7 @@ use Rattle.solver.specs.declared.searched.Searched.{Searched}
 use Rattle.solver.specs.Attempts.{IfDone}
 use Rattle.solver.specs.Guidance.{by_tables, estimate_by, reports_dead}
 use Rattle.solver.specs.Guided.{IsSearched}
-use Rattle.solver.specs.ListedSystem.{ground_in}
+use Rattle.listed_systems.specs.ListedSystem.{ground_in}
 use Rattle.solver.specs.Improved.{AreSettledOrHigh}
 use Rattle.solver.proofs.TablesLemmas.{tables-written}
 use Rattle.solver.proofs.by_tables.answer_by_tables.Goals as goal

@@ -5,7 +5,7 @@ use Rattle.certificate_definitions.specs.Certificates.{three}
 use Rattle.faults.specs.declared.refused.NoMemory.{NoMemory}
 use Rattle.grounding.specs.declared.ground.Ground.{Ground}
 use Rattle.grounding.specs.Ground.{task_in, atoms_in}
-use Rattle.solver.specs.ListedSystem.{ground_in}
+use Rattle.listed_systems.specs.ListedSystem.{ground_in}
 use Rattle.model.specs.Grounding.{ground_system}
 use Rattle.potential_functions.specs.Settled.{initial_value}
 use Rattle.potentials.specs.Potentials.{potentials_of}

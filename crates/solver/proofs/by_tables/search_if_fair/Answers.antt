@@ -10,7 +10,7 @@ use Rattle.table_guides.specs.FairTables.{functions_in, ground_in as guided_grou
 use Rattle.tables.specs.Several.{several_of, ReportsValues}
 use Rattle.solver.specs.Guidance.{by_tables, estimate_by, reports_dead}
 use Rattle.solver.specs.Guided.{IsSearched}
-use Rattle.solver.specs.ListedSystem.{ground_in}
+use Rattle.listed_systems.specs.ListedSystem.{ground_in}
 use Rattle.solver.proofs.by_tables.search_if_fair.Goals as goal
 
 pub new-requires-clause-numbered : goal.new-requires-clause-numbered

@@ -8,9 +8,9 @@ use Rattle.grounding.specs.Ground.{task_in, atoms_in}
 use Rattle.model.specs.NumberedAtoms.{are_distinct}
 use Rattle.model.proofs.GroundTaskLemmas.{numbered-distinct}
 use Rattle.solver.specs.Guidance.{estimate_by, reports_dead}
-use Rattle.solver.specs.ListedSystem.{ground_in, exchanges_in, system_of}
+use Rattle.listed_systems.specs.ListedSystem.{ground_in, exchanges_in, system_of}
 use Rattle.solver.specs.Listing.{found_certificate}
-use Rattle.solver.proofs.ListedLemmas.{does}
+use Rattle.listed_systems.proofs.ListedLemmas.{does}
 use Rattle.solver.specs.Written.{guidance_of}
 use Rattle.solver.proofs.FoundLines.{lines_of_marks, as_many_marks}
 use Rattle.solver.proofs.ListingLemmas.{within_limits}

@@ -1,6 +1,6 @@
 use Rattle.std.proofs.Common.{◌-◌, length}
 use Rattle.grounding.specs.Ground.{task_in}
-use Rattle.solver.specs.ListedSystem.{ground_in}
+use Rattle.listed_systems.specs.ListedSystem.{ground_in}
 use Rattle.packed_state.specs.PooledView.{pooled_states}
 use Rattle.search.specs.UnderWay.{store_in}
 use Rattle.progress_lines.specs.Said.{GoesOn}

@@ -1,7 +1,7 @@
 use Rattle.std.proofs.Common.{◌≡◌, ◌∙◌, ◌≤◌, ℕ, Bool, List, length, sym, ap, subst, arith}
 use Rattle.std.proofs.lemmas.List.Sums.{count_by-le-length}
 use Rattle.grounding.specs.Ground.{task_in}
-use Rattle.solver.specs.ListedSystem.{ground_in, exchanges_in, system_of}
+use Rattle.listed_systems.specs.ListedSystem.{ground_in, exchanges_in, system_of}
 use Rattle.model.specs.Runs.{System}
 use Rattle.model.specs.Claims.{IsLowerBound, AreDeadEnds}
 use Rattle.packed_state.specs.PooledView.{pooled_states}
@@ -10,8 +10,8 @@ use Rattle.search.proofs.Consistent.{lower_bound}
 use Rattle.search.proofs.DeadEnds.{are_dead_ends}
 use Rattle.search.specs.OpenList.{IsLeastSum}
 use Rattle.search.specs.Outcome.{is_expanded}
-use Rattle.solver.specs.Said.{AreReachable}
-use Rattle.solver.proofs.ListedLemmas.{does, task_costs_at_least, as_many_reachable}
+use Rattle.listed_systems.specs.Reachable.{AreReachable}
+use Rattle.listed_systems.proofs.ListedLemmas.{does, task_costs_at_least, as_many_reachable}
 use Rattle.solver.proofs.PauseLemmas.{bound_holds, distinct, reachable}
 use Rattle.solver.proofs.searched.say_progress.Goals as goal
 

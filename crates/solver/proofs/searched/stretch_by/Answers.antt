@@ -1,6 +1,6 @@
 use Rattle.std.proofs.Common.{◌≡◌, ◌≤◌, ℕ, sym, subst, length, Bool, List, arith}
 use Rattle.grounding.specs.Ground.{atoms_in}
-use Rattle.solver.specs.ListedSystem.{ground_in, system_of}
+use Rattle.listed_systems.specs.ListedSystem.{ground_in, system_of}
 use Rattle.packed_state.specs.PooledView.{pooled_states}
 use Rattle.packed_state.specs.declared.pooled.PooledStore.{PooledStore}
 use Rattle.search.specs.Outcome.{IsTrueOutcome}

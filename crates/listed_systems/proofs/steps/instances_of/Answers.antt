@@ -3,8 +3,8 @@ use Rattle.std.proofs.lemmas.List.{length-map}
 use Rattle.std.proofs.lemmas.Option.{slice_get_read}
 use Rattle.formulas.specs.State.{instance_of}
 use Rattle.grounding.specs.Ground.{task_in}
-use Rattle.solver.proofs.LoopLemmas.{named_next, names_kept}
-use Rattle.solver.proofs.steps.instances_of.Goals as goal
+use Rattle.listed_systems.proofs.PlanLemmas.{named_next, names_kept}
+use Rattle.listed_systems.proofs.steps.instances_of.Goals as goal
 
 pub loop-number-preserved : goal.loop-number-preserved
 loop-number-preserved c =

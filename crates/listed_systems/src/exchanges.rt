@@ -4,7 +4,7 @@ ghost use Rattle.grounding.specs.Ground.{task_in};
 ghost use Rattle.symmetries.specs.Symmetries.{is_symmetry};
 ghost use Rattle.certificate.specs.CertificateParts.{exchange_in};
 ghost use Rattle.task_symmetries.specs.Exchange.{exchange_of};
-ghost use Rattle.solver.specs.Exchanges.{AreExchangesFor};
+ghost use Rattle.listed_systems.specs.Exchanges.{AreExchangesFor};
 
 use exchanges_drafted::{MAX_EXCHANGES, drafted_exchanges};
 use faults::NoMemory;
@@ -17,7 +17,7 @@ use task_symmetries::{Exchange, exchanged_numbers};
 const MAX_LOOKS: usize = 4_194_304;
 
 /// Exchanges of objects that are symmetries of the task, and take each numbered atom to a numbered one.
-pub(crate) fn exchanges_of(alloc: Global, ground: &Ground<'_>) -> Result<Vec<Exchange>, NoMemory>
+pub fn exchanges_of(alloc: Global, ground: &Ground<'_>) -> Result<Vec<Exchange>, NoMemory>
     ensures { IfOk result (λ kept. AreExchangesFor ground.now (map exchange_of kept.items)) }
 {
     let drafts = drafted_exchanges(alloc, ground.task())?;

@@ -1,7 +1,7 @@
 use Rattle.std.proofs.Common.{map}
 use Rattle.task_symmetries.specs.Exchange.{exchange_of}
-use Rattle.solver.specs.Exchanges.{AreExchangesFor}
-use Rattle.solver.proofs.exchanges.exchanges_of.Given as goal
+use Rattle.listed_systems.specs.Exchanges.{AreExchangesFor}
+use Rattle.listed_systems.proofs.exchanges.exchanges_of.Given as goal
 
 -- those so far may be searched by
 abbrev pub invariant-loop-exchange : goal.invariant-loop-exchange

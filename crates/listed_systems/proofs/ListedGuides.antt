@@ -16,9 +16,9 @@ use Rattle.quotient_systems.specs.RealPlans.{quotient_by}
 use Rattle.quotient_systems.proofs.Guides.{guides_hold_of_quotients}
 use Rattle.search.specs.Estimates.{IsAdmissible}
 use Rattle.search.specs.DeadEnds.{ReportsDeadEnds}
-use Rattle.solver.specs.ListedSystem.{ground_in, system_of, system_over, IsListed}
-use Rattle.solver.specs.declared.listed_system.ListedSystem.{ListedSystem}
-use Rattle.solver.specs.declared.listed_system.ListedSystem.TheVariants as listed
+use Rattle.listed_systems.specs.ListedSystem.{ground_in, system_of, system_over, IsListed}
+use Rattle.listed_systems.specs.declared.listed_system.ListedSystem.{ListedSystem}
+use Rattle.listed_systems.specs.declared.listed_system.ListedSystem.TheVariants as listed
 
 -- over the ground task it is the system itself
 pub over_ground : (system : ListedSystem) (u : System (List Bool) ℕ) → u ≡ ground_system (task_in (ground_in system)) (atoms_in (ground_in system)) → system_over u system ≡ system_of system

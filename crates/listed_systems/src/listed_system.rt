@@ -23,7 +23,7 @@ pub enum ListedSystem<'l, 't> {
 impl<'l, 't> ListedSystem<'l, 't> {
     ghost use Rattle.std.specs.Prelude.{◌≡◌, IfOk, map};
     ghost use Rattle.certificate.specs.CertificateParts.{exchange_in};
-    ghost use Rattle.solver.specs.ListedSystem.{ground_in, exchanges_in};
+    ghost use Rattle.listed_systems.specs.ListedSystem.{ground_in, exchanges_in};
 
     /// The ground task.
     pub fn ground(&self) -> &'l Ground<'t>
@@ -35,16 +35,8 @@ impl<'l, 't> ListedSystem<'l, 't> {
         }
     }
 
-    /// Of states of the system those that no instances lead to from the initial state of the task, maybe: all of the quotient's.
-    pub(crate) fn starts_among<'s>(&self, states: &'s [Vec<u32>]) -> &'s [Vec<u32>] {
-        match self {
-            ListedSystem::Ground(_) => &[],
-            ListedSystem::Quotient(_) => states,
-        }
-    }
-
     /// The exchanges, as a certificate has them.
-    pub(crate) fn written_exchanges(
+    pub fn written_exchanges(
         &self,
         alloc: Global,
     ) -> Result<Vec<Vec<(ObjectId, ObjectId)>>, NoMemory>
@@ -62,7 +54,7 @@ impl<'l, 't> ListedSystem<'l, 't> {
 impl TransitionSystem for ListedSystem<'_, '_> {
     ghost use Rattle.std.specs.Prelude.{length};
     ghost use Rattle.grounding.specs.Ground.{atoms_in};
-    ghost use Rattle.solver.specs.ListedSystem.{ground_in, system_of};
+    ghost use Rattle.listed_systems.specs.ListedSystem.{ground_in, system_of};
 
     ghost width_of = { λ system. length (atoms_in (ground_in system)) };
 

@@ -8,7 +8,7 @@ use Rattle.std.proofs.lemmas.Option.{slice_get_within}
 use Rattle.packed_state.specs.Store.{AreDistinct}
 use Rattle.search.specs.Transitions.{AreApplicable}
 use Rattle.search.specs.Outcome.{IsReachableAt}
-use Rattle.solver.specs.Reachable.{PrecedesPlans, is_initial, is_next, AreMoreReachable}
+use Rattle.listed_systems.specs.Reachable.{PrecedesPlans, is_initial, is_next, AreMoreReachable}
 use Rattle.model.specs.Task.{Atom, Task, Instance}
 use Rattle.model.specs.Runs.{run, cost_of_all, CostsAtLeast, IsReachable}
 use Rattle.model.specs.Meaning.{State, system_of}

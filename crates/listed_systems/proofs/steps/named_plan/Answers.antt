@@ -3,8 +3,8 @@ use Rattle.std.specs.List.{AllZip}
 use Rattle.grounding.specs.Ground.{task_in}
 use Rattle.model.specs.Task.{Instance}
 use Rattle.model.specs.Grounding.{NamesKept}
-use Rattle.solver.proofs.AnswerLemmas.{plan_length}
-use Rattle.solver.proofs.steps.named_plan.Goals as goal
+use Rattle.listed_systems.proofs.PlanLemmas.{plan_length}
+use Rattle.listed_systems.proofs.steps.named_plan.Goals as goal
 
 pub unreachable-requires : goal.unreachable-requires
 unreachable-requires c =

@@ -9,7 +9,7 @@ ghost use Rattle.model.specs.Grounding.{NamesKept};
 ghost use Rattle.model.specs.Meaning as meaning;
 ghost use Rattle.model.specs.Runs.{Solves};
 ghost use Rattle.quotient_systems.specs.RealPlans.{IsCarriedOut};
-ghost use Rattle.solver.specs.ListedSystem.{ground_in, system_of, IsListed};
+ghost use Rattle.listed_systems.specs.ListedSystem.{ground_in, system_of, IsListed};
 
 use crate::listed_system::ListedSystem;
 use faults::NoMemory;
@@ -19,7 +19,7 @@ use quotient_systems::real_plan;
 use std::alloc::Global;
 
 /// The plan that these numbers stand for: their instances, in order, with the objects as they were before exchanges were made.
-pub(crate) fn plan_of(
+pub fn plan_of(
     alloc: Global,
     system: ListedSystem<'_, '_>,
     numbers: &[u32],

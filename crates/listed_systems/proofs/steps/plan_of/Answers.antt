@@ -11,10 +11,10 @@ use Rattle.model.specs.Fluents.{is_fluent}
 use Rattle.model.specs.Grounding.{NamesKept}
 use Rattle.representatives.specs.Representatives.{task_of}
 use Rattle.quotient_systems.specs.RealPlans.{quotient_by, IsCarriedOut, IsRealPlan}
-use Rattle.solver.specs.ListedSystem.{ground_in, system_of, IsListed}
-use Rattle.solver.specs.declared.listed_system.ListedSystem.{ListedSystem}
-use Rattle.solver.proofs.AnswerLemmas.{plan_named, plan_carried_out}
-use Rattle.solver.proofs.steps.plan_of.Goals as goal
+use Rattle.listed_systems.specs.ListedSystem.{ground_in, system_of, IsListed}
+use Rattle.listed_systems.specs.declared.listed_system.ListedSystem.{ListedSystem}
+use Rattle.listed_systems.proofs.PlanLemmas.{plan_named, plan_carried_out}
+use Rattle.listed_systems.proofs.steps.plan_of.Goals as goal
 
 -- what is so of each is so of whatever comes
 so_of : {X E : Type 0} {P Q : X → Type 0} (result : Result X E) → ((x : X) → P x → Q x) → IfOk result P → IfOk result Q

@@ -26,13 +26,13 @@ use Rattle.model.specs.Grounding.{state_of_bits, bits_of_state, ground_step, gro
 use Rattle.model.proofs.ListLemmas.{Contains-got, map-Contains}
 use Rattle.model.proofs.BisimulationLemmas.{run_forth, same_cost, bound_forth, unsolvable_forth}
 use Rattle.model.proofs.GroundTaskLemmas.{length-step, packs_states, ground_task_is_bisimilar}
-use Rattle.solver.specs.Reachable.{PrecedesPlans, is_initial, is_next, AreMoreReachable}
-use Rattle.solver.specs.ListedSystem as listed_system
-use Rattle.solver.specs.ListedSystem.{ground_in, exchanges_in, IsListed}
-use Rattle.solver.specs.declared.listed_system.ListedSystem.{ListedSystem}
-use Rattle.solver.specs.declared.listed_system.ListedSystem.TheVariants as listed
-use Rattle.solver.specs.Said.{AreReachable}
-use Rattle.solver.proofs.GroundLemmas.{distinct_states}
+use Rattle.listed_systems.specs.Reachable.{PrecedesPlans, is_initial, is_next, AreMoreReachable}
+use Rattle.listed_systems.specs.ListedSystem as listed_system
+use Rattle.listed_systems.specs.ListedSystem.{ground_in, exchanges_in, IsListed}
+use Rattle.listed_systems.specs.declared.listed_system.ListedSystem.{ListedSystem}
+use Rattle.listed_systems.specs.declared.listed_system.ListedSystem.TheVariants as listed
+use Rattle.listed_systems.specs.Reachable.{AreReachable}
+use Rattle.listed_systems.proofs.GroundLemmas.{distinct_states}
 
 -- A system of packed states does what the quotient of the task by these exchanges does.
 pub record DoesAs (task : Task) (exchanges : List Exchange) (t : System (List Bool) ℕ) : Type 0 where

@@ -12,8 +12,8 @@ use Rattle.symmetries.specs.Exchanges.{Exchange}
 use Rattle.symmetries.specs.Symmetries.{is_symmetry}
 use Rattle.representatives.specs.Representatives.{ground_of, exchanges_of}
 use Rattle.quotient_systems.specs.RealPlans.{quotient_by}
-use Rattle.solver.specs.declared.listed_system.ListedSystem.{ListedSystem}
-use Rattle.solver.specs.declared.listed_system.ListedSystem.TheVariants as listed
+use Rattle.listed_systems.specs.declared.listed_system.ListedSystem.{ListedSystem}
+use Rattle.listed_systems.specs.declared.listed_system.ListedSystem.TheVariants as listed
 
 abbrev pub ground_in : ListedSystem → Ground
 ground_in (listed.Ground g) = g.now

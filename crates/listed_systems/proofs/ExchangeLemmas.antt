@@ -11,7 +11,7 @@ use Rattle.symmetries.specs.Exchanges.{Exchange}
 use Rattle.symmetries.specs.Symmetries.{is_symmetry}
 use Rattle.symmetries.specs.Quotients.{keeps_atoms}
 use Rattle.certificate_definitions.specs.Certificates.{three, are_exchanges, has_exchanges}
-use Rattle.solver.specs.Exchanges.{AreExchangesFor}
+use Rattle.listed_systems.specs.Exchanges.{AreExchangesFor}
 
 pub none_yet : (g : Ground) → AreExchangesFor g []
 none_yet g = record { symmetries = refl; kept = refl; written = refl; few = omega arith }

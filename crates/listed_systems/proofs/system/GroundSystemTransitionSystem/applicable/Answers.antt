@@ -4,8 +4,8 @@ use Rattle.packed_state.specs.Packed.{bits_of}
 use Rattle.search.specs.Transitions.{AreApplicable}
 use Rattle.grounding.specs.Ground.{task_in, atoms_in}
 use Rattle.model.specs.Grounding.{ground_system}
-use Rattle.solver.proofs.GroundLemmas.{are_applicable}
-use Rattle.solver.proofs.system.GroundSystemTransitionSystem.applicable.Goals as goal
+use Rattle.listed_systems.proofs.GroundLemmas.{are_applicable}
+use Rattle.listed_systems.proofs.system.GroundSystemTransitionSystem.applicable.Goals as goal
 
 pub returns-clause-ok : goal.returns-clause-ok
 returns-clause-ok c =

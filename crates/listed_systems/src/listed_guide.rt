@@ -5,7 +5,7 @@ ghost use Rattle.grounding.specs.Ground.{task_in, atoms_in};
 ghost use Rattle.model.specs.Grounding.{ground_system};
 ghost use Rattle.search.specs.Estimates.{IsAdmissible};
 ghost use Rattle.search.specs.DeadEnds.{ReportsDeadEnds};
-ghost use Rattle.solver.specs.ListedSystem.{ground_in, system_over, IsListed};
+ghost use Rattle.listed_systems.specs.ListedSystem.{ground_in, system_over, IsListed};
 
 use crate::listed_system::ListedSystem;
 use faults::NoMemory;
@@ -16,16 +16,18 @@ use std::alloc::Global;
 /// A guide of a ground task, which guides a search of its quotient by exchanges too: each estimate is at most what is still to pay
 /// in either, and what is reported a dead end is one in both.
 #[derive(Drop)]
-pub(crate) struct ListedGuide<'g, 'l, 't, G: Guide> {
-    guide: &'g G,
-    system: ListedSystem<'l, 't>,
+pub struct ListedGuide<'g, 'l, 't, G: Guide> {
+    /// That of the ground task.
+    pub guide: &'g G,
+    /// The system that it guides in.
+    pub system: ListedSystem<'l, 't>,
     ghost admissible: { IsAdmissible (system_over (G.system_of guide.now) system) (G.estimate_of guide.now) } by { Prim.hlevel props },
     ghost reports: { ReportsDeadEnds (system_over (G.system_of guide.now) system) (G.is_dead guide.now) } by { Prim.hlevel props },
 }
 
 impl<'g, 'l, 't, G: Guide> ListedGuide<'g, 'l, 't, G> {
     /// The guide for this system.
-    pub(crate) fn new(guide: &'g G, system: ListedSystem<'l, 't>) -> ListedGuide<'g, 'l, 't, G>
+    pub fn new(guide: &'g G, system: ListedSystem<'l, 't>) -> ListedGuide<'g, 'l, 't, G>
         requires listed { IsListed system }
         requires made_for { G.system_of guide.now ≡ ground_system (task_in (ground_in system)) (atoms_in (ground_in system)) }
         ensures guide { result.guide.now ≡ guide.now }
@@ -38,7 +40,7 @@ impl<'g, 'l, 't, G: Guide> ListedGuide<'g, 'l, 't, G> {
 /// In the quotient a state that follows is asked for by itself: the exchanges that are made after the action may have changed more
 /// than the action does.
 impl<G: Guide> Guide for ListedGuide<'_, '_, '_, G> {
-    ghost use Rattle.solver.specs.ListedSystem.{fits_there, room_at, system_over};
+    ghost use Rattle.listed_systems.specs.ListedSystem.{fits_there, room_at, system_over};
 
     type Room = G::Room;
 

@@ -3,7 +3,7 @@ use Rattle.std.specs.List.{AllZip}
 use Rattle.formulas.specs.State.{instance_of}
 use Rattle.grounding.specs.Ground.{task_in}
 use Rattle.model.specs.Grounding.{NamesKept}
-use Rattle.solver.proofs.steps.instances_of.Given as goal
+use Rattle.listed_systems.proofs.steps.instances_of.Given as goal
 
 -- the instances of the numbers so far
 abbrev pub invariant-loop-number : goal.invariant-loop-number
