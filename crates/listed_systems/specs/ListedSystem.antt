@@ -12,6 +12,7 @@ use Rattle.symmetries.specs.Exchanges.{Exchange}
 use Rattle.symmetries.specs.Symmetries.{is_symmetry}
 use Rattle.representatives.specs.Representatives.{ground_of, exchanges_of}
 use Rattle.quotient_systems.specs.RealPlans.{quotient_by}
+use Rattle.listed_systems.specs.Exchanges.{can_be_named}
 use Rattle.listed_systems.specs.declared.listed_system.ListedSystem.{ListedSystem}
 use Rattle.listed_systems.specs.declared.listed_system.ListedSystem.TheVariants as listed
 
@@ -45,6 +46,7 @@ pub record IsListed (system : ListedSystem) : Type 0 where
   pub atoms : atoms_in (ground_in system) ≡ numbered_atoms (task_in (ground_in system)) []
   pub symmetries : IsTrue (list_all (is_symmetry (task_in (ground_in system))) (exchanges_in system))
   pub written : IsTrue (are_exchanges three (exchanges_in system))
+  pub named : IsTrue (list_all (can_be_named (task_in (ground_in system))) (exchanges_in system))
   pub few : length (exchanges_in system) ≤ 1048576
   pub some : HasExchanges system
 

@@ -1,6 +1,6 @@
 -- What the certificate of a search's found states is made of.
-use Rattle.std.specs.Prelude.{◌≡◌, ℕ, ◌+◌, ◌≤◌, ◌⊎◌, Bool, IsTrue, List, [], length, map, Contains}
-use Rattle.std.specs.List.{filter, range_with_len}
+use Rattle.std.specs.Prelude.{◌≡◌, ℕ, ◌+◌, ◌≤◌, ◌⊎◌, Bool, IsTrue, List, length, map, Contains}
+use Rattle.std.specs.List.{filter, list_all, range_with_len}
 use Rattle.packed_state.specs.Sets.{has}
 use Rattle.search.specs.declared.nodes.Node.{Node}
 use Rattle.search.specs.Outcome as search
@@ -11,6 +11,7 @@ use Rattle.symmetries.specs.Exchanges.{Exchange}
 use Rattle.certificate_definitions.specs.Certificates.{two, three, Certificate, StateLine, IsClosedFor, keeps_limits, lines_of, value_of, is_dead_end_of}
 use Rattle.certificate.specs.ListedSets.{Marked}
 use Rattle.model.specs.NumberedAtoms.{numbered_atoms}
+use Rattle.listed_systems.specs.Exchanges.{can_be_named}
 use Rattle.solver.specs.Guidance.{Guidance, version_by, values_by, estimate_by, reports_dead}
 
 -- the numbers of the atoms that are true in the packed state, rising
@@ -39,14 +40,14 @@ found_certificate claim exchanges atoms guidance states nodes = record {
   lines = map state_line (search.lines_of (estimate_by guidance) (reports_dead guidance) states nodes);
 }
 
--- The certificate is closed for the task, claims this, keeps the limits of a certificate's text, and lists at most
--- `max_states` states by the numbered atoms, each at the place that is its number. It is of version 2, or of version 3 where
--- the search went by tables or exchanges, and each listed state that its values report a dead end is listed as one.
+-- The certificate is closed for the task, claims this, keeps the limits of a certificate's text, its exchanges can be named, and it
+-- lists at most `max_states` states by the numbered atoms, each at the place that is its number. It is of version 2, or of version 3
+-- where the search went by tables or exchanges, and each listed state that its values report a dead end is listed as one.
 pub record IsShownBy (task : Task) (claim : Claim) (max_states : ℕ) (certificate : Certificate) : Type 0 where
   pub claims : certificate.claim ≡ claim
   pub closed : IsClosedFor task certificate
   pub within_limit : length certificate.lines ≤ max_states
-  pub exchanges : certificate.exchanges ≡ []
+  pub exchanges : IsTrue (list_all (can_be_named task) certificate.exchanges)
   pub atoms : certificate.atoms ≡ numbered_atoms task []
   pub within_limits : IsTrue (keeps_limits certificate)
   pub version : (certificate.version ≡ two) ⊎ (certificate.version ≡ three)
