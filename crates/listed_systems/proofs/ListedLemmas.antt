@@ -14,7 +14,7 @@ use Rattle.symmetries.specs.Quotients.{keeps_atoms, packed_representative, quoti
 use Rattle.symmetries.proofs.PackedQuotients.{ground_quotient_is_bisimilar}
 use Rattle.symmetries.proofs.TaskQuotients.{quotient_tells}
 use Rattle.certificate_definitions.proofs.WithoutExchanges.{without_exchanges}
-use Rattle.model.specs.Task.{Atom, Task}
+use Rattle.model.specs.Task.{Atom, Instance, Task}
 use Rattle.model.specs.Claims.{bound, none}
 use Rattle.model.specs.Runs.{System, run, cost_of_all, CostsAtLeast, IsReachable, IsUnsolvable}
 use Rattle.model.specs.Meaning.{State, system_of}
@@ -52,7 +52,7 @@ module _ (task : Task) where
   -- the ground task, where there are no exchanges
   ground_does : DoesAs task [] (ground_system task atoms)
   ground_does = record {
-    both = subst (λ (u : System State _). IsBisimulation (ground_system task atoms) u (StandsFor task atoms) (NamesKept task)) (sym (without_exchanges task atoms)) (ground_task_is_bisimilar task [] none_more);
+    both = subst (λ (u : System State Instance). IsBisimulation (ground_system task atoms) u (StandsFor task atoms) (NamesKept task)) (sym (without_exchanges task atoms)) (ground_task_is_bisimilar task [] none_more);
     wide_start = length-map atoms _;
     wide_steps = λ bits next n leads. length-step task atoms bits next n leads;
     symmetries = refl;
@@ -86,7 +86,7 @@ does (listed.Quotient r) known =
 -- ---- packed states and the states that they stand for
 
 module _ (task : Task) (exchanges : List Exchange) (t : System (List Bool) ℕ) (known : DoesAs task exchanges t) where
-  abbrev q : System State _
+  abbrev q : System State Instance
   q = quotient_of task (numbered_atoms task []) exchanges
 
   abbrev view : List Bool → State

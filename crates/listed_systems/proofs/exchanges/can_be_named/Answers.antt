@@ -22,8 +22,8 @@ both_pass p (pair ∷ rest) =
     ∙ ap (λ b. p pair.0.0 && (p pair.1.0 && b)) (both_pass p rest)
 
 -- two tests that are passed
-two_passed : (a b c : Bool) → a ≡ true → b ≡ true → c ≡ (a && (b && c))
-two_passed a b c first second = sym ((λ i. first i && (second i && c)))
+two_passed : (a b c : Bool) → a ≡ true → b ≡ true → c ≡ ((a && b) && c)
+two_passed a b c first second = sym ((λ i. (first i && second i) && c))
 
 pub returns-then-pairs-le-MAX_PAIRS : goal.returns-then-pairs-le-MAX_PAIRS
 returns-then-pairs-le-MAX_PAIRS c =
