@@ -14,7 +14,6 @@ use Rattle.symmetries.specs.Quotients.{keeps_atoms, ground_quotient_of}
 use Rattle.representatives.specs.declared.representatives.Representatives.{Representatives}
 use Rattle.representatives.specs.Representatives.{task_of, exchanges_of}
 use Rattle.quotient_systems.specs.Laws.{GuidesHold}
-use Rattle.quotient_systems.specs.RealPlans.{quotient_by}
 use Rattle.quotient_systems.proofs.Guides.{guides_hold_of_quotients}
 use Rattle.search.specs.Estimates.{IsAdmissible}
 use Rattle.search.specs.DeadEnds.{ReportsDeadEnds}

@@ -1,11 +1,10 @@
 -- The system whose states are listed does what the quotient of the task by the exchanges does; and what is so of it is so of the task.
-use Rattle.std.proofs.Common.{◌≡◌, ◌∙◌, ℕ, zero, suc, ◌<◌, Bool, true, false, List, [], ◌∷◌, length, map, Option, None, Some, refl, sym, ap, subst, arith}
-use Rattle.std.specs.Prelude.{All, IsTrue, Contains, slice_get}
+use Rattle.std.proofs.Common.{◌≡◌, ◌∙◌, ℕ, Bool, true, List, [], ◌∷◌, length, map, Option, None, Some, refl, sym, ap, subst, arith}
+use Rattle.std.specs.Prelude.{All, IsTrue}
 use Rattle.std.specs.List.{list_all}
 use Rattle.std.specs.Option.{option_map, option_and_then}
 use Rattle.std.proofs.lemmas.List.{length-map}
-use Rattle.grounding.specs.Ground.{task_in, atoms_in}
-use Rattle.packed_state.specs.Store.{AreDistinct}
+use Rattle.grounding.specs.Ground.{task_in}
 use Rattle.search.specs.Outcome.{IsReachableAt}
 use Rattle.representatives.specs.Representatives.{task_of, exchanges_of}
 use Rattle.symmetries.specs.Exchanges.{Exchange}
@@ -22,10 +21,10 @@ use Rattle.model.specs.WellTyped.{is_task}
 use Rattle.model.specs.Fluents.{is_fluent}
 use Rattle.model.specs.NumberedAtoms.{numbered_atoms}
 use Rattle.model.specs.Bisimulation.{IsBisimulation}
-use Rattle.model.specs.Grounding.{state_of_bits, bits_of_state, ground_step, ground_system, StandsFor, NamesKept}
+use Rattle.model.specs.Grounding.{state_of_bits, ground_step, ground_system, StandsFor, NamesKept}
 use Rattle.model.proofs.ListLemmas.{Contains-got, map-Contains}
 use Rattle.model.proofs.BisimulationLemmas.{run_forth, same_cost, bound_forth, unsolvable_forth}
-use Rattle.model.proofs.GroundTaskLemmas.{length-step, packs_states, ground_task_is_bisimilar}
+use Rattle.model.proofs.GroundTaskLemmas.{length-step, ground_task_is_bisimilar}
 use Rattle.listed_systems.specs.Reachable.{PrecedesPlans, is_initial, is_next, AreMoreReachable}
 use Rattle.listed_systems.specs.ListedSystem as listed_system
 use Rattle.listed_systems.specs.ListedSystem.{ground_in, exchanges_in, IsListed}

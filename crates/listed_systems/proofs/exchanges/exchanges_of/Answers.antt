@@ -1,4 +1,3 @@
-use Rattle.std.proofs.Common.{◌≡◌, ◌∙◌, true, ap, sym, map}
 use Rattle.grounding.specs.Ground.{task_in}
 use Rattle.symmetries.specs.Symmetries.{is_symmetry}
 use Rattle.listed_systems.proofs.ExchangeLemmas.{first_of_left}
