@@ -34,6 +34,7 @@ use Rattle.certificate_definitions.specs.Certificates.{two, three, Certificate, 
 use Rattle.symmetries.specs.Exchanges.{Exchange}
 use Rattle.symmetries.specs.Symmetries.{is_symmetry}
 use Rattle.symmetries.specs.Quotients.{keeps_atoms, quotient_of}
+use Rattle.listed_systems.specs.Exchanges.{can_be_named}
 use Rattle.listed_systems.proofs.ListedLemmas.{DoesAs, length-reachable}
 use Rattle.table_functions.specs.TableFunctions.{SeveralValues}
 use Rattle.model.proofs.ListLemmas.{map-Contains}
@@ -235,8 +236,8 @@ module _ (task : Task) (claim : Claim) (most : ℕ) (exchanges : List Exchange) 
         let dead_found : reports_dead guidance s ≡ true = sym (same_dead k s there) ∙ ap (λ (l : Line State). is_dead_end_of task made l.state) (sym is) ∙ reported in
         ap (λ (l : Line State). l.mark) is ∙ dead_of_reported (estimate_by guidance) (reports_dead guidance) s n (found.expanded_alive k s n there here) dead_found
 
-    pub shown_by : is_task task ≡ true → CanBeWritten (length atoms) guidance → AreFairBy task atoms guidance → keeps_limits made ≡ true → IsShownBy task claim (length states) made
-    shown_by well written fair kept = record {
+    pub shown_by : is_task task ≡ true → list_all (can_be_named task) exchanges ≡ true → CanBeWritten (length atoms) guidance → AreFairBy task atoms guidance → keeps_limits made ≡ true → IsShownBy task claim (length states) made
+    shown_by well named written fair kept = record {
       claims = refl;
       closed = record {
         as_many_values = limits.value_count;
@@ -262,7 +263,7 @@ module _ (task : Task) (claim : Claim) (most : ℕ) (exchanges : List Exchange) 
             same_listing found.closed)));
       };
       within_limit = omega (arith, length-made found.one_for_each);
-      exchanges = refl;
+      exchanges = named;
       atoms = refl;
       within_limits = kept;
       version = known_version guidance;
@@ -336,11 +337,11 @@ module _ (task : Task) (claim : Claim) (most : ℕ) (exchanges : List Exchange) 
   pub is_made : made task claim most exchanges guidance states nodes ≡ certificate
   is_made = sym (is ∙ ap (λ (l : List Atom). found_certificate claim exchanges l guidance states nodes) numbered)
 
-  pub shown : (max_states : ℕ) → length states ≤ max_states → is_task task ≡ true → CanBeWritten (length known) guidance → AreFairBy task known guidance → keeps_limits certificate ≡ true
+  pub shown : (max_states : ℕ) → length states ≤ max_states → is_task task ≡ true → list_all (can_be_named task) exchanges ≡ true → CanBeWritten (length known) guidance → AreFairBy task known guidance → keeps_limits certificate ≡ true
       → IsShownBy task claim max_states certificate
-  shown max_states le well written fair kept =
+  shown max_states le well named written fair kept =
       more_allowed (subst (IsShownBy task claim (length states)) is_made
-      (shown_by task claim most exchanges guidance states nodes t by found well (subst (λ (l : List Atom). CanBeWritten (length l) guidance) numbered written)
+      (shown_by task claim most exchanges guidance states nodes t by found well named (subst (λ (l : List Atom). CanBeWritten (length l) guidance) numbered written)
       (subst (λ (l : List Atom). AreFairBy task l guidance) numbered fair) (ap keeps_limits is_made ∙ kept))) le
 
   pub opened_within : (cost : ℕ) → AreExpandedWithin (estimate_by guidance) cost states nodes → AreOpenWithin task cost certificate

@@ -69,6 +69,7 @@ fn stretch_by<G: Guide>(
     pause: u32,
     limits: Limits,
 ) -> Result<Stretch<G::Room>, NoMemory>
+    requires listed { IsListed system }
     requires system { G.system_of guide.now ≡ system_of system }
     requires width { G.width_of guide.now ≡ length (atoms_in (ground_in system)) }
     requires under_way { IsUnderWay system (G.estimate_of guide.now) (G.is_dead guide.now) (G.fits guide.now) limits.states search }
