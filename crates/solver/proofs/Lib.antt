@@ -12,3 +12,4 @@ pub mod ByCost
 pub mod LoopLemmas
 pub mod PauseLemmas
 pub mod EndLemmas
+pub mod SystemLemmas
