@@ -4,6 +4,7 @@
 mod exchanges;
 mod listed_guide;
 mod listed_system;
+mod starts;
 mod steps;
 mod system;
 

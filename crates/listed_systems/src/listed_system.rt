@@ -1,5 +1,6 @@
 //! The system whose states are searched and listed: the ground task, or its quotient by exchanges of objects.
 use crate::exchanges::written_exchanges;
+use crate::starts::images_of_start;
 use crate::system::GroundSystem;
 use faults::NoMemory;
 use grounding::Ground;
@@ -32,6 +33,28 @@ impl<'l, 't> ListedSystem<'l, 't> {
         match self {
             ListedSystem::Ground(ground) => ground,
             ListedSystem::Quotient(representatives) => representatives.ground(),
+        }
+    }
+
+    /// States that lists of the system may come to, though none of the task comes to them from its initial state, by their true atoms:
+    /// in a quotient each state that a search found, and the initial one under other names.
+    ///
+    /// # Errors
+    /// Memory was refused, which says nothing of the task.
+    pub fn other_starts(
+        &self,
+        alloc: Global,
+        found: &[Vec<u32>],
+    ) -> Result<Vec<Vec<u32>>, NoMemory> {
+        match self {
+            ListedSystem::Ground(_) => Ok(Vec::new(alloc)),
+            ListedSystem::Quotient(representatives) => {
+                let mut starts = images_of_start(alloc, representatives)?;
+                for atoms in found {
+                    starts.push(Vec::from_slice(alloc, atoms)?)?;
+                }
+                Ok(starts)
+            }
         }
     }
 

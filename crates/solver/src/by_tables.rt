@@ -97,23 +97,16 @@ fn drafted(
     ensures dead_ends { IfOk result (λ o. IfSome o (λ draft. potentials_of draft.dead_ends ≡ potentials_of stopped.now.dead_ends.now)) }
 {
     let states = stopped.samples(alloc)?;
+    let starts = system.other_starts(alloc, &states)?;
     let wanted = Wanted {
         potentials: stopped.potentials,
         dead_ends: stopped.dead_ends,
         states: &states,
-        starts: starts_among(system, &states),
+        starts: &starts,
         effort: stopped.effort,
     };
     let draft = drafted_tables(alloc, system.ground(), &wanted)?;
     Ok(draft)
-}
-
-/// Of found states those that no instances lead to from the initial state of the task, maybe: in a quotient a state stands for others.
-fn starts_among<'s>(system: ListedSystem<'_, '_>, states: &'s [Vec<u32>]) -> &'s [Vec<u32>] {
-    match system {
-        ListedSystem::Ground(_) => &[],
-        ListedSystem::Quotient(_) => states,
-    }
 }
 
 /// The same constants and weights of all values, as a certificate has them.

@@ -1,0 +1,64 @@
+//! The initial state under other names of its objects.
+use faults::NoMemory;
+use grounding::Ground;
+use representatives::Representatives;
+use std::alloc::Global;
+use task_symmetries::{Exchange, exchanged_numbers};
+
+/// So many such states are given.
+const MAX_IMAGES: usize = 64;
+
+/// States, by their true atoms, that stand for the initial one: what all exchanges, one after another, take it to, what they take
+/// that to, and so on. So each of several objects that are alike comes in turn to where the others start.
+///
+/// # Errors
+/// Memory was refused, which says nothing of the task.
+pub(crate) fn images_of_start(
+    alloc: Global,
+    representatives: &Representatives<'_, '_, '_>,
+) -> Result<Vec<Vec<u32>>, NoMemory> {
+    let ground = representatives.ground();
+    let images = images_by_all(alloc, ground, representatives.exchanges())?;
+    let mut atoms = ground.initial(alloc)?.numbers(alloc)?;
+    let mut starts = Vec::with_capacity(alloc, MAX_IMAGES)?;
+    for _ in 0..MAX_IMAGES {
+        for atom in atoms.iter_mut() {
+            *atom = images.get(*atom as usize).copied().unwrap_or(*atom);
+        }
+        starts.push(Vec::from_slice(alloc, atoms.as_slice())?)?;
+    }
+    Ok(starts)
+}
+
+/// The number of what each numbered atom becomes where all exchanges are made, one after another.
+fn images_by_all(
+    alloc: Global,
+    ground: &Ground<'_>,
+    exchanges: &[Exchange],
+) -> Result<Vec<u32>, NoMemory> {
+    let mut came_from = Vec::new(alloc);
+    for number in 0..ground.width() {
+        came_from.push(number)?;
+    }
+    for exchange in exchanges {
+        if let Some(pairs) = exchanged_numbers(alloc, ground.atoms(), exchange)? {
+            for &(one, other) in &pairs {
+                swap_there(came_from.as_mut_slice(), one, other);
+            }
+        }
+    }
+    let mut images = Vec::from_slice(alloc, came_from.as_slice())?;
+    for (image, &number) in came_from.iter().enumerate() {
+        if let Some(place) = images.get_mut(number as usize) {
+            *place = image as u32;
+        }
+    }
+    Ok(images)
+}
+
+/// The numbers at these places change them, if both places are there.
+fn swap_there(numbers: &mut [u32], one: usize, other: usize) {
+    if one < numbers.len() && other < numbers.len() {
+        numbers.swap(one, other);
+    }
+}
