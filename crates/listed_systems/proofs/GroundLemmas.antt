@@ -1,25 +1,17 @@
 -- What is known of the ground task, carried over to its task.
-use Rattle.std.proofs.Common.{◌≡◌, ◌∙◌, ℕ, zero, suc, ◌<◌, Bool, true, List, [], ◌∷◌, map, length, None, Some, refl, sym, ap, subst, arith}
+use Rattle.std.proofs.Common.{◌≡◌, ◌∙◌, ℕ, zero, suc, ◌<◌, Bool, true, List, [], ◌∷◌, map, length, None, Some, refl, sym, ap, arith}
 use Rattle.std.specs.Prelude.{Contains, All, IsTrue, slice_get, is_some}
 use Rattle.std.specs.List.{AllZip}
-use Rattle.std.specs.Option.{option_and_then}
-use Rattle.std.proofs.lemmas.List.{length-map}
 use Rattle.std.proofs.lemmas.Option.{slice_get_within}
 use Rattle.packed_state.specs.Store.{AreDistinct}
 use Rattle.search.specs.Transitions.{AreApplicable}
-use Rattle.search.specs.Outcome.{IsReachableAt}
-use Rattle.listed_systems.specs.Reachable.{PrecedesPlans, is_initial, is_next, AreMoreReachable}
 use Rattle.model.specs.Task.{Atom, Task, Instance}
-use Rattle.model.specs.Runs.{run, cost_of_all, CostsAtLeast, IsReachable}
-use Rattle.model.specs.Meaning.{State, system_of}
-use Rattle.model.specs.Bisimulation.{IsBisimulation}
+use Rattle.model.specs.Meaning.{State}
 use Rattle.model.specs.Fluents.{is_fluent}
 use Rattle.model.specs.StaticallyFalse.{kept_instances}
 use Rattle.model.specs.NumberedAtoms.{numbered_atoms}
 use Rattle.model.specs.Grounding.{state_of_bits, bits_of_state, ground_step, ground_system, applicable_numbers, NamesKept}
-use Rattle.model.proofs.ListLemmas.{Contains-got, map-Contains}
-use Rattle.model.proofs.BisimulationLemmas.{run_forth, same_cost, bound_forth}
-use Rattle.model.proofs.GroundTaskLemmas.{Contains-applicable, applicable-Contains, length-step, packs_states, ground_task_is_bisimilar}
+use Rattle.model.proofs.GroundTaskLemmas.{Contains-applicable, applicable-Contains, packs_states}
 
 -- ---- the applicable numbers
 

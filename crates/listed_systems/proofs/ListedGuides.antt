@@ -5,14 +5,15 @@ use Rattle.std.specs.List.{list_all}
 use Rattle.grounding.specs.Ground.{task_in, atoms_in}
 use Rattle.model.specs.Task.{Atom}
 use Rattle.model.specs.Runs.{System}
+use Rattle.model.specs.WellTyped.{is_task}
 use Rattle.model.specs.Fluents.{is_fluent}
 use Rattle.model.specs.NumberedAtoms.{numbered_atoms}
 use Rattle.model.specs.Grounding.{ground_system}
+use Rattle.symmetries.specs.Symmetries.{is_symmetry}
 use Rattle.symmetries.specs.Quotients.{keeps_atoms, ground_quotient_of}
 use Rattle.representatives.specs.declared.representatives.Representatives.{Representatives}
 use Rattle.representatives.specs.Representatives.{task_of, exchanges_of}
 use Rattle.quotient_systems.specs.Laws.{GuidesHold}
-use Rattle.quotient_systems.specs.RealPlans.{quotient_by}
 use Rattle.quotient_systems.proofs.Guides.{guides_hold_of_quotients}
 use Rattle.search.specs.Estimates.{IsAdmissible}
 use Rattle.search.specs.DeadEnds.{ReportsDeadEnds}
@@ -25,14 +26,14 @@ pub over_ground : (system : ListedSystem) (u : System (List Bool) ℕ) → u ≡
 over_ground (listed.Ground g) u same = same
 over_ground (listed.Quotient r) u same = refl
 
-module _ (r : Representatives) (known : IsListed (listed.Quotient (record { now = r }))) where
+module _ (r : Representatives) (typed : IsTrue (is_task (task_of r))) (same : atoms_in r.ground.now ≡ numbered_atoms (task_of r) []) (symmetries : IsTrue (list_all (is_symmetry (task_of r)) (exchanges_of r))) where
   abbrev none_more : All (λ (a : Atom). IsTrue (is_fluent (task_of r) a.predicate)) []
   none_more = λ k d below. absurd (omega (arith, below))
 
   held : GuidesHold (task_of r) (numbered_atoms (task_of r) []) (exchanges_of r)
   held =
-      guides_hold_of_quotients (task_of r) [] (exchanges_of r) known.typed none_more known.symmetries
-      (subst (λ (l : List Atom). list_all (keeps_atoms l) (exchanges_of r) ≡ true) known.atoms r.kept)
+      guides_hold_of_quotients (task_of r) [] (exchanges_of r) typed none_more symmetries
+      (subst (λ (l : List Atom). list_all (keeps_atoms l) (exchanges_of r) ≡ true) same r.kept)
 
 pub admissible_listed : (system : ListedSystem) → IsListed system → (u : System (List Bool) ℕ) → u ≡ ground_system (task_in (ground_in system)) (atoms_in (ground_in system))
     → (value : List Bool → ℕ) → IsAdmissible u value → IsAdmissible (system_over u system) value
@@ -40,7 +41,7 @@ admissible_listed (listed.Ground g) known u same value least = least
 admissible_listed (listed.Quotient r) known u same value least =
     let task = task_of r.now in
     subst (λ (l : List Atom). IsAdmissible (ground_quotient_of task l (exchanges_of r.now)) value) (sym known.atoms)
-    ((held r.now known).admissible value
+    ((held r.now known.typed known.atoms known.symmetries).admissible value
     (subst (λ (l : List Atom). IsAdmissible (ground_system task l) value) known.atoms (subst (λ (t : System (List Bool) ℕ). IsAdmissible t value) same least)))
 
 pub reports_listed : (system : ListedSystem) → IsListed system → (u : System (List Bool) ℕ) → u ≡ ground_system (task_in (ground_in system)) (atoms_in (ground_in system))
@@ -49,5 +50,5 @@ reports_listed (listed.Ground g) known u same is_dead reports = reports
 reports_listed (listed.Quotient r) known u same is_dead reports =
     let task = task_of r.now in
     subst (λ (l : List Atom). ReportsDeadEnds (ground_quotient_of task l (exchanges_of r.now)) is_dead) (sym known.atoms)
-    ((held r.now known).reported is_dead
+    ((held r.now known.typed known.atoms known.symmetries).reported is_dead
     (subst (λ (l : List Atom). ReportsDeadEnds (ground_system task l) is_dead) known.atoms (subst (λ (t : System (List Bool) ℕ). ReportsDeadEnds t is_dead) same reports)))

@@ -1,11 +1,10 @@
 -- The system whose states are listed does what the quotient of the task by the exchanges does; and what is so of it is so of the task.
-use Rattle.std.proofs.Common.{◌≡◌, ◌∙◌, ℕ, zero, suc, ◌<◌, Bool, true, false, List, [], ◌∷◌, length, map, Option, None, Some, refl, sym, ap, subst, arith}
-use Rattle.std.specs.Prelude.{All, IsTrue, Contains, slice_get}
+use Rattle.std.proofs.Common.{◌≡◌, ◌∙◌, ℕ, Bool, true, List, [], ◌∷◌, length, map, Option, None, Some, refl, sym, ap, subst, arith}
+use Rattle.std.specs.Prelude.{All, IsTrue}
 use Rattle.std.specs.List.{list_all}
 use Rattle.std.specs.Option.{option_map, option_and_then}
 use Rattle.std.proofs.lemmas.List.{length-map}
-use Rattle.grounding.specs.Ground.{task_in, atoms_in}
-use Rattle.packed_state.specs.Store.{AreDistinct}
+use Rattle.grounding.specs.Ground.{task_in}
 use Rattle.search.specs.Outcome.{IsReachableAt}
 use Rattle.representatives.specs.Representatives.{task_of, exchanges_of}
 use Rattle.symmetries.specs.Exchanges.{Exchange}
@@ -14,7 +13,7 @@ use Rattle.symmetries.specs.Quotients.{keeps_atoms, packed_representative, quoti
 use Rattle.symmetries.proofs.PackedQuotients.{ground_quotient_is_bisimilar}
 use Rattle.symmetries.proofs.TaskQuotients.{quotient_tells}
 use Rattle.certificate_definitions.proofs.WithoutExchanges.{without_exchanges}
-use Rattle.model.specs.Task.{Atom, Task}
+use Rattle.model.specs.Task.{Atom, Instance, Task}
 use Rattle.model.specs.Claims.{bound, none}
 use Rattle.model.specs.Runs.{System, run, cost_of_all, CostsAtLeast, IsReachable, IsUnsolvable}
 use Rattle.model.specs.Meaning.{State, system_of}
@@ -22,10 +21,10 @@ use Rattle.model.specs.WellTyped.{is_task}
 use Rattle.model.specs.Fluents.{is_fluent}
 use Rattle.model.specs.NumberedAtoms.{numbered_atoms}
 use Rattle.model.specs.Bisimulation.{IsBisimulation}
-use Rattle.model.specs.Grounding.{state_of_bits, bits_of_state, ground_step, ground_system, StandsFor, NamesKept}
+use Rattle.model.specs.Grounding.{state_of_bits, ground_step, ground_system, StandsFor, NamesKept}
 use Rattle.model.proofs.ListLemmas.{Contains-got, map-Contains}
 use Rattle.model.proofs.BisimulationLemmas.{run_forth, same_cost, bound_forth, unsolvable_forth}
-use Rattle.model.proofs.GroundTaskLemmas.{length-step, packs_states, ground_task_is_bisimilar}
+use Rattle.model.proofs.GroundTaskLemmas.{length-step, ground_task_is_bisimilar}
 use Rattle.listed_systems.specs.Reachable.{PrecedesPlans, is_initial, is_next, AreMoreReachable}
 use Rattle.listed_systems.specs.ListedSystem as listed_system
 use Rattle.listed_systems.specs.ListedSystem.{ground_in, exchanges_in, IsListed}
@@ -52,7 +51,7 @@ module _ (task : Task) where
   -- the ground task, where there are no exchanges
   ground_does : DoesAs task [] (ground_system task atoms)
   ground_does = record {
-    both = subst (λ (u : System State _). IsBisimulation (ground_system task atoms) u (StandsFor task atoms) (NamesKept task)) (sym (without_exchanges task atoms)) (ground_task_is_bisimilar task [] none_more);
+    both = subst (λ (u : System State Instance). IsBisimulation (ground_system task atoms) u (StandsFor task atoms) (NamesKept task)) (sym (without_exchanges task atoms)) (ground_task_is_bisimilar task [] none_more);
     wide_start = length-map atoms _;
     wide_steps = λ bits next n leads. length-step task atoms bits next n leads;
     symmetries = refl;
@@ -86,7 +85,7 @@ does (listed.Quotient r) known =
 -- ---- packed states and the states that they stand for
 
 module _ (task : Task) (exchanges : List Exchange) (t : System (List Bool) ℕ) (known : DoesAs task exchanges t) where
-  abbrev q : System State _
+  abbrev q : System State Instance
   q = quotient_of task (numbered_atoms task []) exchanges
 
   abbrev view : List Bool → State

@@ -31,7 +31,7 @@ impl<'g, 'l, 't, G: Guide> ListedGuide<'g, 'l, 't, G> {
         requires listed { IsListed system }
         requires made_for { G.system_of guide.now ≡ ground_system (task_in (ground_in system)) (atoms_in (ground_in system)) }
         ensures guide { result.guide.now ≡ guide.now }
-        ensures system { result.system ≡ system }
+        ensures system { result.system ≡ system.entry }
     {
         ListedGuide { guide, system }
     }

@@ -48,9 +48,12 @@ fn images_by_all(
         }
     }
     let mut images = Vec::from_slice(alloc, came_from.as_slice())?;
-    for (image, &number) in came_from.iter().enumerate() {
+    for image in 0..ground.width() {
+        let Some(&number) = came_from.get(image as usize) else {
+            return Ok(images);
+        };
         if let Some(place) = images.get_mut(number as usize) {
-            *place = image as u32;
+            *place = image;
         }
     }
     Ok(images)

@@ -27,7 +27,7 @@ pub fn plan_of(
     requires listed { IsListed system }
     requires solves { Solves (system_of system) numbers.now }
     requires few { length numbers.now ≤ max_steps }
-    ensures { IfOk result (λ plan. IsCarriedOut (system_of system) (meaning.system_of (task_in (ground_in system))) numbers.now (plan_of plan)) }
+    ensures { IfOk result (λ plan. IsCarriedOut (system_of system.entry) (meaning.system_of (task_in (ground_in system.entry))) numbers.now (plan_of plan)) }
 {
     match system {
         ListedSystem::Ground(ground) => named_plan(alloc, ground, numbers),

@@ -1,4 +1,4 @@
-use Rattle.std.proofs.Common.{◌≡◌, ◌∙◌, ◌<◌, ◌≤◌, ◌&&◌, ℕ, Bool, true, false, List, [], ◌∷◌, length, map, nat_le, nat_lt, refl, sym, ap, arith, rules, tests, le-leb}
+use Rattle.std.proofs.Common.{◌≡◌, ◌∙◌, ◌≤◌, ◌&&◌, ℕ, Bool, true, false, List, [], ◌∷◌, length, nat_le, nat_lt, refl, sym, ap, arith, rules, tests, le-leb}
 use Rattle.std.specs.List.{list_all}
 use Rattle.std.proofs.lemmas.List.{length-map}
 use Rattle.std.proofs.lemmas.Iterator.{YieldsList-from_slice}
@@ -22,8 +22,8 @@ both_pass p (pair ∷ rest) =
     ∙ ap (λ b. p pair.0.0 && (p pair.1.0 && b)) (both_pass p rest)
 
 -- two tests that are passed
-two_passed : (a b c : Bool) → a ≡ true → b ≡ true → c ≡ (a && (b && c))
-two_passed a b c first second = sym ((λ i. first i && (second i && c)))
+two_passed : (a b c : Bool) → a ≡ true → b ≡ true → c ≡ ((a && b) && c)
+two_passed a b c first second = sym ((λ i. (first i && second i) && c))
 
 pub returns-then-pairs-le-MAX_PAIRS : goal.returns-then-pairs-le-MAX_PAIRS
 returns-then-pairs-le-MAX_PAIRS c =

@@ -1,16 +1,16 @@
-use Rattle.std.proofs.Common.{◌≡◌, ℕ, List, [], Result, Ok, Err, sym, ap, subst, arith}
+use Rattle.std.proofs.Common.{ℕ, List, [], Result, Ok, Err, sym, ap, subst, arith}
 use Rattle.std.specs.Prelude.{All, IfOk, IsTrue, is_some}
 use Rattle.std.specs.List.{AllZip}
 use Rattle.grounding.specs.Ground.{task_in, atoms_in}
 use Rattle.formulas.specs.State.{plan_of}
 use Rattle.formulas.specs.declared.plan.Plan.{Plan}
-use Rattle.model.specs.Task.{Atom, Instance}
+use Rattle.model.specs.Task.{Atom}
 use Rattle.model.specs.Runs.{Solves}
 use Rattle.model.specs.Meaning as meaning
 use Rattle.model.specs.Fluents.{is_fluent}
 use Rattle.model.specs.Grounding.{NamesKept}
 use Rattle.representatives.specs.Representatives.{task_of}
-use Rattle.quotient_systems.specs.RealPlans.{quotient_by, IsCarriedOut, IsRealPlan}
+use Rattle.quotient_systems.specs.RealPlans.{IsCarriedOut, IsRealPlan}
 use Rattle.listed_systems.specs.ListedSystem.{ground_in, system_of, IsListed}
 use Rattle.listed_systems.specs.declared.listed_system.ListedSystem.{ListedSystem}
 use Rattle.listed_systems.proofs.PlanLemmas.{plan_named, plan_carried_out}
