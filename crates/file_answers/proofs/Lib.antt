@@ -3,3 +3,4 @@ mod ExplanationLemmas
 mod FurtherLemmas
 pub mod FilesRead
 mod QuantifiedLemmas
+pub mod NamedExchanges

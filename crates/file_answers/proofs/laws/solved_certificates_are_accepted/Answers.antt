@@ -1,10 +1,4 @@
-use Rattle.std.proofs.Common.{◌≡◌, [], None, refl, sym, ap, subst}
-use Rattle.std.specs.Prelude.{IsTrue}
-use Rattle.std.specs.List.{list_all}
-use Rattle.model.specs.Task.{Task}
-use Rattle.certificate_definitions.specs.Certificates.{Certificate}
-use Rattle.certificate_definitions.specs.CertificateNames.{are_exchanges_of, is_exchange_of}
-use Rattle.cert_checker.specs.Exchanged.{are_short, is_short}
+use Rattle.std.proofs.Common.{◌≡◌, None, refl, sym, subst}
 use Rattle.cert_checker.proofs.WrittenLemmas.{closed_is_accepted, closed_reads_back}
 use Rattle.certificate.specs.Certificate.{certificate_of}
 use Rattle.model.specs.Limits.{max_numbered_atoms}
@@ -13,17 +7,14 @@ use Rattle.certificate_definitions.specs.CertificateRefusals.{IsPlanWithin}
 use Rattle.model.proofs.LimitsLemmas.{limits_alike}
 use Rattle.model.proofs.TaskNames.{task_has_atom_names}
 use Rattle.typing.proofs.TypedTasks.{task_is_typed}
+use Rattle.file_answers.proofs.NamedExchanges.{named_exchanges}
 use Rattle.file_answers.proofs.laws.solved_certificates_are_accepted.Goals as goal
-
--- where there are no exchanges, they are the task's, and no line of one is too long
-none_exchanged : (task : Task) (c : Certificate) → c.exchanges ≡ [] → IsTrue (are_exchanges_of task c) × IsTrue (are_short task c)
-none_exchanged task c none = (ap (list_all (is_exchange_of task)) none, ap (list_all (is_short task)) none)
 
 pub returns-clause-accepted : goal.returns-clause-accepted
 returns-clause-accepted c = λ domain problem task claim k most_states most plan read shown reported within.
     let well = task_is_typed domain problem task read in
     let has_names = task_has_atom_names domain problem task read in
-    let (exchanged, short) = none_exchanged task k shown.exchanges in (
+    let (exchanged, short) = named_exchanges task has_names k.exchanges shown.exchanges in (
       closed_reads_back task k well has_names exchanged short shown.within_limits shown.closed,
       closed_is_accepted task k plan well has_names exchanged short shown.within_limits shown.closed (subst (λ claim. IsPlanWithin task claim plan) (sym shown.claims) within),
       subst (λ atoms. exceeded_limit most max_numbered_atoms task atoms ≡ None) (sym shown.atoms) (limits_alike most max_numbered_atoms task reported),
@@ -35,7 +26,7 @@ returns-clause-at_a_limit c = λ domain problem task states instances least cert
     let k = certificate_of cert in
     let well = task_is_typed domain problem task read in
     let has_names = task_has_atom_names domain problem task read in
-    let (exchanged, short) = none_exchanged task k shown.exchanges in
+    let (exchanged, short) = named_exchanges task has_names k.exchanges shown.exchanges in
     record {
       accepted = record {
         certificate = k;
