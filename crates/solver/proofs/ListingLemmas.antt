@@ -146,13 +146,13 @@ pairs_apart (a ∷ atoms) distinct (suc i) (suc j) d before within =
 -- ---- the exchanges
 
 -- each is a symmetry that keeps these atoms, if all are symmetries and all keep them
-each_passes : {task : Task} {atoms : List Atom} (exchanges : List Exchange) → list_all (is_symmetry task) exchanges ≡ true → list_all (keeps_atoms atoms) exchanges ≡ true
+each_passes : (task : Task) (atoms : List Atom) (exchanges : List Exchange) → list_all (is_symmetry task) exchanges ≡ true → list_all (keeps_atoms atoms) exchanges ≡ true
     → All (λ (e : Exchange). IsTrue (is_symmetry task e && keeps_atoms atoms e)) exchanges
-each_passes {task} {atoms} [] symmetric kept = All-nil (λ (e : Exchange). IsTrue (is_symmetry task e && keeps_atoms atoms e))
-each_passes {task} {atoms} (e ∷ exchanges) symmetric kept =
+each_passes task atoms [] symmetric kept = All-nil (λ (e : Exchange). IsTrue (is_symmetry task e && keeps_atoms atoms e))
+each_passes task atoms (e ∷ exchanges) symmetric kept =
     let (is, all) = and_parts (is_symmetry task e) (list_all (is_symmetry task) exchanges) symmetric in
     let (keeps_it, keep_all) = and_parts (keeps_atoms atoms e) (list_all (keeps_atoms atoms) exchanges) kept in
-    All-cons (λ (x : Exchange). IsTrue (is_symmetry task x && keeps_atoms atoms x)) e exchanges (and_from (is_symmetry task e) (keeps_atoms atoms e) is keeps_it) (each_passes exchanges all keep_all)
+    All-cons (λ (x : Exchange). IsTrue (is_symmetry task x && keeps_atoms atoms x)) e exchanges (and_from (is_symmetry task e) (keeps_atoms atoms e) is keeps_it) (each_passes task atoms exchanges all keep_all)
 
 -- what is listed where the atoms are the numbered ones
 pub lists_by : (task : Task) (c : Certificate) → c.atoms ≡ numbered_atoms task [] → listed_system task c ≡ quotient_of task (numbered_atoms task []) c.exchanges
@@ -253,7 +253,7 @@ module _ (task : Task) (claim : Claim) (most : ℕ) (exchanges : List Exchange) 
         atoms_are_distinct = pairs_apart atoms (numbered-distinct task []);
         states_are_distinct = subst (AllPairs (λ (k l : Line State). k.state ≢ l.state)) (sym listing)
             (states_apart (map view lines) (subst (λ (ss : List State). AreDistinct ss) (sym (listed_states states nodes found.one_for_each)) (distinct_states task states found_width found.distinct)));
-        exchanges_are_symmetries = subst (λ (l : List Atom). All (λ (e : Exchange). IsTrue (is_symmetry task e && keeps_atoms l e)) exchanges) (sym (numbered_again task)) (each_passes exchanges known.symmetries known.kept);
+        exchanges_are_symmetries = subst (λ (l : List Atom). All (λ (e : Exchange). IsTrue (is_symmetry task e && keeps_atoms l e)) exchanges) (sym (numbered_again task)) (each_passes task atoms exchanges known.symmetries known.kept);
         listing_is_closed = subst (λ (t : System State Instance). IsClosed t (value_of task made) (is_dead_end_of task made) claim (lines_of task made)) (sym (lists_by task made refl))
             (subst (IsClosed (quotient_of task atoms exchanges) (value_of task made) (is_dead_end_of task made) claim) (sym listing)
             (closed_forth t (quotient_of task atoms exchanges) (state_of_bits task atoms) (NamesKept task) known.both

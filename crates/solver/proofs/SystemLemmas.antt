@@ -1,5 +1,6 @@
 -- A ground task is a system whose states can be listed, and so is its quotient by exchanges that a certificate can have.
 use Rattle.std.proofs.Common.{◌≡◌, ◌∙◌, ◌≢◌, ℕ, true, List, [], length, refl, sym, ap, subst, arith}
+use Rattle.std.specs.Borrow.{Bor}
 use Rattle.std.specs.List.{list_all}
 use Rattle.grounding.specs.declared.ground.Ground.{Ground}
 use Rattle.grounding.specs.Ground.{task_in, atoms_in}
@@ -14,8 +15,8 @@ use Rattle.listed_systems.specs.Exchanges.{AreExchangesFor, can_be_named}
 use Rattle.listed_systems.specs.ListedSystem.{IsListed}
 use Rattle.listed_systems.specs.declared.listed_system.ListedSystem.TheVariants as listed
 
-module _ (g : Ground) (typed : is_task (task_in g) ≡ true) (atoms : atoms_in g ≡ numbered_atoms (task_in g) []) where
-  pub ground_is_listed : IsListed (listed.Ground (record { now = g }))
+module _ (g : Bor Ground) (typed : is_task (task_in g.now) ≡ true) (atoms : atoms_in g.now ≡ numbered_atoms (task_in g.now) []) where
+  pub ground_is_listed : IsListed (listed.Ground g)
   ground_is_listed = record {
     typed = typed;
     atoms = atoms;
@@ -26,7 +27,7 @@ module _ (g : Ground) (typed : is_task (task_in g) ≡ true) (atoms : atoms_in g
     some = tt;
   }
 
-  pub quotient_is_listed : (exchanges : List Exchange) → AreExchangesFor g exchanges → exchanges ≢ [] → (r : Representatives) → ground_of r ≡ g → exchanges_of r ≡ exchanges → IsListed (listed.Quotient (record { now = r }))
+  pub quotient_is_listed : (exchanges : List Exchange) → AreExchangesFor g.now exchanges → exchanges ≢ [] → (r : Bor Representatives) → ground_of r.now ≡ g.now → exchanges_of r.now ≡ exchanges → IsListed (listed.Quotient r)
   quotient_is_listed exchanges are some r same_ground same = record {
     typed = ap (λ k. is_task (task_in k)) same_ground ∙ typed;
     atoms = ap atoms_in same_ground ∙ atoms ∙ ap (λ k. numbered_atoms (task_in k) []) (sym same_ground);

@@ -17,17 +17,17 @@ use Rattle.solver.proofs.by_tables.search_if_fair.Goals as goal
 
 pub new-requires-clause-numbered : goal.new-requires-clause-numbered
 new-requires-clause-numbered g c =
-    subst (λ (k : Ground). AreAllNumbered (task_in k) (atoms_in k)) (sym c.ground.ensures) (all_numbered (ground_in c.args.system) [] c.requires.listed.atoms)
+    subst (λ (k : Ground). AreAllNumbered (task_in k) (atoms_in k)) (sym c.ground-ground.ensures) (all_numbered (ground_in c.args.system) [] c.requires.listed.atoms)
 
 pub new-requires-clause-fair : goal.new-requires-clause-fair
-new-requires-clause-fair g c = subst (ReportsValues (task_in c.ground.result.now) (atoms_in c.ground.result.now) (several_of c.args.functions)) c.in-Fair.is c.in_ok-fairness.ensures
+new-requires-clause-fair g c = subst (ReportsValues (task_in c.ground-ground.result.now) (atoms_in c.ground-ground.result.now) (several_of c.args.functions)) c.in-Fair.is c.in_ok-fairness.ensures
 
 pub returns-in_ok-searched-in-Fair-clause-fair : goal.returns-in_ok-searched-in-Fair-clause-fair
 returns-in_ok-searched-in-Fair-clause-fair g c =
     let guide = c.in_ok-fair-in-Fair.fair in
     let known = ground_in c.args.system in
     subst (AreFair (task_in known) (atoms_in known)) c.in_ok-fair-in-Fair.ensures.functions
-    (subst (λ (g : Ground). AreFair (task_in g) (atoms_in g) (functions_in guide)) (c.in_ok-fair-in-Fair.ensures.ground ∙ c.ground.ensures) guide.fair)
+    (subst (λ (g : Ground). AreFair (task_in g) (atoms_in g) (functions_in guide)) (c.in_ok-fair-in-Fair.ensures.ground ∙ c.ground-ground.ensures) guide.fair)
 
 pub returns-in_ok-searched-in-Fair-clause-searched : goal.returns-in_ok-searched-in-Fair-clause-searched
 returns-in_ok-searched-in-Fair-clause-searched g c =
@@ -39,14 +39,14 @@ abbrev means : Ground → System (List Bool) ℕ
 means k = ground_system (task_in k) (atoms_in k)
 
 pub new-guide-requires-clause-made_for : goal.new-guide-requires-clause-made_for
-new-guide-requires-clause-made_for g c = ap means (c.in_ok-fair-in-Fair.ensures.ground ∙ c.ground.ensures)
+new-guide-requires-clause-made_for g c = ap means (c.in_ok-fair-in-Fair.ensures.ground ∙ c.ground-ground.ensures)
 
 pub search_by-requires-clause-system : goal.search_by-requires-clause-system
 search_by-requires-clause-system g c =
     let guide = c.new-guide.result in
     over_ground guide.system (means (guided_ground guide.guide.now))
-    (ap means (ap guided_ground c.new-guide.ensures.guide ∙ c.in_ok-fair-in-Fair.ensures.ground ∙ c.ground.ensures) ∙ ap (λ s. means (ground_in s)) (sym c.new-guide.ensures.system))
+    (ap means (ap guided_ground c.new-guide.ensures.guide ∙ c.in_ok-fair-in-Fair.ensures.ground ∙ c.ground-ground.ensures) ∙ ap (λ s. means (ground_in s)) (sym c.new-guide.ensures.system))
     ∙ ap system_of c.new-guide.ensures.system
 
 pub search_by-requires-clause-width : goal.search_by-requires-clause-width
-search_by-requires-clause-width g c = ap (λ k. length (atoms_in k)) (ap guided_ground c.new-guide.ensures.guide ∙ c.in_ok-fair-in-Fair.ensures.ground ∙ c.ground.ensures)
+search_by-requires-clause-width g c = ap (λ k. length (atoms_in k)) (ap guided_ground c.new-guide.ensures.guide ∙ c.in_ok-fair-in-Fair.ensures.ground ∙ c.ground-ground.ensures)
