@@ -12,4 +12,3 @@ pub mod ByCost
 pub mod LoopLemmas
 pub mod PauseLemmas
 pub mod EndLemmas
-pub mod SystemLemmas
