@@ -34,6 +34,7 @@ use Rattle.certificate_definitions.specs.Certificates.{two, three, Certificate, 
 use Rattle.symmetries.specs.Exchanges.{Exchange}
 use Rattle.symmetries.specs.Symmetries.{is_symmetry}
 use Rattle.symmetries.specs.Quotients.{keeps_atoms, quotient_of}
+use Rattle.listed_systems.specs.Exchanges.{can_be_named}
 use Rattle.listed_systems.proofs.ListedLemmas.{DoesAs, length-reachable}
 use Rattle.table_functions.specs.TableFunctions.{SeveralValues}
 use Rattle.model.proofs.ListLemmas.{map-Contains}
@@ -145,13 +146,13 @@ pairs_apart (a ∷ atoms) distinct (suc i) (suc j) d before within =
 -- ---- the exchanges
 
 -- each is a symmetry that keeps these atoms, if all are symmetries and all keep them
-each_passes : {task : Task} {atoms : List Atom} (exchanges : List Exchange) → list_all (is_symmetry task) exchanges ≡ true → list_all (keeps_atoms atoms) exchanges ≡ true
+each_passes : (task : Task) (atoms : List Atom) (exchanges : List Exchange) → list_all (is_symmetry task) exchanges ≡ true → list_all (keeps_atoms atoms) exchanges ≡ true
     → All (λ (e : Exchange). IsTrue (is_symmetry task e && keeps_atoms atoms e)) exchanges
-each_passes {task} {atoms} [] symmetric kept = All-nil (λ (e : Exchange). IsTrue (is_symmetry task e && keeps_atoms atoms e))
-each_passes {task} {atoms} (e ∷ exchanges) symmetric kept =
+each_passes task atoms [] symmetric kept = All-nil (λ (e : Exchange). IsTrue (is_symmetry task e && keeps_atoms atoms e))
+each_passes task atoms (e ∷ exchanges) symmetric kept =
     let (is, all) = and_parts (is_symmetry task e) (list_all (is_symmetry task) exchanges) symmetric in
     let (keeps_it, keep_all) = and_parts (keeps_atoms atoms e) (list_all (keeps_atoms atoms) exchanges) kept in
-    All-cons (λ (x : Exchange). IsTrue (is_symmetry task x && keeps_atoms atoms x)) e exchanges (and_from (is_symmetry task e) (keeps_atoms atoms e) is keeps_it) (each_passes exchanges all keep_all)
+    All-cons (λ (x : Exchange). IsTrue (is_symmetry task x && keeps_atoms atoms x)) e exchanges (and_from (is_symmetry task e) (keeps_atoms atoms e) is keeps_it) (each_passes task atoms exchanges all keep_all)
 
 -- what is listed where the atoms are the numbered ones
 pub lists_by : (task : Task) (c : Certificate) → c.atoms ≡ numbered_atoms task [] → listed_system task c ≡ quotient_of task (numbered_atoms task []) c.exchanges
@@ -235,8 +236,8 @@ module _ (task : Task) (claim : Claim) (most : ℕ) (exchanges : List Exchange) 
         let dead_found : reports_dead guidance s ≡ true = sym (same_dead k s there) ∙ ap (λ (l : Line State). is_dead_end_of task made l.state) (sym is) ∙ reported in
         ap (λ (l : Line State). l.mark) is ∙ dead_of_reported (estimate_by guidance) (reports_dead guidance) s n (found.expanded_alive k s n there here) dead_found
 
-    pub shown_by : is_task task ≡ true → CanBeWritten (length atoms) guidance → AreFairBy task atoms guidance → keeps_limits made ≡ true → IsShownBy task claim (length states) made
-    shown_by well written fair kept = record {
+    pub shown_by : is_task task ≡ true → list_all (can_be_named task) exchanges ≡ true → CanBeWritten (length atoms) guidance → AreFairBy task atoms guidance → keeps_limits made ≡ true → IsShownBy task claim (length states) made
+    shown_by well named written fair kept = record {
       claims = refl;
       closed = record {
         as_many_values = limits.value_count;
@@ -252,7 +253,7 @@ module _ (task : Task) (claim : Claim) (most : ℕ) (exchanges : List Exchange) 
         atoms_are_distinct = pairs_apart atoms (numbered-distinct task []);
         states_are_distinct = subst (AllPairs (λ (k l : Line State). k.state ≢ l.state)) (sym listing)
             (states_apart (map view lines) (subst (λ (ss : List State). AreDistinct ss) (sym (listed_states states nodes found.one_for_each)) (distinct_states task states found_width found.distinct)));
-        exchanges_are_symmetries = subst (λ (l : List Atom). All (λ (e : Exchange). IsTrue (is_symmetry task e && keeps_atoms l e)) exchanges) (sym (numbered_again task)) (each_passes exchanges known.symmetries known.kept);
+        exchanges_are_symmetries = subst (λ (l : List Atom). All (λ (e : Exchange). IsTrue (is_symmetry task e && keeps_atoms l e)) exchanges) (sym (numbered_again task)) (each_passes task atoms exchanges known.symmetries known.kept);
         listing_is_closed = subst (λ (t : System State Instance). IsClosed t (value_of task made) (is_dead_end_of task made) claim (lines_of task made)) (sym (lists_by task made refl))
             (subst (IsClosed (quotient_of task atoms exchanges) (value_of task made) (is_dead_end_of task made) claim) (sym listing)
             (closed_forth t (quotient_of task atoms exchanges) (state_of_bits task atoms) (NamesKept task) known.both
@@ -262,7 +263,7 @@ module _ (task : Task) (claim : Claim) (most : ℕ) (exchanges : List Exchange) 
             same_listing found.closed)));
       };
       within_limit = omega (arith, length-made found.one_for_each);
-      exchanges = refl;
+      exchanges = named;
       atoms = refl;
       within_limits = kept;
       version = known_version guidance;
@@ -336,11 +337,11 @@ module _ (task : Task) (claim : Claim) (most : ℕ) (exchanges : List Exchange) 
   pub is_made : made task claim most exchanges guidance states nodes ≡ certificate
   is_made = sym (is ∙ ap (λ (l : List Atom). found_certificate claim exchanges l guidance states nodes) numbered)
 
-  pub shown : (max_states : ℕ) → length states ≤ max_states → is_task task ≡ true → CanBeWritten (length known) guidance → AreFairBy task known guidance → keeps_limits certificate ≡ true
+  pub shown : (max_states : ℕ) → length states ≤ max_states → is_task task ≡ true → list_all (can_be_named task) exchanges ≡ true → CanBeWritten (length known) guidance → AreFairBy task known guidance → keeps_limits certificate ≡ true
       → IsShownBy task claim max_states certificate
-  shown max_states le well written fair kept =
+  shown max_states le well named written fair kept =
       more_allowed (subst (IsShownBy task claim (length states)) is_made
-      (shown_by task claim most exchanges guidance states nodes t by found well (subst (λ (l : List Atom). CanBeWritten (length l) guidance) numbered written)
+      (shown_by task claim most exchanges guidance states nodes t by found well named (subst (λ (l : List Atom). CanBeWritten (length l) guidance) numbered written)
       (subst (λ (l : List Atom). AreFairBy task l guidance) numbered fair) (ap keeps_limits is_made ∙ kept))) le
 
   pub opened_within : (cost : ℕ) → AreExpandedWithin (estimate_by guidance) cost states nodes → AreOpenWithin task cost certificate

@@ -1,5 +1,5 @@
 -- What the certificate of a search's found states is made of.
-use Rattle.std.specs.Prelude.{◌≡◌, ℕ, ◌+◌, ◌≤◌, ◌⊎◌, Bool, IsTrue, List, length, map, Contains}
+use Rattle.std.specs.Prelude.{◌≡◌, ℕ, ◌+◌, ◌≤◌, ◌⊎◌, Bool, IsTrue, List, [], length, map, Contains}
 use Rattle.std.specs.List.{filter, list_all, range_with_len}
 use Rattle.packed_state.specs.Sets.{has}
 use Rattle.search.specs.declared.nodes.Node.{Node}

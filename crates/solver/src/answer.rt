@@ -257,8 +257,8 @@ fn solve_listed<E: Sink>(
 ) -> Result<Answer, NoMemory>
     requires listed { IsListed system }
     requires ground { IsGroundOf (task_in (ground_in system)) [] limits.instances (ground_in system) }
-    ensures answer { IfOk result (IsTrueAnswer (task_in (ground_in system)) limits.states limits.instances) }
-    ensures said { GoesOn (IsTrueLine (task_in (ground_in system))) E.wants_memory (E.failures err.old) (E.taken err.old) (E.failures err.new) (E.taken err.new) }
+    ensures answer { IfOk result (IsTrueAnswer (task_in (ground_in system.entry)) limits.states limits.instances) }
+    ensures said { GoesOn (IsTrueLine (task_in (ground_in system.entry))) E.wants_memory (E.failures err.old) (E.taken err.old) (E.failures err.new) (E.taken err.new) }
 {
     let ground = system.ground();
     let groundwork = Groundwork::new(alloc, ground)?;
@@ -283,8 +283,8 @@ fn solve_by_potentials<E: Sink>(
     requires improved { AreSettledOrHigh (task_in (ground_in system)) (atoms_in (ground_in system)) (potentials_in estimate.now) }
     requires dead_ends { fair.ground_in dead_ends.now ≡ ground_in system }
     requires dead_ends_improved { AreDeadSettledOrHigh (task_in (ground_in system)) (atoms_in (ground_in system)) (potentials_in dead_ends.now) }
-    ensures answer { IfOk result (IsTrueAnswer (task_in (ground_in system)) limits.states limits.instances) }
-    ensures said { GoesOn (IsTrueLine (task_in (ground_in system))) E.wants_memory (E.failures err.old) (E.taken err.old) (E.failures err.new) (E.taken err.new) }
+    ensures answer { IfOk result (IsTrueAnswer (task_in (ground_in system.entry)) limits.states limits.instances) }
+    ensures said { GoesOn (IsTrueLine (task_in (ground_in system.entry))) E.wants_memory (E.failures err.old) (E.taken err.old) (E.failures err.new) (E.taken err.new) }
 {
     let fair = EstimateWithDeadEnds::new(estimate, dead_ends);
     let guide = ListedGuide::new(&fair, system);
@@ -315,7 +315,7 @@ pub(crate) fn answer_of(
     requires ground { IsGroundOf (task_in (ground_in system)) [] limits.instances (ground_in system) }
     requires guidance { IsGuidanceFor system (guidance_of guidance) }
     requires searched { IsSearched system (estimate_by (guidance_of guidance)) (reports_dead (guidance_of guidance)) limits.states searched.outcome searched.marks.items }
-    ensures { IfOk result (IsTrueAnswer (task_in (ground_in system)) limits.states limits.instances) }
+    ensures { IfOk result (IsTrueAnswer (task_in (ground_in system.entry)) limits.states limits.instances) }
 {
     let Searched { outcome, marks } = searched;
     match outcome {

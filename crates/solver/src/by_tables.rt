@@ -62,8 +62,8 @@ pub(crate) fn solve_by_tables<E: Sink>(
     requires width { length (potentials_of stopped.now.potentials.now).weights ≡ length (atoms_in (ground_in system)) }
     requires improved { AreSettledOrHigh (task_in (ground_in system)) (atoms_in (ground_in system)) (potentials_of stopped.now.potentials.now) }
     requires dead_ends_improved { AreDeadSettledOrHigh (task_in (ground_in system)) (atoms_in (ground_in system)) (potentials_of stopped.now.dead_ends.now) }
-    ensures answer { IfOk result (IfDone (IsTrueAnswer (task_in (ground_in system)) limits.states limits.instances)) }
-    ensures said { GoesOn (IsTrueLine (task_in (ground_in system))) E.wants_memory (E.failures err.old) (E.taken err.old) (E.failures err.new) (E.taken err.new) }
+    ensures answer { IfOk result (IfDone (IsTrueAnswer (task_in (ground_in system.entry)) limits.states limits.instances)) }
+    ensures said { GoesOn (IsTrueLine (task_in (ground_in system.entry))) E.wants_memory (E.failures err.old) (E.taken err.old) (E.failures err.new) (E.taken err.new) }
 {
     let Some(draft) = drafted(alloc, system, stopped)? else {
         return Ok(Attempt::InVain);
@@ -143,8 +143,8 @@ fn answer_by_tables<E: Sink>(
     requires width { length (potentials_of stopped.now.potentials.now).weights ≡ length (atoms_in (ground_in system)) }
     requires improved { AreSettledOrHigh (task_in (ground_in system)) (atoms_in (ground_in system)) (potentials_of stopped.now.potentials.now) }
     requires dead_ends_improved { AreDeadSettledOrHigh (task_in (ground_in system)) (atoms_in (ground_in system)) (bounds_of bounds).dead_ends }
-    ensures answer { IfOk result (IfDone (IsTrueAnswer (task_in (ground_in system)) limits.states limits.instances)) }
-    ensures said { GoesOn (IsTrueLine (task_in (ground_in system))) E.wants_memory (E.failures err.old) (E.taken err.old) (E.failures err.new) (E.taken err.new) }
+    ensures answer { IfOk result (IfDone (IsTrueAnswer (task_in (ground_in system.entry)) limits.states limits.instances)) }
+    ensures said { GoesOn (IsTrueLine (task_in (ground_in system.entry))) E.wants_memory (E.failures err.old) (E.taken err.old) (E.failures err.new) (E.taken err.new) }
 {
     let attempt = search_by_tables(
         alloc, system, &bounds, values, dead_ends, stopped, limits, err,
@@ -179,10 +179,10 @@ fn search_by_tables<E: Sink>(
     requires stopped { IsStopped stopped.now.store.now stopped.now.nodes.now }
     requires store_width { pooled_width stopped.now.store.now ≡ length (atoms_in (ground_in system)) }
     requires width { length (potentials_of stopped.now.potentials.now).weights ≡ length (atoms_in (ground_in system)) }
-    ensures fair { IfOk result (IfDone (λ _. AreFair (task_in (ground_in system)) (atoms_in (ground_in system)) (bounds_of bounds.now))) }
-    ensures no_lower { IfOk result (IfDone (λ _. initial_value (task_in (ground_in system)) (atoms_in (ground_in system)) (potentials_of stopped.now.potentials.now) ≤ estimate_by (by_tables (bounds_of bounds.now)) (ground_system (task_in (ground_in system)) (atoms_in (ground_in system))).initial)) }
-    ensures searched { IfOk result (IfDone (λ s. IsSearched system (estimate_by (by_tables (bounds_of bounds.now))) (reports_dead (by_tables (bounds_of bounds.now))) limits.states s.outcome s.marks.items)) }
-    ensures said { GoesOn (IsTrueLine (task_in (ground_in system))) E.wants_memory (E.failures err.old) (E.taken err.old) (E.failures err.new) (E.taken err.new) }
+    ensures fair { IfOk result (IfDone (λ _. AreFair (task_in (ground_in system.entry)) (atoms_in (ground_in system.entry)) (bounds_of bounds.now))) }
+    ensures no_lower { IfOk result (IfDone (λ _. initial_value (task_in (ground_in system.entry)) (atoms_in (ground_in system.entry)) (potentials_of stopped.now.potentials.now) ≤ estimate_by (by_tables (bounds_of bounds.now)) (ground_system (task_in (ground_in system.entry)) (atoms_in (ground_in system.entry))).initial)) }
+    ensures searched { IfOk result (IfDone (λ s. IsSearched system.entry (estimate_by (by_tables (bounds_of bounds.now))) (reports_dead (by_tables (bounds_of bounds.now))) limits.states s.outcome s.marks.items)) }
+    ensures said { GoesOn (IsTrueLine (task_in (ground_in system.entry))) E.wants_memory (E.failures err.old) (E.taken err.old) (E.failures err.new) (E.taken err.new) }
 {
     let ground = system.ground();
     let Some(functions) = functions_over(alloc, ground, &bounds.tables, values, dead_ends)? else {
@@ -228,9 +228,9 @@ fn search_if_fair<E: Sink>(
 ) -> Result<Attempt<Searched>, NoMemory>
     requires listed { IsListed system }
     requires width { width_of functions ≡ length (atoms_in (ground_in system)) }
-    ensures fair { IfOk result (IfDone (λ _. AreFair (task_in (ground_in system)) (atoms_in (ground_in system)) (several_of functions.entry))) }
-    ensures searched { IfOk result (IfDone (λ s. IsSearched system (estimate_by (by_tables (several_of functions.entry))) (reports_dead (by_tables (several_of functions.entry))) limits.states s.outcome s.marks.items)) }
-    ensures said { GoesOn (IsTrueLine (task_in (ground_in system))) E.wants_memory (E.failures err.old) (E.taken err.old) (E.failures err.new) (E.taken err.new) }
+    ensures fair { IfOk result (IfDone (λ _. AreFair (task_in (ground_in system.entry)) (atoms_in (ground_in system.entry)) (several_of functions.entry))) }
+    ensures searched { IfOk result (IfDone (λ s. IsSearched system.entry (estimate_by (by_tables (several_of functions.entry))) (reports_dead (by_tables (several_of functions.entry))) limits.states s.outcome s.marks.items)) }
+    ensures said { GoesOn (IsTrueLine (task_in (ground_in system.entry))) E.wants_memory (E.failures err.old) (E.taken err.old) (E.failures err.new) (E.taken err.new) }
 {
     let ground = system.ground();
     match functions.fairness(alloc, ground)? {

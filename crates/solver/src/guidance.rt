@@ -55,7 +55,7 @@ pub(crate) fn guidance_by(
     value: Potential,
     dead_ends: Potential,
 ) -> Result<Guidance, NoMemory>
-    ensures { IfOk result (λ made. guidance_of made ≡ by_potentials_of system (parts.potential_of value) (parts.potential_of dead_ends)) }
+    ensures { IfOk result (λ made. guidance_of made ≡ by_potentials_of system.entry (parts.potential_of value) (parts.potential_of dead_ends)) }
 {
     match system {
         ListedSystem::Ground(_) => Ok(Guidance::Potentials { value, dead_ends }),

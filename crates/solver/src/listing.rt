@@ -51,7 +51,7 @@ pub(crate) fn cert_of(
     requires few { length (atoms_in (ground_in system)) ≤ MAX_ATOMS }
     requires marks { AreMarksOf (estimate_by (guidance_of guidance)) (reports_dead (guidance_of guidance)) found marks.items }
     requires found { AreFound (system_of system) (estimate_by (guidance_of guidance)) (reports_dead (guidance_of guidance)) (claim_of claim) MAX_STATE_LINES (pooled_states found.store) found.nodes.items }
-    ensures { IfOk result (λ cert. certificate_of cert ≡ found_certificate (claim_of claim) (exchanges_in system) (atoms_in (ground_in system)) (guidance_of guidance) (pooled_states found.store) found.nodes.items) }
+    ensures { IfOk result (λ cert. certificate_of cert ≡ found_certificate (claim_of claim) (exchanges_in system.entry) (atoms_in (ground_in system.entry)) (guidance_of guidance) (pooled_states found.store) found.nodes.items) }
 {
     let header = Header {
         version: guidance.version(),

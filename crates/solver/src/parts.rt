@@ -93,8 +93,8 @@ pub(crate) fn search_in_parts<G: Guide, E: Sink>(
     requires width { length (potentials_of given.potentials.now).weights ≡ length (atoms_in (ground_in system)) }
     requires improved { AreSettledOrHigh (task_in (ground_in system)) (atoms_in (ground_in system)) (potentials_of given.potentials.now) }
     requires dead_ends_improved { AreDeadSettledOrHigh (task_in (ground_in system)) (atoms_in (ground_in system)) (potentials_of given.dead_ends.now) }
-    ensures end { IfOk result (IsTrueEnd system (G.estimate_of guide.now) (G.is_dead guide.now) limits) }
-    ensures said { GoesOn (IsTrueLine (task_in (ground_in system))) E.wants_memory (E.failures err.old) (E.taken err.old) (E.failures err.new) (E.taken err.new) }
+    ensures end { IfOk result (IsTrueEnd system.entry (G.estimate_of guide.now) (G.is_dead guide.now) limits) }
+    ensures said { GoesOn (IsTrueLine (task_in (ground_in system.entry))) E.wants_memory (E.failures err.old) (E.taken err.old) (E.failures err.new) (E.taken err.new) }
 {
     let search = begin_by(alloc, system, guide, limits)?;
     match search_to_pause(alloc, system, guide, search, given, QUICK, limits, err)? {
@@ -122,8 +122,8 @@ fn search_on<G: Guide, E: Sink>(
     requires width { length (potentials_of given.potentials.now).weights ≡ length (atoms_in (ground_in system)) }
     requires improved { AreSettledOrHigh (task_in (ground_in system)) (atoms_in (ground_in system)) (potentials_of given.potentials.now) }
     requires dead_ends_improved { AreDeadSettledOrHigh (task_in (ground_in system)) (atoms_in (ground_in system)) (potentials_of given.dead_ends.now) }
-    ensures end { IfOk result (IsTrueEnd system (G.estimate_of guide.now) (G.is_dead guide.now) limits) }
-    ensures said { GoesOn (IsTrueLine (task_in (ground_in system))) E.wants_memory (E.failures err.old) (E.taken err.old) (E.failures err.new) (E.taken err.new) }
+    ensures end { IfOk result (IsTrueEnd system.entry (G.estimate_of guide.now) (G.is_dead guide.now) limits) }
+    ensures said { GoesOn (IsTrueLine (task_in (ground_in system.entry))) E.wants_memory (E.failures err.old) (E.taken err.old) (E.failures err.new) (E.taken err.new) }
 {
     match search_to_pause(alloc, system, guide, search, given, THOROUGH, limits, err)? {
         Part::Ended(parts) => Ok(parts),
@@ -145,8 +145,8 @@ fn search_to_end<G: Guide, E: Sink>(
     requires system { G.system_of guide.now ≡ system_of system }
     requires guide_width { G.width_of guide.now ≡ length (atoms_in (ground_in system)) }
     requires under_way { IsUnderWay system (G.estimate_of guide.now) (G.is_dead guide.now) (G.fits guide.now) limits.states search }
-    ensures end { IfOk result (IsTrueEnd system (G.estimate_of guide.now) (G.is_dead guide.now) limits) }
-    ensures said { GoesOn (IsTrueLine (task_in (ground_in system))) E.wants_memory (E.failures err.old) (E.taken err.old) (E.failures err.new) (E.taken err.new) }
+    ensures end { IfOk result (IsTrueEnd system.entry (G.estimate_of guide.now) (G.is_dead guide.now) limits) }
+    ensures said { GoesOn (IsTrueLine (task_in (ground_in system.entry))) E.wants_memory (E.failures err.old) (E.taken err.old) (E.failures err.new) (E.taken err.new) }
 {
     let searched = finish_by(alloc, system, guide, search, limits, err)?;
     Ok(Parts::ByGuide(searched))
@@ -171,8 +171,8 @@ fn search_to_pause<G: Guide, E: Sink>(
     requires width { length (potentials_of given.potentials.now).weights ≡ length (atoms_in (ground_in system)) }
     requires improved { AreSettledOrHigh (task_in (ground_in system)) (atoms_in (ground_in system)) (potentials_of given.potentials.now) }
     requires dead_ends_improved { AreDeadSettledOrHigh (task_in (ground_in system)) (atoms_in (ground_in system)) (potentials_of given.dead_ends.now) }
-    ensures part { IfOk result (IsTruePart system (G.estimate_of guide.now) (G.is_dead guide.now) (G.fits guide.now) limits) }
-    ensures said { GoesOn (IsTrueLine (task_in (ground_in system))) E.wants_memory (E.failures err.old) (E.taken err.old) (E.failures err.new) (E.taken err.new) }
+    ensures part { IfOk result (IsTruePart system.entry (G.estimate_of guide.now) (G.is_dead guide.now) (G.fits guide.now) limits) }
+    ensures said { GoesOn (IsTrueLine (task_in (ground_in system.entry))) E.wants_memory (E.failures err.old) (E.taken err.old) (E.failures err.new) (E.taken err.new) }
 {
     if pause.states >= limits.states() {
         return Ok(Part::InVain(search));
@@ -206,8 +206,8 @@ fn solve_at_pause<R, E: Sink>(
     requires width { length (potentials_of given.potentials.now).weights ≡ length (atoms_in (ground_in system)) }
     requires improved { AreSettledOrHigh (task_in (ground_in system)) (atoms_in (ground_in system)) (potentials_of given.potentials.now) }
     requires dead_ends_improved { AreDeadSettledOrHigh (task_in (ground_in system)) (atoms_in (ground_in system)) (potentials_of given.dead_ends.now) }
-    ensures answer { IfOk result (IfDone (IsTrueAnswer (task_in (ground_in system)) limits.states limits.instances)) }
-    ensures said { GoesOn (IsTrueLine (task_in (ground_in system))) E.wants_memory (E.failures err.old) (E.taken err.old) (E.failures err.new) (E.taken err.new) }
+    ensures answer { IfOk result (IfDone (IsTrueAnswer (task_in (ground_in system.entry)) limits.states limits.instances)) }
+    ensures said { GoesOn (IsTrueLine (task_in (ground_in system.entry))) E.wants_memory (E.failures err.old) (E.taken err.old) (E.failures err.new) (E.taken err.new) }
 {
     let Some(bound) = search.bound() else {
         return Ok(Attempt::InVain);

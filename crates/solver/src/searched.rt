@@ -54,7 +54,7 @@ pub(crate) fn begin_by<G: Guide>(
     limits: Limits,
 ) -> Result<Search<PooledStore, G::Room>, NoMemory>
     requires { G.width_of guide.now ≡ length (atoms_in (ground_in system)) }
-    ensures { IfOk result (IsUnderWay system (G.estimate_of guide.now) (G.is_dead guide.now) (G.fits guide.now) limits.states) }
+    ensures { IfOk result (IsUnderWay system.entry (G.estimate_of guide.now) (G.is_dead guide.now) (G.fits guide.now) limits.states) }
 {
     let store = PooledStore::new(alloc, system.width())?;
     begin(alloc, &system, guide, store)
@@ -69,10 +69,11 @@ fn stretch_by<G: Guide>(
     pause: u32,
     limits: Limits,
 ) -> Result<Stretch<G::Room>, NoMemory>
+    requires listed { IsListed system }
     requires system { G.system_of guide.now ≡ system_of system }
     requires width { G.width_of guide.now ≡ length (atoms_in (ground_in system)) }
     requires under_way { IsUnderWay system (G.estimate_of guide.now) (G.is_dead guide.now) (G.fits guide.now) limits.states search }
-    ensures { IfOk result (IsStretch system (G.estimate_of guide.now) (G.is_dead guide.now) (G.fits guide.now) pause limits.states) }
+    ensures { IfOk result (IsStretch system.entry (G.estimate_of guide.now) (G.is_dead guide.now) (G.fits guide.now) pause limits.states) }
 {
     match go_on(alloc, &system, guide, search, pause, limits.states())? {
         Halt::Ended(outcome) => {
@@ -98,8 +99,8 @@ pub(crate) fn go_on_by<G: Guide, E: Sink>(
     requires system { G.system_of guide.now ≡ system_of system }
     requires width { G.width_of guide.now ≡ length (atoms_in (ground_in system)) }
     requires under_way { IsUnderWay system (G.estimate_of guide.now) (G.is_dead guide.now) (G.fits guide.now) limits.states search }
-    ensures stretch { IfOk result (IsStretch system (G.estimate_of guide.now) (G.is_dead guide.now) (G.fits guide.now) pause limits.states) }
-    ensures said { GoesOn (IsTrueLine (task_in (ground_in system))) E.wants_memory (E.failures err.old) (E.taken err.old) (E.failures err.new) (E.taken err.new) }
+    ensures stretch { IfOk result (IsStretch system.entry (G.estimate_of guide.now) (G.is_dead guide.now) (G.fits guide.now) pause limits.states) }
+    ensures said { GoesOn (IsTrueLine (task_in (ground_in system.entry))) E.wants_memory (E.failures err.old) (E.taken err.old) (E.failures err.new) (E.taken err.new) }
 {
     let mut search = search;
     let mut said = None;
@@ -126,7 +127,7 @@ fn say_news<G: Guide, E: Sink>(
     requires listed { IsListed system }
     requires system { G.system_of guide.now ≡ system_of system }
     requires open { AreOpenIn system (G.estimate_of guide.now) (G.is_dead guide.now) search.now }
-    ensures { GoesOn (IsTrueLine (task_in (ground_in system))) E.wants_memory (E.failures err.old) (E.taken err.old) (E.failures err.new) (E.taken err.new) }
+    ensures { GoesOn (IsTrueLine (task_in (ground_in system.entry))) E.wants_memory (E.failures err.old) (E.taken err.old) (E.failures err.new) (E.taken err.new) }
 {
     let now = Milestone::of(search);
     if !is_news(last, now) {
@@ -148,7 +149,7 @@ fn say_progress<G: Guide, E: Sink>(
     requires listed { IsListed system }
     requires system { G.system_of guide.now ≡ system_of system }
     requires open { AreOpenIn system (G.estimate_of guide.now) (G.is_dead guide.now) search.now }
-    ensures { GoesOn (IsTrueLine (task_in (ground_in system))) E.wants_memory (E.failures err.old) (E.taken err.old) (E.failures err.new) (E.taken err.new) }
+    ensures { GoesOn (IsTrueLine (task_in (ground_in system.entry))) E.wants_memory (E.failures err.old) (E.taken err.old) (E.failures err.new) (E.taken err.new) }
 {
     let Some(bound) = search.bound() else {
         return Ok(());
@@ -189,8 +190,8 @@ pub(crate) fn finish_by<G: Guide, E: Sink>(
     requires system { G.system_of guide.now ≡ system_of system }
     requires width { G.width_of guide.now ≡ length (atoms_in (ground_in system)) }
     requires under_way { IsUnderWay system (G.estimate_of guide.now) (G.is_dead guide.now) (G.fits guide.now) limits.states search }
-    ensures searched { IfOk result (λ s. IsSearched system (G.estimate_of guide.now) (G.is_dead guide.now) limits.states s.outcome s.marks.items) }
-    ensures said { GoesOn (IsTrueLine (task_in (ground_in system))) E.wants_memory (E.failures err.old) (E.taken err.old) (E.failures err.new) (E.taken err.new) }
+    ensures searched { IfOk result (λ s. IsSearched system.entry (G.estimate_of guide.now) (G.is_dead guide.now) limits.states s.outcome s.marks.items) }
+    ensures said { GoesOn (IsTrueLine (task_in (ground_in system.entry))) E.wants_memory (E.failures err.old) (E.taken err.old) (E.failures err.new) (E.taken err.new) }
 {
     match go_on_by(alloc, system, guide, search, u32::MAX, limits, err)? {
         Stretch::Ended(searched) => Ok(searched),
@@ -209,8 +210,8 @@ pub(crate) fn search_by<G: Guide, E: Sink>(
     requires listed { IsListed system }
     requires system { G.system_of guide.now ≡ system_of system }
     requires width { G.width_of guide.now ≡ length (atoms_in (ground_in system)) }
-    ensures searched { IfOk result (λ s. IsSearched system (G.estimate_of guide.now) (G.is_dead guide.now) limits.states s.outcome s.marks.items) }
-    ensures said { GoesOn (IsTrueLine (task_in (ground_in system))) E.wants_memory (E.failures err.old) (E.taken err.old) (E.failures err.new) (E.taken err.new) }
+    ensures searched { IfOk result (λ s. IsSearched system.entry (G.estimate_of guide.now) (G.is_dead guide.now) limits.states s.outcome s.marks.items) }
+    ensures said { GoesOn (IsTrueLine (task_in (ground_in system.entry))) E.wants_memory (E.failures err.old) (E.taken err.old) (E.failures err.new) (E.taken err.new) }
 {
     let search = begin_by(alloc, system, guide, limits)?;
     finish_by(alloc, system, guide, search, limits, err)

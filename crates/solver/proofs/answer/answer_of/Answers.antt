@@ -113,7 +113,7 @@ returns-in_ok-cert-in-Found c =
       optimal,
       carried.cost ∙ reported.1,
       all_instances_of_plan task plan optimal.0,
-      shown task (bound cost) most exchanges guidance states nodes atoms numbered t by reported.2 cert made most reported.2.within_limit c.requires.listed.typed
+      shown task (bound cost) most exchanges guidance states nodes atoms numbered t by reported.2 cert made most reported.2.within_limit c.requires.listed.typed c.requires.listed.named
           c.requires.guidance.written c.requires.guidance.fair c.in_ok-cert-in-Found.cert.within_limits,
       settled_or_high task (bound cost) most exchanges guidance states nodes atoms numbered t by reported.2 cert made c.requires.guidance.improved c.requires.guidance.dead_ends_improved c.requires.guidance.no_lower,
       opened_within task (bound cost) most exchanges guidance states nodes atoms numbered t by reported.2 cert made cost reported.4,
@@ -161,7 +161,7 @@ returns-in_ok-cert-in-Exhausted c =
     let reported = subst (IsTrueOutcome t (estimate_by guidance) (reports_dead guidance) pooled_states most) c.in-Exhausted.is c.requires.searched.outcome_is in
     let made = c.in_ok-cert-in-Exhausted.ensures in (
       task_unsolvable task exchanges t by c.requires.listed.typed reported.0,
-      shown task none most exchanges guidance states nodes atoms numbered t by reported.1 cert made most reported.1.within_limit c.requires.listed.typed
+      shown task none most exchanges guidance states nodes atoms numbered t by reported.1 cert made most reported.1.within_limit c.requires.listed.typed c.requires.listed.named
           c.requires.guidance.written c.requires.guidance.fair c.in_ok-cert-in-Exhausted.cert.within_limits,
       settled_or_high task none most exchanges guidance states nodes atoms numbered t by reported.1 cert made c.requires.guidance.improved c.requires.guidance.dead_ends_improved c.requires.guidance.no_lower,
       c.requires.ground.within,
@@ -227,7 +227,7 @@ returns-in_ok-cert-in-States c =
           (more_of_listed task exchanges t by (estimate_by guidance) (reports_dead guidance) most reported.0),
       c.requires.ground.within,
       task_costs_at_least task exchanges t by c.requires.listed.typed least reported.1.costs_at_least,
-      shown task (bound least) most exchanges guidance states nodes atoms numbered t by reported.1.found cert made most reported.1.found.within_limit c.requires.listed.typed
+      shown task (bound least) most exchanges guidance states nodes atoms numbered t by reported.1.found cert made most reported.1.found.within_limit c.requires.listed.typed c.requires.listed.named
           c.requires.guidance.written c.requires.guidance.fair c.in_ok-cert-in-States.cert.within_limits,
       settled_or_high task (bound least) most exchanges guidance states nodes atoms numbered t by reported.1.found cert made c.requires.guidance.improved c.requires.guidance.dead_ends_improved c.requires.guidance.no_lower,
       at_limit_of task least most exchanges guidance states nodes atoms numbered t by (consistent_where_none system c.requires.listed guidance c.requires.guidance.written c.requires.guidance.fair) reported.1 cert made most refl,

@@ -32,8 +32,8 @@ same g c = λ i. record { values = c.requires.values i; dead_ends = c.requires.d
 
 pub functions_over-requires : goal.functions_over-requires
 functions_over-requires g c = record {
-  within_limits = subst (λ (s : SeveralValues). IsTrue (are_bounds three (length (atoms_in c.ground.result.now)) s)) (sym (same g (goal.at.functions_over-requires g c).After-deref))
-      (subst (λ (k : Ground). IsTrue (are_bounds three (length (atoms_in k)) (bounds_of c.args.bounds.now))) (sym c.ground.ensures) c.requires.within_limits);
+  within_limits = subst (λ (s : SeveralValues). IsTrue (are_bounds three (length (atoms_in c.ground-ground.result.now)) s)) (sym (same g (goal.at.functions_over-requires g c).After-deref))
+      (subst (λ (k : Ground). IsTrue (are_bounds three (length (atoms_in k)) (bounds_of c.args.bounds.now))) (sym c.ground-ground.ensures) c.requires.within_limits);
 }
 
 -- and so are those in memory
@@ -46,7 +46,7 @@ width : (g : Over) (c : In-Some g) → width_of c.in-Some.functions ≡ length (
 width g c = ap (λ (s : SeveralValues). length s.dead_ends.weights) (in_memory g c) ∙ dead_ends_weighed (length (atoms_in (ground_in c.args.system))) (bounds_of c.args.bounds.now) c.requires.within_limits
 
 pub starts_no_lower-requires-clause-functions : goal.starts_no_lower-requires-clause-functions
-starts_no_lower-requires-clause-functions g c = width g (goal.at.starts_no_lower-requires-clause-functions g c).In-Some ∙ ap (λ (k : Ground). length (atoms_in k)) (sym c.ground.ensures)
+starts_no_lower-requires-clause-functions g c = width g (goal.at.starts_no_lower-requires-clause-functions g c).In-Some ∙ ap (λ (k : Ground). length (atoms_in k)) (sym c.ground-ground.ensures)
 
 pub saving_by-requires-clause-width : goal.saving_by-requires-clause-width
 saving_by-requires-clause-width g c = width g (goal.at.saving_by-requires-clause-width g c).In-Some ∙ sym c.requires.store_width
@@ -69,7 +69,7 @@ returns-then-is_worth-clause-no_lower g c =
     whatever c.search_if_fair.result
     (subst (λ (s : SeveralValues). initial_value (task_in known) (atoms_in known) first ≤ estimate_by (by_tables s) start)
     (in_memory g (goal.at.returns-then-is_worth-clause-no_lower g c).In-Some)
-    (subst (λ (k : Ground). initial_value (task_in k) (atoms_in k) first ≤ greatest_value (functions_of (several_of c.in-Some.functions)) (ground_system (task_in k) (atoms_in k)).initial) c.ground.ensures
+    (subst (λ (k : Ground). initial_value (task_in k) (atoms_in k) first ≤ greatest_value (functions_of (several_of c.in-Some.functions)) (ground_system (task_in k) (atoms_in k)).initial) c.ground-ground.ensures
     (c.in_ok-starts_no_lower.ensures c.if-not-branch.false)))
 
 pub returns-then-is_worth-clause-fair : goal.returns-then-is_worth-clause-fair
