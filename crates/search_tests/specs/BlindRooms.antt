@@ -1,9 +1,8 @@
 -- Rooms out of which no door leads.
 use Rattle.std.specs.Prelude.{◌≡◌, ℕ, ◌==◌, Bool, true, false, not, ◌&&◌, IsTrue, List, [], Option, None, Some, is_some, if◌then◌else◌, refl}
-use Rattle.model.specs.Runs.{System}
 use Rattle.packed_state.specs.Sets.{has}
 use Rattle.search.specs.DeadEnds.{DetectsDeadEnds}
-use Rattle.search_tests.specs.Rooms.{rooms, room_in, following, through}
+use Rattle.search_tests.specs.Rooms.{rooms, room_in, through}
 
 -- the state's room is not the one to be reached, and has no door
 abbrev pub is_blind : ℕ → List ℕ → List ℕ → ℕ → List Bool → Bool
