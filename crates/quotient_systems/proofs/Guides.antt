@@ -1,12 +1,8 @@
 -- What guides a search of a ground task guides one of its quotient: each list of the quotient has one of the ground task from the
 -- same state, of the same cost, to a goal where it comes to one.
-use Rattle.std.proofs.Common.{◌≡◌, ◌∙◌, ℕ, ◌+◌, ◌≤◌, Bool, false, List, [], ◌∷◌, Option, None, Some, refl, sym, ap, subst, arith}
+use Rattle.std.proofs.Common.{◌≡◌, ◌∙◌, ℕ, ◌≤◌, Bool, List, Some, refl, sym, subst}
 use Rattle.std.specs.Prelude.{IsTrue, All}
 use Rattle.std.specs.List.{list_all}
-use Rattle.std.specs.Option.{option_and_then}
-use Rattle.std.proofs.lemmas.Bool.{true≢false}
-use Rattle.std.proofs.lemmas.Option.{same_Some}
-use Rattle.std.proofs.lemmas.List.Sums.{sum_by-cons}
 use Rattle.model.specs.Task.{Atom, Task, Instance}
 use Rattle.model.specs.Runs.{System, run, cost_of_all}
 use Rattle.model.specs.Meaning.{State, system_of}
@@ -16,47 +12,17 @@ use Rattle.model.specs.NumberedAtoms.{numbered_atoms}
 use Rattle.model.specs.Grounding.{state_of_bits, ground_system, StandsFor, NamesKept}
 use Rattle.model.proofs.GroundTaskLemmas.{ground_task_is_bisimilar}
 use Rattle.model.proofs.BisimulationLemmas.{flipped, run_forth, same_cost}
-use Rattle.search.specs.Estimates.{IsConsistent}
-use Rattle.search.specs.DeadEnds.{DetectsDeadEnds}
+use Rattle.search.specs.Estimates.{IsAdmissible}
+use Rattle.search.specs.DeadEnds.{ReportsDeadEnds}
+use Rattle.search.proofs.Consistent as estimates
+use Rattle.search.proofs.DeadEnds.{reports_dead_ends}
 use Rattle.symmetries.specs.Exchanges.{Exchange}
 use Rattle.symmetries.specs.Symmetries.{is_symmetry}
 use Rattle.symmetries.specs.Quotients.{representative, keeps_atoms, quotient_of, ground_quotient_of}
 use Rattle.symmetries.proofs.QuotientLemmas.{IsSymmetric, symmetric_itself, CostSame, quotient_is_bisimilar}
 use Rattle.symmetries.proofs.TaskQuotients.{symmetric}
 use Rattle.symmetries.proofs.PackedQuotients.{ground_quotient_is_bisimilar}
-use Rattle.quotient_systems.specs.Laws.{IsAdmissible, ReportsDeadEnds, GuidesHold, GuidesHoldOfQuotients}
-
--- ---- of any system
-
--- the first step of a run, and the run from there
-first_step : {S A : Type 0} (t : System S A) (s end : S) (a : A) (plan : List A) → run t s (a ∷ plan) ≡ Some end
-    → (next : S) × (t.step s a ≡ Some next) × (run t next plan ≡ Some end)
-first_step {S} {A} t s end a plan runs =
-    elim (t.step s a) as (λ o. t.step s a ≡ o → option_and_then (λ next. run t next plan) o ≡ Some end → (next : S) × (t.step s a ≡ Some next) × (run t next plan ≡ Some end)) [
-      | None ↦ λ _ none. absurd (cc)
-      | Some next ↦ λ leads on. (next, leads, on)
-    ] refl runs
-
-module _ {S A : Type 0} (t : System S A) where
-  falls_along : (value : S → ℕ) → IsConsistent t value → (plan : List A) (s end : S) → run t s plan ≡ Some end → value s ≤ cost_of_all t plan + value end
-  falls_along value consistent [] s end runs = let equal : value s ≡ value end = ap value (same_Some s end runs) in omega (arith, equal)
-  falls_along value consistent (a ∷ plan) s end runs =
-      let first = first_step t s end a plan runs in
-      omega (arith, consistent.falls_by_no_more s first.0 a first.1, falls_along value consistent plan first.0 end first.2, sum_by-cons t.cost a plan)
-
-  consistent-admissible : (value : S → ℕ) → IsConsistent t value → IsAdmissible t value
-  consistent-admissible value consistent s end plan runs goal = omega (arith, falls_along value consistent plan s end runs, consistent.zero_at_goals end goal)
-
-  dead_along : (is_dead : S → Bool) → DetectsDeadEnds t is_dead → (plan : List A) (s end : S) → IsTrue (is_dead s) → run t s plan ≡ Some end → IsTrue (is_dead end)
-  dead_along is_dead detects [] s end dead runs = subst (λ e. IsTrue (is_dead e)) (same_Some s end runs) dead
-  dead_along is_dead detects (a ∷ plan) s end dead runs =
-      let first = first_step t s end a plan runs in
-      dead_along is_dead detects plan first.0 end (detects.stays_dead s first.0 a dead first.1) first.2
-
-  detected-reported : (is_dead : S → Bool) → DetectsDeadEnds t is_dead → ReportsDeadEnds t is_dead
-  detected-reported is_dead detects s end plan dead runs = detects.no_goal end (dead_along is_dead detects plan s end dead runs)
-
--- ---- of the quotient
+use Rattle.quotient_systems.specs.Laws.{GuidesHold, GuidesHoldOfQuotients}
 
 -- a list of the one system from a state has one of the other from a state, of the same cost, to a goal where it comes to one
 abbrev HasAnother : {S A T B : Type 0} → System S A → System T B → S → S → List A → T → Type 0
@@ -126,9 +92,9 @@ module _ (task : Task) (more : List Atom) (exchanges : List Exchange) (well : Is
   guides_hold : GuidesHold task atoms exchanges
   guides_hold = record {
     admissible = admissible;
-    consistent = λ value consistent. admissible value (consistent-admissible (ground_system task atoms) value consistent);
+    consistent = λ value consistent. admissible value (estimates.admissible (ground_system task atoms) value consistent);
     reported = reported;
-    detected = λ is_dead detects. reported is_dead (detected-reported (ground_system task atoms) is_dead detects);
+    detected = λ is_dead detects. reported is_dead (reports_dead_ends (ground_system task atoms) is_dead detects);
   }
 
 pub guides_hold_of_quotients : GuidesHoldOfQuotients
