@@ -40,7 +40,7 @@ module _ (before now after : List ℕ → Option (List ℕ)) (done : List NamedT
   }
 
 module _ (before now after : List ℕ → Option (List ℕ)) (kept : AreKept before now) (files : List NamedText) where
-  written_since : AreWritten now after files → AreWritten before after files
+  pub written_since : AreWritten now after files → AreWritten before after files
   written_since held = λ name. held name ∙ with_files_same before now files kept name
 
   partly_since : (next : NamedText) → AreWrittenPartly now after files next → AreWrittenPartly before after files next

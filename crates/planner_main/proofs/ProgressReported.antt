@@ -1,10 +1,12 @@
 -- What is said on the way, and what is reported after it.
-use Rattle.std.proofs.Common.{◌≡◌, ◌∙◌, ℕ, ◌⊎◌, inl, inr, Bool, List, ◌++◌, refl, sym, ap, subst, arith}
+use Rattle.std.proofs.Common.{◌≡◌, ◌∙◌, ℕ, ◌⊎◌, inl, inr, Bool, true, false, List, ◌++◌, refl, sym, ap, subst, arith}
 use Rattle.std.specs.Prelude.{Option, None, Some, Result, Ok, Err, IfOk, IfSome, IsTrue}
 use Rattle.command_line.proofs.OrderLemmas.{one_wanted}
 use Rattle.command_line.specs.Orders.{Asks, Wanted, to_solve, to_validate, to_check, to_explain}
 use Rattle.certificate_definitions.specs.CertificateText.{text_of}
 use Rattle.devices.specs.Devices.{IsKept, IsWritten}
+use Rattle.devices.specs.Texts.{AreKept}
+use Rattle.devices.specs.Written.{AreWritten}
 use Rattle.file_answers.specs.SaidOf.{IsCheckLineOf}
 use Rattle.devices.specs.declared.device.IoFault.TheVariants as device
 use Rattle.file_answers.specs.declared.files.FileFault.TheVariants as refusal
@@ -16,9 +18,10 @@ use Rattle.progress_lines.proofs.SaidLemmas.{said_after, said_of_more, none_said
 use Rattle.planner_main.specs.Asked.{Outputs, outputs_of}
 use Rattle.planner_main.specs.AnswerReported as answers
 use Rattle.planner_main.specs.Program.{IsReportOn, IsReportedOn, IsReported}
-use Rattle.planner_main.specs.Progress.{AsksForProgress, AsksForSearchProgress, EndsByEnd, HasEndedFor, HasEndedIf, HasSaidEnd, IsFailedLine, IsProgress, IsProgressOn, SaysAfter, WantsProgress, WantsSearchProgress}
+use Rattle.planner_main.specs.Progress.{AsksForProgress, AsksForSearchProgress, Ends, EndsByEnd, EndsFor, HasEndedFor, HasEndedIf, HasSaidEnd, IsProgress, IsProgressOn, IsWritingLine, SaysAfter, SaysIf, WantsProgress, WantsSearchProgress, line_if, size_line_for}
 use Rattle.planner_main.specs.Reported.{status_of}
-use Rattle.planner_main.specs.Solution.{WritesReport}
+use Rattle.planner_main.specs.Solution.{WritesReport, cert_text, files_for}
+use Rattle.planner_main.proofs.ProgramReported.{written_since}
 use Rattle.planner_main.specs.declared.failures.Failure.{Failure}
 use Rattle.planner_main.specs.declared.failures.Failure.TheVariants as failure
 use Rattle.planner_main.specs.declared.printing.reports.Report.{Report}
@@ -55,15 +58,19 @@ no_answer Says (failure.Device device.NoMemory) status (is, line) (inr same) = a
 
 -- ---- which lines
 
--- the line of a file that fails is one that is asked for
-pub failed_is_progress : (contents : List ℕ → Option (List ℕ)) (wanted : Wanted) (line : List ℕ) → IsFailedLine (outputs_of wanted) line → IsProgressOn contents wanted line
-failed_is_progress contents (to_validate domain problem plan json) line (inl (is, named)) = absurd (cc)
-failed_is_progress contents (to_validate domain problem plan json) line (inr (is, named)) = absurd (cc)
-failed_is_progress contents (to_solve domain problem asked) line is = inr is
-failed_is_progress contents (to_check domain problem cert asked) line (inl (is, named)) = absurd (cc)
-failed_is_progress contents (to_check domain problem cert asked) line (inr (is, named)) = absurd (cc)
-failed_is_progress contents (to_explain domain problem asked) line (inl (is, named)) = absurd (cc)
-failed_is_progress contents (to_explain domain problem asked) line (inr (is, named)) = absurd (cc)
+-- no line of a file is one where no file is written
+no_line : (r : Report) (json : Bool) (line : List ℕ) → IsWritingLine r (record { json = json; cert = None; plan = None; progress = false }) line → ⊥
+no_line r json line (inl (inl (is, named))) = absurd (cc)
+no_line r json line (inl (inr is)) = absurd (cc)
+no_line r json line (inr (is, named)) = absurd (cc)
+
+-- a line of the files that are written is one that is asked for
+pub written_is_progress : (contents : List ℕ → Option (List ℕ)) (wanted : Wanted) (found : Report) → IsReportOn contents wanted found → (line : List ℕ)
+    → IsWritingLine found (outputs_of wanted) line → IsProgressOn contents wanted line
+written_is_progress contents (to_validate domain problem plan json) found on line is = absurd (no_line found json line is)
+written_is_progress contents (to_solve domain problem asked) found on line is = inr (found, on, is)
+written_is_progress contents (to_check domain problem cert asked) found on line is = absurd (no_line found asked.json line is)
+written_is_progress contents (to_explain domain problem asked) found on line is = absurd (no_line found asked.json line is)
 
 -- what is so of what comes of a file is so of what the file holds, where that is known
 known_if_kept : (known came : Option (List ℕ)) → IsKept known came → (P : List ℕ → Type 0) → IfSome came P → IfSome known P
@@ -77,11 +84,16 @@ known_of_kept known came kept domain problem line (task, is, inr (text, c, so, i
     (task, is, inr (text, c, known_if_kept known came kept (λ bytes. bytes ≡ text) so, is_text, same))
 
 -- where there is a line, it is asked for
+size_asked : (progress : Bool) (size : Option ℕ) (line : List ℕ) → line_if progress size ≡ Some line → IsTrue progress
+size_asked true size line is = search
+size_asked false size line is = absurd (cc)
+
 pub wanted_of_line : (contents : List ℕ → Option (List ℕ)) (wanted : Wanted) (line : List ℕ) → IsProgressOn contents wanted line → WantsProgress wanted
 wanted_of_line contents (to_validate domain problem plan json) line is = absurd is
 wanted_of_line contents (to_solve domain problem asked) line (inl (is, on)) = is
-wanted_of_line contents (to_solve domain problem asked) line (inr (inl (is, named))) = is
-wanted_of_line contents (to_solve domain problem asked) line (inr (inr (is, named))) = is
+wanted_of_line contents (to_solve domain problem asked) line (inr (found, on, inl (inl (is, named)))) = is
+wanted_of_line contents (to_solve domain problem asked) line (inr (found, on, inl (inr is))) = size_asked asked.progress _ line is
+wanted_of_line contents (to_solve domain problem asked) line (inr (found, on, inr (is, named))) = is
 wanted_of_line contents (to_check domain problem cert asked) line is = is.0
 wanted_of_line contents (to_explain domain problem asked) line is = absurd is
 
@@ -96,47 +108,58 @@ module _ (contents : List ℕ → Option (List ℕ)) (words : List (List ℕ)) (
   quiet_unasked unasked =
       ap (λ (s : Stream). s.taken) (none_said (IsProgressOn contents wanted) wants_memory before after (λ line is. unasked (wanted, asks, wanted_of_line contents wanted line is)) said)
 
--- what is said of what is found out, and then of files that fail
-pub said_of_both : (contents : List ℕ → Option (List ℕ)) (wanted : Wanted) (outputs : Outputs) → outputs ≡ outputs_of wanted → (wants_memory : Bool) (before now after : Stream)
-    → AreSaid (IsProgressOn contents wanted) wants_memory before now → AreSaid (IsFailedLine outputs) wants_memory now after → AreSaid (IsProgressOn contents wanted) wants_memory before after
-said_of_both contents wanted outputs same wants_memory before now after first then =
-    said_after first (said_of_more (λ line is. failed_is_progress contents wanted line (subst (λ (o : Outputs). IsFailedLine o line) same is)) then)
+-- what is said while it is found out, and then of the files that are written of it
+pub said_of_both : (contents : List ℕ → Option (List ℕ)) (wanted : Wanted) (found : Report) → IsReportOn contents wanted found → (outputs : Outputs) → outputs ≡ outputs_of wanted
+    → (wants_memory : Bool) (before now after : Stream)
+    → AreSaid (IsProgressOn contents wanted) wants_memory before now → AreSaid (IsWritingLine found outputs) wants_memory now after → AreSaid (IsProgressOn contents wanted) wants_memory before after
+said_of_both contents wanted found on outputs same wants_memory before now after first then =
+    said_after first (said_of_more (λ line is. written_is_progress contents wanted found on line (subst (λ (o : Outputs). IsWritingLine found o line) same is)) then)
 
 -- ---- the end
 
-module _ (wants_memory : Bool) (failures : ℕ) (taken : Option (List ℕ)) where
-  ended_of_answer : (a : Answer) (status : ℕ) → HasEnded wants_memory failures taken a → status ≡ answers.status_of a → (status ≡ 0) ⊎ (status ≡ 10) → EndsByEnd wants_memory failures taken
-  ended_of_answer (Plan steps cost cert) status (now, written) is which = (now, _, _, written)
-  ended_of_answer (Unsolvable cert) status (now, written) is which = (now, _, _, written)
-  ended_of_answer (Unknown limit) status ended is (inl same) = absurd (omega arith)
-  ended_of_answer (Unknown limit) status ended is (inr same) = absurd (omega arith)
+ended_of_answer : (wants_memory : Bool) (failures : ℕ) (taken : Option (List ℕ)) (a : Answer) (status : ℕ) → HasEnded wants_memory failures taken a → status ≡ answers.status_of a
+    → (status ≡ 0) ⊎ (status ≡ 10) → EndsByEnd wants_memory failures taken
+ended_of_answer wants_memory failures taken (Plan steps cost cert) status (now, written) is which = (now, _, _, written)
+ended_of_answer wants_memory failures taken (Unsolvable cert) status (now, written) is which = (now, _, _, written)
+ended_of_answer wants_memory failures taken (Unknown limit) status ended is (inl same) = absurd (omega arith)
+ended_of_answer wants_memory failures taken (Unknown limit) status ended is (inr same) = absurd (omega arith)
 
-  pub ended_by_status : (contents : List ℕ → Option (List ℕ)) (wanted : Wanted) (found : Report) (status : ℕ) → IsReportOn contents wanted found
-      → HasEndedFor wanted wants_memory failures taken found → status ≡ status_of found → HasSaidEnd wanted wants_memory failures taken status
-  ended_by_status contents (to_validate domain problem plan json) found status is ended same = tt
-  ended_by_status contents (to_solve domain problem asked) found status (s, is, on) ended same = λ asks which.
-      ended_of_answer s.answer status (subst (HasEndedIf asked.progress wants_memory failures taken) is ended asks) (same ∙ ap status_of is) which
-  ended_by_status contents (to_check domain problem cert asked) found status is ended same = tt
-  ended_by_status contents (to_explain domain problem asked) found status is ended same = tt
+-- What is said at the end of a search, and then of the certificate that is written, is what is said by the status.
+module _ (contents contents_after : List ℕ → Option (List ℕ)) (known wants_memory : Bool) (after : Stream) where
+  pub ended_by_status : (before : Stream) (wanted : Wanted) (found : Report) (status : ℕ) → IsReportOn contents wanted found
+      → HasEndedFor wanted wants_memory before.failures before.taken found
+      → (IsTrue known → AreWritten contents contents_after (files_for found (outputs_of wanted)))
+      → SaysIf (size_line_for (outputs_of wanted).cert (cert_text found) (outputs_of wanted).progress) wants_memory before after
+      → status ≡ status_of found → HasSaidEnd contents contents_after known wanted wants_memory after status
+  ended_by_status before (to_validate domain problem plan json) found status is ended held sized same = tt
+  ended_by_status before (to_solve domain problem asked) found status (s, is, on) ended held sized same = λ asks which.
+      let answered = ended_of_answer wants_memory before.failures before.taken s.answer status (subst (HasEndedIf asked.progress wants_memory before.failures before.taken) is ended asks) (same ∙ ap status_of is) which in
+      (found, (s, is, on), held, (before, answered, sized))
+  ended_by_status before (to_check domain problem cert asked) found status is ended held sized same = tt
+  ended_by_status before (to_explain domain problem asked) found status is ended held sized same = tt
 
-  end_wanted : (wanted : Wanted) (status : ℕ) → HasSaidEnd wanted wants_memory failures taken status → WantsSearchProgress wanted → (status ≡ 0) ⊎ (status ≡ 10) → EndsByEnd wants_memory failures taken
+  end_wanted : (wanted : Wanted) (status : ℕ) → HasSaidEnd contents contents_after known wanted wants_memory after status → WantsSearchProgress wanted → (status ≡ 0) ⊎ (status ≡ 10)
+      → EndsFor contents contents_after known wanted wants_memory after
   end_wanted (to_validate domain problem plan json) status ended wants which = absurd wants
   end_wanted (to_solve domain problem asked) status ended wants which = ended wants which
   end_wanted (to_check domain problem cert asked) status ended wants which = absurd wants
   end_wanted (to_explain domain problem asked) status ended wants which = absurd wants
 
-  pub end_of_words : (words : List (List ℕ)) (wanted : Wanted) → Asks words wanted → (status : ℕ) → HasSaidEnd wanted wants_memory failures taken status
-      → AsksForSearchProgress words → (status ≡ 0) ⊎ (status ≡ 10) → EndsByEnd wants_memory failures taken
+  pub end_of_words : (words : List (List ℕ)) (wanted : Wanted) → Asks words wanted → (status : ℕ) → HasSaidEnd contents contents_after known wanted wants_memory after status
+      → AsksForSearchProgress words → (status ≡ 0) ⊎ (status ≡ 10) → Ends contents contents_after known words wants_memory after
   end_of_words words wanted asks status ended (other, others, wants) which =
-      end_wanted wanted status ended (subst WantsSearchProgress (one_wanted words other wanted others asks) wants) which
+      (wanted, asks, end_wanted wanted status ended (subst WantsSearchProgress (one_wanted words other wanted others asks) wants) which)
 
--- once it is written, nothing more is said
+-- So it is once all is written.
 pub ended_written : (wants_memory : Bool) (before after : Stream) (contents : List ℕ → Option (List ℕ)) (wanted : Wanted) (found : Report) → IsReportOn contents wanted found
     → HasEndedFor wanted wants_memory before.failures before.taken found
-    → (known : Bool) (now files_after : List ℕ → Option (List ℕ)) (out out_after : Option (List ℕ)) (outputs : Outputs) (result : Result ℕ Failure)
-    → IfOk result (IsReported (WritesReport found outputs) known now files_after out out_after) → IfOk result (λ _. after ≡ before)
-    → IfOk result (HasSaidEnd wanted wants_memory after.failures after.taken)
-ended_written wants_memory before after contents wanted found is ended known now files_after out out_after outputs (Ok status) (text, written, (is_text, same, files), appended, held) still =
-    subst (λ (s : Stream). HasSaidEnd wanted wants_memory s.failures s.taken status) (sym still)
-    (ended_by_status wants_memory before.failures before.taken contents wanted found status is ended same)
-ended_written wants_memory before after contents wanted found is ended known now files_after out out_after outputs (Err failure) said still = tt
+    → (known : Bool) (now files_after : List ℕ → Option (List ℕ)) → AreKept contents now → (out out_after : Option (List ℕ)) (outputs : Outputs) → outputs ≡ outputs_of wanted
+    → (result : Result ℕ Failure) → IfOk result (IsReported (WritesReport found outputs) known now files_after out out_after)
+    → IfOk result (λ _. SaysIf (size_line_for outputs.cert (cert_text found) outputs.progress) wants_memory before after)
+    → IfOk result (HasSaidEnd contents files_after known wanted wants_memory after)
+ended_written wants_memory before after contents wanted found is ended known now files_after kept out out_after outputs asked (Ok status) (text, written, (is_text, same, files), appended, held) sized =
+    ended_by_status contents files_after known wants_memory after before wanted found status is ended
+    (λ is_known. subst (λ (o : Outputs). AreWritten contents files_after (files_for found o)) asked
+    (subst (AreWritten contents files_after) files (written_since contents now files_after kept written (held is_known))))
+    (subst (λ (o : Outputs). SaysIf (size_line_for o.cert (cert_text found) o.progress) wants_memory before after) asked sized) same
+ended_written wants_memory before after contents wanted found is ended known now files_after kept out out_after outputs asked (Err failure) said sized = tt

@@ -1,13 +1,17 @@
 -- What the standard error takes on the way, where `--progress` asks for it.
-use Rattle.std.specs.Prelude.{◌≡◌, ℕ, ◌⊎◌, Bool, IsTrue, List, ◌++◌, codes, Option, Some, ⊤}
+use Rattle.std.specs.Prelude.{◌≡◌, ℕ, ◌⊎◌, ◌-◌, ◌^◌, min, Bool, if◌then◌else◌, IsTrue, List, ◌++◌, length, codes, Option, None, Some, ⊤}
+use Rattle.std.specs.Fmt.{decimal}
+use Rattle.std.specs.Option.{option_map}
 use Rattle.command_line.specs.Orders.{Asks, Asked, Wanted, to_solve, to_validate, to_check, to_explain}
 use Rattle.devices.specs.Devices.{IsWritten}
+use Rattle.devices.specs.Written.{AreWritten}
 use Rattle.file_answers.specs.SaidOf.{IsCheckLineOf, IsTrueLineOf}
 use Rattle.progress_lines.specs.Said.{AreSaid, Stream, stream}
 use Rattle.solver.specs.Said.{HasEnded, line_of}
 use Rattle.solver.specs.declared.reports.Report.TheVariants.{End}
 use Rattle.planner_main.specs.Asked.{Outputs, outputs_of}
-use Rattle.planner_main.specs.Program.{OnTwo}
+use Rattle.planner_main.specs.Program.{IsReportOn, OnTwo}
+use Rattle.planner_main.specs.Solution.{cert_text, files_for}
 use Rattle.planner_main.specs.declared.printing.reports.Report.{Report}
 use Rattle.planner_main.specs.declared.printing.reports.Report.TheVariants as report
 
@@ -28,15 +32,45 @@ failed_line name = codes "progress=failed file=" ++ (name ++ codes "\n")
 abbrev pub IsFailedLineOf : (progress : Bool) → (name : Option (List ℕ)) → List ℕ → Type 0
 IsFailedLineOf progress named line = IsTrue progress × ((name : List ℕ) × (named ≡ Some name) × (line ≡ failed_line name))
 
-abbrev pub IsFailedLine : Outputs → List ℕ → Type 0
-IsFailedLine outputs line = IsFailedLineOf outputs.progress outputs.cert line ⊎ IsFailedLineOf outputs.progress outputs.plan line
+-- how many bytes a text has; at 18446744073709551615 the count stays
+abbrev pub byte_count : List ℕ → ℕ
+byte_count text = min (length text) (2 ^ 64 - 1)
+
+-- how many bytes are written to a file, where one is named and there is a text for it
+abbrev pub size_in : (named text : Option (List ℕ)) → Option ℕ
+size_in None text = None
+size_in (Some name) None = None
+size_in (Some name) (Some text) = Some (byte_count text)
+
+-- the line of a certificate that is written: how many bytes it has
+abbrev pub size_line : ℕ → List ℕ
+size_line size = codes "progress=certificate bytes=" ++ (decimal size ++ codes "\n")
+
+-- that line, if progress is asked for
+abbrev pub line_if : (progress : Bool) → Option ℕ → Option (List ℕ)
+line_if progress size = if progress then option_map size_line size else None
+
+abbrev pub size_line_for : (named text : Option (List ℕ)) → (progress : Bool) → Option (List ℕ)
+size_line_for named text progress = line_if progress (size_in named text)
+
+-- a line of a certificate: that its file fails, or how many bytes were written to it
+abbrev pub IsCertificateLine : (progress : Bool) → (named text : Option (List ℕ)) → List ℕ → Type 0
+IsCertificateLine progress named text line = IsFailedLineOf progress named line ⊎ (size_line_for named text progress ≡ Some line)
+
+-- a line of the files that are written of what is reported
+abbrev pub IsWritingLine : Report → Outputs → List ℕ → Type 0
+IsWritingLine r outputs line = IsCertificateLine outputs.progress outputs.cert (cert_text r) line ⊎ IsFailedLineOf outputs.progress outputs.plan line
+
+-- a line of the files that are written of what is found out, which is true of the texts of the files that are read
+abbrev pub IsWritingLineOn : (List ℕ → Option (List ℕ)) → Wanted → List ℕ → Type 0
+IsWritingLineOn contents wanted line = (found : Report) × IsReportOn contents wanted found × IsWritingLine found (outputs_of wanted) line
 
 -- What is asked for says this line on the way: `solve`, where progress is asked for, one that is true of the task, or that a file fails
--- which it was to write; and `check` one that is so of the certificate.
+-- which it was to write, or how many bytes its certificate has; and `check` one that is so of the certificate.
 abbrev pub IsProgressOn : (List ℕ → Option (List ℕ)) → Wanted → List ℕ → Type 0
 IsProgressOn contents (to_validate domain problem plan json) line = ⊥
 IsProgressOn contents (to_solve domain problem asked) line =
-    IsSearchLine contents domain problem asked.progress line ⊎ IsFailedLine (outputs_of (to_solve domain problem asked)) line
+    IsSearchLine contents domain problem asked.progress line ⊎ IsWritingLineOn contents (to_solve domain problem asked) line
 IsProgressOn contents (to_check domain problem cert asked) line = IsCheckingLine contents domain problem cert asked.progress line
 IsProgressOn contents (to_explain domain problem asked) line = ⊥
 
@@ -76,6 +110,25 @@ abbrev pub EndsByEnd : (wants_memory : Bool) → (failures : ℕ) → (taken : O
 EndsByEnd wants_memory failures taken =
     (now : Stream) × (listed : ℕ) × (expanded : ℕ) × IsWritten wants_memory now.failures failures now.taken taken (line_of (End listed expanded))
 
+-- this line was written, if there is one, and else nothing
+abbrev pub SaysIf : Option (List ℕ) → (wants_memory : Bool) → (before after : Stream) → Type 0
+SaysIf None wants_memory before after = after ≡ before
+SaysIf (Some line) wants_memory before after = IsWritten wants_memory before.failures after.failures before.taken after.taken line
+
+-- the last line is that of the end of a search, or, if there is this line, that line, and the one before is that of the end
+abbrev pub EndsBy : Option (List ℕ) → (wants_memory : Bool) → (after : Stream) → Type 0
+EndsBy line wants_memory after = (now : Stream) × EndsByEnd wants_memory now.failures now.taken × SaysIf line wants_memory now after
+
+-- So it is of what is found out of what is asked for, which is true: where the certificate is written to a file, the line is that of how
+-- many bytes this has. The files hold what is written of it, where they are known.
+abbrev pub EndsFor : (contents contents_after : List ℕ → Option (List ℕ)) → (known : Bool) → Wanted → (wants_memory : Bool) → (after : Stream) → Type 0
+EndsFor contents contents_after known wanted wants_memory after =
+    (found : Report) × IsReportOn contents wanted found × (IsTrue known → AreWritten contents contents_after (files_for found (outputs_of wanted)))
+    × EndsBy (size_line_for (outputs_of wanted).cert (cert_text found) (outputs_of wanted).progress) wants_memory after
+
+abbrev pub Ends : (contents contents_after : List ℕ → Option (List ℕ)) → (known : Bool) → List (List ℕ) → (wants_memory : Bool) → (after : Stream) → Type 0
+Ends contents contents_after known words wants_memory after = (wanted : Wanted) × Asks words wanted × EndsFor contents contents_after known wanted wants_memory after
+
 -- Where progress is asked for, the last line says what the certificate of the answer lists, if it has one.
 abbrev pub HasEndedIf : (progress wants_memory : Bool) → (failures : ℕ) → (taken : Option (List ℕ)) → Report → Type 0
 HasEndedIf progress wants_memory failures taken (report.Solve solved) = IsTrue progress → HasEnded wants_memory failures taken solved.answer
@@ -89,10 +142,10 @@ HasEndedFor (to_solve domain problem asked) wants_memory failures taken found = 
 HasEndedFor (to_check domain problem cert asked) wants_memory failures taken found = ⊤
 HasEndedFor (to_explain domain problem asked) wants_memory failures taken found = ⊤
 
--- the same by the status: that of a plan or of there being none has a certificate
-abbrev pub HasSaidEnd : Wanted → (wants_memory : Bool) → (failures : ℕ) → (taken : Option (List ℕ)) → (status : ℕ) → Type 0
-HasSaidEnd (to_validate domain problem plan json) wants_memory failures taken status = ⊤
-HasSaidEnd (to_solve domain problem asked) wants_memory failures taken status =
-    IsTrue asked.progress → (status ≡ 0) ⊎ (status ≡ 10) → EndsByEnd wants_memory failures taken
-HasSaidEnd (to_check domain problem cert asked) wants_memory failures taken status = ⊤
-HasSaidEnd (to_explain domain problem asked) wants_memory failures taken status = ⊤
+-- what is said at the end, by the status: that of a plan or of there being none has a certificate
+abbrev pub HasSaidEnd : (contents contents_after : List ℕ → Option (List ℕ)) → (known : Bool) → Wanted → (wants_memory : Bool) → (after : Stream) → (status : ℕ) → Type 0
+HasSaidEnd contents contents_after known (to_validate domain problem plan json) wants_memory after status = ⊤
+HasSaidEnd contents contents_after known (to_solve domain problem asked) wants_memory after status =
+    IsTrue asked.progress → (status ≡ 0) ⊎ (status ≡ 10) → EndsFor contents contents_after known (to_solve domain problem asked) wants_memory after
+HasSaidEnd contents contents_after known (to_check domain problem cert asked) wants_memory after status = ⊤
+HasSaidEnd contents contents_after known (to_explain domain problem asked) wants_memory after status = ⊤

@@ -6,10 +6,11 @@ ghost use Rattle.planner_main.specs.Failures.{device_line, is_failure, no_memory
 ghost use Rattle.planner_main.specs.Program.{Reports, ReportsFor, ReportsPartly, ReportsPartlyFor, Refuses, HasFailed, HasNotFailed, CountsEither, CountsFailure, NamesInput, NamesText, IsFaultFor, IsFound, IsOneOf, IsUnread, SaysOfWords, fault_in, inputs_of, texts_of};
 ghost use Rattle.devices.specs.Texts.{AreKept};
 ghost use Rattle.devices.specs.Devices.{IsWritten};
-ghost use Rattle.planner_main.specs.Progress.{AsksForProgress, AsksForSearchProgress, EndsByEnd, HasEndedFor, HasSaidEnd, IsProgress, IsProgressOn, SaysAfter};
+ghost use Rattle.planner_main.specs.Progress.{AsksForProgress, AsksForSearchProgress, Ends, HasEndedFor, HasSaidEnd, IsProgress, IsProgressOn, SaysAfter};
 ghost use Rattle.progress_lines.specs.Said.{AreSaid, stream};
 
 mod acceptance;
+mod counting;
 mod explaining;
 mod inputs;
 mod outputs;
@@ -86,10 +87,12 @@ pub fn run<F: Files, O: Sink, E: Sink>(
     ensures status { IsTrue (is_failure result)
         ⊎ Reports (texts words.now) F.is_known (F.contents files.old) (F.contents files.new) (O.taken out.old) (O.taken out.new) result }
     // Without `--progress` the standard error stays as it is beside an answer. With it, it takes lines first, each of them true: of what every
-    // plan costs at least, and how large the task and the search are; and beside the answer of a search the last one is that of the end.
+    // plan costs at least, and how large the task, the search and the certificate are. Beside the answer of a search the last one is that
+    // of the end, or, where a file is named for the certificate, that of how many bytes it has, and the one before that of the end.
     ensures quiet { (AsksForProgress (texts words.now) → ⊥) → is_failure result ≡ false → E.taken err.new ≡ E.taken err.old }
     ensures progress { is_failure result ≡ false → AreSaid (IsProgress (F.contents files.old) (texts words.now)) E.wants_memory (stream (E.failures err.old) (E.taken err.old)) (stream (E.failures err.new) (E.taken err.new)) }
-    ensures ended { AsksForSearchProgress (texts words.now) → (result ≡ 0) ⊎ (result ≡ 10) → EndsByEnd E.wants_memory (E.failures err.new) (E.taken err.new) }
+    ensures ended { AsksForSearchProgress (texts words.now) → (result ≡ 0) ⊎ (result ≡ 10)
+        → Ends (F.contents files.old) (F.contents files.new) F.is_known (texts words.now) E.wants_memory (stream (E.failures err.new) (E.taken err.new)) }
 
     // The status of words that are no command is reported exactly of these, unless memory for reading them is refused; and that of
     // texts only where they are refused: `explain` reports the fault on the standard output, as what was asked for, and of the other
@@ -142,7 +145,7 @@ fn carry_out<F: Files, O: Sink, E: Sink>(
     ensures unread { (name : List ℕ) → IsOneOf (inputs_of (wanted_of order.entry)) name → IsTrue (F.is_missing files.old name) → IsUnread result }
     ensures unreadable { (name : List ℕ) → IsOneOf (texts_of (wanted_of order.entry)) name → IsTrue (F.is_unreadable files.old name) → IsUnread result }
     ensures progress { AreSaid (IsProgressOn (F.contents files.old) (wanted_of order.entry)) E.wants_memory (stream (E.failures err.old) (E.taken err.old)) (stream (E.failures err.new) (E.taken err.new)) }
-    ensures ended { IfOk result (HasSaidEnd (wanted_of order.entry) E.wants_memory (E.failures err.new) (E.taken err.new)) }
+    ensures ended { IfOk result (HasSaidEnd (F.contents files.old) (F.contents files.new) F.is_known (wanted_of order.entry) E.wants_memory (stream (E.failures err.new) (E.taken err.new))) }
 {
     let report = report_of(alloc, order, files, err)?;
     write_report(alloc, &report, outputs_of(order), files, out, err)

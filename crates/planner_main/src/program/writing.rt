@@ -1,5 +1,5 @@
 //! The one way out: what is found out goes to the files that are wanted of it, and then to the standard output.
-ghost use Rattle.std.specs.Prelude.{◌≡◌, IfErr, IfOk, IsErr, IsTrue, None, OnOk};
+ghost use Rattle.std.specs.Prelude.{◌≡◌, IfErr, IfOk, IfSome, IsErr, IsTrue, None, OnOk, Some};
 ghost use Rattle.std.specs.Option.{option_map};
 ghost use Rattle.planner_main.specs.Asked.{outputs_in};
 ghost use Rattle.planner_main.specs.Reported as reported;
@@ -8,7 +8,8 @@ ghost use Rattle.file_answers.specs.Files.{text_in};
 ghost use Rattle.planner_main.specs.Solution.{IsBegun, WritesReport, cert_of, cert_text, in_file, plan_text};
 ghost use Rattle.devices.specs.Written.{AreWritten};
 ghost use Rattle.devices.specs.Devices.{CountsDevice};
-ghost use Rattle.planner_main.specs.Progress.{IsFailedLine, IsFailedLineOf, failed_line};
+ghost use Rattle.devices.specs.declared.device.IoFault.TheVariants.{NoMemory};
+ghost use Rattle.planner_main.specs.Progress.{IsCertificateLine, IsFailedLineOf, IsWritingLine, SaysIf, failed_line, line_if, size_in, size_line, size_line_for};
 ghost use Rattle.progress_lines.specs.Said.{AreSaid, stream};
 ghost use Rattle.std.specs.String.{string_bytes};
 ghost use Rattle.task.specs.Task.{task_of};
@@ -17,9 +18,10 @@ ghost use Rattle.certificate_definitions.specs.CertificateNames.{certificate_tex
 
 use crate::failures::{Failure, say};
 use crate::printing::{Report, json_text, report_text, said, status_of};
+use crate::program::counting::write_counted;
 use crate::program::outputs::Outputs;
 use certificate::{Cert, write_cert};
-use devices::{Bytes, Document, Files, IoFault, Sink, write_all, write_file};
+use devices::{Bytes, Document, Files, IoFault, Sink, write_all};
 use solver::{Answer, Exceeded};
 use std::alloc::{AllocError, Global};
 use task::Task;
@@ -27,7 +29,7 @@ use task::Task;
 /// Writes the files that are wanted of a report, first that of the certificate, and then what it is reported as to the standard output:
 /// the status. What is reported is made before any file is written.
 ///
-/// Where progress is asked for, and a file fails, it is said which one.
+/// Where progress is asked for, it is said how many bytes the certificate has that is written, and of a file that fails which one it is.
 pub(super) fn write_report<F: Files, O: Sink, E: Sink>(
     alloc: Global,
     report: &Report,
@@ -44,17 +46,66 @@ pub(super) fn write_report<F: Files, O: Sink, E: Sink>(
     ensures unfailed { IfOk result (λ _. HasNotFailed (F.failures files.old) (F.failures files.new) (O.failures out.old) (O.failures out.new)) }
     ensures failures { IfErr result (CountsEither (F.failures files.old) (F.failures files.new) (O.failures out.old) (O.failures out.new)) }
     ensures no_text { IfErr result (λ failure. fault_in failure ≡ None) }
-    ensures progress { AreSaid (IsFailedLine (outputs_in outputs.entry)) E.wants_memory (stream (E.failures err.old) (E.taken err.old)) (stream (E.failures err.new) (E.taken err.new)) }
-    ensures quiet { IfOk result (λ _. stream (E.failures err.new) (E.taken err.new) ≡ stream (E.failures err.old) (E.taken err.old)) }
+    ensures progress { AreSaid (IsWritingLine report.now (outputs_in outputs.entry)) E.wants_memory (stream (E.failures err.old) (E.taken err.old)) (stream (E.failures err.new) (E.taken err.new)) }
+    ensures sized { IfOk result (λ _. SaysIf (size_line_for (text_in outputs.entry.cert) (cert_text report.now) outputs.entry.progress)
+        E.wants_memory (stream (E.failures err.old) (E.taken err.old)) (stream (E.failures err.new) (E.taken err.new))) }
 {
     let text = report_text(alloc, report)?;
     let json = json_text(alloc, report, outputs.format)?;
     let cert = cert_text(alloc, report);
-    save_or_say(alloc, outputs.cert, &cert, outputs.progress, files, err)?;
+    save_cert(alloc, outputs.cert, &cert, outputs.progress, files, err)?;
     let plan = plan_text(report, &text);
     save_or_say(alloc, outputs.plan, &plan, outputs.progress, files, err)?;
     write_all(out, said(&json, &text))?;
     Ok(status_of(report))
+}
+
+/// Writes the certificate as `save_or_say` does, and where progress is asked for, it then says how many bytes were written. Where memory
+/// for that line is refused, the file is written, and what comes after it is not.
+fn save_cert<F: Files, D: Document, E: Sink>(
+    alloc: Global,
+    name: Option<&str>,
+    document: &Option<D>,
+    progress: bool,
+    files: &mut F,
+    err: &mut E,
+) -> Result<(), IoFault>
+    ensures written { OnOk result (IsTrue F.is_known
+        → AreWritten (F.contents files.old) (F.contents files.new) (in_file (text_in name.entry) (option_map D.text document.now))) }
+    ensures partly { IsErr result → IsBegun F.is_known (F.contents files.old) (F.contents files.new) (in_file (text_in name.entry) (option_map D.text document.now)) }
+    ensures failures { CountsDevice (F.failures files.old) (F.failures files.new) result }
+    ensures progress { AreSaid (IsCertificateLine progress (text_in name.entry) (option_map D.text document.now)) E.wants_memory (stream (E.failures err.old) (E.taken err.old)) (stream (E.failures err.new) (E.taken err.new)) }
+    ensures sized { OnOk result (SaysIf (size_line_for (text_in name.entry) (option_map D.text document.now) progress) E.wants_memory (stream (E.failures err.old) (E.taken err.old)) (stream (E.failures err.new) (E.taken err.new))) }
+{
+    match save(files, name, document) {
+        Ok(Some(size)) => say_size(alloc, size, progress, err),
+        Ok(None) => Ok(()),
+        Err(fault) => {
+            say_failed(alloc, name, progress, err);
+            Err(fault)
+        }
+    }
+}
+
+/// Says how many bytes a certificate has that is written, if progress is asked for. The only error is running out of memory.
+fn say_size<E: Sink>(alloc: Global, size: u64, progress: bool, err: &mut E) -> Result<(), IoFault>
+    ensures said { OnOk result (SaysIf (line_if progress (Some size)) E.wants_memory (stream (E.failures err.old) (E.taken err.old)) (stream (E.failures err.new) (E.taken err.new))) }
+    ensures quiet { IsErr result → stream (E.failures err.new) (E.taken err.new) ≡ stream (E.failures err.old) (E.taken err.old) }
+    ensures memory { IfErr result (λ fault. fault ≡ NoMemory) }
+{
+    if !progress {
+        return Ok(());
+    }
+    let line = size_line(alloc, size)?;
+    say(err, line.as_bytes());
+    Ok(())
+}
+
+/// The line of a certificate of this many bytes.
+fn size_line(alloc: Global, size: u64) -> Result<String, AllocError>
+    ensures { IfOk result (λ line. string_bytes line ≡ size_line size) }
+{
+    format!(in alloc; "progress=certificate bytes={size}\n")
 }
 
 /// Writes the document as `save` does. Where that fails and progress is asked for, it says so of this name.
@@ -74,7 +125,7 @@ fn save_or_say<F: Files, D: Document, E: Sink>(
     ensures quiet { OnOk result (stream (E.failures err.new) (E.taken err.new) ≡ stream (E.failures err.old) (E.taken err.old)) }
 {
     match save(files, name, document) {
-        Ok(()) => Ok(()),
+        Ok(_) => Ok(()),
         Err(fault) => {
             say_failed(alloc, name, progress, err);
             Err(fault)
@@ -102,22 +153,26 @@ fn failed_line(alloc: Global, name: &str) -> Result<String, AllocError>
     format!(in alloc; "progress=failed file={name}\n")
 }
 
-/// Writes the document, if there is one, to the file of this name, if one is named.
+/// Writes the document, if there is one, to the file of this name, if one is named: how many bytes were written, if so.
 fn save<F: Files, D: Document>(
     files: &mut F,
     name: Option<&str>,
     document: &Option<D>,
-) -> Result<(), IoFault>
+) -> Result<Option<u64>, IoFault>
     ensures written { OnOk result (IsTrue F.is_known
         → AreWritten (F.contents files.old) (F.contents files.new) (in_file (text_in name.entry) (option_map D.text document.now))) }
     ensures partly { IsErr result → IsBegun F.is_known (F.contents files.old) (F.contents files.new) (in_file (text_in name.entry) (option_map D.text document.now)) }
     ensures failures { CountsDevice (F.failures files.old) (F.failures files.new) result }
+    // It is begun where a size is given, too.
+    ensures begun { IfOk result (λ size. IfSome size (λ _. IsBegun F.is_known (F.contents files.old) (F.contents files.new) (in_file (text_in name.entry) (option_map D.text document.now)))) }
+    ensures counted { IfOk result (λ size. size ≡ size_in (text_in name.entry) (option_map D.text document.now)) }
 {
-    let Some(name) = name else { return Ok(()) };
+    let Some(name) = name else { return Ok(None) };
     let Some(document) = document else {
-        return Ok(());
+        return Ok(None);
     };
-    write_file(files, name, document)
+    let size = write_counted(files, name, document)?;
+    Ok(Some(size))
 }
 
 /// The text of the certificate of what is reported, if it has one.

@@ -161,7 +161,8 @@ returns-in-Ok-carry_out-clause-progress g c = λ answers.
 
 pub returns-in-Ok-carry_out-clause-ended : goal.returns-in-Ok-carry_out-clause-ended
 returns-in-Ok-carry_out-clause-ended g c =
-    end_of_words g.E.Sink.wants_memory (g.E.Sink.failures c.carry_out.new.err) (g.E.Sink.taken c.carry_out.new.err) (texts c.args.words.now) (wanted_of c.in-Ok.order) c.in-Ok.ensures.asks _
+    end_of_words (g.F.Files.contents c.args.files.now) (g.F.Files.contents c.carry_out.new.files) g.F.Files.is_known g.E.Sink.wants_memory
+    (stream (g.E.Sink.failures c.carry_out.new.err) (g.E.Sink.taken c.carry_out.new.err)) (texts c.args.words.now) (wanted_of c.in-Ok.order) c.in-Ok.ensures.asks _
     c.in-Ok-carry_out.ensures.ended
 
 pub returns-in-Err-carry_out-clause-ended : goal.returns-in-Err-carry_out-clause-ended

@@ -1,0 +1,37 @@
+//! What was written, which exists only in proofs: it takes no memory, and its methods do nothing when they run.
+ghost use Rattle.std.specs.Prelude.{◌≡◌, ◌++◌, ℕ, List, []};
+ghost use Rattle.std.specs.Borrow.{ftrue};
+
+use std::marker::Model;
+
+/// The bytes that were written.
+#[derive(Drop)]
+pub(super) struct History {
+    pub(super) ghost bytes: { List ℕ },
+}
+
+impl Model for History {
+    ghost also_owns = { λ _. ftrue };
+}
+
+/// Some bytes.
+#[derive(Clone, Copy)]
+pub(super) struct Piece<'a> {
+    pub(super) bytes: &'a [u8],
+}
+
+impl History {
+    /// Nothing was written.
+    pub(super) fn new() -> History
+        ensures { result.bytes ≡ [] }
+    {
+        History {}
+    }
+
+    /// What was written before, and then this piece.
+    pub(super) fn with(&self, _piece: &Piece<'_>) -> History
+        ensures { result.bytes ≡ self.now.bytes ++ _piece.now.bytes.now }
+    {
+        History {}
+    }
+}
