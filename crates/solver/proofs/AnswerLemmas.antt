@@ -1,15 +1,11 @@
 -- What the answer says of the task, and what a list of instances that solves says of them.
-use Rattle.std.proofs.Common.{◌≡◌, ℕ, ◌+◌, ◌<◌, ◌≤◌, ◌*◌, Bool, true, false, List, [], ◌∷◌, length, map, get_or, ◌∙◌, None, Some, refl, sym, ap, subst, arith, ℤ}
-use Rattle.std.specs.Prelude.{nat_le, slice_get, Contains, All, IsTrue}
+use Rattle.std.proofs.Common.{◌≡◌, ℕ, ◌+◌, ◌<◌, ◌≤◌, ◌*◌, Bool, true, false, List, [], ◌∷◌, length, get_or, None, Some, refl, sym, ap, subst, arith}
+use Rattle.std.specs.Prelude.{nat_le, slice_get, Contains, All}
 use Rattle.std.specs.Option.{option_and_then}
-use Rattle.std.specs.List.{list_all, AllZip}
+use Rattle.std.specs.List.{list_all}
 use Rattle.std.proofs.lemmas.Bool.{and_parts, and_from, lt-ltb, leb-true}
 use Rattle.std.proofs.lemmas.Bool.Decides.{nat_tests}
-use Rattle.std.proofs.lemmas.List.{length-map}
 use Rattle.std.proofs.lemmas.Option.{slice_get-get_or, slice_get_within}
-use Rattle.std.proofs.lemmas.Slice.Zip.{AllZip-long}
-use Rattle.formulas.specs.declared.instance.Instance as code
-use Rattle.formulas.specs.State.{instance_of}
 use Rattle.packed_state.specs.PooledView.{pooled_states}
 use Rattle.packed_state.specs.declared.pooled.PooledStore.{PooledStore}
 use Rattle.certificate.specs.declared.states.Listed.{Listed}
@@ -33,7 +29,6 @@ use Rattle.listed_systems.specs.ListedSystem as listed_system
 use Rattle.listed_systems.specs.ListedSystem.{ground_in, exchanges_in, IsListed}
 use Rattle.listed_systems.specs.declared.listed_system.ListedSystem.{ListedSystem}
 use Rattle.listed_systems.proofs.ListedLemmas.{DoesAs, does, length-reachable, more_reachable, task_costs_at_least}
-use Rattle.listed_systems.proofs.GroundLemmas.{numbers_named, one_named}
 use Rattle.solver.specs.Guidance.{Guidance, estimate_by, reports_dead, CanBeWritten}
 use Rattle.solver.specs.Guided.{found_in, AreMarksOf, CanBeMarked, IsSearched}
 use Rattle.solver.specs.declared.limits.Limits.{Limits}
@@ -41,20 +36,14 @@ use Rattle.solver.proofs.GuidanceLemmas.{most_value, estimate-most}
 use Rattle.solver.proofs.FoundLines.{found_line, node_at}
 use Rattle.solver.proofs.LimitLemmas.{limit_claim}
 use Rattle.model.specs.Task.{Task, Atom, Instance}
-use Rattle.model.specs.Runs.{System, run, cost_of_all, Solves, CostsAtLeast, IsOptimal, IsUnsolvable}
+use Rattle.model.specs.Runs.{System, run, cost_of_all, Solves, CostsAtLeast, IsOptimal}
 use Rattle.model.specs.Claims.{Claim, bound, none, Line, IsClosed, IsLowerBound, AreDeadEnds}
 use Rattle.model.specs.Meaning.{State, step, is_instance, system_of}
 use Rattle.certificate_definitions.specs.Certificates.{is_claim}
-use Rattle.model.specs.Fluents.{is_fluent}
-use Rattle.model.specs.StaticallyFalse.{kept_instances}
 use Rattle.model.specs.NumberedAtoms.{numbered_atoms}
-use Rattle.model.specs.Grounding.{ground_system, StandsFor, NamesKept}
 use Rattle.model.proofs.ClaimsLemmas.{claim-of_closed}
 use Rattle.model.proofs.InstancesLemmas.{is_instance-of_step}
-use Rattle.model.specs.Bisimulation.{IsBisimulation}
 use Rattle.model.specs.WellTyped.{is_task}
-use Rattle.model.proofs.BisimulationLemmas.{same_cost, solves_forth}
-use Rattle.model.proofs.GroundTaskLemmas.{ground_task_is_bisimilar}
 
 all_instances_run : (task : Task) (plan : List Instance) (s end : State) → run (system_of task) s plan ≡ Some end → list_all (is_instance task) plan ≡ true
 all_instances_run task [] s end runs = refl

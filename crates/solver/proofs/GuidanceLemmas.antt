@@ -1,14 +1,14 @@
 -- What a certificate says of the states that were found by a guidance: the estimates by which they were found, which are small,
 -- and which of them are dead ends; and what it keeps of its limits.
-use Rattle.std.proofs.Common.{◌≡◌, ◌∙◌, ℕ, zero, suc, ◌+◌, ◌*◌, ◌≤◌, max, inl, inr, Bool, true, false, ◌&&◌, List, [], ◌∷◌, length, get_or, None, Some, refl, sym, ap, subst, arith, ℤ, pos, negsuc, ◌+ℤ◌, ◌≤ℤ◌}
-use Rattle.std.specs.Prelude.{◌==◌, nat_le, ◌≢◌, Contains, All, AllPairs, IsTrue, if◌then◌else◌}
+use Rattle.std.proofs.Common.{◌≡◌, ◌∙◌, ℕ, zero, suc, ◌+◌, ◌*◌, ◌≤◌, Bool, true, false, ◌&&◌, List, [], ◌∷◌, length, get_or, None, Some, refl, sym, ap, subst, arith, ℤ, pos, negsuc, ◌+ℤ◌, ◌≤ℤ◌}
+use Rattle.std.specs.Prelude.{◌==◌, nat_le, ◌≢◌, All, AllPairs, IsTrue, if◌then◌else◌}
 use Rattle.std.specs.List.{list_all}
 use Rattle.std.proofs.lemmas.Bool.{and_parts, eqb-true, leb-true, ltb-true, lt-ltb}
 use Rattle.std.proofs.lemmas.Int.{ints}
 use Rattle.std.proofs.lemmas.List.Elements.{All-cons, All-nil}
 use Rattle.model.specs.Task.{Task, Atom}
-use Rattle.model.specs.Claims.{Claim, Mark, opened, cut, dead}
-use Rattle.model.specs.Meaning.{State, initial_state}
+use Rattle.model.specs.Claims.{Claim, opened, cut, dead}
+use Rattle.model.specs.Meaning.{initial_state}
 use Rattle.model.specs.Fluents.{is_fluent}
 use Rattle.model.specs.NumberedAtoms.{numbered_atoms}
 use Rattle.model.specs.Grounding.{bits_of_state, state_of_bits, ground_system}
@@ -16,15 +16,14 @@ use Rattle.model.proofs.LimitsLemmas.{numbered_again}
 use Rattle.model.proofs.GroundTaskLemmas.{initial-numbered, packs_states}
 use Rattle.search.specs.declared.nodes.Node.{Node}
 use Rattle.symmetries.specs.Exchanges.{Exchange}
-use Rattle.certificate_definitions.specs.Certificates.{Version, two, three, Certificate, is_value_count, is_weight, is_mark, are_potentials, is_dead_end_weight, are_tables, are_weights, has_tables, is_row, is_table, rows_of, rise, value_of, is_dead_end_of, AreFairFor}
+use Rattle.certificate_definitions.specs.Certificates.{Version, two, three, is_value_count, is_weight, is_mark, are_potentials, is_dead_end_weight, are_tables, are_weights, has_tables, is_row, is_table, rows_of, rise, value_of, is_dead_end_of, AreFairFor}
 use Rattle.certificate.specs.CertificateParts.{are_bounds}
-use Rattle.potential_functions.specs.PotentialFunctions as potential
 use Rattle.potential_functions.specs.PotentialFunctions.{PotentialFunction, score, given, IsInRange, AreInRange}
 use Rattle.potential_functions.specs.Fair as potentials
 use Rattle.potential_functions.proofs.Falls.{or_zero-most}
 use Rattle.potential_functions.proofs.Sums.{sum-range}
 use Rattle.potential_functions.proofs.Ranges.{given-range}
-use Rattle.table_functions.specs.TableFunctions.{Row, Table, TableFunction, SeveralValues, is_among, projection, row_in, has_rows, weight_at, given_by, sum_over, total, score_by_tables, value, over_tables, functions_of, dead_ends_of, greatest_value, in_state}
+use Rattle.table_functions.specs.TableFunctions.{Row, Table, SeveralValues, is_among, projection, row_in, has_rows, given_by, sum_over, score_by_tables, value, over_tables, functions_of, dead_ends_of, greatest_value, in_state}
 use Rattle.table_functions.specs.FairTables as fair_tables
 use Rattle.table_functions.proofs.Lists.{all-at}
 use Rattle.table_functions.proofs.LowerBound.{numbered-has}

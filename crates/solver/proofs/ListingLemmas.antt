@@ -25,8 +25,8 @@ use Rattle.solver.proofs.FoundLines.{expanded_of_open, dead_of_reported, found_l
 use Rattle.model.specs.Task.{Task, Atom, Instance}
 use Rattle.model.specs.WellTyped.{is_task, is_atom}
 use Rattle.model.specs.Runs.{System}
-use Rattle.model.specs.Claims.{Claim, opened, cut, dead, Line, IsClosed}
-use Rattle.model.specs.Meaning.{State, system_of, initial_state}
+use Rattle.model.specs.Claims.{Claim, opened, dead, Line, IsClosed}
+use Rattle.model.specs.Meaning.{State, initial_state}
 use Rattle.model.specs.Fluents.{is_fluent, static_atoms}
 use Rattle.model.specs.NumberedAtoms.{occurs_in, are_distinct, numbered_atoms}
 use Rattle.model.specs.Grounding.{chosen, state_of_bits, ground_system, NamesKept}

@@ -1,7 +1,7 @@
 -- The steps of the loops: one instance or one atom more.
 use Rattle.std.proofs.Common.{◌≡◌, ◌∙◌, ℕ, zero, suc, ◌+◌, ◌<◌, Bool, true, false, not, inl, inr, List, [], ◌∷◌, ◌++◌, length, map, take, get_or, Some, refl, sym, ap, subst}
 use Rattle.std.specs.Prelude.{All, Contains, slice_get, if◌then◌else◌}
-use Rattle.std.specs.List.{AllZip, list_any, take-map}
+use Rattle.std.specs.List.{list_any, take-map}
 use Rattle.std.proofs.lemmas.List.{take_more, map-append}
 use Rattle.std.proofs.lemmas.List.Elements.{All-contains}
 use Rattle.task.specs.declared.atoms.Atom as code_atom
@@ -9,16 +9,12 @@ use Rattle.std.specs.Option.{option_map}
 use Rattle.std.proofs.lemmas.Option.{slice_get-map, slice_get-get_or}
 use Rattle.std.proofs.lemmas.Bool.{and_parts, not-true, true≢false}
 use Rattle.std.proofs.lemmas.Map.Views.{Contains-from_any}
-use Rattle.task.specs.TaskParts.{atom_of, object_of}
-use Rattle.formulas.specs.declared.instance.Instance as code
-use Rattle.formulas.specs.State.{instance_of}
-use Rattle.model.specs.Task.{Task, Instance, Atom}
+use Rattle.task.specs.TaskParts.{atom_of}
+use Rattle.model.specs.Task.{Atom}
 use Rattle.model.specs.NumberedAtoms.{occurs_in, are_distinct}
 use Rattle.model.proofs.NumberingLemmas.{occurs_in-got}
 use Rattle.formulas.proofs.Equality.{atom_eq, equal_atoms, one_atom}
 use Rattle.indexmap.specs.IndexSet.{insert_key}
-use Rattle.model.specs.StaticallyFalse.{kept_instances}
-use Rattle.model.specs.Grounding.{NamesKept}
 use Rattle.model.proofs.ListLemmas.{Contains-got, Contains-cases, Contains-map, Contains-none}
 
 -- each state is of this width

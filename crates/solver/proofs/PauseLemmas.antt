@@ -1,6 +1,6 @@
 -- What the least sum in the open list of a search that pauses says of plans, and what its states are.
-use Rattle.std.proofs.Common.{◌≡◌, ℕ, ◌+◌, ◌≤◌, Bool, List, length, Some, refl, sym, ap, ◌∙◌, arith}
-use Rattle.std.specs.Prelude.{slice_get, Contains, All}
+use Rattle.std.proofs.Common.{◌≡◌, ℕ, ◌≤◌, Bool, List, Some, refl, arith}
+use Rattle.std.specs.Prelude.{slice_get, Contains}
 use Rattle.model.specs.Runs.{System, CostsAtLeast, IsReachable}
 use Rattle.model.specs.Claims.{bound, IsLowerBound, AreDeadEnds}
 use Rattle.model.proofs.ClaimsLemmas.{claim-of_closed}
@@ -8,7 +8,7 @@ use Rattle.model.proofs.ListLemmas.{Contains-place}
 use Rattle.packed_state.specs.Store.{AreDistinct}
 use Rattle.search.specs.declared.nodes.Node.{Node}
 use Rattle.search.specs.declared.progress.Progress.{Progress}
-use Rattle.search.specs.Nodes.{Waiting, Found, found_of, IsWaiting, total_of, sum_of, entry, AreNodes, AreOpen}
+use Rattle.search.specs.Nodes.{Waiting, found_of, sum_of, entry, AreOpen}
 use Rattle.search.specs.OpenList.{waiting_in, IsLeastSum}
 use Rattle.search.specs.Outcome.{lines_of}
 use Rattle.search.specs.Progress.{IsSearch, nodes_in}

@@ -1,15 +1,13 @@
 -- Potentials as what a search of the system whose states are listed goes by: in version 2, or as values over no tables.
-use Rattle.std.proofs.Common.{◌≡◌, ◌∙◌, ℕ, zero, suc, ◌≤◌, Bool, true, List, [], ◌∷◌, length, max, refl, sym, ap, subst, arith}
-use Rattle.std.specs.Prelude.{All, AllPairs, IsTrue, ◌≢◌, ◌&&◌}
+use Rattle.std.proofs.Common.{◌≡◌, ◌∙◌, ℕ, Bool, true, List, [], length, max, refl, arith}
+use Rattle.std.specs.Prelude.{AllPairs, ◌≢◌, ◌&&◌}
 use Rattle.std.proofs.lemmas.List.Elements.{All-cons, All-nil}
-use Rattle.certificate_definitions.specs.Certificates.{three}
 use Rattle.grounding.specs.Ground.{task_in, atoms_in}
 use Rattle.model.specs.Task.{Task, Atom}
 use Rattle.model.specs.Grounding.{ground_system}
 use Rattle.potential_functions.specs.PotentialFunctions as potential
 use Rattle.potential_functions.specs.PotentialFunctions.{PotentialFunction, AreInRange}
 use Rattle.potential_functions.specs.Fair as potentials
-use Rattle.potential_functions.specs.Settled.{initial_value}
 use Rattle.table_functions.specs.TableFunctions as tables
 use Rattle.table_functions.specs.TableFunctions.{Row, Table, functions_of, dead_ends_of, greatest_value}
 use Rattle.table_functions.specs.FairTables as fair_tables

@@ -1,5 +1,5 @@
 -- What a search goes by, as a certificate has it.
-use Rattle.std.specs.Prelude.{ℕ, Bool, IsTrue, List, [], ◌∷◌, All, AllPairs, ◌≢◌, ℤ, pos, get_or}
+use Rattle.std.specs.Prelude.{ℕ, Bool, IsTrue, List, [], ◌∷◌, All, AllPairs, ◌≢◌, pos, get_or}
 use Rattle.model.specs.Task.{Task, Atom}
 use Rattle.certificate.specs.CertificateParts.{are_bounds}
 use Rattle.certificate_definitions.specs.Certificates.{Version, two, three}

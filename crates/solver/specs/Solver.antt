@@ -22,9 +22,9 @@ use Rattle.model.specs.Grounding.{of_instances, of_atoms, exceeded_limit}
 -- solves costs less; or no list solves; and the certificate shows it, by at most `states` states, with potentials that are
 -- settled or high. Beside a plan no state is open that costs, with its value, more than the plan. Or a limit is exceeded:
 -- that of the instances exactly where more than `instances` of the task's are kept, that of the atoms exactly where no
--- more are kept and too many atoms have numbers, and else that of the states, where more than `states` of those that the
--- certificate's listing may have are reachable and may have to be found. Then each list that solves costs at least the bound, and the certificate of the `states` states that
--- were found shows it.
+-- more are kept and too many atoms have numbers, and else that of the states, where more than `states` of those that a
+-- listing by the certificate's exchanges may have are reachable and may have to be found. Then each list that solves costs
+-- at least the bound, and the certificate of the `states` states that were found shows it.
 abbrev pub IsTrueAnswer : Task → ℕ → ℕ → Answer → Type 0
 IsTrueAnswer task states instances (Plan steps cost cert) =
     IsOptimal (system_of task) (plan_of steps) × (cost_of_all (system_of task) (plan_of steps) ≡ cost)

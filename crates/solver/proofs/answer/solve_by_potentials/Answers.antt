@@ -1,15 +1,15 @@
-use Rattle.std.proofs.Common.{◌≡◌, ◌∙◌, ℕ, Bool, List, sym, ap, subst, length, arith}
+use Rattle.std.proofs.Common.{◌≡◌, ◌∙◌, ℕ, Bool, List, sym, ap, subst, length}
 use Rattle.certificate.specs.CertificateParts as parts
 use Rattle.grounding.specs.declared.ground.Ground.{Ground}
 use Rattle.grounding.specs.Ground.{task_in, atoms_in}
 use Rattle.model.specs.Runs.{System}
 use Rattle.model.specs.Grounding.{ground_system}
-use Rattle.potential_functions.specs.PotentialFunctions.{PotentialFunction, AreInRange, score, value, is_dead_by}
+use Rattle.potential_functions.specs.PotentialFunctions.{PotentialFunction, score, is_dead_by}
 use Rattle.potential_functions.specs.Fair.{AreFair, AreDeadFair}
 use Rattle.potentials_improved.specs.FairPotentials as fair
 use Rattle.potentials_improved.specs.FairPotentials.{potentials_in}
 use Rattle.search.specs.Estimates.{value_by}
-use Rattle.solver.specs.Guidance.{Guidance, estimate_by, reports_dead}
+use Rattle.solver.specs.Guidance.{estimate_by, reports_dead}
 use Rattle.solver.specs.Guided.{IsGuidanceFor, IsSearched}
 use Rattle.listed_systems.specs.ListedSystem as listed_system
 use Rattle.listed_systems.specs.ListedSystem.{ground_in, system_over}

@@ -6,7 +6,6 @@ use Rattle.potential_functions.specs.PotentialFunctions.{PotentialFunction}
 use Rattle.potential_functions.specs.Settled.{initial_value}
 use Rattle.potentials.specs.Potentials.{potentials_of}
 use Rattle.table_functions.specs.FairTables.{AreFair}
-use Rattle.solver.specs.declared.attempt.Attempt.{Attempt}
 use Rattle.solver.specs.declared.searched.Searched.{Searched}
 use Rattle.solver.specs.Attempts.{IfDone}
 use Rattle.solver.specs.Guidance.{by_tables, estimate_by, reports_dead}

@@ -1,4 +1,4 @@
-use Rattle.std.proofs.Common.{◌≡◌, ◌≤◌, ℕ, sym, subst, length, Bool, List, arith}
+use Rattle.std.proofs.Common.{ℕ, sym, subst, length, arith}
 use Rattle.grounding.specs.Ground.{atoms_in}
 use Rattle.listed_systems.specs.ListedSystem.{ground_in, system_of}
 use Rattle.packed_state.specs.PooledView.{pooled_states}
@@ -8,7 +8,6 @@ use Rattle.search.specs.declared.nodes.FoundStates.{FoundStates}
 use Rattle.solver.specs.Guided.{found_in, AreMarksOf, CanBeMarked}
 use Rattle.solver.specs.Stretches.{IsUnderWay}
 use Rattle.solver.proofs.AnswerLemmas.{can_be_marked, searched, most_of_limit}
-use Rattle.search.specs.declared.under_way.Halt.{Halt}
 use Rattle.search.specs.UnderWay.{IsTrueHalt}
 use Rattle.packed_state.specs.PooledView.{pooled_width}
 use Rattle.solver.proofs.searched.stretch_by.Goals as goal
