@@ -7,11 +7,11 @@ use Rattle.search_tests.proofs.quotients.found_in_quotient.Goals as goal
 pub real_plan-requires-clause-runs : goal.real_plan-requires-clause-runs
 real_plan-requires-clause-runs c =
     let r = c.args.representatives.now in
-    let reported = rw c.in-Found.is at c.in_ok-best_first.ensures in
+    let reported = rw c.in-Found.is at c.in_ok-steps.ensures in
     ap (λ (numbers : List ℕ). is_some (run (quotient_by r) (start_by r) numbers)) c.deref.ensures.value ∙ ap is_some reported.0.0.1
 
 pub real_plan-requires-clause-few : goal.real_plan-requires-clause-few
 real_plan-requires-clause-few c =
-    let reported = rw c.in-Found.is at c.in_ok-best_first.ensures in
+    let reported = rw c.in-Found.is at c.in_ok-steps.ensures in
     let same = ap length c.deref.ensures.value in
     omega (arith, reported.3, same)
