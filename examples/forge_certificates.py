@@ -296,6 +296,29 @@ def state_dropped(lines, chance):
     return "a state is dropped"
 
 
+def objects_in(lines):
+    """The objects that atoms name."""
+    return sorted({word.rstrip(")") for at in lines_of(lines, "atom") for word in lines[at][width(lines) + 2:]})
+
+
+def swap_added(lines, chance):
+    objects, count = objects_in(lines), chance.choice((2, 2, 2, 2, 3, 4))
+    names = chance.sample(objects, count) if chance.random() < 0.9 else chance.choices(objects, k=count)
+    lines.insert(chance.randrange(3, 4 + len(lines_of(lines, "swap"))), ["swap", *names])
+    return "objects change places"
+
+
+def swap_dropped(lines, chance):
+    del lines[chance.choice(lines_of(lines, "swap"))]
+    return "a swap line is dropped"
+
+
+def swap_changed(lines, chance):
+    words = lines[chance.choice(lines_of(lines, "swap"))]
+    words[chance.randrange(1, len(words))] = chance.choice(objects_in(lines))
+    return "another object changes places"
+
+
 def claim_changed(lines, chance):
     if lines[1] == ["claim", "none"]:
         lines[1] = ["claim", "bound", "1"]
@@ -322,7 +345,7 @@ def word_changed(lines, chance):
 # Those that stand here more than once are taken more often.
 CHANGES = (weight_moved, weight_moved, weight_moved, constant_moved, row_dropped, row_dropped, row_added, row_repeated, table_added,
            table_moved, scope_left, dead_weights_swapped, dead_weights_cleared, values_swapped, state_changed, state_cost_moved,
-           state_dropped, claim_changed, line_moved, word_changed)
+           state_dropped, swap_added, swap_added, swap_dropped, swap_changed, claim_changed, line_moved, word_changed)
 
 
 def forged(text, chance):
