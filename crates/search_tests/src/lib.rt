@@ -38,3 +38,5 @@ mod searches_by_tables;
 mod sets;
 #[cfg(test)]
 mod signs;
+#[cfg(test)]
+mod unlike_tasks;
