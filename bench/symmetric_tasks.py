@@ -1,9 +1,11 @@
-"""Tasks in which objects are interchangeable, so that one state stands for many: balls, sandwiches, crates, couples, parcels for one
-place, images and goods."""
+"""Tasks in which objects are interchangeable, so that one state stands for many: balls, sandwiches, lifts, crates, couples,
+parcels for one place, images and goods."""
+
+import random
 
 from more_potential_tasks import satellite, storage, tpp
 from tasks import gripper, problem
-from vehicle_tasks import logistics
+from vehicle_tasks import COST, ELEVATORS, logistics, moved, names, rising, typed
 
 SNACKS = """(define (domain child-snack) (:requirements :typing)
   (:types child bread filling sandwich tray place) (:constants kitchen - place)
@@ -81,6 +83,17 @@ def hiking(couples, places, cars, tents):
     return HIKING, problem("hiking", objects, init, [f"(walked {x} {points[-1]})" for x in pairs])
 
 
+def lifts(count, passengers, floors, seed):
+    """Lifts that stop everywhere and hold two."""
+    storeys, crowd, cars, counts = names("f", floors), names("p", passengers), names("l", count), names("n", 3)
+    init, goal = moved(random.Random(seed), crowd, storeys)
+    init += rising("next", counts)
+    for car in cars:
+        init += [f"(at {car} f0) (load {car} n0) (holds {car} n1) (holds {car} n2)"] + [f"(stops {car} {f})" for f in storeys]
+        init += [f"(= (ride {car} {storeys[a]} {storeys[b]}) {2 + abs(a - b)})" for a in range(floors) for b in range(floors) if a != b]
+    return ELEVATORS, problem("elevators", typed(floor=storeys, lift=cars, passenger=crowd, count=counts), init, goal, COST)
+
+
 def texts(task):
     return task.domain, task.problem
 
@@ -90,6 +103,7 @@ TASKS = [
     ("gripper, 12 balls", *texts(gripper(12, 0))),
     ("gripper, 40 balls", *texts(gripper(40, 0))),
     ("child-snack, 5 children", *snacks(5, 2, 2, 1)),
+    ("elevators, 4 lifts, 4 passengers", *lifts(4, 4, 6, 1)),
     ("storage, 4 crates", *storage(4, 3, 3)),
     ("storage, 6 crates", *storage(6, 4, 3)),
     ("hiking, 3 couples", *hiking(3, 3, 3, 4)),
