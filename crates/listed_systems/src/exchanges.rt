@@ -17,6 +17,10 @@ use std::alloc::Global;
 use task::{ObjectId, Task};
 use task_symmetries::{Exchange, exchanged_numbers};
 
+/// A task of at most so many atoms is searched as it is: it has at most sixteen states, and no exchange of objects saves what it
+/// costs to find.
+const FEW_ATOMS: usize = 4;
+
 /// So many atoms may be looked at for all exchanges together, at most. Those that come after are left out.
 const MAX_LOOKS: usize = 4_194_304;
 
@@ -30,6 +34,9 @@ const MAX_PAIRS: usize = 32_767;
 pub fn exchanges_of(alloc: Global, ground: &Ground<'_>) -> Result<Vec<Exchange>, NoMemory>
     ensures { IfOk result (λ kept. AreExchangesFor ground.now (map exchange_of kept.items)) }
 {
+    if ground.atoms().len() <= FEW_ATOMS {
+        return Ok(Vec::new(alloc));
+    }
     let drafts = drafted_exchanges(alloc, ground.task())?;
     let most = MAX_EXCHANGES.min(MAX_LOOKS / (ground.atoms().len() + 1));
     let mut kept = Vec::new(alloc);
@@ -73,6 +80,9 @@ fn can_be_named(task: &Task, pairs: &[(ObjectId, ObjectId)]) -> bool
 }
 
 /// The pairs of objects of all exchanges, in order.
+///
+/// # Errors
+/// Memory was refused, which says nothing of the task.
 pub(crate) fn written_exchanges(
     alloc: Global,
     exchanges: &[Exchange],

@@ -58,7 +58,10 @@ impl<'l, 't> ListedSystem<'l, 't> {
         }
     }
 
-    /// The exchanges, as a certificate has them.
+    /// The exchanges, as a certificate has them: of each its pairs of objects, in order; none of a task that is searched as it is.
+    ///
+    /// # Errors
+    /// Memory was refused, which says nothing of the task.
     pub fn written_exchanges(
         &self,
         alloc: Global,

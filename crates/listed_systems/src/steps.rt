@@ -19,6 +19,9 @@ use quotient_systems::real_plan;
 use std::alloc::Global;
 
 /// The plan that these numbers stand for: their instances, in order, with the objects as they were before exchanges were made.
+///
+/// # Errors
+/// Memory was refused, which says nothing of the task.
 pub fn plan_of(
     alloc: Global,
     system: ListedSystem<'_, '_>,
