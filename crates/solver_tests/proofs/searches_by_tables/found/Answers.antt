@@ -2,7 +2,7 @@ use Rattle.std.proofs.Common.{◌∙◌, [], sym, ap}
 use Rattle.model.specs.Task.{Task}
 use Rattle.model.specs.NumberedAtoms.{numbered_atoms}
 use Rattle.table_guides.proofs.GuideLemmas.{all_numbered}
-use Rattle.search_tests.proofs.searches_by_tables.found.Goals as goal
+use Rattle.solver_tests.proofs.searches_by_tables.found.Goals as goal
 
 pub found_from-requires-clause-numbered : goal.found_from-requires-clause-numbered
 found_from-requires-clause-numbered c =

@@ -4,7 +4,7 @@ use Rattle.model.specs.Runs.{run}
 use Rattle.packed_state.specs.PooledView.{pooled_states}
 use Rattle.search.specs.Outcome.{IsTrueOutcome}
 use Rattle.quotient_systems.specs.RealPlans.{quotient_by, start_by}
-use Rattle.search_tests.proofs.quotients.found_in_quotient.Goals as goal
+use Rattle.solver_tests.proofs.quotients.found_in_quotient.Goals as goal
 
 pub real_plan-requires-clause-runs : goal.real_plan-requires-clause-runs
 real_plan-requires-clause-runs c =

@@ -1,15 +1,7 @@
 //! What the checker answers to texts of certificates.
-ghost use Rattle.std.specs.Prelude.{IsTrue};
-ghost use Rattle.std.specs.List.{list_all};
-ghost use Rattle.std.specs.Option.{ForSome};
-ghost use Rattle.task.specs.Task.{task_of};
-ghost use Rattle.formulas.specs.State.{plan_of};
-ghost use Rattle.model.specs.Meaning.{is_instance};
-
 use cert_checker::{Accepted, Refusal, RefusalCode, check};
-use certificate::{Cert, CertReader, write_cert};
-use devices::{IoFault, Memory, Source};
-use formulas::Plan;
+use certificate::CertReader;
+use devices::{Memory, Source};
 use std::alloc::Global;
 use task::{SchemaId, Task};
 
@@ -53,18 +45,15 @@ fn as_reported(refusal: Refusal) -> Reported {
 /// What the checker answers.
 pub(crate) type Answer = Result<Accepted, Reported>;
 
-/// What the checker answers to the certificate whose text the source gives, and to the plan, if one is given.
+/// What the checker answers to the certificate whose text the source gives.
 pub(crate) fn check_source<S: Source + Drop>(
     alloc: Global,
     task: &Task,
     source: S,
-    plan: Option<&Plan>,
     max_instances: u32,
-) -> Answer
-    requires { ForSome plan (λ p. IsTrue (list_all (is_instance (task_of task.now)) (plan_of p.now))) }
-{
+) -> Answer {
     let mut reader = CertReader::new(alloc, source);
-    match check(alloc, task, &mut reader, plan, max_instances) {
+    match check(alloc, task, &mut reader, None, max_instances) {
         Ok(accepted) => Ok(accepted),
         Err(refusal) => Err(as_reported(refusal)),
     }
@@ -72,20 +61,5 @@ pub(crate) fn check_source<S: Source + Drop>(
 
 /// What the checker answers to the certificate of this text.
 pub(crate) fn check_text(alloc: Global, task: &Task, text: Vec<u8>, max_instances: u32) -> Answer {
-    check_source(alloc, task, Memory::new(text), None, max_instances)
-}
-
-/// What the checker answers to the text of the listing, and to the plan, if one is given.
-pub(crate) fn check_cert(
-    alloc: Global,
-    task: &Task,
-    listing: &Cert,
-    plan: Option<&Plan>,
-    max_instances: u32,
-) -> Result<Answer, IoFault>
-    requires { ForSome plan (λ p. IsTrue (list_all (is_instance (task_of task.now)) (plan_of p.now))) }
-{
-    let mut text = Memory::empty(alloc);
-    write_cert(alloc, task, listing, &mut text)?;
-    Ok(check_source(alloc, task, text, plan, max_instances))
+    check_source(alloc, task, Memory::new(text), max_instances)
 }

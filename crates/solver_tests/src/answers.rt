@@ -1,20 +1,45 @@
 //! The certificate of an answer, which the checker accepts from its text.
 ghost use Rattle.std.specs.Prelude.{IsTrue};
 ghost use Rattle.std.specs.List.{list_all};
+ghost use Rattle.std.specs.Option.{ForSome};
 ghost use Rattle.task.specs.Task.{task_of};
 ghost use Rattle.formulas.specs.State.{plan_of};
 ghost use Rattle.model.specs.Meaning.{is_instance};
 
-use crate::helpers::check_cert;
-use cert_checker::Accepted;
-use certificate::Cert;
-use devices::IoFault;
+use cert_checker::{Accepted, check};
+use certificate::{Cert, CertReader, write_cert};
+use devices::{IoFault, Memory};
 use formulas::Plan;
 use solver::{Answer, Limits, solve};
 use std::alloc::Global;
 use std::test::Fail;
 use task::Task;
 use test_texts::{FOUR_BALLS, HOP, on_task};
+
+/// What the checker accepts of the certificate of this text, and of the plan, if one is given.
+fn check_text(alloc: Global, task: &Task, text: Memory, plan: Option<&Plan>) -> Option<Accepted>
+    requires { ForSome plan (λ p. IsTrue (list_all (is_instance (task_of task.now)) (plan_of p.now))) }
+{
+    let mut reader = CertReader::new(alloc, text);
+    match check(alloc, task, &mut reader, plan, 1_000_000) {
+        Ok(accepted) => Some(accepted),
+        Err(_) => None,
+    }
+}
+
+/// The same of the certificate.
+fn check_cert(
+    alloc: Global,
+    task: &Task,
+    cert: &Cert,
+    plan: Option<&Plan>,
+) -> Result<Option<Accepted>, IoFault>
+    requires { ForSome plan (λ p. IsTrue (list_all (is_instance (task_of task.now)) (plan_of p.now))) }
+{
+    let mut text = Memory::empty(alloc);
+    write_cert(alloc, task, cert, &mut text)?;
+    Ok(check_text(alloc, task, text, plan))
+}
 
 /// Whether the certificate of the plan is accepted, with the plan and without.
 fn is_plan_shown(
@@ -26,9 +51,9 @@ fn is_plan_shown(
 ) -> Result<bool, IoFault>
     requires { IsTrue (list_all (is_instance (task_of task.now)) (plan_of steps.now)) }
 {
-    let with_plan = check_cert(alloc, task, cert, Some(steps), 1_000_000)?;
-    let without = check_cert(alloc, task, cert, None, 1_000_000)?;
-    Ok(with_plan == Ok(Accepted::Optimal { cost }) && without == Ok(Accepted::AtLeast { cost }))
+    let with_plan = check_cert(alloc, task, cert, Some(steps))?;
+    let without = check_cert(alloc, task, cert, None)?;
+    Ok(with_plan == Some(Accepted::Optimal { cost }) && without == Some(Accepted::AtLeast { cost }))
 }
 
 /// Whether there is a plan, and its certificate is accepted.

@@ -273,7 +273,7 @@ fn failures_are_reported(rt: &impl Abort, alloc: Global, task: &Task) -> Result<
     let text = whole(alloc, ROWS)?;
     for reads in 0..=text.len() as u64 {
         let bytes = InPieces::new(Memory::new(text.to_vec(alloc)?), 1);
-        let answer = check_source(alloc, task, FailsAt::source(bytes, Some(reads)), None, 3);
+        let answer = check_source(alloc, task, FailsAt::source(bytes, Some(reads)), 3);
         assert_eq!(rt; answer, Err(Reported::Device), "{reads}");
     }
     Ok(())

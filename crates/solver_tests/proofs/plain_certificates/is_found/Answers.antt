@@ -3,7 +3,7 @@ use Rattle.grounding.specs.declared.ground.Ground.{Ground}
 use Rattle.grounding.specs.Ground.{task_in, atoms_in}
 use Rattle.model.specs.Grounding.{ground_system}
 use Rattle.potentials_improved.specs.FairPotentials.{ground_in}
-use Rattle.search_tests.proofs.plain_certificates.is_found.Goals as goal
+use Rattle.solver_tests.proofs.plain_certificates.is_found.Goals as goal
 
 pub new-guide-requires-clause-system : goal.new-guide-requires-clause-system
 new-guide-requires-clause-system c = ap (λ (g : Ground). ground_system (task_in g) (atoms_in g)) (c.requires.dead_ends ∙ sym c.requires.fair)

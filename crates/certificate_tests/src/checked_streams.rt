@@ -26,7 +26,7 @@ fn memory(alloc: Global, bytes: &[u8]) -> Result<Memory, AllocError> {
 /// What the checker answers where bytes come one by one, and the read after so many fails.
 fn failing(alloc: Global, task: &Task, bytes: &[u8], reads: u64) -> Result<Answer, AllocError> {
     let source = FailsAt::source(InPieces::new(memory(alloc, bytes)?, 1), Some(reads));
-    Ok(check_source(alloc, task, source, None, 6))
+    Ok(check_source(alloc, task, source, 6))
 }
 
 /// A failure is reported before the end of the text.
@@ -66,10 +66,10 @@ const HEAD: &[u8] = b"pddl-cert 1\nclaim none\nconstant 0\n";
 fn endless(alloc: Global, task: &Task, text: &[u8], again: &[u8]) -> Result<Answer, AllocError> {
     let again = again.repeat(alloc, 4_096)?;
     if again.is_empty() {
-        return Ok(check_source(alloc, task, memory(alloc, text)?, None, 6));
+        return Ok(check_source(alloc, task, memory(alloc, text)?, 6));
     }
     let source = Endless::new(text.to_vec(alloc)?, again);
-    Ok(check_source(alloc, task, source, None, 6))
+    Ok(check_source(alloc, task, source, 6))
 }
 
 /// Texts, what follows them for ever, and the first line at fault.

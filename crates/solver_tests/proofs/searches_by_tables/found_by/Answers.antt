@@ -2,7 +2,7 @@ use Rattle.std.proofs.Common.{ap, length}
 use Rattle.grounding.specs.declared.ground.Ground.{Ground}
 use Rattle.grounding.specs.Ground.{task_in, atoms_in}
 use Rattle.model.specs.Grounding.{ground_system}
-use Rattle.search_tests.proofs.searches_by_tables.found_by.Goals as goal
+use Rattle.solver_tests.proofs.searches_by_tables.found_by.Goals as goal
 
 pub best_first-requires-clause-made_for : goal.best_first-requires-clause-made_for
 best_first-requires-clause-made_for c = ap (λ (g : Ground). ground_system (task_in g) (atoms_in g)) c.requires

@@ -1,0 +1,21 @@
+//! Tests of certificates: made in memory, written, read and checked, over devices that fail, and with texts that are changed.
+#![tactic(auto)]
+
+#[cfg(test)]
+mod certificates;
+#[cfg(test)]
+mod certificates_with_exchanges;
+#[cfg(test)]
+mod certificates_with_tables;
+#[cfg(test)]
+mod changed_texts;
+#[cfg(test)]
+mod checked_streams;
+#[cfg(test)]
+mod helpers;
+#[cfg(test)]
+mod laws;
+#[cfg(test)]
+mod reading_certificates;
+#[cfg(test)]
+mod writing;
