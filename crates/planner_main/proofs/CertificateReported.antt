@@ -24,10 +24,10 @@ use Rattle.devices.specs.declared.device.IoFault.{IoFault}
 use Rattle.file_answers.specs.declared.checking.Checked.{Checked}
 use Rattle.planner_main.specs.declared.failures.Failure.{Failure}
 use Rattle.planner_main.specs.declared.failures.Failure.TheVariants as failure
-use Rattle.planner_main.specs.declared.printing.reports.Report.{Report}
-use Rattle.planner_main.specs.declared.printing.reports.Report.TheVariants as report
+use Rattle.printed_answers.specs.declared.reports.Report.{Report}
+use Rattle.printed_answers.specs.declared.reports.Report.TheVariants as report
 use Rattle.file_answers.specs.Checked.{IsChecked, IsRefusedAs, IsTrueCheck}
-use Rattle.planner_main.specs.CheckReported.{IsReportedRefusal, failure_of}
+use Rattle.printed_answers.specs.CheckReported.{IsReportedRefusal, failure_of}
 use Rattle.planner_main.specs.Program.{CountsFailure, IsCheckOn, IsCheckedIn, IsTextIfNamed}
 
 -- What came to the end is all that there was, and what came is a beginning of it.

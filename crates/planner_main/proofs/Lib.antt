@@ -1,7 +1,3 @@
-pub mod JsonWritten
-pub mod MembersInOrder
-pub mod JsonExampleProofs
-pub mod JsonReported
 pub mod ProgramWords
 pub mod ProgramReported
 pub mod CertificateReported

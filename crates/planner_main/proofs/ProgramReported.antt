@@ -8,10 +8,10 @@ use Rattle.command_line.specs.Orders.{Asks, Wanted}
 use Rattle.devices.specs.Written.{NamedText, HoldsBeginning, with_file, with_files, AreWritten, AreWrittenPartly}
 use Rattle.planner_main.specs.Asked.{Outputs, outputs_of}
 use Rattle.file_answers.specs.Files.{text_in}
-use Rattle.planner_main.specs.Objects.{line_of_members}
+use Rattle.printed_answers.specs.Objects.{line_of_members}
 use Rattle.planner_main.specs.Solution.{IsBegun, WritesReport, cert_text, files_for, in_file, plan_text}
-use Rattle.planner_main.specs.Reported.{of_report, status_of, text_of, reported_of}
-use Rattle.planner_main.specs.declared.printing.reports.Report.{Report}
+use Rattle.printed_answers.specs.Reported.{of_report, status_of, text_of, reported_of}
+use Rattle.printed_answers.specs.declared.reports.Report.{Report}
 use Rattle.planner_main.specs.Program.{IsReported, IsReportedPartly, nothing, in_a_file, on_the_output, IsAnswer, IsAnswerTo, IsReportOn, Reports, ReportsPartly, ReportsFor, ReportsPartlyFor}
 use Rattle.devices.specs.Texts.{AreKept}
 use Rattle.planner_main.proofs.ProgramWords.{IsOfReport, answered_status}

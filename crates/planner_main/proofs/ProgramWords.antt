@@ -14,11 +14,11 @@ use Rattle.command_line.specs.declared.fault.WordsFault.{WordsFault}
 use Rattle.command_line.proofs.OrderLemmas.{one_wanted}
 use Rattle.devices.specs.Written.{NamedText}
 use Rattle.file_answers.specs.Inputs.{IsInputFault}
-use Rattle.planner_main.specs.CheckReported as check
-use Rattle.planner_main.specs.Reported as reported
-use Rattle.planner_main.specs.Reported.{status_of}
-use Rattle.planner_main.specs.declared.printing.reports.Report.{Report}
-use Rattle.planner_main.specs.declared.printing.reports.Report.TheVariants as report
+use Rattle.printed_answers.specs.CheckReported as check
+use Rattle.printed_answers.specs.Reported as reported
+use Rattle.printed_answers.specs.Reported.{status_of}
+use Rattle.printed_answers.specs.declared.reports.Report.{Report}
+use Rattle.printed_answers.specs.declared.reports.Report.TheVariants as report
 use Rattle.validator.specs.Verdict.{verdict_of}
 use Rattle.cert_checker.specs.declared.refusal.Refusal.{Refusal}
 use Rattle.cert_checker.specs.declared.checker.Accepted.{Accepted}
@@ -33,9 +33,9 @@ use Rattle.file_answers.specs.Files.{fault_at}
 use Rattle.devices.specs.declared.device.IoFault.{IoFault}
 use Rattle.devices.specs.Devices.{AppendsBeginning, CountsDevice, IsWritten, one_more}
 use Rattle.planner_main.specs.Failures.{is_failure}
-use Rattle.planner_main.specs.VerdictReported as verdict
-use Rattle.planner_main.specs.AnswerReported as answer
-use Rattle.planner_main.specs.ExplanationReported as explanation
+use Rattle.printed_answers.specs.VerdictReported as verdict
+use Rattle.printed_answers.specs.AnswerReported as answer
+use Rattle.printed_answers.specs.ExplanationReported as explanation
 use Rattle.file_answers.specs.declared.explanation.Subject.{Subject}
 use Rattle.file_answers.specs.declared.explanation.Subject.TheVariants as subject
 use Rattle.file_answers.specs.declared.explanation.Grounded.TheVariants as grounded

@@ -16,16 +16,16 @@ use Rattle.solver.specs.declared.answer.Answer.{Answer}
 use Rattle.solver.specs.declared.answer.Answer.TheVariants.{Plan, Unsolvable, Unknown}
 use Rattle.progress_lines.proofs.SaidLemmas.{said_after, said_of_more, none_said}
 use Rattle.planner_main.specs.Asked.{Outputs, outputs_of}
-use Rattle.planner_main.specs.AnswerReported as answers
+use Rattle.printed_answers.specs.AnswerReported as answers
 use Rattle.planner_main.specs.Program.{IsReportOn, IsReportedOn, IsReported}
 use Rattle.planner_main.specs.Progress.{AsksForProgress, AsksForSearchProgress, Ends, EndsByEnd, EndsFor, HasEndedFor, HasEndedIf, HasSaidEnd, IsProgress, IsProgressOn, IsWritingLine, SaysAfter, SaysIf, WantsProgress, WantsSearchProgress, line_if, size_line_for}
-use Rattle.planner_main.specs.Reported.{status_of}
+use Rattle.printed_answers.specs.Reported.{status_of}
 use Rattle.planner_main.specs.Solution.{WritesReport, cert_text, files_for}
 use Rattle.planner_main.proofs.ProgramReported.{written_since}
 use Rattle.planner_main.specs.declared.failures.Failure.{Failure}
 use Rattle.planner_main.specs.declared.failures.Failure.TheVariants as failure
-use Rattle.planner_main.specs.declared.printing.reports.Report.{Report}
-use Rattle.planner_main.specs.declared.printing.reports.Report.TheVariants as report
+use Rattle.printed_answers.specs.declared.reports.Report.{Report}
+use Rattle.printed_answers.specs.declared.reports.Report.TheVariants as report
 
 -- What is reported of a failure is reported after what was said before.
 pub reported_more : (Says More : List ℕ → Type 0) → ((line : List ℕ) → Says line → More line) → (f : Failure) (status : ℕ) → IsReportedOn f Says status → IsReportedOn f More status

@@ -7,7 +7,7 @@ use Rattle.progress_lines.proofs.SaidLemmas.{said_of_more}
 use Rattle.planner_main.specs.Asked.{Outputs}
 use Rattle.planner_main.specs.Progress.{IsCertificateLine, IsWritingLine, SaysIf, line_if, size_in, size_line, size_line_for}
 use Rattle.planner_main.specs.Solution.{cert_text}
-use Rattle.planner_main.specs.declared.printing.reports.Report.{Report}
+use Rattle.printed_answers.specs.declared.reports.Report.{Report}
 
 -- it is said where progress is asked for
 pub said_if : (progress : Bool) → IsTrue progress → (size : ℕ) (line : List ℕ) → line ≡ size_line size

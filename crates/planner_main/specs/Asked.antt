@@ -1,9 +1,8 @@
 -- How what is found out is reported, and which files are written of it: as the words ask for it, and as the code has it.
-use Rattle.std.specs.Prelude.{Bool, true, false, List, ℕ, Option, None}
+use Rattle.std.specs.Prelude.{Bool, false, List, ℕ, Option, None}
 use Rattle.command_line.specs.Orders.{Wanted, to_solve, to_validate, to_check, to_explain}
 use Rattle.command_line.specs.View.{text_in}
-use Rattle.planner_main.specs.declared.printing.reports.Format.{Format}
-use Rattle.planner_main.specs.declared.printing.reports.Format.TheVariants.{Text, Json}
+use Rattle.printed_answers.specs.Reported.{is_json}
 use Rattle.planner_main.specs.declared.program.outputs.Outputs.{Outputs as Code}
 
 -- whether the standard output reports it as JSON, and the files for the certificate and for the plan, if any
@@ -22,9 +21,5 @@ outputs_of (to_check domain problem cert asked) = record { json = asked.json; ce
 outputs_of (to_explain domain problem asked) = record { json = asked.json; cert = None; plan = None; progress = false }
 
 -- what the code has
-abbrev pub is_json : Format → Bool
-is_json Text = false
-is_json Json = true
-
 abbrev pub outputs_in : Code → Outputs
 outputs_in outputs = record { json = is_json outputs.format; cert = text_in outputs.cert; plan = text_in outputs.plan; progress = outputs.progress }

@@ -1,16 +1,5 @@
-pub mod JsonText
-pub mod Members
-pub mod MembersBuilt
-pub mod JsonExamples
-pub mod Objects
-pub mod VerdictReported
-pub mod ExplanationReported
-pub mod ExplanationObjects
-pub mod AnswerReported
-pub mod CheckReported
 pub mod Failures
 pub mod Solution
 pub mod Asked
-pub mod Reported
 pub mod Program
 pub mod Progress

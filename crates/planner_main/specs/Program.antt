@@ -7,8 +7,8 @@ use Rattle.validator.specs.declared.verdict.Verdict.{Verdict}
 use Rattle.validator.specs.Verdict.{verdict_of}
 use Rattle.file_answers.specs.declared.checking.Checked.{Checked}
 use Rattle.file_answers.specs.declared.solving.Solved.{Solved}
-use Rattle.planner_main.specs.declared.printing.reports.Report.{Report}
-use Rattle.planner_main.specs.declared.printing.reports.Report.TheVariants as report
+use Rattle.printed_answers.specs.declared.reports.Report.{Report}
+use Rattle.printed_answers.specs.declared.reports.Report.TheVariants as report
 use Rattle.planner_main.specs.declared.failures.Failure.{Failure}
 use Rattle.planner_main.specs.declared.failures.Failure.TheVariants as failure
 use Rattle.file_answers.specs.declared.files.FileFault.TheVariants as refusal
@@ -22,7 +22,7 @@ use Rattle.command_line.specs.View.{IsOfWords}
 use Rattle.command_line.specs.declared.fault.WordsFault.{WordsFault}
 use Rattle.file_answers.specs.Checked.{IsTrueCheck}
 use Rattle.file_answers.specs.Inputs.{IsGiven, IsInputFault}
-use Rattle.planner_main.specs.CheckReported.{IsReportedRefusal}
+use Rattle.printed_answers.specs.CheckReported.{IsReportedRefusal}
 use Rattle.planner_main.specs.Asked.{outputs_of}
 use Rattle.file_answers.specs.declared.explanation.Explanation.{Explanation}
 use Rattle.file_answers.specs.Explanations.{IsTrueOf}

@@ -12,8 +12,8 @@ use Rattle.solver.specs.declared.reports.Report.TheVariants.{End}
 use Rattle.planner_main.specs.Asked.{Outputs, outputs_of}
 use Rattle.planner_main.specs.Program.{IsReportOn, OnTwo}
 use Rattle.planner_main.specs.Solution.{cert_text, files_for}
-use Rattle.planner_main.specs.declared.printing.reports.Report.{Report}
-use Rattle.planner_main.specs.declared.printing.reports.Report.TheVariants as report
+use Rattle.printed_answers.specs.declared.reports.Report.{Report}
+use Rattle.printed_answers.specs.declared.reports.Report.TheVariants as report
 
 -- ---- the lines
 

@@ -11,9 +11,9 @@ use Rattle.certificate.specs.Certificate.{certificate_of}
 use Rattle.certificate_definitions.specs.CertificateNames.{certificate_text}
 use Rattle.devices.specs.Written.{NamedText, AreWrittenPartly}
 use Rattle.planner_main.specs.Asked.{Outputs}
-use Rattle.planner_main.specs.Reported.{status_of, reported_of}
-use Rattle.planner_main.specs.declared.printing.reports.Report.{Report}
-use Rattle.planner_main.specs.declared.printing.reports.Report.TheVariants as report
+use Rattle.printed_answers.specs.Reported.{status_of, reported_of}
+use Rattle.printed_answers.specs.declared.reports.Report.{Report}
+use Rattle.printed_answers.specs.declared.reports.Report.TheVariants as report
 use Rattle.model.specs.Task.{Task}
 use Rattle.model.specs.PlanWriting as plans
 

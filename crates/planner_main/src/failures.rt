@@ -7,12 +7,21 @@ ghost use Rattle.file_answers.specs.Files.{fault_at};
 ghost use Rattle.planner_main.specs.Program.{IsReportedOfWords, IsReportedOn};
 ghost use Rattle.devices.specs.Devices.{IsWritten};
 
-use crate::printing::{DEVICE, NO_MEMORY, REFUSED, WRONG_WORDS};
 use command_line::WordsFault;
 use devices::{IoFault, Sink, write_all};
 use faults::{Code, NoMemory, Span};
 use file_answers::{File, FileFault};
+use printed_answers::REFUSED;
 use std::alloc::{AllocError, Global};
+
+/// The status where the words are no command.
+const WRONG_WORDS: u8 = 2;
+
+/// The status where a file or the standard output could not be opened, read or written.
+const DEVICE: u8 = 21;
+
+/// The status where memory was refused.
+const NO_MEMORY: u8 = 22;
 
 /// The last line where the words are no command.
 const NOTHING_DONE: &str = "optplan: nothing was done\n";

@@ -1,9 +1,8 @@
-//! The whole program over any files: what answers are reported as, and with which status. It passes on all that a user of the
-//! program as a library needs.
+//! The whole program over any files: what it is asked for is found out and reported, or the status says why not. It passes on all that
+//! a user of the program as a library needs.
 #![tactic(auto)]
 
 mod failures;
-mod printing;
 mod program;
 
 pub use cert_checker::{Accepted, Refusal, RefusalCode};
@@ -15,7 +14,7 @@ pub use file_answers::{
     check_files, explain_files, one_task, solve_files, solved_certificates_are_accepted,
     tasks_of_files_are_well_typed, validate_files,
 };
-pub use printing::{Report, json_examples_are_written, json_line};
+pub use printed_answers::{Report, json_examples_are_written, json_line};
 pub use program::run;
 pub use solver::{Answer, Exceeded, Limits};
 pub use validator::Verdict;

@@ -19,12 +19,12 @@ mod validation;
 mod writing;
 
 use crate::failures::{Failure, report_failure, report_words};
-use crate::printing::Report;
 use acceptance::{CheckAsked, InputNames, report_of_check};
 use command_line::{MaxCount, Order, read_words};
 use devices::{Files, Sink};
 use explaining::report_of_explain;
 use outputs::outputs_of;
+use printed_answers::Report;
 use solution::{PairNames, report_of_solve};
 use solver::Limits;
 use std::alloc::Global;

@@ -11,17 +11,17 @@ ghost use Rattle.certificate_reader.specs.Reader.{source_of};
 ghost use Rattle.file_answers.specs.Inputs.{IsInputFault};
 ghost use Rattle.file_answers.specs.Files.{text_in, reported_in};
 ghost use Rattle.file_answers.specs.declared.checking.Checked.{Checked};
-ghost use Rattle.planner_main.specs.declared.printing.reports.Report.TheVariants.{Check};
+ghost use Rattle.printed_answers.specs.declared.reports.Report.TheVariants.{Check};
 ghost use Rattle.devices.specs.Texts.{AreKept, items_in};
 ghost use Rattle.planner_main.specs.Program.{CountsFailure, IsCheckOn, IsCheckedIn, IsOneOf, IsUnread, OnInputs, fault_in, if_named};
 ghost use Rattle.devices.specs.Devices.{IsKept};
 
 use crate::failures::Failure;
-use crate::printing::{Report, failure_of};
 use crate::program::inputs::{TaskTexts, read_named, read_pair};
 use certificate::CertReader;
 use devices::{Files, Sink, Source};
 use file_answers::{Checked, FileFault, check_files, check_files_and_say};
+use printed_answers::{Report, failure_of};
 use std::alloc::Global;
 
 /// The names of the files that are read.

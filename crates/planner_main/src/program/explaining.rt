@@ -8,10 +8,10 @@ ghost use Rattle.file_answers.specs.Explanations as explanations;
 ghost use Rattle.std.specs.Option.{option_map};
 
 use crate::failures::Failure;
-use crate::printing::Report;
 use crate::program::inputs::{read_named, read_pair};
 use devices::Files;
 use file_answers::{NamedText, explain_files};
+use printed_answers::Report;
 use std::alloc::Global;
 
 /// What is said of the files of a task, and of that of a plan, if it is named.

@@ -1,10 +1,11 @@
 //! How a report is reported, and which files are written of it.
 ghost use Rattle.std.specs.Prelude.{◌≡◌, None, false};
 ghost use Rattle.command_line.specs.View.{wanted_of};
-ghost use Rattle.planner_main.specs.Asked.{is_json, outputs_in, outputs_of};
+ghost use Rattle.planner_main.specs.Asked.{outputs_in, outputs_of};
+ghost use Rattle.printed_answers.specs.Reported.{is_json};
 
-use crate::printing::Format;
 use command_line::Order;
+use printed_answers::Format;
 
 /// How a report is reported, and where beside the standard output.
 #[derive(Clone, Copy)]

@@ -12,10 +12,10 @@ ghost use Rattle.solver.specs.Said.{HasEnded};
 ghost use Rattle.solver.specs.Solver.{IsTrueAnswer};
 
 use crate::failures::Failure;
-use crate::printing::Report;
 use crate::program::inputs::{TaskTexts, read_pair};
 use devices::{Files, Sink};
 use file_answers::{FileFault, Solved, solve_files, solve_files_and_say};
+use printed_answers::Report;
 use solver::Limits;
 use std::alloc::Global;
 

@@ -5,10 +5,10 @@ ghost use Rattle.devices.specs.Texts.{AreKept};
 ghost use Rattle.model.specs.Files.{IsFileFault};
 
 use crate::failures::Failure;
-use crate::printing::Report;
 use crate::program::inputs::read_pair;
 use devices::{Files, read_file};
 use file_answers::validate_files;
+use printed_answers::Report;
 use std::alloc::Global;
 
 /// Whether the plan of a file solves the task of two files.

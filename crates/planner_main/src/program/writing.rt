@@ -2,7 +2,7 @@
 ghost use Rattle.std.specs.Prelude.{◌≡◌, IfErr, IfOk, IfSome, IsErr, IsTrue, None, OnOk, Some};
 ghost use Rattle.std.specs.Option.{option_map};
 ghost use Rattle.planner_main.specs.Asked.{outputs_in};
-ghost use Rattle.planner_main.specs.Reported as reported;
+ghost use Rattle.printed_answers.specs.Reported as reported;
 ghost use Rattle.planner_main.specs.Program.{CountsEither, HasNotFailed, IsReported, IsReportedPartly, fault_in};
 ghost use Rattle.file_answers.specs.Files.{text_in};
 ghost use Rattle.planner_main.specs.Solution.{IsBegun, WritesReport, cert_of, cert_text, in_file, plan_text};
@@ -17,11 +17,11 @@ ghost use Rattle.certificate.specs.Certificate.{certificate_of};
 ghost use Rattle.certificate_definitions.specs.CertificateNames.{certificate_text};
 
 use crate::failures::{Failure, say};
-use crate::printing::{Report, json_text, report_text, said, status_of};
 use crate::program::counting::write_counted;
 use crate::program::outputs::Outputs;
 use certificate::{Cert, write_cert};
 use devices::{Bytes, Document, Files, IoFault, Sink, write_all};
+use printed_answers::{Report, json_text, report_text, said, status_of};
 use solver::{Answer, Exceeded};
 use std::alloc::{AllocError, Global};
 use task::Task;

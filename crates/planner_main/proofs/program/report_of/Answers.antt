@@ -10,7 +10,7 @@ use Rattle.progress_lines.specs.Said.{AreSaid, nothing, stream}
 use Rattle.progress_lines.proofs.SaidLemmas.{said_of_more}
 use Rattle.planner_main.specs.Progress.{HasEndedFor, IsProgressOn}
 use Rattle.planner_main.specs.declared.failures.Failure.{Failure}
-use Rattle.planner_main.specs.declared.printing.reports.Report.{Report}
+use Rattle.printed_answers.specs.declared.reports.Report.{Report}
 use Rattle.planner_main.proofs.program.report_of.Goals as goal
 
 whatever : (result : Result Report Failure) → IfOk result (λ _. ⊤)

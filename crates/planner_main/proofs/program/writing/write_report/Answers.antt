@@ -4,7 +4,7 @@ use Rattle.std.specs.Option.{option_map}
 use Rattle.std.proofs.lemmas.Result.{err_from_is_err_and}
 use Rattle.planner_main.specs.Asked.{outputs_in}
 use Rattle.planner_main.specs.Program.{on_the_output}
-use Rattle.planner_main.specs.Reported.{status_of}
+use Rattle.printed_answers.specs.Reported.{status_of}
 use Rattle.planner_main.specs.Solution.{files_for}
 use Rattle.planner_main.proofs.ProgramReported.{both_written, partly_in_cert, partly_in_plan, reported_is}
 use Rattle.planner_main.proofs.SizeReported.{said_of_cert, said_of_files, sized_of_cert}

@@ -1,0 +1,4 @@
+mod JsonWritten
+mod MembersInOrder
+mod JsonExampleProofs
+mod JsonReported

@@ -1,0 +1,11 @@
+pub mod JsonText
+pub mod Members
+pub mod MembersBuilt
+pub mod JsonExamples
+pub mod Objects
+pub mod VerdictReported
+pub mod ExplanationReported
+pub mod ExplanationObjects
+pub mod AnswerReported
+pub mod CheckReported
+pub mod Reported

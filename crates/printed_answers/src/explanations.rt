@@ -1,0 +1,292 @@
+//! Explanations as objects, for editors and services.
+ghost use Rattle.std.specs.Prelude.{◌≡◌, IfOk, map};
+ghost use Rattle.std.specs.String.{string_bytes};
+ghost use Rattle.validator.specs.Verdict.{verdict_of};
+ghost use Rattle.printed_answers.specs.ExplanationObjects as defined;
+ghost use Rattle.printed_answers.specs.JsonText.{object_text};
+
+use crate::members::{Member, object_text};
+use faults::Code;
+use file_answers::{Explanation, FurtherFault, Grounded, Location, Subject, Summary};
+use grounding_kept::GroundLimit;
+use std::alloc::{AllocError, Global};
+use validator::Verdict;
+
+/// The object of an explanation, in compact text. The error is that memory was refused, as in the calls below.
+pub(crate) fn explanation_object(
+    alloc: Global,
+    explanation: &Explanation,
+) -> Result<String, AllocError>
+    ensures { IfOk result (λ text. string_bytes text ≡ object_text (defined.of_explanation explanation.now)) }
+{
+    let lines = explanation.text.as_str();
+    match explanation.subject {
+        Subject::Fault { code, .. } => {
+            let hints = explanation.hints.as_slice();
+            let further = further_texts(alloc, &explanation.further)?;
+            fault_object(
+                alloc,
+                code,
+                &explanation.location,
+                further.as_slice(),
+                hints,
+                lines,
+            )
+        }
+        Subject::Plan(verdict) => plan_object(alloc, verdict, &explanation.location, lines),
+        Subject::Task { holds, grounded } => {
+            task_object(alloc, holds, grounded, &explanation.notes, lines)
+        }
+    }
+}
+
+/// The lines of each of some faults.
+fn further_texts(alloc: Global, further: &[FurtherFault]) -> Result<Vec<String>, AllocError>
+    ensures { IfOk result (λ texts. map string_bytes texts.items ≡ map defined.lines_of further.now) }
+{
+    let mut texts = Vec::new(alloc);
+    'faults: for fault in further {
+        texts.push(String::from_str(alloc, fault.text.as_str())?)?;
+    }
+    Ok(texts)
+}
+
+/// The object of a fault.
+fn fault_object(
+    alloc: Global,
+    code: Code,
+    location: &Option<Location>,
+    further: &[String],
+    hints: &[String],
+    lines: &str,
+) -> Result<String, AllocError>
+    ensures { IfOk result (λ text. string_bytes text ≡ object_text (defined.of_fault code location.now (map string_bytes further.now) (map string_bytes hints.now) lines.now)) }
+{
+    match location {
+        Some(at) => {
+            let name = at.file.as_str();
+            located_fault_object(alloc, code, name, at, further, hints, lines)
+        }
+        None => plain_fault_object(alloc, code, further, hints, lines),
+    }
+}
+
+/// The object of a fault at this place of the file of this name.
+fn located_fault_object(
+    alloc: Global,
+    code: Code,
+    name: &str,
+    at: &Location,
+    further: &[String],
+    hints: &[String],
+    lines: &str,
+) -> Result<String, AllocError>
+    ensures { IfOk result (λ text. string_bytes text ≡ object_text (defined.of_located_fault code name.now at.now.line at.now.column at.now.length (map string_bytes further.now) (map string_bytes hints.now) lines.now)) }
+{
+    let numbered = Member::number("code", u64::from(code.number()));
+    let column = Member::number("column", at.column as u64);
+    let command = Member::text("command", "explain");
+    let file = Member::text("file", name);
+    let others = Member::texts("further", further);
+    let told = Member::texts("hints", hints);
+    let length = Member::number("length", at.length as u64);
+    let line = Member::number("line", at.line as u64);
+    let named = Member::text("name", code.name());
+    let result = Member::text("result", "fault");
+    let text = Member::text("text", lines);
+    let members = [
+        numbered, column, command, file, others, told, length, line, named, result, text,
+    ];
+    object_text(alloc, &members)
+}
+
+/// The object of a fault whose place is not known.
+fn plain_fault_object(
+    alloc: Global,
+    code: Code,
+    further: &[String],
+    hints: &[String],
+    lines: &str,
+) -> Result<String, AllocError>
+    ensures { IfOk result (λ text. string_bytes text ≡ object_text (defined.of_plain_fault code (map string_bytes further.now) (map string_bytes hints.now) lines.now)) }
+{
+    let numbered = Member::number("code", u64::from(code.number()));
+    let command = Member::text("command", "explain");
+    let others = Member::texts("further", further);
+    let told = Member::texts("hints", hints);
+    let named = Member::text("name", code.name());
+    let result = Member::text("result", "fault");
+    let text = Member::text("text", lines);
+    object_text(
+        alloc,
+        &[numbered, command, others, told, named, result, text],
+    )
+}
+
+/// The object of a verdict on a plan.
+fn plan_object(
+    alloc: Global,
+    verdict: Verdict,
+    location: &Option<Location>,
+    lines: &str,
+) -> Result<String, AllocError>
+    ensures { IfOk result (λ text. string_bytes text ≡ object_text (defined.of_plan (verdict_of verdict) location.now lines.now)) }
+{
+    match verdict {
+        Verdict::Valid { cost } => valid_object(alloc, cost, lines),
+        Verdict::NotApplicable { step } => step_object(alloc, step, location, lines),
+        Verdict::GoalMissed => missed_object(alloc, lines),
+    }
+}
+
+/// The object of a plan that solves the task at this cost.
+fn valid_object(alloc: Global, cost: u64, lines: &str) -> Result<String, AllocError>
+    ensures { IfOk result (λ text. string_bytes text ≡ object_text (defined.of_valid cost lines.now)) }
+{
+    let command = Member::text("command", "explain");
+    let total = Member::number("cost", cost);
+    let result = Member::text("result", "valid");
+    let text = Member::text("text", lines);
+    object_text(alloc, &[command, total, result, text])
+}
+
+/// The object of a plan that misses the goal.
+fn missed_object(alloc: Global, lines: &str) -> Result<String, AllocError>
+    ensures { IfOk result (λ text. string_bytes text ≡ object_text (defined.of_missed lines.now)) }
+{
+    let command = Member::text("command", "explain");
+    let result = Member::text("result", "goal missed");
+    let text = Member::text("text", lines);
+    object_text(alloc, &[command, result, text])
+}
+
+/// The object of a plan whose step of this number is not applicable.
+fn step_object(
+    alloc: Global,
+    step: usize,
+    location: &Option<Location>,
+    lines: &str,
+) -> Result<String, AllocError>
+    ensures { IfOk result (λ text. string_bytes text ≡ object_text (defined.of_step step location.now lines.now)) }
+{
+    match location {
+        Some(at) => located_step_object(alloc, step, at.file.as_str(), at, lines),
+        None => plain_step_object(alloc, step, lines),
+    }
+}
+
+/// The object of a step at this place of the file of this name.
+fn located_step_object(
+    alloc: Global,
+    step: usize,
+    name: &str,
+    at: &Location,
+    lines: &str,
+) -> Result<String, AllocError>
+    ensures { IfOk result (λ text. string_bytes text ≡ object_text (defined.of_located_step step name.now at.now.line at.now.column at.now.length lines.now)) }
+{
+    let column = Member::number("column", at.column as u64);
+    let command = Member::text("command", "explain");
+    let file = Member::text("file", name);
+    let length = Member::number("length", at.length as u64);
+    let line = Member::number("line", at.line as u64);
+    let result = Member::text("result", "not applicable");
+    let numbered = Member::number("step", step as u64);
+    let text = Member::text("text", lines);
+    let members = [column, command, file, length, line, result, numbered, text];
+    object_text(alloc, &members)
+}
+
+/// The object of a step whose place is not known.
+fn plain_step_object(alloc: Global, step: usize, lines: &str) -> Result<String, AllocError>
+    ensures { IfOk result (λ text. string_bytes text ≡ object_text (defined.of_plain_step step lines.now)) }
+{
+    let command = Member::text("command", "explain");
+    let result = Member::text("result", "not applicable");
+    let numbered = Member::number("step", step as u64);
+    let text = Member::text("text", lines);
+    object_text(alloc, &[command, result, numbered, text])
+}
+
+/// The object of a task: what it holds, what grounding makes of it, and what is quietly wrong with it.
+fn task_object(
+    alloc: Global,
+    holds: Summary,
+    grounded: Grounded,
+    notes: &[String],
+    lines: &str,
+) -> Result<String, AllocError>
+    ensures { IfOk result (λ text. string_bytes text ≡ object_text (defined.of_task holds grounded (map string_bytes notes.now) lines.now)) }
+{
+    match grounded {
+        Grounded::Within { instances, atoms } => {
+            grounded_object(alloc, holds, instances, atoms, notes, lines)
+        }
+        Grounded::Beyond(limit) => beyond_object(alloc, holds, limit_name(limit), notes, lines),
+    }
+}
+
+/// The object of a task of which so many instances are kept and so many atoms numbered.
+fn grounded_object(
+    alloc: Global,
+    holds: Summary,
+    kept: usize,
+    width: u32,
+    notes: &[String],
+    lines: &str,
+) -> Result<String, AllocError>
+    ensures { IfOk result (λ text. string_bytes text ≡ object_text (defined.of_grounded holds kept width (map string_bytes notes.now) lines.now)) }
+{
+    let actions = Member::number("actions", holds.actions as u64);
+    let atoms = Member::number("atoms", u64::from(width));
+    let command = Member::text("command", "explain");
+    let functions = Member::number("functions", holds.functions as u64);
+    let instances = Member::number("instances", kept as u64);
+    let told = Member::texts("notes", notes);
+    let objects = Member::number("objects", holds.objects as u64);
+    let predicates = Member::number("predicates", holds.predicates as u64);
+    let result = Member::text("result", "task");
+    let text = Member::text("text", lines);
+    let types = Member::number("types", holds.types as u64);
+    let members = [
+        actions, atoms, command, functions, instances, told, objects, predicates, result, text,
+        types,
+    ];
+    object_text(alloc, &members)
+}
+
+/// The object of a task that exceeds the limit of this name.
+fn beyond_object(
+    alloc: Global,
+    holds: Summary,
+    limit: &str,
+    notes: &[String],
+    lines: &str,
+) -> Result<String, AllocError>
+    ensures { IfOk result (λ text. string_bytes text ≡ object_text (defined.of_beyond holds limit.now (map string_bytes notes.now) lines.now)) }
+{
+    let actions = Member::number("actions", holds.actions as u64);
+    let command = Member::text("command", "explain");
+    let functions = Member::number("functions", holds.functions as u64);
+    let told = Member::texts("notes", notes);
+    let objects = Member::number("objects", holds.objects as u64);
+    let predicates = Member::number("predicates", holds.predicates as u64);
+    let reason = Member::text("reason", limit);
+    let result = Member::text("result", "unknown");
+    let text = Member::text("text", lines);
+    let types = Member::number("types", holds.types as u64);
+    let members = [
+        actions, command, functions, told, objects, predicates, reason, result, text, types,
+    ];
+    object_text(alloc, &members)
+}
+
+/// What the limit is called.
+fn limit_name(limit: GroundLimit) -> &'static str
+    ensures { result.now ≡ defined.limit_name limit }
+{
+    match limit {
+        GroundLimit::Instances => "instances",
+        GroundLimit::Atoms => "atoms",
+    }
+}

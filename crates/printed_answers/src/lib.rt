@@ -1,0 +1,16 @@
+//! What answers are reported as: the text of a plan, a line or an object of JSON, with the status beside it.
+#![tactic(auto)]
+
+mod answer;
+mod check;
+mod explanations;
+mod members;
+mod objects;
+mod reports;
+mod statuses;
+mod verdict;
+
+pub use check::failure_of;
+pub use members::json_examples_are_written;
+pub use reports::{Format, Report, json_line, json_text, report_text, said};
+pub use statuses::{REFUSED, status_of};

@@ -1,0 +1,113 @@
+//! The compact text of a JSON object: its members in the order of their keys, no blank, and strings escaped only where they must be.
+ghost use Rattle.std.specs.Prelude.{◌≡◌, IfOk, IsTrue, Some};
+ghost use Rattle.std.specs.String.{string_bytes};
+ghost use Rattle.json.specs.Json.{document, object};
+ghost use Rattle.serde_json.specs.View.{view};
+ghost use Rattle.printed_answers.specs.MembersBuilt.{value_built};
+ghost use Rattle.printed_answers.specs.JsonExamples.{AreWritten};
+ghost use Rattle.printed_answers.specs.JsonText.{ascend, object_text};
+ghost use Rattle.printed_answers.specs.Members.{keys_of, members_of, members_read, value_of};
+
+use serde_json::Map;
+use std::alloc::{AllocError, Global};
+
+/// What a member of an object has.
+#[derive(Clone, Copy)]
+pub(crate) enum Value<'a> {
+    /// A number.
+    Number(u64),
+    /// A string.
+    Text(&'a str),
+    /// An array of strings.
+    InputTexts(&'a [String]),
+}
+
+/// A member of an object.
+#[derive(Clone, Copy)]
+pub(crate) struct Member<'a> {
+    /// Its key.
+    pub(crate) key: &'a str,
+    /// Its value.
+    pub(crate) value: Value<'a>,
+}
+
+impl<'a> Member<'a> {
+    /// A member that has a number.
+    pub(crate) fn number(key: &'a str, number: u64) -> Member<'a>
+        ensures { result ≡ record { key = key.entry; value = Value.Number number } }
+    {
+        Member {
+            key,
+            value: Value::Number(number),
+        }
+    }
+
+    /// A member that has a string.
+    pub(crate) fn text(key: &'a str, text: &'a str) -> Member<'a>
+        ensures { result ≡ record { key = key.entry; value = Value.Text text.entry } }
+    {
+        Member {
+            key,
+            value: Value::Text(text),
+        }
+    }
+
+    /// A member that has an array of strings.
+    pub(crate) fn texts(key: &'a str, texts: &'a [String]) -> Member<'a>
+        ensures { result ≡ record { key = key.entry; value = Value.InputTexts texts.entry } }
+    {
+        Member {
+            key,
+            value: Value::InputTexts(texts),
+        }
+    }
+}
+
+/// The compact text of the object with these members, whose keys ascend in the order of bytes.
+///
+/// ```
+/// let members = [Member::number("cost", 6), Member::text("result", "optimal")];
+/// object_text(alloc, &members)? // {"cost":6,"result":"optimal"}
+/// ```
+pub(crate) fn object_text(alloc: Global, members: &[Member<'_>]) -> Result<String, AllocError>
+    requires { IsTrue (ascend (keys_of members.now)) }
+    ensures text { IfOk result (λ text. string_bytes text ≡ object_text (members_of members.now)) }
+
+    // A reader of JSON makes these members of it.
+    ensures read { IfOk result (λ text. document (string_bytes text) ≡ Some (object (members_read (members_of members.now)))) }
+{
+    let mut object = Map::new(alloc);
+    'members: for member in members {
+        let key = String::from_str(alloc, member.key)?;
+        let value = built_value(alloc, member.value)?;
+        object.insert(key, value)?;
+    }
+    serde_json::Value::Object(object).to_string(alloc)
+}
+
+/// The worked examples of texts. They are proved; the call does nothing.
+pub fn json_examples_are_written()
+    ensures { AreWritten }
+{}
+
+/// A member's value as a value of JSON.
+fn built_value(alloc: Global, value: Value<'_>) -> Result<serde_json::Value, AllocError>
+    ensures { IfOk result (λ built. view built ≡ value_built (value_of value.entry)) }
+{
+    match value {
+        Value::Number(number) => Ok(serde_json::Value::from(number)),
+        Value::Text(text) => serde_json::Value::try_from_str(alloc, text),
+        Value::InputTexts(texts) => built_texts(alloc, texts),
+    }
+}
+
+/// An array of strings as a value of JSON.
+fn built_texts(alloc: Global, texts: &[String]) -> Result<serde_json::Value, AllocError>
+    ensures { IfOk result (λ built. view built ≡ value_built (value_of (Value.InputTexts texts.entry))) }
+{
+    let mut array = Vec::with_capacity(alloc, texts.len())?;
+    'texts: for text in texts {
+        array.push(serde_json::Value::try_from_str(alloc, text.as_str())?)?;
+    }
+    Ok(serde_json::Value::Array(array))
+}
