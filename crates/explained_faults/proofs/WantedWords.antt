@@ -10,8 +10,9 @@ use Rattle.source_text.specs.Files.{text_in}
 use Rattle.source_text.specs.declared.texts.File.{File}
 use Rattle.source_text.specs.declared.texts.File.TheVariants.{Domain, Problem}
 use Rattle.source_text.specs.declared.texts.NamedTexts.{NamedTexts}
-use Rattle.explained_faults.specs.declared.explanation.FileRefusal.{FileRefusal}
-use Rattle.explained_faults.specs.Explained.{AreWhole, reported_in}
+use Rattle.fault_help.specs.ReportedBytes.{reported_in}
+use Rattle.fault_help.specs.declared.refusal.FileRefusal.{FileRefusal}
+use Rattle.explained_faults.specs.Explained.{AreWhole}
 use Rattle.explained_faults.specs.Expected.{AreTold, AreToldIn, HaveBytes, MayFollow, MayOccur, words_before}
 use Rattle.explained_faults.proofs.Candidates.{before_have, read_have}
 

@@ -1,5 +1,5 @@
 -- What is reported for a fault: the fault as it was given, and its place in its file.
-use Rattle.std.specs.Prelude.{◌≡◌, ℕ, min, ◌⊎◌, List, [], ◌++◌, length, slice_range, codes}
+use Rattle.std.specs.Prelude.{◌≡◌, ℕ, ◌⊎◌, List, [], ◌++◌, codes}
 use Rattle.std.specs.Fmt.{decimal}
 use Rattle.faults.specs.Fault.{number_of}
 use Rattle.faults.specs.Fault as faults
@@ -10,7 +10,8 @@ use Rattle.source_text.specs.Files.{text_in}
 use Rattle.source_text.specs.Places.{IsPlace}
 use Rattle.source_text.specs.declared.texts.File.TheVariants.{Domain, Problem, Plan}
 use Rattle.source_text.specs.declared.texts.NamedTexts.{NamedTexts}
-use Rattle.explained_faults.specs.declared.explanation.FileRefusal.{FileRefusal}
+use Rattle.fault_help.specs.ReportedBytes.{reported_in}
+use Rattle.fault_help.specs.declared.refusal.FileRefusal.{FileRefusal}
 use Rattle.explained_faults.specs.declared.explanation.FaultExplanation.{FaultExplanation}
 use Rattle.explained_faults.specs.Expected.{MayOccur, AreToldIn}
 use Rattle.tokens.specs.declared.word.Word.{Word}
@@ -37,10 +38,6 @@ AreWanted texts fault wanted =
 -- a word is refused since no file goes on with it, and not for what it says
 abbrev pub IsOfWords : Code → Type 0
 IsOfWords code = (code ≡ BadForm) ⊎ (code ≡ UnknownSection) ⊎ (code ≡ UnknownRequirement)
-
--- the bytes that a fault is reported for, as far as they are within the text
-abbrev pub reported_in : (text : List ℕ) (start end : ℕ) → List ℕ
-reported_in text start end = slice_range text (min start (min end (length text))) (min end (length text))
 
 -- For such a fault of a domain or a problem that reads as words, all candidates are told with which a file may go on at its
 -- place, or for a keyword some of them, and not none.

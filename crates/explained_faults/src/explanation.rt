@@ -1,30 +1,15 @@
 //! A fault that is explained.
-ghost use Rattle.std.specs.Prelude.{◌≡◌, IfOk, IsTrue};
-ghost use Rattle.source_text.specs.Files.{text_in};
-ghost use Rattle.explained_faults.specs.Explained.{AreWanted, AreWhole, IsExplained, IsOfWords, reported_in};
+ghost use Rattle.std.specs.Prelude.{IfOk, IsTrue};
+ghost use Rattle.explained_faults.specs.Explained.{AreWanted, AreWhole, IsExplained, IsOfWords};
 
-use crate::context::Context;
-use crate::help::Help;
-use crate::hints::{Hint, hint_of};
 use crate::wanted::words_at;
 use crate::wrong::{WrongPlace, wrong_place};
-use crate::{of_names, of_terms, of_words};
-use faults::{Code, NoMemory, Span};
+use fault_help::{FileRefusal, Help, Hint, help_with, hint_of, reported_bytes};
+use faults::{Code, NoMemory};
 use pddl_tree::TaskFile;
 use source_text::{File, LineColumn, NamedTexts, place_of};
 use std::alloc::Global;
-use tokens::{LONGEST_TEXT, Word};
-
-/// A file is refused by this code, for what is at this place of it.
-#[derive(Clone, Copy, Debug, PartialEq, Eq)]
-pub struct FileRefusal {
-    /// The file that the place is in.
-    pub file: File,
-    /// What is wrong.
-    pub code: Code,
-    /// Where it is.
-    pub span: Span,
-}
+use tokens::Word;
 
 /// A fault, where it is, and what helps with it.
 #[derive(Drop)]
@@ -100,61 +85,4 @@ fn is_of_words(code: Code) -> bool
         Code::BadForm | Code::UnknownSection | Code::UnknownRequirement => true,
         _ => false,
     }
-}
-
-/// What helps with a fault beside the words that may occur there.
-fn help_with<'a>(
-    alloc: Global,
-    texts: &NamedTexts<'a>,
-    fault: FileRefusal,
-) -> Result<Help<'a>, NoMemory> {
-    match fault.code {
-        Code::BadByte | Code::BadWord | Code::TooDeep => Ok(Help::Plain),
-        Code::BadForm | Code::UnknownSection | Code::UnknownRequirement => Ok(Help::Plain),
-        Code::LeftOut | Code::NumberTooLarge | Code::BadMetric => Ok(Help::Plain),
-        Code::NegativeInit | Code::TimedStep => Ok(Help::Plain),
-        Code::TooLong => Ok(length_of(fault)),
-        Code::PlanForm if fault.span.start == LONGEST_TEXT => Ok(length_of(fault)),
-        _ => {
-            let context = Context::of(alloc, texts, fault)?;
-            help_in(alloc, &context)
-        }
-    }
-}
-
-/// How many bytes the reported ones are.
-fn length_of<'a>(fault: FileRefusal) -> Help<'a> {
-    Help::Length(fault.span.end.saturating_sub(fault.span.start))
-}
-
-/// What helps with a fault, by the pieces of the texts.
-fn help_in<'a>(alloc: Global, context: &Context<'a>) -> Result<Help<'a>, NoMemory> {
-    match context.fault.code {
-        Code::Unbalanced | Code::PlanForm => Ok(of_words::unbalanced(context)),
-        Code::Trailing => Ok(of_words::trailing(context)),
-        Code::RepeatedSection => Ok(of_words::repeated(context)),
-        Code::MissingSection => of_words::missing(alloc, context),
-        Code::UnknownType => of_names::unknown_type(alloc, context),
-        Code::TypeCycle => of_names::type_cycle(alloc, context),
-        Code::Duplicate => of_names::duplicate(alloc, context),
-        Code::UnknownName => of_names::unknown_name(alloc, context),
-        Code::UnknownAction => of_names::unknown_action(alloc, context),
-        Code::Shadowed => of_names::shadowed(alloc, context),
-        Code::WrongArity | Code::StepArity => of_terms::counts(alloc, context),
-        Code::WrongType | Code::StepType => of_terms::types(alloc, context),
-        Code::DomainMismatch => of_terms::domain_name(alloc, context),
-        Code::BadCost => of_terms::cost_fault(alloc, context),
-        Code::TooMany => Ok(of_terms::passed_limit(context)),
-        _ => Ok(Help::Plain),
-    }
-}
-
-/// The bytes that a fault is reported for, as far as they are within the text.
-pub(crate) fn reported_bytes<'a>(texts: &NamedTexts<'a>, fault: FileRefusal) -> &'a [u8]
-    ensures { result.now ≡ reported_in (text_in texts.now fault.file) fault.span.start fault.span.end }
-{
-    let text = texts.text(fault.file);
-    let end = fault.span.end.min(text.len());
-    let start = fault.span.start.min(end);
-    &text[start..end]
 }

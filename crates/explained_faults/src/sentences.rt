@@ -4,12 +4,13 @@ ghost use Rattle.std.specs.String.{string_bytes};
 ghost use Rattle.source_text.specs.Files.{name_in};
 ghost use Rattle.explained_faults.specs.Explained.{BeginsWith, heading};
 
-use crate::explanation::{FaultExplanation, FileRefusal, reported_bytes};
-use crate::help::{CostFault, Counts, FileOffset, Help, Limit, Named, Types};
-use crate::hints::is_comment_elsewhere;
-use crate::near::{Others, is_near};
+use crate::explanation::FaultExplanation;
 use crate::shown::{Chain, FilePlace, Name, NameList, add_words};
 use crate::wrong::{Nesting, WrongPlace};
+use fault_help::{
+    CostFault, Counts, FileOffset, FileRefusal, Help, Limit, Named, Others, Types,
+    is_comment_elsewhere, is_near, reported_bytes,
+};
 use faults::{Code, NoMemory};
 use source_text::{LineColumn, NamedTexts, marked};
 use std::alloc::{AllocError, Global};

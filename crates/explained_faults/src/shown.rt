@@ -1,5 +1,5 @@
 //! Names, places and words as they are reported.
-use crate::help::FileOffset;
+use fault_help::FileOffset;
 use source_text::{LineColumn, NamedTexts, place_of};
 use std::alloc::{AllocError, Global};
 use std::fmt;

@@ -5,7 +5,7 @@ ghost use Rattle.syntax_tree.specs.Tree.{file_of};
 ghost use Rattle.explained_faults.specs.Expected.{AreSome, AreTold, AreToldIn, HaveBytes, MayFollow, MayOccur, begins_from, words_before};
 
 use crate::expected::expected;
-use crate::near::is_near;
+use fault_help::is_near;
 use faults::{NoMemory, Refused};
 use pddl_tree::TaskFile;
 use std::alloc::Global;

@@ -9,7 +9,7 @@ ghost use Rattle.model.specs.Refusals.{IsRefused};
 ghost use Rattle.syntax_tree.specs.Tree.{file_of};
 ghost use Rattle.explained_faults.specs.Wrong.{GoesWrong, GoesWrongAt, IsRefusedIn};
 
-use crate::explanation::FileRefusal;
+use fault_help::FileRefusal;
 use faults::{Code, Fault, NoMemory, Refused, Span, TextRefusal};
 use pddl_tree::{TaskFile, domain, problem};
 use source_text::{File, NamedTexts, Piece, Shape, index_at, opening_of, pieces};

@@ -2,7 +2,7 @@
 use Rattle.std.specs.Prelude.{◌≡◌, ℕ, nat_le, List, [], ◌++◌, All, codes, length, flat_map, if◌then◌else◌}
 use Rattle.std.specs.String.{string_bytes}
 use Rattle.explained_faults.specs.Explained.{BeginsWith, heading}
-use Rattle.explained_faults.specs.declared.explanation.FileRefusal.{FileRefusal}
+use Rattle.fault_help.specs.declared.refusal.FileRefusal.{FileRefusal}
 use Rattle.fault_lists.specs.FaultLists.{IsFaultOf}
 use Rattle.source_text.specs.Files.{name_in, text_in}
 use Rattle.source_text.specs.Places.{IsPlace}

@@ -1,6 +1,6 @@
 //! A refused file in pieces, with those of the other files, and the names that are known there.
-use crate::explanation::{FileRefusal, reported_bytes};
 use crate::help::{FileOffset, Help};
+use crate::refusal::{FileRefusal, reported_bytes};
 use faults::NoMemory;
 use source_text::{
     File, NamedTexts, Piece, TypedName, declared_after_head, head_of, in_scope, index_at,

@@ -1,7 +1,7 @@
 //! What else is said of mistakes that are often made: in which encoding a file is, which file it is, and what else has to be
 //! written for forms of other planners' files.
 use crate::context::Context;
-use crate::explanation::{FileRefusal, reported_bytes};
+use crate::refusal::{FileRefusal, reported_bytes};
 use faults::{Code, NoMemory};
 use source_text::{File, NamedTexts, Piece, Shape, head_of, pieces};
 use std::alloc::Global;
@@ -59,11 +59,11 @@ const TWO_FORMULAS: &str = "Put the formulas into one `(and ..)`.";
 /// What is said of two effects under a `when` or a `forall`.
 const TWO_EFFECTS: &str = "Put the effects into one `(and ..)`.";
 
-/// The mistake that a fault comes of, where it is one of these.
+/// The mistake that a fault comes of, where it is one that is often made.
 ///
 /// # Errors
 /// Memory was refused.
-pub(crate) fn hint_of(
+pub fn hint_of(
     alloc: Global,
     texts: &NamedTexts<'_>,
     fault: FileRefusal,
@@ -122,8 +122,8 @@ fn of_word(word: &[u8]) -> Option<Hint> {
     }
 }
 
-/// Whether a run of bytes begins a comment elsewhere.
-pub(crate) fn is_comment_elsewhere(word: &[u8]) -> bool {
+/// Whether a run of bytes begins a comment in other languages, by `//` or `/*`, or is nothing but `#`.
+pub fn is_comment_elsewhere(word: &[u8]) -> bool {
     let begins = word.starts_with(b"//") || word.starts_with(b"/*");
     begins || word.iter().all(|byte| *byte == b'#')
 }

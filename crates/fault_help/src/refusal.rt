@@ -1,0 +1,28 @@
+//! A fault of a file, and the bytes that it is reported for.
+ghost use Rattle.std.specs.Prelude.{◌≡◌};
+ghost use Rattle.source_text.specs.Files.{text_in};
+ghost use Rattle.fault_help.specs.ReportedBytes.{reported_in};
+
+use faults::{Code, Span};
+use source_text::{File, NamedTexts};
+
+/// A file is refused by this code, for what is at this place of it.
+#[derive(Clone, Copy, Debug, PartialEq, Eq)]
+pub struct FileRefusal {
+    /// The file that the place is in.
+    pub file: File,
+    /// What is wrong.
+    pub code: Code,
+    /// Where it is.
+    pub span: Span,
+}
+
+/// The bytes that a fault is reported for, as far as they are within the text.
+pub fn reported_bytes<'a>(texts: &NamedTexts<'a>, fault: FileRefusal) -> &'a [u8]
+    ensures { result.now ≡ reported_in (text_in texts.now fault.file) fault.span.start fault.span.end }
+{
+    let text = texts.text(fault.file);
+    let end = fault.span.end.min(text.len());
+    let start = fault.span.start.min(end);
+    &text[start..end]
+}
