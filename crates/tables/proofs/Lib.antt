@@ -1,13 +1,3 @@
-pub mod PlacedLemmas
-pub mod AgreeingLemmas
-pub mod AfterLemmas
-pub mod MostLemmas
-pub mod WayLemmas
-pub mod ListsLemmas
-pub mod FateLemmas
-pub mod PlacingLemmas
-pub mod LossLemmas
-pub mod GivingLemmas
 pub mod TablesLemmas
 pub mod FairnessLemmas
 pub mod SeveralLemmas

@@ -20,11 +20,11 @@ use Rattle.table_functions.proofs.Lists.{all-at, is_some-is}
 use Rattle.table_rows.specs.Rows.{atoms_at}
 use Rattle.tables.specs.Rooms.{widths_of, HasRoom, IsPlaceOfRow, IsSmall, AreAdded, AreTotals}
 use Rattle.tables.specs.AllTables.{tables_of, count_of}
-use Rattle.tables.specs.Losses.{indexed_of, indexed_count_of}
-use Rattle.tables.specs.declared.indexed.IndexedTable.{IndexedTable}
+use Rattle.table_losses.specs.Losses.{indexed_of, indexed_count_of}
+use Rattle.table_losses.specs.declared.indexed.IndexedTable.{IndexedTable}
 use Rattle.tables.specs.declared.rooms.Room.{Room}
 use Rattle.tables.specs.declared.tables.IndexedTables.{IndexedTables}
-use Rattle.tables.proofs.FateLemmas.{row-range, row-there}
+use Rattle.table_losses.proofs.FateLemmas.{row-range, row-there}
 use Rattle.tables.proofs.TablesLemmas.{sum-more, all-more, not-all, mapped-at}
 
 -- ---- the set of a state's row

@@ -5,7 +5,7 @@ use Rattle.std.proofs.lemmas.List.{length-map}
 use Rattle.std.proofs.lemmas.List.Elements.{All-append, All-cons, All-nil}
 use Rattle.potential_functions.specs.PotentialFunctions.{PotentialFunction}
 use Rattle.table_functions.specs.TableFunctions.{Table, TableFunction, over_tables}
-use Rattle.tables.proofs.FateLemmas.{take-at}
+use Rattle.table_losses.proofs.FateLemmas.{take-at}
 
 abbrev pub function_at : List Table → PotentialFunction → ℕ → TableFunction
 function_at tables p place = record { potentials = p; tables = tables; place = place }

@@ -10,12 +10,12 @@ use Rattle.packed_state.specs.Packed.{bits_of}
 use Rattle.packed_state.specs.declared.packed.Packed.{Packed}
 use Rattle.tables.specs.AllTables.{tables_of, count_of}
 use Rattle.tables.specs.ByAtom.{AreMarked}
-use Rattle.tables.specs.Losses.{indexed_of}
+use Rattle.table_losses.specs.Losses.{indexed_of}
 use Rattle.tables.specs.StateRows.{AreNamed, HasRowsRoom}
-use Rattle.tables.specs.declared.indexed.IndexedTable.{IndexedTable}
+use Rattle.table_losses.specs.declared.indexed.IndexedTable.{IndexedTable}
 use Rattle.tables.specs.declared.state_rows.StateRows.{StateRows}
 use Rattle.tables.specs.declared.tables.IndexedTables.{IndexedTables}
-use Rattle.tables.proofs.PlacingLemmas.{changes-in}
+use Rattle.table_losses.proofs.PlacingLemmas.{changes-in}
 use Rattle.tables.proofs.TablesLemmas.{not-touched, by-all}
 
 -- a table has its place among the rows

@@ -16,57 +16,19 @@ use Rattle.potential_functions.specs.Fair.{touches}
 use Rattle.table_functions.specs.TableFunctions.{Row, Table, is_among, sum_over}
 use Rattle.table_functions.specs.FairTables.{agrees, ConditionalChange, changes_in, touches_scope, is_closed, table_loses, table_gives}
 use Rattle.table_functions.proofs.Lists.{all-from, all-at, none-passes}
-use Rattle.tables.specs.declared.lists.Lists.{Lists}
-use Rattle.tables.specs.ByAtom.{IsFiledAt, IsByAtom, AreMarked}
-use Rattle.tables.specs.Lists.{list_at}
-use Rattle.tables.specs.Losses.{indexed_of, LosesByTable, IsLossByTable}
-use Rattle.tables.specs.Fates.{IsLoss}
+use Rattle.table_losses.specs.declared.lists.Lists.{Lists}
+use Rattle.tables.specs.ByAtom.{IsByAtom, AreMarked}
+use Rattle.table_losses.specs.Lists.{list_at, IsFiledAt}
+use Rattle.table_losses.specs.Losses.{indexed_of, LosesByTable, IsLossByTable}
+use Rattle.table_losses.specs.Fates.{IsLoss}
 use Rattle.table_functions.specs.Laws.{are_over}
-use Rattle.tables.specs.declared.indexed.IndexedTable.{IndexedTable}
+use Rattle.table_losses.specs.declared.indexed.IndexedTable.{IndexedTable}
 use Rattle.tables.specs.declared.tables.IndexedTables.{IndexedTables}
 use Rattle.tables.specs.AllTables.{tables_of}
-use Rattle.tables.proofs.AgreeingLemmas.{any-map}
-use Rattle.tables.proofs.FateLemmas.{take-at, taken-more, among-more, Contains-among}
+use Rattle.table_losses.proofs.AgreeingLemmas.{any-map}
+use Rattle.table_losses.proofs.FateLemmas.{take-at, taken-more, among-more, Contains-among}
 
 -- ---- lists by atoms
-
-pub filed-at-none : (number : ℕ) (l : Lists) → IsFiledAt [] number l l
-filed-at-none number l = record { width = refl; lists = λ place k. or_none (is_among (list_at l place) k) }
-  where
-    or_none : (b : Bool) → b ≡ (b || false)
-    or_none true = refl
-    or_none false = refl
-
--- one place more
-pub filed-at-more : (places : List ℕ) (i place number : ℕ) (old mid new : Lists) → slice_get places i ≡ Some place → IsFiledAt (take i places) number old mid → length new.lists.items ≡ length mid.lists.items
-    → ((k : ℕ) → list_at new k ≡ (if k == place then list_at mid k ++ number ∷ [] else list_at mid k)) → IsFiledAt (take (i + 1) places) number old new
-filed-at-more places i place number old mid new at so width lists = record {
-  width = width ∙ so.width;
-  lists = λ p k.
-      ap (λ l. is_among l k) (lists p) ∙ pushed p k ∙ ap (λ b. is_among (list_at old p) k || (b && number == k)) (sym (ap (λ l. is_among l p) (take-at places i place at) ∙ among-more (take i places) place p));
-}
-  where
-    join : (o t n : Bool) → ((o || (t && n)) || n) ≡ (o || ((t || true) && n))
-    join true t n = refl
-    join false true true = refl
-    join false true false = refl
-    join false false n = refl
-
-    keep : (o t n : Bool) → (o || (t && n)) ≡ (o || ((t || false) && n))
-    keep o true n = refl
-    keep o false n = refl
-
-    pushed : (p k : ℕ) → is_among (if p == place then list_at mid p ++ number ∷ [] else list_at mid p) k ≡ (is_among (list_at old p) k || ((is_among (take i places) p || place == p) && number == k))
-    pushed p k = elim (cases_eq p place) [
-      | inl same ↦
-          ap (λ b. is_among (if b then list_at mid p ++ number ∷ [] else list_at mid p) k) (eq-eqb p place same) ∙ among-more (list_at mid p) number k
-          ∙ ap (λ b. b || number == k) (so.lists p k) ∙ join (is_among (list_at old p) k) (is_among (take i places) p) (number == k)
-          ∙ ap (λ b. is_among (list_at old p) k || ((is_among (take i places) p || b) && number == k)) (sym (eq-eqb place p (sym same)))
-      | inr other ↦
-          ap (λ b. is_among (if b then list_at mid p ++ number ∷ [] else list_at mid p) k) (false_from_ne_true (p == place) (λ e. other (eqb-true p place e))) ∙ so.lists p k
-          ∙ keep (is_among (list_at old p) k) (is_among (take i places) p) (number == k)
-          ∙ ap (λ b. is_among (list_at old p) k || ((is_among (take i places) p || b) && number == k)) (sym (false_from_ne_true (place == p) (λ e. other (sym (eqb-true place p e)))))
-    ]
 
 pub by-atom-none : (tables : List Table) (l : Lists) → ((place : ℕ) → list_at l place ≡ []) → IsByAtom tables 0 l
 by-atom-none tables l empty = record {
@@ -163,29 +125,6 @@ pub mapped-at : {X Y : Type 0} (f : X → Y) (xs : List X) (k : ℕ) (x : X) →
 mapped-at f [] k x at = absurd (cc)
 mapped-at f (y ∷ xs) zero x at = let same : y ≡ x = cc in ap (λ z. Some (f z)) same
 mapped-at f (y ∷ xs) (suc k) x at = mapped-at f xs k x at
-
--- ---- numbers put into a set
-
-pub number-within : (numbers : List ℕ) (i : ℕ) → i < length numbers → is_among numbers (get_or numbers i 0) ≡ true
-number-within numbers i below = Contains-among numbers (get_or numbers i 0) (Contains-got numbers i (get_or numbers i 0) (slice_get-get_or numbers i 0 below))
-
-pub length-inserted : (set : List Bool) (number : ℕ) → length (slice_set set number true) ≡ length set
-length-inserted set number = length-set set number true
-
-pub inserted-kept : (old : List Bool) (number k : ℕ) → number < length old → has old k ≡ true → has (slice_set old number true) k ≡ true
-inserted-kept old number k within at = elim (cases_eq k number) [
-  | inl same ↦ subst (λ j. has (slice_set old number true) j ≡ true) (sym same) (get_or-set_same old number true false within)
-  | inr other ↦ get_or-set_other old number k true false other ∙ at
-]
-
-pub inserted-more : (numbers : List ℕ) (i k : ℕ) (old : List Bool) → i < length numbers → get_or numbers i 0 < length old → ((j : ℕ) → is_among (take i numbers) j ≡ true → has old j ≡ true)
-    → is_among (take (i + 1) numbers) k ≡ true → has (slice_set old (get_or numbers i 0) true) k ≡ true
-inserted-more numbers i k old below within marked among =
-    let number = get_or numbers i 0 in
-    elim (is_among (take i numbers) k) as (λ b. is_among (take i numbers) k ≡ b → (b || number == k) ≡ true → has (slice_set old number true) k ≡ true) [
-      | true ↦ λ earlier _. inserted-kept old number k within (marked k earlier)
-      | false ↦ λ _ here. subst (λ j. has (slice_set old number true) j ≡ true) (eqb-true number k here) (get_or-set_same old number true false within)
-    ] refl (sym (ap (λ l. is_among l k) (take-at numbers i number (slice_get-get_or numbers i 0 below)) ∙ among-more (take i numbers) number k) ∙ among)
 
 -- ---- what is read of the tables
 

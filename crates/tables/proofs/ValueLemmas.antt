@@ -7,7 +7,7 @@ use Rattle.potentials.specs.Potentials.{potentials_of}
 use Rattle.potentials.specs.declared.potentials.Potentials.{Potentials}
 use Rattle.potentials.proofs.WordLemmas.{so_far-range}
 use Rattle.table_functions.specs.TableFunctions.{Table, TableFunction, over_tables, has_rows, row_in, given_by, sum_over, total, score_by_tables, value, greatest_value, is_dead_by}
-use Rattle.tables.proofs.FateLemmas.{take-at}
+use Rattle.table_losses.proofs.FateLemmas.{take-at}
 use Rattle.tables.proofs.SeveralLemmas.{function_at}
 
 -- where a table has no row for the state, all are 0

@@ -5,13 +5,8 @@ use Rattle.packed_state.specs.Sets.{has}
 use Rattle.model.specs.NumberedLiterals.{NumberedLiteral}
 use Rattle.table_functions.specs.TableFunctions.{Table, is_among, sum_over}
 use Rattle.table_functions.specs.FairTables.{ConditionalChange, is_closed, table_loses}
-use Rattle.tables.specs.declared.lists.Lists.{Lists}
-use Rattle.tables.specs.Lists.{list_at}
-
--- the number is at the end of the list of each of these places, and nothing else is new
-pub record IsFiledAt (places : List ℕ) (number : ℕ) (old new : Lists) : Type 0 where
-  pub width : length new.lists.items ≡ length old.lists.items
-  pub lists : (place k : ℕ) → is_among (list_at new place) k ≡ (is_among (list_at old place) k || (is_among places place && number == k))
+use Rattle.table_losses.specs.declared.lists.Lists.{Lists}
+use Rattle.table_losses.specs.Lists.{list_at}
 
 -- of each atom, the list has the numbers of the tables, from 0, in whose scope it is; so far, of so many tables
 pub record IsByAtom (tables : List Table) (count : ℕ) (l : Lists) : Type 0 where

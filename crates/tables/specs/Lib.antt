@@ -1,12 +1,3 @@
-pub mod Placed
-pub mod Lists
-pub mod Candidates
-pub mod Afters
-pub mod PlacedChanges
-pub mod Fates
-pub mod FitsTable
-pub mod Losses
-pub mod Giving
 pub mod ByAtom
 pub mod AllTables
 pub mod Fairness

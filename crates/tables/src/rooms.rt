@@ -7,14 +7,14 @@ ghost use Rattle.potential_functions.specs.PotentialFunctions.{IsInRange};
 ghost use Rattle.table_functions.specs.Laws.{are_over};
 ghost use Rattle.table_functions.specs.TableFunctions.{Row, has_rows, row_in};
 ghost use Rattle.tables.specs.AllTables.{tables_of, count_of};
-ghost use Rattle.tables.specs.Losses.{indexed_of, indexed_count_of};
+ghost use Rattle.table_losses.specs.Losses.{indexed_of, indexed_count_of};
 ghost use Rattle.tables.specs.Rooms.{HasRoom, IsPlaceOfRow, IsSmall, AreAdded, AreTotals, widths_of};
 
-use crate::indexed::IndexedTable;
 use crate::tables::IndexedTables;
 use faults::NoMemory;
 use packed_state::Packed;
 use std::alloc::Global;
+use table_losses::IndexedTable;
 
 /// Room to find the rows of a state and to add up what they give, so that asking for its value takes no memory.
 #[derive(Drop)]

@@ -6,16 +6,16 @@ ghost use Rattle.packed_state.specs.Sets.{has};
 ghost use Rattle.table_functions.specs.Laws.{are_over};
 ghost use Rattle.table_functions.specs.TableFunctions.{Row, Table, has_rows, row_in};
 ghost use Rattle.tables.specs.AllTables.{tables_of, count_of};
-ghost use Rattle.tables.specs.Losses.{indexed_of, indexed_count_of};
+ghost use Rattle.table_losses.specs.Losses.{indexed_of, indexed_count_of};
 ghost use Rattle.tables.specs.Rooms.{IsPlaceOfRow, IsSmall, AreAdded, AreTotals, widths_of};
 ghost use Rattle.tables.specs.StateRows.{AreKnown, HasRowsRoom, KnowsRows};
 
-use crate::indexed::IndexedTable;
 use crate::rooms::{Room, clear};
 use crate::tables::IndexedTables;
 use faults::NoMemory;
 use packed_state::Packed;
 use std::alloc::Global;
+use table_losses::IndexedTable;
 
 /// Where the rows of a state are, and room to find those of others. The rows of a state that follows it are the same, but for
 /// tables that have an atom in their scope which changes.

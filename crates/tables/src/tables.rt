@@ -2,16 +2,15 @@
 ghost use Rattle.std.specs.Prelude.{◌≡◌, ◌<◌, ◌^◌, IsTrue, All, IfOk, length, map};
 ghost use Rattle.std.proofs.Props.{props};
 ghost use Rattle.table_functions.specs.Laws.{are_over};
-ghost use Rattle.tables.specs.declared.indexed.IndexedTable as declared;
-ghost use Rattle.tables.specs.Losses.{indexed_of, indexed_count_of};
+ghost use Rattle.table_losses.specs.declared.indexed.IndexedTable as declared;
+ghost use Rattle.table_losses.specs.Losses.{indexed_of, indexed_count_of};
 ghost use Rattle.tables.specs.ByAtom.{IsByAtom};
 
-use crate::indexed::IndexedTable;
-use crate::lists::Lists;
 use faults::NoMemory;
 use grounding::{CountingChange, NumberedLiteral};
 use packed_state::Packed;
 use std::alloc::Global;
+use table_losses::{IndexedTable, Lists};
 use table_rows::Table;
 
 /// Tables whose rows have as many weights, and for each atom those that have it in their scope.
@@ -40,7 +39,7 @@ impl<'a> IndexedTables<'a> {
     ghost use Rattle.table_functions.specs.FairTables as model;
     ghost use Rattle.tables.specs.AllTables.{tables_of, count_of};
     ghost use Rattle.tables.specs.ByAtom.{AreMarked, IsLossByAll};
-    ghost use Rattle.tables.specs.Losses.{IsLossByTable};
+    ghost use Rattle.table_losses.specs.Losses.{IsLossByTable};
 
     /// These tables over so many atoms, whose rows have so many weights.
     ///

@@ -8,13 +8,14 @@ ghost use Rattle.potentials.specs.Potentials.{potentials_of};
 ghost use Rattle.tables.specs.AllTables.{tables_of, count_of};
 ghost use Rattle.tables.specs.Several.{width_of};
 
-use crate::{IndexedTable, IndexedTables, TableFunctions};
+use crate::{IndexedTables, TableFunctions};
 use faults::NoMemory;
 use grounding::NumberedLiteral;
 use packed_state::Packed;
 use potentials::Potentials;
 use std::alloc::Global;
 use std::test::Fail;
+use table_losses::IndexedTable;
 use table_rows::Table;
 
 /// The table of the atoms 1, 3 and 4 with the row of 1 and 4, which has two weights.

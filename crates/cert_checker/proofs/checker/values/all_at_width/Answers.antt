@@ -4,8 +4,8 @@ use Rattle.std.proofs.lemmas.Option.{slice_get-get_or}
 use Rattle.certificate.specs.declared.header.Potential.{Potential}
 use Rattle.certificate.specs.CertificateParts.{potential_of}
 use Rattle.potentials.specs.Potentials.{potentials_of}
+use Rattle.potentials.proofs.ListLemmas.{map-take-more}
 use Rattle.potential_functions.specs.PotentialFunctions.{AreInRange}
-use Rattle.tables.proofs.FateLemmas.{taken-more}
 use Rattle.tables.proofs.RoomLemmas.{each-at}
 use Rattle.cert_checker.specs.Weights.{AreWidened}
 use Rattle.cert_checker.proofs.MadeLemmas.{widened_more}
@@ -28,8 +28,7 @@ loop-potential-preserved c =
     let items = c.args.said.now in
     let k = c.loop-potential.potential-index in
     let old = c.loop-potential.made.items in
-    let read = slice_get-get_or items k c.potential-item.result c.loop-potential-test.true ∙ ap (λ t. Some t) (sym c.potential-item.is) in
     let made = c.in_ok-at_width.field-0 in
-    subst (λ those. AreWidened those c.args.width (map potentials_of c.push.new.self.items)) (sym (taken-more potential_of items k c.potential-item.result read))
+    subst (λ those. AreWidened those c.args.width (map potentials_of c.push.new.self.items)) (sym (map-take-more potential_of items k c.potential-item.result c.loop-potential-test.true c.potential-item.is))
     (subst (AreWidened (map potential_of (take k items) ++ potential_of c.potential-item.result ∷ []) c.args.width) (sym (ap (map potentials_of) c.in_ok-push.ensures.items ∙ map_push potentials_of old made))
     (widened_more (map potential_of (take k items)) c.args.width (map potentials_of old) (potential_of c.potential-item.result) (potentials_of made) c.loop-potential.invariant c.in_ok-at_width.ensures))

@@ -13,9 +13,9 @@ use Rattle.potentials.proofs.FairLemmas.{below-counting}
 use Rattle.tables.specs.AllTables.{tables_of}
 use Rattle.tables.specs.ByAtom.{IsLossByAll}
 use Rattle.tables.specs.Fairness.{function_of, allowed_by}
-use Rattle.tables.specs.Losses.{indexed_of}
+use Rattle.table_losses.specs.Losses.{indexed_of}
 use Rattle.tables.proofs.FairnessLemmas.{atoms-range, decides-within}
-use Rattle.tables.proofs.PlacingLemmas.{changes-in}
+use Rattle.table_losses.proofs.PlacingLemmas.{changes-in}
 use Rattle.tables.proofs.fairness.TableValue.is_fair_within.Goals as goal
 
 pub loses_at_most-by_atoms-requires-clause-below : goal.loses_at_most-by_atoms-requires-clause-below

@@ -5,9 +5,9 @@ use Rattle.potential_functions.specs.PotentialFunctions.{IsInRange}
 use Rattle.table_functions.specs.TableFunctions.{Row}
 use Rattle.table_rows.specs.Tables.{table_of, weight_count_of}
 use Rattle.table_rows.proofs.TableLemmas.{rows-weighed}
-use Rattle.tables.specs.Losses.{indexed_of}
+use Rattle.table_losses.specs.Losses.{indexed_of}
 use Rattle.tables.specs.Rooms.{AreAdded}
-use Rattle.tables.proofs.FateLemmas.{row-there}
+use Rattle.table_losses.proofs.FateLemmas.{row-there}
 use Rattle.tables.proofs.RoomLemmas.{each-at}
 use Rattle.tables.proofs.rooms.Room.add_found.Goals as goal
 use Rattle.tables.proofs.rooms.Room.add_found.Goals.{In-Some}

@@ -1,6 +1,6 @@
 use Rattle.std.proofs.Common.{◌∙◌, subst, ℤ, List}
 use Rattle.packed_state.specs.Packed.{bits_of}
-use Rattle.tables.specs.Losses.{indexed_of}
+use Rattle.table_losses.specs.Losses.{indexed_of}
 use Rattle.tables.specs.Rooms.{AreAdded}
 use Rattle.tables.proofs.RoomLemmas.{place-within, place-has, place-added}
 use Rattle.tables.proofs.rooms.Room.add_row.Goals as goal

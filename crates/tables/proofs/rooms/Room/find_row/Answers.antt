@@ -5,7 +5,7 @@ use Rattle.std.proofs.lemmas.Option.{slice_get_read}
 use Rattle.packed_state.specs.Packed.{bits_of}
 use Rattle.packed_state.specs.Sets.{has}
 use Rattle.table_rows.specs.Tables.{table_of}
-use Rattle.tables.specs.Losses.{indexed_of}
+use Rattle.table_losses.specs.Losses.{indexed_of}
 use Rattle.tables.proofs.RoomLemmas.{found-place, read-written, kept-widths}
 use Rattle.tables.proofs.rooms.Room.find_row.Goals as goal
 use Rattle.tables.proofs.rooms.Room.find_row.Goals.{After-find}

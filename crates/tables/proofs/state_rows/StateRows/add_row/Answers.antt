@@ -2,7 +2,7 @@ use Rattle.std.proofs.Common.{◌∙◌, None, false, length, get_or, refl, sym,
 use Rattle.std.specs.Prelude.{slice_get}
 use Rattle.std.proofs.lemmas.Option.{slice_get_read, get_or_from_slice_get}
 use Rattle.packed_state.specs.Packed.{bits_of}
-use Rattle.tables.specs.Losses.{indexed_of}
+use Rattle.table_losses.specs.Losses.{indexed_of}
 use Rattle.tables.specs.Rooms.{IsPlaceOfRow}
 use Rattle.tables.proofs.RoomLemmas.{place-within, place-has, place-added}
 use Rattle.tables.proofs.state_rows.StateRows.add_row.Goals as goal

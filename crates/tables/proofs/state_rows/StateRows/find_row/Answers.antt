@@ -1,7 +1,7 @@
 use Rattle.std.proofs.Common.{None, subst, sym, arith}
 use Rattle.std.proofs.lemmas.List.{get_or-set_same, get_or-set_other}
 use Rattle.packed_state.specs.Packed.{bits_of}
-use Rattle.tables.specs.Losses.{indexed_of}
+use Rattle.table_losses.specs.Losses.{indexed_of}
 use Rattle.tables.specs.Rooms.{IsPlaceOfRow}
 use Rattle.tables.proofs.state_rows.StateRows.find_row.Goals as goal
 

@@ -5,7 +5,7 @@ use Rattle.std.proofs.lemmas.Option.{slice_get-get_or}
 use Rattle.packed_state.specs.Packed.{bits_of}
 use Rattle.table_functions.specs.TableFunctions.{has_rows}
 use Rattle.tables.specs.AllTables.{tables_of, count_of}
-use Rattle.tables.specs.Losses.{indexed_of}
+use Rattle.table_losses.specs.Losses.{indexed_of}
 use Rattle.tables.specs.Rooms.{AreTotals, IsPlaceOfRow}
 use Rattle.tables.proofs.TablesLemmas.{mapped-at}
 use Rattle.tables.proofs.StateRowsLemmas.{row-there-in}

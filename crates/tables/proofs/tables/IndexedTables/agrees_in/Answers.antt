@@ -9,7 +9,7 @@ use Rattle.table_functions.specs.TableFunctions.{Row, Table}
 use Rattle.table_functions.specs.FairTables.{agrees}
 use Rattle.table_rows.specs.Tables.{table_of}
 use Rattle.tables.specs.AllTables.{tables_of}
-use Rattle.tables.specs.Losses.{indexed_of}
+use Rattle.table_losses.specs.Losses.{indexed_of}
 use Rattle.tables.proofs.TablesLemmas.{all-agree, read-at, by-all}
 use Rattle.tables.proofs.tables.IndexedTables.agrees_in.Goals as goal
 

@@ -6,7 +6,7 @@ use Rattle.std.proofs.lemmas.Option.{slice_get-get_or, slice_get_within, same_So
 use Rattle.packed_state.specs.Packed.{bits_of}
 use Rattle.table_functions.specs.TableFunctions.{Table}
 use Rattle.tables.specs.AllTables.{tables_of}
-use Rattle.tables.specs.Losses.{indexed_of}
+use Rattle.table_losses.specs.Losses.{indexed_of}
 use Rattle.tables.specs.Rooms.{IsPlaceOfRow}
 use Rattle.tables.proofs.RoomLemmas.{set-there, width-there, scope-there, room-after}
 use Rattle.tables.proofs.TablesLemmas.{mapped-at}

@@ -5,7 +5,7 @@ use Rattle.std.proofs.lemmas.Option.{slice_get_read}
 use Rattle.grounding.specs.Views.{numbered_of}
 use Rattle.table_functions.specs.FairTables.{table_gives}
 use Rattle.tables.specs.AllTables.{tables_of}
-use Rattle.tables.specs.Losses.{indexed_of}
+use Rattle.table_losses.specs.Losses.{indexed_of}
 use Rattle.tables.proofs.TablesLemmas.{sum-more, mapped-at}
 use Rattle.tables.proofs.tables.IndexedTables.give.Goals as goal
 

@@ -7,9 +7,9 @@ use Rattle.potential_functions.specs.PotentialFunctions.{IsInRange}
 use Rattle.table_functions.specs.TableFunctions.{Row}
 use Rattle.table_rows.specs.Tables.{table_of, weight_count_of}
 use Rattle.table_rows.specs.declared.table.Table.{Table}
-use Rattle.tables.specs.Losses.{indexed_of, indexed_count_of}
-use Rattle.tables.specs.declared.indexed.IndexedTable.{IndexedTable}
-use Rattle.tables.proofs.FateLemmas.{taken-more}
+use Rattle.table_losses.specs.Losses.{indexed_of, indexed_count_of}
+use Rattle.table_losses.specs.declared.indexed.IndexedTable.{IndexedTable}
+use Rattle.table_losses.proofs.FateLemmas.{taken-more}
 use Rattle.tables.proofs.RoomLemmas.{each-at}
 use Rattle.tables.proofs.tables.IndexedTables.index.Goals as goal
 

@@ -5,9 +5,9 @@ use Rattle.grounding.specs.Views.{numbered_of}
 use Rattle.table_functions.specs.TableFunctions.{Row, Table}
 use Rattle.table_functions.specs.FairTables.{agrees, is_shut_out}
 use Rattle.tables.specs.AllTables.{tables_of}
-use Rattle.tables.specs.Losses.{indexed_of}
-use Rattle.tables.proofs.AgreeingLemmas.{none-more, some-here}
-use Rattle.tables.proofs.FateLemmas.{row-there}
+use Rattle.table_losses.specs.Losses.{indexed_of}
+use Rattle.table_losses.proofs.AgreeingLemmas.{none-more, some-here}
+use Rattle.table_losses.proofs.FateLemmas.{row-there}
 use Rattle.tables.proofs.tables.IndexedTables.is_shut_out.Goals as goal
 
 pub returns-then-not-branch : goal.returns-then-not-branch

@@ -5,8 +5,8 @@ use Rattle.grounding.specs.Views.{numbered_of}
 use Rattle.grounding.specs.Changes.{conditional_of}
 use Rattle.table_functions.specs.FairTables.{is_closed, table_loses}
 use Rattle.tables.specs.AllTables.{tables_of}
-use Rattle.tables.specs.Losses.{indexed_of, IsLossByTable}
-use Rattle.tables.proofs.FateLemmas.{row-there}
+use Rattle.table_losses.specs.Losses.{indexed_of, IsLossByTable}
+use Rattle.table_losses.proofs.FateLemmas.{row-there}
 use Rattle.tables.proofs.TablesLemmas.{sum-more, all-more, not-all, none-lost}
 use Rattle.tables.proofs.tables.IndexedTables.lose.Goals as goal
 

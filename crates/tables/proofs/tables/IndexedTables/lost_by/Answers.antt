@@ -9,9 +9,9 @@ use Rattle.packed_state.specs.Packed.{bits_of}
 use Rattle.model.specs.NumberedLiterals.{NumberedChange}
 use Rattle.tables.specs.AllTables.{tables_of}
 use Rattle.tables.specs.ByAtom.{AreMarked}
-use Rattle.tables.specs.Losses.{indexed_of, IsLossByTable}
-use Rattle.tables.proofs.LossLemmas.{loses-nothing}
-use Rattle.tables.proofs.PlacingLemmas.{changes-in}
+use Rattle.table_losses.specs.Losses.{indexed_of, IsLossByTable}
+use Rattle.table_losses.proofs.LossLemmas.{loses-nothing}
+use Rattle.table_losses.proofs.PlacingLemmas.{changes-in}
 use Rattle.tables.proofs.TablesLemmas.{not-touched, read-at, by-all}
 use Rattle.tables.proofs.tables.IndexedTables.lost_by.Goals as goal
 

@@ -4,7 +4,7 @@ use Rattle.packed_state.specs.Packed.{bits_of}
 use Rattle.packed_state.specs.Sets.{set_of}
 use Rattle.tables.specs.AllTables.{tables_of}
 use Rattle.tables.specs.ByAtom.{AreMarked}
-use Rattle.tables.specs.Losses.{indexed_of}
+use Rattle.table_losses.specs.Losses.{indexed_of}
 use Rattle.tables.proofs.TablesLemmas.{marked-none}
 use Rattle.tables.proofs.tables.IndexedTables.named_by_changes.Goals as goal
 

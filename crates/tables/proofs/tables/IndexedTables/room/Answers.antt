@@ -8,8 +8,8 @@ use Rattle.packed_state.proofs.PackedLemmas.{length-set_of}
 use Rattle.table_functions.specs.TableFunctions.{Table}
 use Rattle.table_rows.specs.Tables.{table_of}
 use Rattle.tables.specs.AllTables.{tables_of}
-use Rattle.tables.specs.Losses.{indexed_of}
-use Rattle.tables.proofs.FateLemmas.{taken-more}
+use Rattle.table_losses.specs.Losses.{indexed_of}
+use Rattle.table_losses.proofs.FateLemmas.{taken-more}
 use Rattle.tables.proofs.TablesLemmas.{mapped-at}
 use Rattle.tables.proofs.tables.IndexedTables.room.Goals as goal
 

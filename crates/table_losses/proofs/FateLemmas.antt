@@ -1,0 +1,373 @@
+-- What is lost from rows, by their sets.
+use Rattle.std.proofs.Common.{◌≡◌, ◌∙◌, ℕ, zero, suc, ◌+◌, ◌-◌, ◌<◌, ◌≤◌, inl, inr, Bool, true, false, true≢false, not, ◌&&◌, ◌||◌, List, [], ◌∷◌, ◌++◌, length, take, drop, map, get_or, Option, None, Some, refl, sym, ap, subst, arith, ℤ, pos, ◌+ℤ◌, neg_ℤ}
+use Rattle.std.specs.Prelude.{Contains, All, ◌⊎◌, ◌==◌, fold, if◌then◌else◌, slice_get, is_some}
+use Rattle.std.specs.Bool.{beq}
+use Rattle.std.specs.Int.{int_max}
+use Rattle.std.specs.List.{list_all, flat_map, cons_option, range_with_len}
+use Rattle.std.specs.Option.{option_map_or}
+use Rattle.std.proofs.lemmas.Int.{ints, clamps}
+use Rattle.std.proofs.lemmas.Bool.{and_parts, and_from, eqb-true, eq-eqb, false_from_ne_true}
+use Rattle.std.proofs.lemmas.List.{take_more, take_all, map_push, append-nil}
+use Rattle.std.proofs.lemmas.List.FromFn.{get_or-range_with_len, length-range_with_len}
+use Rattle.std.proofs.lemmas.List.Folds.{list_all-append}
+use Rattle.std.proofs.lemmas.Grind.{flat_map-append}
+use Rattle.std.proofs.lemmas.Option.{slice_get-get_or, slice_get_within, get_or_from_slice_get}
+use Rattle.std.proofs.lemmas.List.Elements.{All-contains, All-nil, All-cons, All-head, All-tail}
+use Rattle.model.proofs.ListLemmas.{Contains-here, Contains-there, Contains-none, Contains-got, Contains-map, Contains-flat_map, flat_map-Contains, Contains-range, range-Contains}
+use Rattle.table_functions.proofs.Lists.{all-from, all-at, any-at}
+use Rattle.potential_functions.specs.PotentialFunctions.{IsInRange, weight}
+use Rattle.potential_functions.proofs.Ranges.{weight-range}
+use Rattle.table_functions.specs.TableFunctions.{Row, Table, is_among, row_of, weight_at}
+use Rattle.table_rows.specs.Rows.{atoms_at}
+use Rattle.table_losses.specs.Afters.{When, losses_to, most_of, raised, turns, is_open_at, freed, free_places, ways, ways_of, turned}
+use Rattle.table_losses.specs.Fates.{IsLoss, are_rows, LosesTo, Question, weight_in, is_closed_from, closed_at, lost_from, lost_at, LosesFrom, IsFate, leaves, raised_by, rows_of, LosesInAll}
+use Rattle.table_losses.specs.declared.losses.Fate.{Fate}
+use Rattle.table_losses.specs.declared.losses.Fate.TheVariants.{Disagrees, Leaves}
+use Rattle.table_losses.specs.declared.losses.Fate.TheVariants as code_of_fate
+use Rattle.table_losses.specs.Candidates.{AreCandidates}
+use Rattle.table_losses.specs.Lists.{list_at, IsIndexOf}
+use Rattle.table_losses.specs.declared.lists.Lists.{Lists}
+use Rattle.table_losses.specs.declared.placed.PlacedLiteral as code_of_literal
+use Rattle.packed_state.specs.Sets.{has}
+use Rattle.table_losses.specs.Placed.{placed_of, is_so}
+use Rattle.table_losses.specs.PlacedChanges.{when_of, FitsWhen}
+use Rattle.table_losses.specs.declared.afters.When as code_of_when
+use Rattle.table_losses.proofs.MostLemmas.{most-more, most-alike}
+use Rattle.table_losses.proofs.WayLemmas.{losses-append}
+
+-- ---- lists
+
+All-push : (n : ℕ) (xs : List ℕ) (x : ℕ) → All (λ k. k < n) xs → x < n → All (λ k. k < n) (xs ++ x ∷ [])
+All-push n [] x all here = All-cons (λ k. k < n) x [] here (All-nil (λ k. k < n))
+All-push n (y ∷ xs) x all here = All-cons (λ k. k < n) y (xs ++ x ∷ []) (All-head (λ k. k < n) y xs all) (All-push n xs x (All-tail (λ k. k < n) y xs all) here)
+
+fold-push : {A X : Type 0} (f : A → X → A) (a : A) (xs : List X) (x : X) → fold f a (xs ++ x ∷ []) ≡ f (fold f a xs) x
+fold-push f a [] x = refl
+fold-push f a (y ∷ xs) x = fold-push f (f a y) xs x
+
+pub item-at : {X : Type 0} (xs : List X) (i : ℕ) (d : X) → i < length xs → slice_get xs i ≡ Some (get_or xs i d)
+item-at xs i d below = slice_get-get_or xs i d below
+
+pub taken-more : {X Y : Type 0} (g : X → Y) (xs : List X) (i : ℕ) (x : X) → slice_get xs i ≡ Some x → map g (take (i + 1) xs) ≡ map g (take i xs) ++ g x ∷ []
+taken-more g xs i x at =
+    ap (map g) (take_more xs i x (slice_get_within xs i x at) ∙ ap (λ y. take i xs ++ y ∷ []) (get_or_from_slice_get xs i x x at)) ∙ map_push g (take i xs) x
+
+-- one change more
+pub freed-more : (row left : List Bool) (items : List code_of_when.When) (i : ℕ) (w : code_of_when.When) (free new : List ℕ) → slice_get items i ≡ Some w
+    → free ≡ fold (freed row left) [] (map when_of (take i items)) → new ≡ freed row left free (when_of w) → new ≡ fold (freed row left) [] (map when_of (take (i + 1) items))
+freed-more row left items i w free new at so_far is =
+    is ∙ ap (λ f. freed row left f (when_of w)) so_far ∙ sym (ap (fold (freed row left) []) (taken-more when_of items i w at) ∙ fold-push (freed row left) [] (map when_of (take i items)) (when_of w))
+
+pub fits-at : (width : ℕ) (whens items : List code_of_when.When) (i : ℕ) (w : code_of_when.When) → items ≡ whens → slice_get items i ≡ Some w → All (FitsWhen width) (map when_of whens) → FitsWhen width (when_of w)
+fits-at width whens items i w are at all =
+    All-contains (FitsWhen width) (map when_of whens) (when_of w) all
+    (Contains-map when_of whens w (subst (λ l. Contains l w) are (Contains-got items i w at)))
+
+-- ---- weights
+
+pub row-range : (rows : List Row) (row place : ℕ) (r : Row) → All (λ (r : Row). All IsInRange r.weights) rows → slice_get rows row ≡ Some r → IsInRange (weight_at place r)
+row-range rows row place r all at = weight-range r.weights place (All-contains (λ (r : Row). All IsInRange r.weights) rows r all (Contains-got rows row r at))
+
+pub row-there : {X : Type 0} (rows : List X) (row : ℕ) → row < length rows → (r : X) × (slice_get rows row ≡ Some r)
+row-there [] row below = absurd (omega (arith, below))
+row-there (r ∷ rows) zero below = (r, refl)
+row-there (r ∷ rows) (suc row) below = row-there rows row (omega (arith, below))
+
+-- ---- sets
+
+-- of one set
+pub one-loses : (t : Table) (place : ℕ) (weight lost : ℤ) (set : List Bool) (r : Row) → row_of t (atoms_at t.scope set) ≡ Some r → IsInRange weight → IsInRange (weight_at place r)
+    → lost ≡ (weight +ℤ neg_ℤ (weight_at place r)) → LosesTo t place weight (set ∷ []) lost
+one-loses t place weight lost set r at before after is =
+    let least = before.least in
+    let most = before.most in
+    let after_least = after.least in
+    let after_most = after.most in
+    record {
+      rows = ap (λ o. is_some o && true) at;
+      is = ap (λ o. most_of (map (λ (r : Row). weight +ℤ neg_ℤ (weight_at place r)) (cons_option o []))) at ∙ ap Some (sym is);
+      range = record { least = omega (arith, ints); most = omega (arith, ints) };
+    }
+
+module _ (t : Table) (place : ℕ) (weight : ℤ) (kept changed : List (List Bool)) where
+  pub first-leaves : are_rows t kept ≡ false → are_rows t (kept ++ changed) ≡ false
+  first-leaves none = list_all-append (λ (set : List Bool). is_some (row_of t (atoms_at t.scope set))) kept changed ∙ ap (λ b. b && are_rows t changed) none
+
+  pub then-leaves : are_rows t changed ≡ false → are_rows t (kept ++ changed) ≡ false
+  then-leaves none = list_all-append (λ (set : List Bool). is_some (row_of t (atoms_at t.scope set))) kept changed ∙ ap (λ b. are_rows t kept && b) none ∙ and_no (are_rows t kept)
+    where
+      and_no : (b : Bool) → (b && false) ≡ false
+      and_no true = refl
+      and_no false = refl
+
+  -- the greater of both
+  pub both-lose : (first second lost : ℤ) → LosesTo t place weight kept first → LosesTo t place weight changed second → lost ≡ int_max first second → LosesTo t place weight (kept ++ changed) lost
+  both-lose first second lost one other is =
+      let low = one.range in
+      let high = other.range in
+      let low_least = low.least in
+      let low_most = low.most in
+      let high_least = high.least in
+      let high_most = high.most in
+      record {
+        rows = list_all-append (λ (set : List Bool). is_some (row_of t (atoms_at t.scope set))) kept changed ∙ and_from (are_rows t kept) (are_rows t changed) one.rows other.rows;
+        is = ap most_of (losses-append t place weight kept changed) ∙ most-more (losses_to t place weight kept) (losses_to t place weight changed) second other.is
+            ∙ ap (λ o. Some (raised o second)) one.is ∙ ap Some (sym is);
+        range = record { least = omega (arith, ints, clamps); most = omega (arith, ints, clamps) };
+      }
+
+-- the ways by the first place
+pub ways-first : (set : List Bool) (free : List ℕ) → 1 ≤ length free
+    → ways set free ≡ ways set (take (length free - 1) (drop 1 free)) ++ ways (turned set (get_or free 0 0)) (take (length free - 1) (drop 1 free))
+ways-first set [] some = absurd (omega (arith, some))
+ways-first set (place ∷ free) some =
+    let rest : take (length (place ∷ free) - 1) free ≡ free = take_all (length (place ∷ free) - 1) free (omega arith) in
+    (λ i. ways set (sym rest i) ++ ways (turned set place) (sym rest i))
+
+-- ---- rows
+
+module _ (q : Question) (row : ℕ) (set : List Bool) (at : slice_get q.sets row ≡ Some set) (agrees : list_all (is_so set) q.literals ≡ true) where
+  closed-is : closed_at q row ≡ are_rows q.table (ways_of q.changes set)
+  closed-is = ap (λ o. option_map_or (is_closed_from q) o true) at ∙ ap (λ b. not b || are_rows q.table (ways_of q.changes set)) agrees
+
+  pub fate-leaves : are_rows q.table (ways_of q.changes set) ≡ false → closed_at q row ≡ false
+  fate-leaves leaves = closed-is ∙ leaves
+
+  pub fate-loses : (weight lost : ℤ) → weight ≡ weight_in q row → LosesTo q.table q.place weight (ways_of q.changes set) lost → LosesFrom q row lost
+  fate-loses weight lost is loses = record {
+    closed = closed-is ∙ loses.rows;
+    is = ap (λ o. most_of (option_map_or (lost_from q (weight_in q row)) o [])) at
+        ∙ ap (λ b. most_of (if b then losses_to q.table q.place (weight_in q row) (ways_of q.changes set) else [])) agrees
+        ∙ ap (λ w. most_of (losses_to q.table q.place w (ways_of q.changes set))) (sym is) ∙ loses.is;
+    range = loses.range;
+  }
+
+pub weight-is : (q : Question) (row : ℕ) (r : Row) (w : ℤ) → slice_get q.table.rows row ≡ Some r → w ≡ weight_at q.place r → w ≡ weight_in q row
+weight-is q row r w at is = is ∙ sym (ap (λ o. option_map_or (weight_at q.place) o (pos 0)) at)
+
+-- ---- free places
+
+free-from : (row left : List Bool) (width : ℕ) (found : List ℕ) (whens : List When) → All (FitsWhen width) whens → All (λ k. k < width) found → All (λ k. k < width) (fold (freed row left) found whens)
+free-from row left width found [] fits below = below
+free-from row left width found (w ∷ whens) fits below =
+    free-from row left width (freed row left found w) whens (All-tail (FitsWhen width) w whens fits) (one (is_among found w.place) (turns row left w))
+  where
+    pushed : All (λ k. k < width) (found ++ w.place ∷ [])
+    pushed = All-push width found w.place below (All-head (FitsWhen width) w whens fits).place
+
+    one : (b c : Bool) → All (λ k. k < width) (if b then found else if c then found ++ w.place ∷ [] else found)
+    one true c = below
+    one false true = pushed
+    one false false = below
+
+pub free-below : (row left : List Bool) (width : ℕ) (whens : List When) (free : List ℕ) → free ≡ free_places whens row left → All (FitsWhen width) whens → All (λ k. k < width) free
+free-below row left width whens free is fits = subst (All (λ k. k < width)) (sym is) (free-from row left width [] whens fits (All-nil (λ k. k < width)))
+
+-- the places are those that are open
+pub among-more : (found : List ℕ) (x k : ℕ) → is_among (found ++ x ∷ []) k ≡ (is_among found k || x == k)
+among-more [] x k = or_none (x == k)
+  where
+    or_none : (b : Bool) → (b || false) ≡ b
+    or_none true = refl
+    or_none false = refl
+among-more (y ∷ found) x k = ap (λ b. y == k || b) (among-more found x k) ∙ assoc (y == k) (is_among found k) (x == k)
+  where
+    assoc : (a b c : Bool) → (a || (b || c)) ≡ ((a || b) || c)
+    assoc true b c = refl
+    assoc false b c = refl
+
+freed-among : (row left : List Bool) (found : List ℕ) (w : When) (k : ℕ) → is_among (freed row left found w) k ≡ (is_among found k || (w.place == k && turns row left w))
+freed-among row left found w k =
+    elim (is_among found w.place) as (λ b. is_among found w.place ≡ b
+    → is_among (if b then found else if turns row left w then found ++ w.place ∷ [] else found) k ≡ (is_among found k || (w.place == k && turns row left w))) [
+      | true ↦ λ there. elim (w.place == k) as (λ e. (w.place == k) ≡ e → is_among found k ≡ (is_among found k || (e && turns row left w))) [
+        | true ↦ λ same. let here : is_among found k ≡ true = subst (λ j. is_among found j ≡ true) (eqb-true w.place k same) there in here ∙ sym (ap (λ b. b || turns row left w) here)
+        | false ↦ λ _. sym (or_none (is_among found k))
+      ] refl
+      | false ↦ λ _. elim (turns row left w) as (λ t. is_among (if t then found ++ w.place ∷ [] else found) k ≡ (is_among found k || (w.place == k && t))) [
+        | true ↦ among-more found w.place k ∙ ap (λ b. is_among found k || b) (sym (and_yes (w.place == k)))
+        | false ↦ sym (ap (λ b. is_among found k || b) (and_none (w.place == k)) ∙ or_none (is_among found k))
+      ]
+    ] refl
+  where
+    or_none : (b : Bool) → (b || false) ≡ b
+    or_none true = refl
+    or_none false = refl
+
+    and_yes : (b : Bool) → (b && true) ≡ b
+    and_yes true = refl
+    and_yes false = refl
+
+    and_none : (b : Bool) → (b && false) ≡ false
+    and_none true = refl
+    and_none false = refl
+
+free-after : (row left : List Bool) (found : List ℕ) (whens : List When) (k : ℕ) → is_among (fold (freed row left) found whens) k ≡ (is_among found k || is_open_at whens row left k)
+free-after row left found [] k = or_none (is_among found k)
+  where
+    or_none : (b : Bool) → b ≡ (b || false)
+    or_none true = refl
+    or_none false = refl
+free-after row left found (w ∷ whens) k =
+    free-after row left (freed row left found w) whens k ∙ ap (λ b. b || is_open_at whens row left k) (freed-among row left found w k)
+    ∙ assoc (is_among found k) (w.place == k && turns row left w) (is_open_at whens row left k)
+  where
+    assoc : (a b c : Bool) → ((a || b) || c) ≡ (a || (b || c))
+    assoc true b c = refl
+    assoc false b c = refl
+
+pub free-is : (whens : List When) (row left : List Bool) (k : ℕ) → is_among (free_places whens row left) k ≡ is_open_at whens row left k
+free-is whens row left k = free-after row left [] whens k
+
+-- ---- all rows
+
+pub take-at : {X : Type 0} (xs : List X) (i : ℕ) (x : X) → slice_get xs i ≡ Some x → take (i + 1) xs ≡ take i xs ++ x ∷ []
+take-at xs i x at = take_more xs i x (slice_get_within xs i x at) ∙ ap (λ y. take i xs ++ y ∷ []) (get_or_from_slice_get xs i x x at)
+
+flat-push : {X Y : Type 0} (f : X → List Y) (xs : List X) (x : X) → flat_map f (xs ++ x ∷ []) ≡ flat_map f xs ++ f x
+flat-push f xs x = flat_map-append f xs (x ∷ []) ∙ ap (λ l. flat_map f xs ++ l) (append-nil (f x))
+
+pub among-Contains : (xs : List ℕ) (k : ℕ) → is_among xs k ≡ true → Contains xs k
+among-Contains [] k at = absurd (true≢false (sym at))
+among-Contains (x ∷ xs) k at =
+    elim (x == k) as (λ b. (x == k) ≡ b → (b || is_among xs k) ≡ true → Contains (x ∷ xs) k) [
+      | true ↦ λ is _. subst (Contains (x ∷ xs)) (eqb-true x k is) (Contains-here x xs)
+      | false ↦ λ _ later. Contains-there x xs k (among-Contains xs k later)
+    ] refl at
+
+pub Contains-among : (xs : List ℕ) (k : ℕ) → Contains xs k → is_among xs k ≡ true
+Contains-among xs k at = any-at (λ j. j == k) xs k at (eq-eqb k k refl)
+
+-- what is so of the rows so far
+pub record LosesSoFar (q : Question) (rows : List ℕ) (most : Option ℤ) : Type 0 where
+  pub closed : list_all (closed_at q) rows ≡ true
+  pub is : most ≡ most_of (flat_map (lost_at q) rows)
+  pub range : (z : ℤ) → most ≡ Some z → IsLoss z
+
+pub loses-none : (q : Question) → LosesSoFar q [] None
+loses-none q = record { closed = refl; is = refl; range = λ z none. absurd (cc) }
+
+module _ (q : Question) (rows : List ℕ) (k row : ℕ) (most : Option ℤ) (at : slice_get rows k ≡ Some row) (so : LosesSoFar q (take k rows) most) where
+  closed-more : closed_at q row ≡ true → list_all (closed_at q) (take (k + 1) rows) ≡ true
+  closed-more here =
+      ap (list_all (closed_at q)) (take-at rows k row at) ∙ list_all-append (closed_at q) (take k rows) (row ∷ [])
+      ∙ and_from (list_all (closed_at q) (take k rows)) (closed_at q row && true) so.closed (ap (λ b. b && true) here)
+
+  lost-more : flat_map (lost_at q) (take (k + 1) rows) ≡ flat_map (lost_at q) (take k rows) ++ lost_at q row
+  lost-more = ap (flat_map (lost_at q)) (take-at rows k row at) ∙ flat-push (lost_at q) (take k rows) row
+
+  pub disagrees-more : closed_at q row ≡ true → lost_at q row ≡ [] → LosesSoFar q (take (k + 1) rows) most
+  disagrees-more closed none = record {
+    closed = closed-more closed;
+    is = so.is ∙ sym (ap most_of (lost-more ∙ ap (λ l. flat_map (lost_at q) (take k rows) ++ l) none ∙ append-nil (flat_map (lost_at q) (take k rows))));
+    range = so.range;
+  }
+
+  pub loses-more : (lost greater : ℤ) (new : Option ℤ) → LosesFrom q row lost → greater ≡ raised most lost → new ≡ Some greater → LosesSoFar q (take (k + 1) rows) new
+  loses-more lost greater new loses is new_is = record {
+    closed = closed-more loses.closed;
+    is = new_is ∙ ap Some (is ∙ ap (λ o. raised o lost) so.is) ∙ sym (ap most_of lost-more ∙ most-more (flat_map (lost_at q) (take k rows)) (lost_at q row) lost loses.is);
+    range = λ z same. subst IsLoss (sym is ∙ some-same (sym new_is ∙ same)) (ranged most so.range);
+  }
+    where
+      some-same : {x y : ℤ} → Some x ≡ Some y → x ≡ y
+      some-same e = cc
+
+      ranged : (m : Option ℤ) → ((z : ℤ) → m ≡ Some z → IsLoss z) → IsLoss (raised m lost)
+      ranged None each = loses.range
+      ranged (Some z) each =
+          let one = each z refl in
+          let other = loses.range in
+          let one_least = one.least in
+          let one_most = one.most in
+          let other_least = other.least in
+          let other_most = other.most in
+          record { least = omega (arith, ints, clamps); most = omega (arith, ints, clamps) }
+
+pub fate-more : (q : Question) (rows : List ℕ) (k row : ℕ) (most : Option ℤ) (fate : Fate) → slice_get rows k ≡ Some row → LosesSoFar q (take k rows) most → IsFate q row fate → leaves fate ≡ false
+    → LosesSoFar q (take (k + 1) rows) (raised_by fate most)
+fate-more q rows k row most Disagrees at so is stays = disagrees-more q rows k row most at so is.0 is.1
+fate-more q rows k row most Leaves at so is stays = absurd (true≢false stays)
+fate-more q rows k row most (code_of_fate.Loses lost) at so is stays = loses-more q rows k row most at so lost (raised most lost) (Some (raised most lost)) is refl refl
+
+pub fate-leaves-all : (q : Question) (row : ℕ) (fate : Fate) → IsFate q row fate → leaves fate ≡ true → closed_at q row ≡ false
+fate-leaves-all q row Disagrees is left = absurd (true≢false (sym left))
+fate-leaves-all q row Leaves is left = is
+fate-leaves-all q row (code_of_fate.Loses lost) is left = absurd (true≢false (sym left))
+
+pub range-at : (count place : ℕ) → place < count → slice_get (range_with_len 0 count) place ≡ Some place
+range-at count place below =
+    let e = get_or-range_with_len 0 count place 0 below in
+    slice_get-get_or (range_with_len 0 count) place 0 (omega (arith, below, length-range_with_len 0 count)) ∙ ap Some (let is : get_or (range_with_len 0 count) place 0 ≡ place = omega (arith, e) in is)
+
+module _ (q : Question) (rows : List ℕ) (are : AreCandidates q.sets q.literals rows) where
+  in-rows : (row : ℕ) → Contains rows row → Contains (rows_of q) row
+  in-rows row at = Contains-range 0 (length q.sets) row (omega arith) (let within = are.within row (Contains-among rows row at) in omega (arith, within))
+
+  pub leaves-all : (row : ℕ) → Contains rows row → closed_at q row ≡ false → list_all (closed_at q) (rows_of q) ≡ false
+  leaves-all row at leaves = false_from_ne_true (list_all (closed_at q) (rows_of q)) (λ all. true≢false (sym (all-at (closed_at q) (rows_of q) row all (in-rows row at)) ∙ leaves))
+
+  -- a row of the table agrees, and is one of these, or it is of no account
+  covered : (row : ℕ) → Contains (rows_of q) row → Contains rows row ⊎ ((closed_at q row ≡ true) × (lost_at q row ≡ []))
+  covered row at =
+      let below = range-Contains 0 (length q.sets) row at in
+      let it = row-there q.sets row (omega (arith, below.1)) in
+      elim (list_all (is_so it.0) q.literals) as (λ b. list_all (is_so it.0) q.literals ≡ b → Contains rows row ⊎ ((closed_at q row ≡ true) × (lost_at q row ≡ []))) [
+        | true ↦ λ agrees. inl (among-Contains rows row (are.covers row it.0 it.1 agrees))
+        | false ↦ λ differs. inr (
+          ap (λ o. option_map_or (is_closed_from q) o true) it.1 ∙ ap (λ b. not b || are_rows q.table (ways_of q.changes it.0)) differs,
+          ap (λ o. option_map_or (lost_from q (weight_in q row)) o []) it.1
+              ∙ ap (λ b. if b then losses_to q.table q.place (weight_in q row) (ways_of q.changes it.0) else []) differs,
+        )
+      ] refl
+
+  pub loses-all : (most : Option ℤ) (lost : ℤ) → LosesSoFar q rows most → lost ≡ option_map_or (λ (z : ℤ). z) most (pos 0) → LosesInAll q lost
+  loses-all most lost so is = record {
+    closed = all-from (closed_at q) (rows_of q) (λ row at. elim (covered row at) [
+      | inl among ↦ all-at (closed_at q) rows row so.closed among
+      | inr apart ↦ apart.0
+    ]);
+    is = is ∙ ap (λ o. option_map_or (λ (z : ℤ). z) o (pos 0)) (so.is ∙ most-alike (flat_map (lost_at q) rows) (flat_map (lost_at q) (rows_of q))
+        (λ z at. let it = flat_map-Contains (lost_at q) rows z at in Contains-flat_map (lost_at q) (rows_of q) it.0 z (in-rows it.0 it.1) it.2)
+        (λ z at. let it = flat_map-Contains (lost_at q) (rows_of q) z at in elim (covered it.0 it.1) [
+          | inl among ↦ Contains-flat_map (lost_at q) rows it.0 z among it.2
+          | inr apart ↦ absurd (Contains-none z (subst (λ l. Contains l z) apart.1 it.2))
+        ]));
+    range = subst IsLoss (sym is) (ranged most so.range);
+  }
+    where
+      ranged : (m : Option ℤ) → ((z : ℤ) → m ≡ Some z → IsLoss z) → IsLoss (option_map_or (λ (z : ℤ). z) m (pos 0))
+      ranged None each = record { least = omega (arith, ints); most = omega (arith, ints) }
+      ranged (Some z) each = each z refl
+
+-- ---- candidates
+
+pub all-candidates : (sets : List (List Bool)) (count : ℕ) → count ≡ length sets → AreCandidates sets [] (range_with_len 0 count)
+all-candidates sets count is = record {
+  covers = λ row set at _. Contains-among (range_with_len 0 count) row (Contains-range 0 count row (omega arith) (let within = slice_get_within sets row set at in omega (arith, within, is)));
+  within = λ row at. let below = range-Contains 0 count row (among-Contains (range_with_len 0 count) row at) in let e = below.1 in omega (arith, e, is);
+}
+
+pub narrower : (sets : List (List Bool)) (index : Lists) (given : List code_of_literal.PlacedLiteral) (k : ℕ) (l : code_of_literal.PlacedLiteral) (best new : List ℕ) → slice_get given k ≡ Some l
+    → IsIndexOf sets (length sets) index → (new ≡ best) ⊎ ((new ≡ list_at index l.place) × (l.value ≡ true)) → AreCandidates sets (map placed_of (take k given)) best
+    → AreCandidates sets (map placed_of (take (k + 1) given)) new
+narrower sets index given k l best new at indexed is are = record {
+  covers = λ row set there agrees.
+      let parts = and_parts (list_all (is_so set) (map placed_of (take k given))) (is_so set (placed_of l) && true)
+      (sym (list_all-append (is_so set) (map placed_of (take k given)) (placed_of l ∷ [])) ∙ sym (ap (list_all (is_so set)) (taken-more placed_of given k l at)) ∙ agrees) in
+      elim is [
+        | inl same ↦ subst (λ rows. is_among rows row ≡ true) (sym same) (are.covers row set there parts.0)
+        | inr narrowed ↦
+            let holds = (and_parts (is_so set (placed_of l)) true parts.1).0 in
+            let has_it : has set l.place ≡ true = is-true (has set l.place) (subst (λ v. beq (has set l.place) v ≡ true) narrowed.1 holds) in
+            subst (λ rows. is_among rows row ≡ true) (sym narrowed.0) (indexed.covers l.place row set (slice_get_within sets row set there) there has_it)
+      ];
+  within = λ row there. elim is [
+    | inl same ↦ are.within row (subst (λ rows. is_among rows row ≡ true) same there)
+    | inr narrowed ↦ indexed.within l.place row (subst (λ rows. is_among rows row ≡ true) narrowed.0 there)
+  ];
+}
+  where
+    is-true : (b : Bool) → beq b true ≡ true → b ≡ true
+    is-true true is = refl
+    is-true false is = absurd (true≢false (sym is))

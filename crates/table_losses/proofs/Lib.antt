@@ -1,0 +1,10 @@
+pub mod PlacedLemmas
+pub mod AgreeingLemmas
+pub mod AfterLemmas
+pub mod MostLemmas
+pub mod WayLemmas
+pub mod FateLemmas
+pub mod ListsLemmas
+pub mod PlacingLemmas
+pub mod LossLemmas
+pub mod GivingLemmas

@@ -1,0 +1,9 @@
+pub mod Placed
+pub mod Lists
+pub mod Candidates
+pub mod Afters
+pub mod PlacedChanges
+pub mod Fates
+pub mod FitsTable
+pub mod Losses
+pub mod Giving

@@ -1,0 +1,88 @@
+//! What may come after a row.
+ghost use Rattle.std.specs.Prelude.{◌≡◌, OnOk, length, map};
+ghost use Rattle.packed_state.specs.Packed.{bits_of};
+ghost use Rattle.table_losses.specs.Afters as model;
+ghost use Rattle.table_losses.specs.Afters.{left_of, free_places};
+ghost use Rattle.table_losses.specs.PlacedChanges.{when_of, changes_of, FitsWhen, FitsWidth};
+
+use crate::placed::{PlacedLiteral, all_are_so};
+use faults::NoMemory;
+use packed_state::{Mask, Packed};
+
+/// A change under a `when`, of an atom of a scope.
+#[derive(Drop)]
+pub(crate) struct When {
+    /// The atom's place in the scope, from 0.
+    pub(crate) place: u32,
+    /// Whether it becomes true.
+    pub(crate) value: bool,
+    /// The literals of its condition that are of atoms of the scope.
+    pub(crate) condition: Vec<PlacedLiteral>,
+}
+
+/// The changes of an instance that are of atoms of a scope.
+#[derive(Drop)]
+pub(crate) struct PlacedChanges {
+    /// The places of unconditional deletes.
+    pub(crate) deletes: Mask,
+    /// Those of unconditional adds.
+    pub(crate) adds: Mask,
+    /// The others, of places that no unconditional change adds.
+    pub(crate) whens: Vec<When>,
+}
+
+impl PlacedChanges {
+    /// Makes the row what unconditional changes leave of it.
+    pub(crate) fn leave(&self, row: &mut Packed)
+        requires { FitsWidth (length (bits_of row.old)) (changes_of self.now) }
+        ensures { bits_of row.new ≡ left_of (changes_of self.now) (bits_of row.old) }
+    {
+        row.change(&self.deletes, &self.adds);
+    }
+
+    /// Puts the places that the row leaves free in the place of what `free` has: those that a change under a `when` which it
+    /// does not contradict would turn.
+    pub(crate) fn list_free(
+        &self,
+        row: &Packed,
+        left: &Packed,
+        free: &mut Vec<u32>,
+    ) -> Result<(), NoMemory>
+        requires row { FitsWidth (length (bits_of row.now)) (changes_of self.now) }
+        requires left { length (bits_of left.now) ≡ length (bits_of row.now) }
+        ensures { OnOk result (free.new.items ≡ free_places (changes_of self.now).whens (bits_of row.now) (bits_of left.now)) }
+    {
+        free.clear();
+        for when in &self.whens {
+            when.add_free(row, left, free)?;
+        }
+        Ok(())
+    }
+}
+
+impl When {
+    /// Adds its place, if the row leaves that free by it and it is not there yet.
+    fn add_free(&self, row: &Packed, left: &Packed, free: &mut Vec<u32>) -> Result<(), NoMemory>
+        requires fits { FitsWhen (length (bits_of row.now)) (when_of self.now) }
+        requires left { length (bits_of left.now) ≡ length (bits_of row.now) }
+        ensures { OnOk result (free.new.items ≡ model.freed (bits_of row.now) (bits_of left.now) free.old.items (when_of self.now)) }
+    {
+        if free.contains(&self.place) {
+            return Ok(());
+        }
+        if !self.turns(row, left) {
+            return Ok(());
+        }
+        free.push(self.place)?;
+        Ok(())
+    }
+
+    /// Whether the row leaves it open, and it would change what is left.
+    fn turns(&self, row: &Packed, left: &Packed) -> bool
+        requires fits { FitsWhen (length (bits_of row.now)) (when_of self.now) }
+        requires left { length (bits_of left.now) ≡ length (bits_of row.now) }
+        ensures { result ≡ model.turns (bits_of row.now) (bits_of left.now) (when_of self.now) }
+    {
+        left.has(self.place) != self.value && all_are_so(row, &self.condition)
+    }
+}

@@ -1,0 +1,100 @@
+//! What a table gives where literals hold, and whether one of its rows agrees with them.
+ghost use Rattle.std.specs.Prelude.{◌≡◌, ◌<◌, All, IfOk, Some, length, map, slice_get};
+ghost use Rattle.std.specs.List.{list_any, list_all};
+ghost use Rattle.grounding.specs.Views.{numbered_of};
+ghost use Rattle.packed_state.specs.Packed.{bits_of};
+ghost use Rattle.table_functions.specs.TableFunctions.{Row};
+ghost use Rattle.table_functions.specs.FairTables as model;
+ghost use Rattle.table_losses.specs.Fates.{IsLoss};
+ghost use Rattle.table_rows.specs.Rows.{atoms_at};
+ghost use Rattle.table_rows.specs.Tables.{sets_of};
+ghost use Rattle.table_losses.specs.Giving.{given_by};
+ghost use Rattle.table_losses.specs.Losses.{indexed_of, indexed_count_of};
+ghost use Rattle.table_losses.specs.Placed as by_places;
+ghost use Rattle.table_losses.specs.Placed.{placed_of, is_so};
+
+use crate::indexed::IndexedTable;
+use crate::losses::{greater_of, or_nothing};
+use crate::placed::{PlacedLiteral, all_are_so, placed};
+use faults::NoMemory;
+use grounding::NumberedLiteral;
+use packed_state::Packed;
+use std::alloc::Global;
+
+impl IndexedTable<'_> {
+    /// Whether some row of the table agrees with the literals.
+    ///
+    /// # Errors
+    /// Where memory is refused.
+    pub fn some_agrees(&self, alloc: Global, literals: &[NumberedLiteral]) -> Result<bool, NoMemory>
+        ensures { IfOk result (λ some. some ≡ list_any (λ (r : Row). model.agrees (map numbered_of literals.now) (indexed_of self.now).scope r.atoms) (indexed_of self.now).rows) }
+    {
+        let placed = placed(alloc, self.table.scope(), literals)?;
+        let mut set = Packed::empty(alloc, self.table.width())?;
+        Ok(self.some_are_so(placed.as_slice(), &mut set))
+    }
+
+    /// Whether the literals are true of some row, each of which is copied to `set`.
+    fn some_are_so(&self, literals: &[PlacedLiteral], set: &mut Packed) -> bool
+        requires width { length (bits_of set.old) ≡ length (indexed_of self.now).scope }
+        requires below { All (λ (l : by_places.PlacedLiteral). l.place < length (indexed_of self.now).scope) (map placed_of literals.now) }
+        ensures { result ≡ list_any (λ bits. list_all (is_so bits) (map placed_of literals.now)) (sets_of self.now.table.now) }
+    {
+        let candidates = self.candidates(literals);
+        for k in 0..candidates.len() {
+            self.table.get(candidates.at(k), set);
+            if all_are_so(set, literals) {
+                return true;
+            }
+        }
+        false
+    }
+
+    /// The greatest weight at this place of a row that agrees with the literals, 0 where none does.
+    ///
+    /// # Errors
+    /// Where memory is refused.
+    pub fn gives(
+        &self,
+        alloc: Global,
+        literals: &[NumberedLiteral],
+        place: u32,
+    ) -> Result<i64, NoMemory>
+        requires { place < indexed_count_of self.now }
+        ensures value { IfOk result (λ given. given ≡ model.table_gives place (map numbered_of literals.now) (indexed_of self.now)) }
+        ensures range { IfOk result IsLoss }
+    {
+        let placed = placed(alloc, self.table.scope(), literals)?;
+        let mut set = Packed::empty(alloc, self.table.width())?;
+        let mut most = None;
+        for row in 0..self.table.row_count() {
+            most = self.raised_by(row as u32, placed.as_slice(), place, &mut set, most);
+        }
+        Ok(or_nothing(most))
+    }
+
+    /// The greater of that and the weight of the row, if it agrees.
+    fn raised_by(
+        &self,
+        row: u32,
+        literals: &[PlacedLiteral],
+        place: u32,
+        set: &mut Packed,
+        most: Option<i64>,
+    ) -> Option<i64>
+        requires there { row < length (indexed_of self.now).rows }
+        requires place { place < indexed_count_of self.now }
+        requires width { length (bits_of set.old) ≡ length (indexed_of self.now).scope }
+        requires below { All (λ (l : by_places.PlacedLiteral). l.place < length (indexed_of self.now).scope) (map placed_of literals.now) }
+        ensures most { (r : Row) → slice_get (indexed_of self.now).rows row ≡ Some r
+            → result ≡ given_by (map placed_of literals.now) place r (bits_of set.new) most }
+        ensures set { (r : Row) → slice_get (indexed_of self.now).rows row ≡ Some r → r.atoms ≡ atoms_at (indexed_of self.now).scope (bits_of set.new) }
+        ensures width { length (bits_of set.new) ≡ length (indexed_of self.now).scope }
+    {
+        self.table.get(row, set);
+        if !all_are_so(set, literals) {
+            return most;
+        }
+        Some(greater_of(most, self.table.weight(row, place)))
+    }
+}

@@ -1,0 +1,104 @@
+//! Lists of numbers by places.
+ghost use Rattle.std.specs.Prelude.{◌≡◌, ℕ, ◌<◌, ◌++◌, ◌∷◌, [], ◌==◌, ◌&&◌, true, All, if◌then◌else◌, IfOk, OnOk, length};
+ghost use Rattle.packed_state.specs.Sets.{has};
+ghost use Rattle.packed_state.specs.Packed.{bits_of};
+ghost use Rattle.table_functions.specs.TableFunctions.{is_among};
+ghost use Rattle.table_losses.specs.Lists.{list_at, IsFiled, IsFiledAt};
+
+use faults::NoMemory;
+use packed_state::Packed;
+use std::alloc::Global;
+
+/// A list of numbers for each place.
+#[derive(Drop)]
+pub struct Lists {
+    pub(crate) lists: Vec<Vec<u32>>,
+}
+
+impl Lists {
+    /// As many empty ones.
+    ///
+    /// # Errors
+    /// Where memory is refused.
+    pub fn empty(alloc: Global, width: u32) -> Result<Lists, NoMemory>
+        ensures width { IfOk result (λ l. length l.lists.items ≡ width) }
+        ensures empty { IfOk result (λ l. (place : ℕ) → list_at l place ≡ []) }
+    {
+        let mut lists = Vec::new(alloc);
+        for _ in 0..width {
+            lists.push(Vec::new(alloc))?;
+        }
+        Ok(Lists { lists })
+    }
+
+    /// Puts the number at the end of the list at this place.
+    pub(crate) fn push(&mut self, place: u32, number: u32) -> Result<(), NoMemory>
+        requires { place < length self.old.lists.items }
+        ensures width { OnOk result (length self.new.lists.items ≡ length self.old.lists.items) }
+        ensures lists { OnOk result ((k : ℕ) → list_at self.new k ≡ (if k == place then list_at self.old k ++ number ∷ [] else list_at self.old k)) }
+    {
+        self.lists[place as usize].push(number)?;
+        Ok(())
+    }
+
+    /// Puts the number at the end of the list of each place of the set.
+    pub(crate) fn file(&mut self, set: &Packed, number: u32) -> Result<(), NoMemory>
+        requires { length self.old.lists.items ≡ length (bits_of set.now) }
+        ensures { OnOk result (IsFiled (bits_of set.now) number self.old self.new) }
+    {
+        for place in 0..set.width() {
+            self.file_at(set, place, number)?;
+        }
+        Ok(())
+    }
+
+    /// Puts the number at the end of the list of this place, if it is in the set.
+    fn file_at(&mut self, set: &Packed, place: u32, number: u32) -> Result<(), NoMemory>
+        requires width { length self.old.lists.items ≡ length (bits_of set.now) }
+        requires within { place < length (bits_of set.now) }
+        ensures width { OnOk result (length self.new.lists.items ≡ length self.old.lists.items) }
+        ensures lists { OnOk result ((k : ℕ) → list_at self.new k ≡ (if k == place && has (bits_of set.now) place then list_at self.old k ++ number ∷ [] else list_at self.old k)) }
+    {
+        if !set.has(place) {
+            return Ok(());
+        }
+        self.push(place, number)?;
+        Ok(())
+    }
+
+    /// Puts the number at the end of the list of each of these places.
+    ///
+    /// # Errors
+    /// Where memory is refused.
+    pub fn file_at_all(&mut self, places: &[u32], number: u32) -> Result<(), NoMemory>
+        requires { All (λ place. place < length self.old.lists.items) places.now }
+        ensures { OnOk result (IsFiledAt places.now number self.old self.new) }
+    {
+        for place in places {
+            self.push(*place, number)?;
+        }
+        Ok(())
+    }
+
+    /// Puts the numbers of the list at this place into the set.
+    pub fn mark(&self, place: u32, set: &mut Packed)
+        requires { (k : ℕ) → is_among (list_at self.now place) k ≡ true → k < length (bits_of set.old) }
+        ensures width { length (bits_of set.new) ≡ length (bits_of set.old) }
+        ensures kept { (k : ℕ) → has (bits_of set.old) k ≡ true → has (bits_of set.new) k ≡ true }
+        ensures marked { (k : ℕ) → is_among (list_at self.now place) k ≡ true → has (bits_of set.new) k ≡ true }
+    {
+        for number in self.of(place) {
+            set.insert(*number);
+        }
+    }
+
+    /// The list at this place.
+    pub(crate) fn of(&self, place: u32) -> &[u32]
+        ensures { result.now ≡ list_at self.now place }
+    {
+        match self.lists.get(place as usize) {
+            Some(list) => list,
+            None => &[],
+        }
+    }
+}
