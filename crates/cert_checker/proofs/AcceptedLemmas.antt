@@ -26,10 +26,10 @@ use Rattle.certificate_reader.specs.Stages.{IsWithin}
 use Rattle.certificate_reader.proofs.NumbersRead.{same_number}
 use Rattle.certificate_reader.proofs.OneLine.{one_line}
 use Rattle.certificate_reader.proofs.PlaceRead.{few_atoms, leads_line}
-use Rattle.cert_checker.specs.Given.{atom_in, atoms_given, names_given, state_in, states_given, table_in, tables_given}
-use Rattle.cert_checker.proofs.NamesLemmas.{one_named}
-use Rattle.cert_checker.proofs.PlacedLemmas.{atoms_of_text, states_of_text, tables_of_text}
-use Rattle.cert_checker.proofs.SplitLemmas.{end_within, few_atoms_kept, few_weights_kept, first_line, kept_lines, line_is_first, line_short, nothing_there, split_off, text_push, within_after}
+use Rattle.task_certificates.specs.Given.{atom_in, atoms_given, names_given, state_in, states_given, table_in, tables_given}
+use Rattle.task_certificates.proofs.NamesLemmas.{one_named}
+use Rattle.task_certificates.proofs.PlacedLemmas.{atoms_of_text, states_of_text, tables_of_text}
+use Rattle.task_certificates.proofs.SplitLemmas.{end_within, few_atoms_kept, few_weights_kept, first_line, kept_lines, line_is_first, line_short, nothing_there, split_off, text_push, within_after}
 
 -- ---- lists
 

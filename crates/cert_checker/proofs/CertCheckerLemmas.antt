@@ -17,7 +17,7 @@ use Rattle.model.specs.Claims.{Allows, Mark, opened, cut, dead, Line, IsListedWi
 use Rattle.certificate_definitions.specs.Certificates.{Version, one, two, three, Certificate, StateLine, is_dead_end_of, is_mark, is_number, is_state_line, keeps_limits, lines_of, listed_system, rise, state_of_line}
 use Rattle.certificate_definitions.specs.CertificateRefusals.{IsListed}
 use Rattle.model.proofs.ListLemmas.{Contains-cases, Contains-map, Contains-none}
-use Rattle.cert_checker.proofs.LimitsLemmas.{limits_of}
+use Rattle.task_certificates.proofs.LimitsLemmas.{limits_of}
 use Rattle.model.proofs.InstancesLemmas.{Contains-successors}
 
 -- ---- elements at their places

@@ -1,17 +1,5 @@
-pub mod NamesLemmas
 pub mod ExchangesLemmas
 pub mod SymmetriesLemmas
-pub mod LimitsLemmas
-pub mod GivenLemmas
-pub mod ListedLemmas
-pub mod PlacedLemmas
-pub mod AtomsLemmas
-pub mod HeaderLemmas
-pub mod TableLinesLemmas
-pub mod TabledLemmas
-pub mod ReadingLemmas
-pub mod ListingLemmas
-pub mod SplitLemmas
 pub mod AcceptedLemmas
 pub mod WrittenExchanges
 pub mod WrittenLemmas

@@ -21,7 +21,7 @@ use Rattle.task_symmetries.specs.declared.exchange.Exchange as code
 use Rattle.task_symmetries.specs.Exchange.{exchange_of}
 use Rattle.certificate.specs.CertificateParts.{exchange_in}
 use Rattle.cert_checker.specs.CheckedLines.{AreSymmetries}
-use Rattle.cert_checker.proofs.NamesLemmas.{got}
+use Rattle.task_certificates.proofs.NamesLemmas.{got}
 use Rattle.cert_checker.specs.Exchanged.{is_said, is_symmetry_by}
 
 -- ---- tests of two parts

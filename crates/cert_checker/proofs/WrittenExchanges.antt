@@ -17,7 +17,7 @@ use Rattle.certificate_definitions.specs.CertificateText as text
 use Rattle.certificate_definitions.specs.CertificateText.{Format, swapped, are_paired, is_line, line_text, longest_line}
 use Rattle.certificate_definitions.specs.CertificateNames.{exchange_said, is_exchange_of, named_exchange, object_said, two_by_two}
 use Rattle.cert_checker.specs.Exchanged.{is_short}
-use Rattle.cert_checker.proofs.NamesLemmas.{same_bytes}
+use Rattle.task_certificates.proofs.NamesLemmas.{same_bytes}
 use Rattle.cert_checker.proofs.SymmetriesLemmas.{within}
 
 -- ---- objects by their names

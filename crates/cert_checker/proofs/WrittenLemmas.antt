@@ -32,8 +32,8 @@ use Rattle.certificate_definitions.specs.CertificateNames.{AllName, AreNumbersOf
 use Rattle.certificate_definitions.specs.CertificateChecking.{IsAccepted}
 use Rattle.certificate_reader.proofs.LinesRead.{few_constants}
 use Rattle.certificate.proofs.NumbersLemmas.{potential_parts}
-use Rattle.cert_checker.proofs.LimitsLemmas.{AreLimits, limits_of, rows_are, said_kept, scopes_are}
-use Rattle.cert_checker.proofs.NamesLemmas.{few_objects}
+use Rattle.task_certificates.proofs.LimitsLemmas.{AreLimits, limits_of, rows_are, said_kept, scopes_are}
+use Rattle.task_certificates.proofs.NamesLemmas.{few_objects}
 use Rattle.cert_checker.proofs.WrittenExchanges.{exchange_lines, exchanges_back}
 use Rattle.cert_checker.specs.Exchanged.{are_short}
 

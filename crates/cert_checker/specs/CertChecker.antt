@@ -2,8 +2,8 @@
 use Rattle.std.specs.Prelude.{◌≡◌, ℕ, ◌+◌, ◌<◌, List, length, slice_get, MatchOption, Option, None, Some, IsSome}
 use Rattle.cert_checker.specs.declared.checker.Accepted.{Accepted}
 use Rattle.cert_checker.specs.declared.checker.Accepted.TheVariants.{Optimal, AtLeast, Unsolvable}
-use Rattle.cert_checker.specs.declared.refusal.Refusal.{Refusal}
-use Rattle.cert_checker.specs.declared.refusal.Refusal.TheVariants as refusal
+use Rattle.task_certificates.specs.declared.refusal.Refusal.{Refusal}
+use Rattle.task_certificates.specs.declared.refusal.Refusal.TheVariants as refusal
 use Rattle.formulas.specs.State.{instance_of}
 use Rattle.cert_checker.specs.Reasons.{reason_of}
 use Rattle.model.specs.Task.{Task, Instance}

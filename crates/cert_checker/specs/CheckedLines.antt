@@ -1,6 +1,6 @@
 -- What the checker finds out of a certificate's lines, one after another.
 use Rattle.std.specs.Prelude.{◌≡◌, ◌≢◌, ℕ, ◌+◌, ◌<◌, ◌≤◌, IsTrue, List, length, All, AllPairs, Contains, slice_get, Option, None, Some}
-use Rattle.cert_checker.specs.declared.refusal.Refusal.{Refusal}
+use Rattle.task_certificates.specs.declared.refusal.Refusal.{Refusal}
 use Rattle.cert_checker.specs.FluentAtoms.{AreFluent}
 use Rattle.cert_checker.specs.CertChecker.{IsFirstRefusal, IsTrueRefusal}
 use Rattle.model.specs.Task.{Task, Instance}

@@ -1,10 +1,3 @@
-pub mod RefusalCode
-pub mod CertFaults
-pub mod Given
-pub mod Listed
-pub mod Tabled
-pub mod Taking
-pub mod Reading
 pub mod Reasons
 pub mod Successors
 pub mod CertChecker

@@ -1,23 +1,16 @@
--- What is said while a certificate is read.
+-- What is said while a certificate is checked.
 use Rattle.std.specs.Prelude.{◌≡◌, ℕ, ◌⊎◌, List, ◌++◌, length, codes, Option, IfSome}
 use Rattle.std.specs.Fmt.{decimal}
 use Rattle.model.specs.Task.{Task}
 use Rattle.certificate_definitions.specs.Certificates.{Certificate}
 use Rattle.certificate_definitions.specs.CertificateNames.{IsTextOf}
-use Rattle.certificate_definitions.specs.CertificateText.{TextLine, text_of}
+use Rattle.task_certificates.specs.SaidRead.{IsReadLine}
 
--- how many lines were read so far; and, once all are, how many atoms and states the certificate lists
-abbrev pub lines_line : (lines : ℕ) → List ℕ
-lines_line lines = codes "progress=read lines=" ++ (decimal lines ++ codes "\n")
-
+-- once all lines are read, how many atoms and states the certificate lists
 abbrev pub whole_line : (atoms listed : ℕ) → List ℕ
 whole_line atoms listed = codes "progress=judge atoms=" ++ (decimal atoms ++ (codes " listed=" ++ (decimal listed ++ codes "\n")))
 
--- The text begins with so many lines, where it is known; or it is that of a certificate that lists so many.
-abbrev pub IsReadLine : (known : Option (List ℕ)) → List ℕ → Type 0
-IsReadLine known line =
-    (lines : List TextLine) × (rest : List ℕ) × IfSome known (λ bytes. bytes ≡ text_of lines ++ rest) × (line ≡ lines_line (length lines))
-
+-- The text, where it is known, is that of a certificate that lists so many.
 abbrev pub IsWholeLine : Task → (known : Option (List ℕ)) → List ℕ → Type 0
 IsWholeLine task known line =
     (text : List ℕ) × (c : Certificate) × IfSome known (λ bytes. bytes ≡ text) × IsTextOf task text c × (line ≡ whole_line (length c.atoms) (length c.lines))

@@ -9,7 +9,7 @@ ghost use Rattle.model.specs.Meaning.{is_instance};
 ghost use Rattle.certificate_definitions.specs.CertificateChecking.{IsAccepted};
 ghost use Rattle.cert_checker.specs.Weights.{AreCounted};
 ghost use Rattle.certificate_reader.specs.Reader.{source_of};
-ghost use Rattle.cert_checker.specs.Reading.{CountsRefusal, IsFresh};
+ghost use Rattle.task_certificates.specs.Reading.{CountsRefusal, IsFresh};
 ghost use Rattle.certificate.specs.Certificate.{certificate_of};
 ghost use Rattle.model.specs.Limits.{max_numbered_atoms};
 ghost use Rattle.model.specs.Grounding.{exceeded_limit};
@@ -29,8 +29,6 @@ mod symmetry;
 mod values;
 mod weights;
 
-use crate::cert_reader::read_cert;
-use crate::refusal::Refusal;
 use crate::said::say_whole;
 use certificate::{Cert, CertReader};
 use devices::{Sink, Source};
@@ -38,6 +36,7 @@ use formulas::Plan;
 use progress_lines::Unheard;
 use std::alloc::Global;
 use task::Task;
+use task_certificates::{Refusal, read_cert};
 
 /// What an accepted certificate shows.
 #[derive(Clone, Copy, Debug, PartialEq, Eq)]

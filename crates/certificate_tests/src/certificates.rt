@@ -1,7 +1,7 @@
 //! The limits of certificates in memory, and the checker where no instance may be kept.
 use crate::helpers::Reported::Plain;
 use crate::helpers::{Answer, check_text};
-use cert_checker::{Accepted, RefusalCode};
+use cert_checker::Accepted;
 use certificate::{Bounds, Cert, Claim, Header, Mark, Potential, StateLine, Version};
 use faults::NoMemory;
 use indexmap::IndexSet;
@@ -10,6 +10,7 @@ use std::alloc::{AllocError, Global};
 use std::process::Abort;
 use std::test::Fail;
 use task::Atom;
+use task_certificates::RefusalCode;
 use test_texts::{GO, Texts, UNTIED, atom, on_task};
 
 /// Tasks, certificates of them, and what the checker answers where no instance may be kept: `GO` keeps one, and `UNTIED` none.

@@ -4,7 +4,7 @@ ghost use Rattle.table_rows.specs.Rows.{are_rising};
 
 use crate::certificates::both_atoms;
 use crate::helpers::{Answer, Reported, check_source, check_text};
-use cert_checker::{Accepted, RefusalCode};
+use cert_checker::Accepted;
 use certificate::{Bounds, Cert, Claim, Header, Mark, Potential, StateLine, Version, write_cert};
 use devices::Memory;
 use faults::NoMemory;
@@ -13,6 +13,7 @@ use std::process::Abort;
 use std::test::Fail;
 use table_rows::Table;
 use task::{SchemaId, Task};
+use task_certificates::RefusalCode;
 use test_devices::{FailsAt, InPieces};
 use test_texts::{GO, HOP, on_task};
 

@@ -1,13 +1,14 @@
 //! The checker over sources that fail, and that never end.
 use crate::helpers::Reported::{Device, Line as At};
 use crate::helpers::{Answer, check_source};
-use cert_checker::RefusalCode::{CertForm, NotFluent, Repeated};
-use cert_checker::{Accepted, RefusalCode};
+use cert_checker::Accepted;
 use devices::Memory;
 use std::alloc::{AllocError, Global};
 use std::process::Abort;
 use std::test::Fail;
 use task::Task;
+use task_certificates::RefusalCode;
+use task_certificates::RefusalCode::{CertForm, NotFluent, Repeated};
 use test_devices::{Endless, FailsAt, InPieces};
 use test_texts::{PAIRS, on_task};
 

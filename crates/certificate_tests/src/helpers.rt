@@ -1,9 +1,10 @@
 //! What the checker answers to texts of certificates.
-use cert_checker::{Accepted, Refusal, RefusalCode, check};
+use cert_checker::{Accepted, check};
 use certificate::CertReader;
 use devices::{Memory, Source};
 use std::alloc::Global;
 use task::{SchemaId, Task};
+use task_certificates::{Refusal, RefusalCode};
 
 /// A [`Refusal`] as tests compare it.
 #[derive(Clone, Copy, Debug, PartialEq, Eq)]

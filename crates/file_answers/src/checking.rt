@@ -4,7 +4,7 @@ ghost use Rattle.task.specs.Task.{task_of};
 ghost use Rattle.cert_checker.specs.SaidRead.{IsCheckLine};
 ghost use Rattle.progress_lines.specs.Said.{AreSaid, stream};
 ghost use Rattle.file_answers.specs.SaidOf.{IsCheckLineOf};
-ghost use Rattle.cert_checker.specs.Reading.{CountsRefusal, IsFresh};
+ghost use Rattle.task_certificates.specs.Reading.{CountsRefusal, IsFresh};
 ghost use Rattle.certificate_reader.specs.Reader.{source_of};
 ghost use Rattle.file_answers.specs.Checked.{IsChecked};
 ghost use Rattle.file_answers.specs.Inputs.{IsGiven, IsInputFault};
@@ -14,12 +14,13 @@ ghost use Rattle.model.specs.Files.{IsTaskOf};
 ghost use Rattle.model.specs.PlanWriting.{has_names};
 
 use crate::files::{FileFault, plan_of_file, task_of_files};
-use cert_checker::{Accepted, Refusal, check_and_say};
+use cert_checker::{Accepted, check_and_say};
 use certificate::CertReader;
 use devices::{Sink, Source};
 use progress_lines::Unheard;
 use std::alloc::Global;
 use task::Task;
+use task_certificates::Refusal;
 
 /// A task, whose names are names, with what is reported for a certificate for it.
 #[derive(Drop)]

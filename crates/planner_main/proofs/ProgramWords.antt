@@ -20,7 +20,7 @@ use Rattle.printed_answers.specs.Reported.{status_of}
 use Rattle.printed_answers.specs.declared.reports.Report.{Report}
 use Rattle.printed_answers.specs.declared.reports.Report.TheVariants as report
 use Rattle.validator.specs.Verdict.{verdict_of}
-use Rattle.cert_checker.specs.declared.refusal.Refusal.{Refusal}
+use Rattle.task_certificates.specs.declared.refusal.Refusal.{Refusal}
 use Rattle.cert_checker.specs.declared.checker.Accepted.{Accepted}
 use Rattle.planner_main.specs.Program.{IsTextIfNamed, OnTwo, OnThree, OnInputs, IsAnswerTo, IsReportOn, Refuses, fault_in, IsFaultFor, IsOneOf, IsReportedOn, IsReportedOfWords, SaysOfWords, HasFailed, HasNotFailed, CountsFailure, CountsEither, device_failure}
 use Rattle.devices.specs.Texts.{IsText, AreKept}

@@ -6,13 +6,14 @@ ghost use Rattle.formulas.specs.State.{instance_of};
 ghost use Rattle.printed_answers.specs.CheckReported.{IsReportedRefusal, accepted_line, failure_of, instance_refused, line_of, line_refused, plain_refused};
 ghost use Rattle.model.specs.PlanWriting.{has_names};
 
-use cert_checker::{Accepted, Refusal, RefusalCode};
+use cert_checker::Accepted;
 use devices::IoFault;
 use faults::NoMemory;
 use formulas::Instance;
 use plan_file::step_text;
 use std::alloc::{AllocError, Global};
 use task::Task;
+use task_certificates::{Refusal, RefusalCode};
 
 /// Why nothing is reported for a certificate: its device failed, or memory was refused. `None` where the answer is reported.
 pub fn failure_of(answer: &Result<Accepted, Refusal>) -> Option<IoFault>

@@ -22,18 +22,18 @@ ghost use Rattle.model.specs.Grounding.{applicable_numbers};
 ghost use Rattle.certificate_definitions.specs.Certificates.{is_dead_end_of, lines_of, listed_system, AreFairFor};
 ghost use Rattle.cert_checker.specs.Weights.{AreCounted};
 ghost use Rattle.certificate_definitions.specs.CertificateRefusals.{state_line};
-ghost use Rattle.cert_checker.specs.declared.refusal.Refusal.TheVariants as Refusal;
+ghost use Rattle.task_certificates.specs.declared.refusal.Refusal.TheVariants as Refusal;
 
 use crate::checker::packed::PackedListing;
 use crate::checker::symmetry::{representatives_by, symmetric_exchanges};
 use crate::checker::values::fair_values;
-use crate::refusal::{Refusal, RefusalCode};
 use certificate::{Cert, Claim, Mark};
 use grounding::{Ground, GroundFault};
 use packed_state::Packed;
 use std::alloc::Global;
 use tables::Room;
 use task::Task;
+use task_certificates::{Refusal, RefusalCode};
 use task_symmetries::Exchange;
 
 /// Grounds the task, and checks the certificate: whether its exchanges are symmetries, its values are fair and that for dead ends is

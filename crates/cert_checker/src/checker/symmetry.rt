@@ -15,17 +15,17 @@ ghost use Rattle.cert_checker.specs.CheckedLines.{AreSymmetries, IsFirstGrounded
 ghost use Rattle.cert_checker.specs.Exchanged.{is_said, is_symmetry_by};
 ghost use Rattle.cert_checker.specs.FluentAtoms.{AreFluent};
 ghost use Rattle.cert_checker.specs.Represented.{Represents};
-ghost use Rattle.cert_checker.specs.declared.refusal.Refusal.TheVariants as Refusal;
-ghost use Rattle.cert_checker.specs.declared.refusal.RefusalCode.TheVariants.{NotSymmetry};
+ghost use Rattle.task_certificates.specs.declared.refusal.Refusal.TheVariants as Refusal;
+ghost use Rattle.task_certificates.specs.declared.refusal.RefusalCode.TheVariants.{NotSymmetry};
 ghost use Rattle.model.specs.NumberedAtoms.{numbered_atoms};
 
-use crate::refusal::{Refusal, RefusalCode};
 use certificate::Cert;
 use faults::NoMemory;
 use grounding::Ground;
 use representatives::Representatives;
 use std::alloc::Global;
 use task::{ObjectId, Task};
+use task_certificates::{Refusal, RefusalCode};
 use task_symmetries::{Exchange, SymmetryTest, exchanged_numbers};
 
 /// The certificate's exchanges, each of which is a symmetry of the task and takes numbered atoms to numbered atoms.

@@ -16,13 +16,13 @@ ghost use Rattle.cert_checker.specs.Weights.{HaveTheirWeights, AreCounted, AreWi
 ghost use Rattle.model.specs.NumberedAtoms.{numbered_atoms};
 
 use crate::checker::weights::{at_width, dead_fair_potentials, fair_potentials, kept_instance};
-use crate::refusal::{Refusal, RefusalCode};
 use certificate::{Cert, Potential, Version};
 use faults::NoMemory;
 use grounding::Ground;
 use potentials::Potentials;
 use std::alloc::Global;
 use tables::{IndexedTables, TableFunctions, ValuesFairness};
+use task_certificates::{Refusal, RefusalCode};
 
 /// The certificate's values, if they are fair for the ground task, in which its atoms have the first numbers, and that for dead
 /// ends is dead-fair.

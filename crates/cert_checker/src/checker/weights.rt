@@ -16,13 +16,13 @@ ghost use Rattle.model.specs.NumberedAtoms.{numbered_atoms};
 ghost use Rattle.potential_functions.specs.PotentialFunctions.{AreInRange};
 ghost use Rattle.potential_functions.specs.Fair.{AreFair, AreDeadFair};
 
-use crate::refusal::{Refusal, RefusalCode};
 use certificate::{Cert, Potential};
 use faults::NoMemory;
 use formulas::{Instance, copied};
 use grounding::Ground;
 use potentials::{Fairness, Potentials};
 use std::alloc::Global;
+use task_certificates::{Refusal, RefusalCode};
 
 /// The certificate's potentials, if they are fair for the ground task, in which its atoms have the first numbers.
 pub(super) fn fair_potentials(

@@ -1,6 +1,6 @@
 //! `check`: what a certificate shows, from files.
 ghost use Rattle.std.specs.Prelude.{◌≡◌, ℕ, IfErr, IfOk, IfSome, IsErr, IsTrue, List, ◌∷◌, Option};
-ghost use Rattle.cert_checker.specs.Reading.{CountsRefusal, IsFresh};
+ghost use Rattle.task_certificates.specs.Reading.{CountsRefusal, IsFresh};
 ghost use Rattle.file_answers.specs.Checked.{IsChecked};
 ghost use Rattle.file_answers.specs.SaidOf.{IsCheckLineOf};
 ghost use Rattle.model.specs.Files.{IsTaskOf};

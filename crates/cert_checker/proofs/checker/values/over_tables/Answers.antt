@@ -11,7 +11,7 @@ use Rattle.table_functions.specs.TableFunctions.{Row}
 use Rattle.table_rows.specs.declared.table.Table.{Table}
 use Rattle.table_rows.specs.Tables.{table_of, weight_count_of}
 use Rattle.tables.specs.AllTables.{tables_of}
-use Rattle.cert_checker.proofs.LimitsLemmas.{limits_of}
+use Rattle.task_certificates.proofs.LimitsLemmas.{limits_of}
 use Rattle.cert_checker.proofs.MadeLemmas.{few_values, tables_in_range}
 use Rattle.cert_checker.proofs.StaysLemmas.{scopes_within}
 use Rattle.cert_checker.proofs.checker.values.over_tables.Goals as goal

@@ -1,0 +1,14 @@
+pub mod NamesLemmas
+pub mod ExchangesLemmas
+pub mod LimitsLemmas
+pub mod GivenLemmas
+pub mod ListedLemmas
+pub mod SplitLemmas
+pub mod PlacedLemmas
+pub mod AtomsLemmas
+pub mod HeaderLemmas
+pub mod TableLinesLemmas
+pub mod TabledLemmas
+pub mod ReadingLemmas
+pub mod ListingLemmas
+pub mod SaidLemmas

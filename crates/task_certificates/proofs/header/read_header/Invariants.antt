@@ -1,0 +1,23 @@
+-- some lines were read, and have reported what is kept of them, and no state
+use Rattle.std.proofs.Common.{◌≡◌, ◌-◌, List, []}
+use Rattle.task.specs.Task.{task_of}
+use Rattle.certificate_definitions.specs.CertificateText.{TextLine}
+use Rattle.certificate_reader.specs.Reader.{lines_read, source_of}
+use Rattle.task_certificates.specs.Given.{states_given}
+use Rattle.task_certificates.specs.Tabled.{AreWeighed}
+use Rattle.task_certificates.specs.Taking.{HasTaken}
+use Rattle.task_certificates.specs.Reading.{IsAt}
+use Rattle.task_certificates.proofs.header.read_header.Given as goal
+
+abbrev pub invariant-lines : goal.invariant-lines
+invariant-lines g l = record {
+  lines : List TextLine;
+  at : IsAt g.R.Source.remaining l.initial.reader l.reader lines;
+  reported : HasTaken (task_of l.task) lines l.header;
+  weighed : AreWeighed l.header.bounds;
+  no_state : states_given lines ≡ [];
+  failures : g.R.Source.failures (source_of l.reader) ≡ g.R.Source.failures (source_of l.initial.reader);
+}
+
+abbrev pub decreases-lines : goal.decreases-lines
+decreases-lines g l = 30000000 - lines_read l.reader

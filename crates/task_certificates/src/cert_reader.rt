@@ -1,0 +1,53 @@
+//! A certificate of a task, read from its text.
+ghost use Rattle.std.specs.Prelude.{IfErr, IfOk};
+ghost use Rattle.task.specs.Task.{task_of};
+ghost use Rattle.certificate_reader.specs.Reader.{source_of};
+ghost use Rattle.task_certificates.specs.Reading.{CountsRefusal, IsFresh, IsLineRefusal, IsRead};
+ghost use Rattle.task_certificates.specs.SaidRead.{IsReadLine};
+ghost use Rattle.task_certificates.specs.Tabled.{AreWeighedIn};
+ghost use Rattle.progress_lines.specs.Said.{AreSaid, stream};
+ghost use Rattle.certificate.specs.Certificate.{certificate_of};
+
+use crate::header::read_header;
+use crate::listed_states::take_line;
+use crate::refusal::Refusal;
+use crate::said::{FIRST_REPORT, say_if_due};
+use certificate::{Cert, CertReader, States};
+use devices::{Sink, Source};
+use std::alloc::Global;
+use task::Task;
+
+/// Reads a certificate, and keeps of each line what it says of the task.
+///
+/// # Errors
+/// The first line at fault: 40 to 42, and 55 without its line, by the rules of the text; 40 too where a row has an atom outside its
+/// table's scope; 43 where its atom is none of the task's, or its predicate no action changes; 44 where its atom, its state, or a
+/// row of its table, was in a line before; 52 where it is a cut and it is
+/// claimed that no plan solves the task. [`Refusal::Device`] where the device failed; [`Refusal::NoMemory`] where memory
+/// is refused.
+///
+/// On the way it says how many lines it read, each time that they are twice as many, from 1,024 on.
+pub fn read_cert<R: Source, E: Sink>(
+    alloc: Global,
+    task: &Task,
+    reader: &mut CertReader<R>,
+    err: &mut E,
+) -> Result<Cert, Refusal>
+    requires fresh { IsFresh reader.old }
+    ensures read { IfOk result (λ cert. IsRead R.remaining (task_of task.now) reader.old reader.new (certificate_of cert)) }
+    ensures weighed { IfOk result AreWeighedIn }
+    ensures refused { IfErr result (IsLineRefusal R.remaining (task_of task.now) reader.old reader.new) }
+    ensures failures { CountsRefusal (R.failures (source_of reader.old)) (R.failures (source_of reader.new)) result }
+    ensures said { AreSaid (IsReadLine (R.remaining (source_of reader.old))) E.wants_memory (stream (E.failures err.old) (E.taken err.old)) (stream (E.failures err.new) (E.taken err.new)) }
+{
+    let (header, mut next) = read_header(alloc, task, reader)?;
+    let mut states = States::new(alloc, header.atoms.len() as u32)?;
+    let mut due = FIRST_REPORT;
+    'states: while let Some(line) = next {
+        let number = reader.lines();
+        due = say_if_due(alloc, number, due, err);
+        take_line(&mut states, alloc, header.claim, line, number)?;
+        next = reader.next_line()?;
+    }
+    Ok(Cert::from_parts(header, states))
+}
