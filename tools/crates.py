@@ -1,7 +1,7 @@
 """The crates of this repository, and what each stands on.
 
-Run by itself it lists how many paths lead from each crate down to the crates below it, itself counted: `rt` takes a sum of
-sources once for each, so that a graph with many paths makes every check of a crate near the top slow."""
+Run by itself it lists how many paths lead from each crate down to the crates below it, itself counted: `rt` of an older kit than
+`rattle-kit-13f` takes a sum of sources once for each, so that many paths make every check of a crate near the top slow."""
 import os
 
 ROOT = os.path.dirname(os.path.dirname(os.path.realpath(__file__)))
