@@ -1,4 +1,4 @@
-//! Groups of atoms of which one at a time seems to be true, and variables whose values are their atoms.
+//! Finds groups of atoms of which one at a time seems to be true, and the variables that they make.
 //!
 //! Nothing is claimed of a group. Whoever takes one finds out which sets of its atoms may be true together.
 #![tactic(auto)]

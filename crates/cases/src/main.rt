@@ -1,5 +1,4 @@
-//! The program `cases`: the worked examples of `data/`. Each is run over files in memory, and compared with what it is to
-//! give.
+//! The program `cases` runs the worked examples of `data/` over files in memory and reports what differs.
 #![tactic(auto)]
 
 mod case;

@@ -1,4 +1,4 @@
-//! The checker of certificates: what it accepts is closed for the task, so that its claim is true of every plan.
+//! Checks certificates: exactly those are accepted that are closed for the task, so their claim holds of every plan.
 #![tactic(auto)]
 
 mod checker;

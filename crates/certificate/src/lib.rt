@@ -1,5 +1,6 @@
-//! Certificates: what is claimed of all plans of a task, with the listing of states that shows it; what is written of one,
-//! and what is read of a text; and the devices that texts come from and go to.
+//! A certificate as sets of numbers: the claim, the values, the tables and the listing; and its one text.
+//!
+//! It passes on the reader of lines and the devices that texts come from and go to.
 #![tactic(auto)]
 
 mod cert;

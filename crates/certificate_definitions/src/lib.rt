@@ -1,2 +1,2 @@
-//! What the text of a certificate says: definitions and their laws, in `specs/`, and no code.
+//! Defines certificates: when one is closed, what its text is and what is refused. No code.
 #![tactic(auto)]

@@ -1,4 +1,4 @@
-//! Certificates' texts: their lines, by what each says, and the reader that hands them out.
+//! Reads the text of a certificate, line by line.
 #![tactic(auto)]
 
 mod exchanged;

@@ -1,4 +1,4 @@
-//! What the words of the command line ask for.
+//! Reads the command line.
 #![tactic(auto)]
 
 mod description;

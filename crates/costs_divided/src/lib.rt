@@ -1,5 +1,6 @@
-//! What instances cost, divided among tables: each takes, one after another in an order, what it needs of what is left (saturated
-//! cost partitioning; Seipp, Keller & Helmert 2020, "Saturated Cost Partitioning for Optimal Classical Planning", JAIR 67).
+//! Divides the costs of instances among tables, in an order: saturated cost partitioning.
+//!
+//! Seipp, Keller & Helmert 2020, "Saturated Cost Partitioning for Optimal Classical Planning", JAIR 67.
 //!
 //! Nothing is claimed of a division. Which order is good is found out by states whose values are to be raised.
 #![tactic(auto)]

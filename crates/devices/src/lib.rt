@@ -1,4 +1,4 @@
-//! Devices: where bytes come from, and where they go; those of the machine, and one in memory. Files are devices with names.
+//! Where bytes come from and go to: files and streams of the machine, and memory. Any call may fail.
 #![tactic(auto)]
 
 mod device;

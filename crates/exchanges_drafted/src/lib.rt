@@ -1,5 +1,4 @@
-//! Which exchanges of objects may be symmetries of a task. Each is tested before it is given, and nothing is claimed of those that
-//! are not found.
+//! Finds exchanges of interchangeable objects and tests each. Nothing is claimed of those that it misses.
 #![tactic(auto)]
 
 mod colours;

@@ -1,5 +1,4 @@
-//! What is wrong with a text, reported for people: the place as an editor shows it, the line with a mark, and a sentence, with what
-//! may have been meant.
+//! Explains a fault of a text: its place, the line with a mark, and a sentence that helps.
 #![tactic(auto)]
 
 mod expected;

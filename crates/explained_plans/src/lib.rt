@@ -1,4 +1,4 @@
-//! What is said of a plan for people: why it fails, or what each of its steps costs; where its steps are; what a task holds.
+//! Explains a plan: why it fails, or what each step costs. Also counts what a task holds.
 #![tactic(auto)]
 
 mod explanations;

@@ -1,4 +1,4 @@
-//! What helps with a fault: what the words around it and the files' declarations say of it, and the mistake that it comes of.
+//! Finds what helps with a fault: names meant, words allowed, and the mistake that it may come of.
 #![tactic(auto)]
 
 mod by_code;

@@ -1,5 +1,6 @@
-//! The faults of a domain and a problem that do not follow from one another: those of the first phase of typing that has any. Only
-//! what is said of files for people needs more than the first.
+//! Lists the faults of a pair of files that do not follow from one another.
+//!
+//! They are those of the first phase of typing that has any. Only `explain` needs more than the first.
 #![tactic(auto)]
 
 mod actions;

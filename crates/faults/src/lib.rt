@@ -1,4 +1,4 @@
-//! What the readers of texts report: the refusals of a text, with their numbers and places, and running out of memory.
+//! The refusals of texts, with their numbers and places, and running out of memory.
 #![tactic(auto)]
 
 mod code;

@@ -1,5 +1,4 @@
-//! From the bytes of files to answers: the planner, the validator, the checker, and what is said of files for people. Below them is
-//! the reading of a task and of a plan for it, and the first fault of their texts.
+//! From the bytes of files to answers: solve, validate, check and explain, or the first fault.
 #![tactic(auto)]
 
 mod checking;

@@ -1,4 +1,4 @@
-//! What is the matter with a file that could not be read, as a second look at it shows.
+//! Finds out, by a second look, why a file could not be read.
 #![tactic(auto)]
 
 mod looks;

@@ -1,5 +1,6 @@
-//! Grounding: a task by the numbers of its kept instances and of its atoms, over states that are bits. What a formula asks
-//! of the numbered atoms is decided without a look at the formula where its sure literals decide it.
+//! The ground task: what the task does, by numbers of instances and atoms, over states that are bits.
+//!
+//! A formula is looked at only where its sure literals do not decide it.
 #![tactic(auto)]
 
 mod changes;

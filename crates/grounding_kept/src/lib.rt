@@ -1,4 +1,4 @@
-//! Grounding: the instances of a task that are statically applicable, in order, and the atoms that have numbers.
+//! Enumerates the instances that are not statically inapplicable, and numbers the atoms.
 #![tactic(auto)]
 
 mod atoms;

@@ -1,4 +1,4 @@
-//! Which bytes are a name, in PDDL and in the texts of plans and certificates.
+//! Which bytes are a name, in PDDL, plans and certificates.
 #![tactic(auto)]
 
 ghost use Rattle.std.specs.Prelude.{◌≡◌};

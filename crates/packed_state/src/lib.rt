@@ -1,4 +1,4 @@
-//! Sets of numbers packed into words of 64 bits.
+//! Sets of numbers packed into words of 64 bits, and stores of distinct sets.
 #![tactic(auto)]
 
 mod lanes;

@@ -1,4 +1,4 @@
-//! The trees of a domain file and of a problem file, read from their words.
+//! Parses the words of a domain file and of a problem file into trees.
 #![tactic(auto)]
 
 mod action;

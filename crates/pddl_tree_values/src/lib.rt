@@ -1,5 +1,6 @@
-//! The values that are in domain and problem files, read from their words: typed lists, formulas, effects, costs,
-//! declarations and facts; what a word is to the grammar; and what is reported for one that may not occur where it does.
+//! Parses what both files contain: typed lists, formulas, effects, declarations and facts.
+//!
+//! It also classifies words for the grammar, and says what is reported of a word that may not occur.
 #![tactic(auto)]
 
 mod costs;

@@ -1,4 +1,4 @@
-//! Plan texts: a list of steps `(action object ..)`. They are read, and written.
+//! Reads and writes plan texts: lists of steps `(action object ..)`.
 #![tactic(auto)]
 
 mod reader;

@@ -1,5 +1,4 @@
-//! The whole program over any files: what it is asked for is found out and reported, or the status says why not. It passes on all that
-//! a user of the program as a library needs.
+//! The whole program over any files, and the public surface of the library.
 #![tactic(auto)]
 
 mod failures;

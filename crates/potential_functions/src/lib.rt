@@ -1,5 +1,4 @@
-//! Potential functions, what makes them fair, why fair ones are lower bounds, and why dead-fair ones detect dead ends: definitions,
-//! in `specs/`, and their laws.
+//! Defines potential functions, and why fair ones are lower bounds and dead-fair ones detect dead ends. No code.
 #![tactic(auto)]
 
 mod laws;

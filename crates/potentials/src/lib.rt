@@ -1,5 +1,4 @@
-//! Potentials: weights of atoms by which a state has a value, which is a lower bound of what is still to pay where they are
-//! fair; and what instances lose and goals give, at most, by which it is reported whether they are.
+//! Potential functions in memory: their values, and the test whether they are fair.
 #![tactic(auto)]
 
 mod fairness;

@@ -1,4 +1,4 @@
-//! Drafts of potentials: weights by which states may have greater values, or be reported as dead ends.
+//! Drafts potentials by a linear program, for the value of states and for dead ends.
 //!
 //! Nothing is claimed of a draft, so that whoever takes one tests it. What is claimed is which instances touch an atom: of
 //! that the moves of single weights after the drafts make use.

@@ -1,5 +1,7 @@
-//! Potentials that are fair at an allowance, and better ones: fair ones as an estimate by which a search chooses, dead-fair ones
-//! as a test for dead ends. A kind of either has a file of its own (`costs`, `dead_ends`).
+//! Improves potentials: drafts are tested, then single weights are moved.
+//!
+//! Fair ones are an estimate for a search, dead-fair ones a test of dead ends. Each kind has a file of its own (`costs`,
+//! `dead_ends`).
 //!
 //! Weights are drafted, by a linear program and rounded, for the initial state and for others on the way from it. A draft is
 //! taken where it is tested to be fair and no worse. Of fair potentials, single weights are moved then.

@@ -1,4 +1,4 @@
-//! What answers are reported as: the text of a plan, a line or an object of JSON, with the status beside it.
+//! Prints answers: text or a line of JSON, and the exit status.
 #![tactic(auto)]
 
 mod answer;

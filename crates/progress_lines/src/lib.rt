@@ -1,4 +1,4 @@
-//! What a command says on the way: lines, one after another, on a sink. That the sink fails changes nothing else.
+//! Writes lines of progress to a sink. A sink that fails changes nothing else.
 #![tactic(auto)]
 
 ghost use Rattle.devices.specs.Devices.{IsWritten};

@@ -1,4 +1,4 @@
-//! The rows of a table that may be reached, and the instances that lead from one to another.
+//! Finds the rows of a table that may be reached, and the instances that lead from one to another.
 //!
 //! A table is over some variables, and a row says what value each has. All that instances ask and do beyond these variables is
 //! left out (a projection; Edelkamp 2001, "Planning with Pattern Databases"). Nothing is claimed of what is found.

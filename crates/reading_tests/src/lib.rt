@@ -1,5 +1,4 @@
-//! Tests of what the whole program cannot show of words, trees and tasks, of plans' texts over devices, of states, instances,
-//! plans and ground tasks in memory, and of what is said of a fault, of a plan and of a task.
+//! Tests of words, trees, tasks, plan texts and explanations that no run of the program can show.
 #![tactic(auto)]
 
 #[cfg(test)]

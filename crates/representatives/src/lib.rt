@@ -1,5 +1,4 @@
-//! Representatives of packed states: of the states that exchanges of objects take into one another, the one that stands for
-//! them all, found bit by bit.
+//! Maps a packed state to its representative: the state that stands for all its images by exchanges.
 #![tactic(auto)]
 
 mod names;

@@ -1,4 +1,4 @@
-//! Search for a cheapest plan of a transition system, over any store of its states.
+//! Best-first search of a transition system, over any store of its states.
 #![tactic(auto)]
 
 mod best;

@@ -1,4 +1,4 @@
-//! Tests of packed states and both stores of them, and of the search over a system that is here alone.
+//! Tests of packed states, of both stores, and of the search over a small system.
 #![tactic(auto)]
 
 #[cfg(test)]

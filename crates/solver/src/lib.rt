@@ -1,4 +1,4 @@
-//! Cheapest plans of tasks: each answer is true of every list of instances, and comes with the certificate that shows it.
+//! Solves a task: the answer holds of every list of instances, and carries a certificate.
 #![tactic(auto)]
 
 mod answer;

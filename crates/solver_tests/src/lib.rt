@@ -1,5 +1,4 @@
-//! Tests of what the solver searches by, which is potentials, values over tables and quotients, and of the certificates of its
-//! answers, over either store of states and by the checker.
+//! Tests of what guides the solver, and of the certificates of its answers.
 #![tactic(auto)]
 
 #[cfg(test)]

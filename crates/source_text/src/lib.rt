@@ -1,5 +1,4 @@
-//! The texts that are given, as their writers see them: by files, with lines and columns, and in pieces, as far as these can
-//! be reported for a text that may be at fault.
+//! A text as its writer sees it: lines, columns and pieces, even where it does not read.
 #![tactic(auto)]
 
 mod declarations;

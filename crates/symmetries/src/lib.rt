@@ -1,6 +1,4 @@
-//! Symmetries of planning tasks: exchanges of objects that leave a task as it is, the quotient in which one state stands for all
-//! that they take into one another, and why what is shown of the quotient is so of the task: definitions, in `specs/`, and
-//! their laws.
+//! Defines which exchanges of objects are symmetries of a task, and why one state may stand for its images. No code.
 #![tactic(auto)]
 
 mod laws;

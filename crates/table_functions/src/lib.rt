@@ -1,5 +1,4 @@
-//! Table functions, which give states values by tables over sets of atoms, what makes them fair, why the values of fair ones are
-//! lower bounds, and why dead-fair ones report dead ends: definitions, in `specs/`, and their laws.
+//! Defines values over tables, and why fair ones are lower bounds and dead-fair ones detect dead ends. No code.
 #![tactic(auto)]
 
 mod laws;

@@ -1,4 +1,4 @@
-//! Values over tables, as what guides a search.
+//! Guides a search by values over tables.
 #![tactic(auto)]
 
 mod fair_tables;

@@ -1,5 +1,4 @@
-//! A table with an index of its rows by atoms: whether a row agrees with literals, what an instance may lose by the table, and
-//! what it gives where literals hold.
+//! Indexes a table by atoms: which rows agree with literals, and what an instance loses by the table.
 #![tactic(auto)]
 
 mod afters;

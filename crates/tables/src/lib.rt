@@ -1,5 +1,4 @@
-//! Values over tables: what an instance may lose by all tables, whether the values are fair for a ground task, and the values of
-//! states, or of those that follow a state whose rows are known.
+//! Values over several tables: the test whether they are fair, and the value of a state or of its successor.
 #![tactic(auto)]
 
 mod fairness;

@@ -1,8 +1,6 @@
-//! Drafts of values over tables: variables are found, tables over them are chosen by the rows that may be reached, and costs are
-//! divided among these in several orders, of which the greatest value counts.
+//! Drafts values over tables: chooses tables by their rows, and divides costs among them.
 //!
-//! Of a draft it is claimed that its first value and the one for dead ends are the given potentials. All else is for whoever takes
-//! one to test.
+//! The first value and the one for dead ends are the given potentials. Whoever takes a draft tests all else.
 #![tactic(auto)]
 
 mod chosen;

@@ -1,5 +1,4 @@
-//! A planning task: types, objects, predicates, functions and action schemas, each by its number, where the task begins, and what is
-//! to be reached. It knows nothing of the texts that it may come from.
+//! A planning task with numbers for names. It knows nothing of the texts that it comes from.
 #![tactic(auto)]
 
 mod atoms;

@@ -1,4 +1,4 @@
-//! The certificate of a task, read from its lines: what their names are in the task, or the first line at fault.
+//! Reads the certificate of a task: resolves the names of each line, or reports the first line at fault.
 #![tactic(auto)]
 
 mod cert_reader;

@@ -1,5 +1,4 @@
-//! What is quietly wrong with a task that reads well: costs that are ignored or have no value, goals that are never reached, and what
-//! is declared and not used.
+//! Finds what is quietly wrong with a well-typed task: lost costs, goals never reached, unused declarations.
 #![tactic(auto)]
 
 mod added;

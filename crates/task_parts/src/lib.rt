@@ -1,5 +1,4 @@
-//! The names in formulas become numbers: the names of types, the variables in scope, and what may be named where an atom is.
-//! The least fault is kept on the way.
+//! Resolves names in formulas to numbers, and keeps the least fault on the way.
 #![tactic(auto)]
 
 pub mod domain;

@@ -1,5 +1,4 @@
-//! Which exchanges of objects are symmetries of a task: the test that the definitions of `symmetries` ask for, on the task as it was
-//! read.
+//! Tests whether an exchange of objects is a symmetry of a task.
 #![tactic(auto)]
 
 mod conjuncts;

@@ -1,4 +1,4 @@
-//! Devices and files for tests: bytes that come in pieces, fail at one call or never end, and a table of files in memory.
+//! Devices and files for tests: short reads, failures, endless texts, and a table of files in memory.
 #![tactic(auto)]
 
 mod endless;

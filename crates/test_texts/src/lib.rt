@@ -1,4 +1,4 @@
-//! What tests share: tasks as texts, and what is read of them.
+//! Texts of tasks that the tests share.
 #![tactic(auto)]
 
 mod tasks;

@@ -1,4 +1,4 @@
-//! Words of a PDDL text, with their places.
+//! Splits a PDDL text into words with their places.
 #![tactic(auto)]
 
 mod form;

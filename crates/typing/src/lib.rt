@@ -1,5 +1,4 @@
-//! Names become numbers: a well-typed pair of a domain and a problem is a task, and of any other pair the
-//! first fault is reported.
+//! Resolves names: a well-typed pair of trees is a task, and any other has a first fault.
 #![tactic(auto)]
 
 mod actions;

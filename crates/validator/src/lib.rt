@@ -1,4 +1,4 @@
-//! Plans against the meaning of their task: the verdict.
+//! Runs a plan against the meaning of its task, and gives the verdict.
 #![tactic(auto)]
 
 mod verdict;
