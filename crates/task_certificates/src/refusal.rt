@@ -115,7 +115,7 @@ pub enum Refusal {
     Unfair(Instance),
     /// This instance, the first such one, may make the potential function of dead ends fall.
     DeadUnfair(Instance),
-    /// This is wrong, and not with one line; or the text has one atom, or one state, more than there may be.
+    /// This is wrong, and not with one line; or the text has one line of some kind more than there may be.
     Plain(RefusalCode),
     /// Memory that was asked for was refused.
     NoMemory,
