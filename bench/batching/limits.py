@@ -9,7 +9,7 @@ from typing import Iterable
 from batching.lines import Line, Result
 from batching.runs import Settings
 
-# The greatest limit of states, and of instances, that the program takes (README.md).
+# The greatest limit of states, and of instances, that the program takes (docs/usage.md).
 MOST = 2**24
 
 
