@@ -15,6 +15,16 @@ pub record IsBisimulation {S A T B : Type 0} (t : System S A) (u : System T B) (
   pub goals : (s : S) (s' : T) → same s s' → t.meets_goal s ≡ u.meets_goal s'
   pub costs : (a : A) (b : B) → names a b → t.cost a ≡ u.cost b
 
+-- A bisimulation equivalence (Milner, Communication and Concurrency, 1989): an equivalence of the states of one system under which
+-- each step has one at the same cost to a related state, and the goal is met in both of two related states or in none.
+pub record IsBisimulationEquivalence {S A : Type 0} (t : System S A) (same : S → S → Type 0) : Type 0 where
+  pub itself : (s : S) → same s s
+  pub turned : (s r : S) → same s r → same r s
+  pub joined : (s r q : S) → same s r → same r q → same s q
+  pub steps : (s r next : S) (a : A) → same s r → t.step s a ≡ Some next
+      → (b : A) × (other : S) × (t.step r b ≡ Some other) × (t.cost b ≡ t.cost a) × same next other
+  pub goals : (s r : S) → same s r → t.meets_goal s ≡ t.meets_goal r
+
 -- What solves the one system at least cost has a list of the other that does, each action of which is named by the one in
 -- its place; what each list that solves costs at least is so of both; and where nothing solves the one, nothing solves the
 -- other.
