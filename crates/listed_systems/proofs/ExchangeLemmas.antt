@@ -11,7 +11,7 @@ use Rattle.task_symmetries.specs.declared.exchange.Exchange as code
 use Rattle.task_symmetries.specs.Exchange.{exchange_of}
 use Rattle.symmetries.specs.Exchanges.{Exchange, objects_in, are_different}
 use Rattle.symmetries.specs.Symmetries.{is_symmetry}
-use Rattle.symmetries.specs.Quotients.{keeps_atoms}
+use Rattle.symmetries.specs.Orbits.{keeps_atoms}
 use Rattle.certificate_definitions.specs.Certificates.{three, has_exchanges}
 use Rattle.certificate_definitions.specs.CertificateNames.{is_exchange_of}
 use Rattle.listed_systems.specs.Exchanges.{AreExchangesFor, can_be_named, most_pairs}

@@ -10,7 +10,7 @@ use Rattle.model.specs.Fluents.{is_fluent}
 use Rattle.model.specs.NumberedAtoms.{numbered_atoms}
 use Rattle.model.specs.Grounding.{ground_system}
 use Rattle.symmetries.specs.Symmetries.{is_symmetry}
-use Rattle.symmetries.specs.Quotients.{keeps_atoms, ground_quotient_of}
+use Rattle.symmetries.specs.Orbits.{keeps_atoms, ground_quotient_of}
 use Rattle.representatives.specs.declared.representatives.Representatives.{Representatives}
 use Rattle.representatives.specs.Representatives.{task_of, exchanges_of}
 use Rattle.quotient_systems.specs.Laws.{GuidesHold}

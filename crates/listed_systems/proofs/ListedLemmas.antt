@@ -9,7 +9,7 @@ use Rattle.search.specs.Outcome.{IsReachableAt}
 use Rattle.representatives.specs.Representatives.{task_of, exchanges_of}
 use Rattle.symmetries.specs.Exchanges.{Exchange}
 use Rattle.symmetries.specs.Symmetries.{is_symmetry}
-use Rattle.symmetries.specs.Quotients.{keeps_atoms, packed_representative, quotient_of, ground_quotient_of}
+use Rattle.symmetries.specs.Orbits.{keeps_atoms, packed_representative, quotient_of, ground_quotient_of}
 use Rattle.symmetries.proofs.PackedQuotients.{ground_quotient_is_bisimilar}
 use Rattle.symmetries.proofs.TaskQuotients.{quotient_tells}
 use Rattle.certificate_definitions.proofs.WithoutExchanges.{without_exchanges}

@@ -6,7 +6,7 @@ use Rattle.grounding.specs.Ground.{task_in, atoms_in}
 use Rattle.model.specs.Task.{Task}
 use Rattle.symmetries.specs.Exchanges.{Exchange}
 use Rattle.symmetries.specs.Symmetries.{is_symmetry}
-use Rattle.symmetries.specs.Quotients.{keeps_atoms}
+use Rattle.symmetries.specs.Orbits.{keeps_atoms}
 use Rattle.certificate_definitions.specs.Certificates.{three, are_exchanges}
 use Rattle.certificate_definitions.specs.CertificateNames.{is_exchange_of}
 

@@ -7,7 +7,7 @@ use Rattle.model.specs.Grounding.{ground_step, applicable_numbers}
 use Rattle.model.proofs.GroundTaskLemmas.{applicable-Contains, Contains-applicable}
 use Rattle.search.specs.Transitions.{AreApplicable}
 use Rattle.symmetries.specs.Exchanges.{Exchange}
-use Rattle.symmetries.specs.Quotients.{packed_representative, ground_quotient_of}
+use Rattle.symmetries.specs.Orbits.{packed_representative, ground_quotient_of}
 
 mapped : {X : Type 0} (f : X → X) (o : Option X) → is_some (option_map f o) ≡ is_some o
 mapped f None = refl

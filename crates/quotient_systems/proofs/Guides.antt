@@ -18,7 +18,7 @@ use Rattle.search.proofs.Consistent as estimates
 use Rattle.search.proofs.DeadEnds.{reports_dead_ends}
 use Rattle.symmetries.specs.Exchanges.{Exchange}
 use Rattle.symmetries.specs.Symmetries.{is_symmetry}
-use Rattle.symmetries.specs.Quotients.{representative, keeps_atoms, quotient_of, ground_quotient_of}
+use Rattle.symmetries.specs.Orbits.{representative, keeps_atoms, quotient_of, ground_quotient_of}
 use Rattle.symmetries.proofs.QuotientLemmas.{IsSymmetric, symmetric_itself, CostSame, quotient_is_bisimilar}
 use Rattle.symmetries.proofs.TaskQuotients.{symmetric}
 use Rattle.symmetries.proofs.PackedQuotients.{ground_quotient_is_bisimilar}

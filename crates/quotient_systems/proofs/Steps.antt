@@ -16,7 +16,7 @@ use Rattle.model.specs.Grounding.{state_of_bits, bits_of_state, ground_step, gro
 use Rattle.model.specs.Bisimulation.{IsBisimulation}
 use Rattle.symmetries.specs.Exchanges.{Exchange, image_of_state, image_of_instance}
 use Rattle.symmetries.specs.Symmetries.{is_symmetry}
-use Rattle.symmetries.specs.Quotients.{undone, packed_representative, ground_quotient_of}
+use Rattle.symmetries.specs.Orbits.{undone, packed_representative, ground_quotient_of}
 use Rattle.symmetries.proofs.TaskQuotients.{exchanges_can_be_undone}
 use Rattle.representatives.specs.NewNames.{IsRenamedBy}
 use Rattle.representatives.proofs.NewNames.{undone-more}

@@ -21,7 +21,7 @@ use Rattle.model.specs.Bisimulation.{IsBisimulation}
 use Rattle.model.proofs.GroundTaskLemmas.{ground_task_is_bisimilar}
 use Rattle.symmetries.specs.Exchanges.{image_of_instance}
 use Rattle.symmetries.specs.Symmetries.{is_symmetry}
-use Rattle.symmetries.specs.Quotients.{representative, packed_representative}
+use Rattle.symmetries.specs.Orbits.{representative, packed_representative}
 use Rattle.symmetries.specs.Exchanges as exchanges
 use Rattle.representatives.specs.declared.representatives.Representatives.{Representatives}
 use Rattle.representatives.specs.Representatives.{task_of, atoms_of, exchanges_of}

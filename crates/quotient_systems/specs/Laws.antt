@@ -10,7 +10,7 @@ use Rattle.search.specs.Estimates.{IsAdmissible, IsConsistent}
 use Rattle.search.specs.DeadEnds.{DetectsDeadEnds, ReportsDeadEnds}
 use Rattle.symmetries.specs.Exchanges.{Exchange}
 use Rattle.symmetries.specs.Symmetries.{is_symmetry}
-use Rattle.symmetries.specs.Quotients.{keeps_atoms, ground_quotient_of}
+use Rattle.symmetries.specs.Orbits.{keeps_atoms, ground_quotient_of}
 
 -- What is at most what is still to pay in the ground task, from every state, is so in its quotient, and a state that is reported
 -- dead is a dead end of both. So it is of what keeps laws along each action of the ground task, though it need not keep them along

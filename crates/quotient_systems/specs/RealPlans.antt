@@ -7,7 +7,7 @@ use Rattle.model.specs.Meaning.{State, system_of}
 use Rattle.model.specs.Fluents.{is_fluent}
 use Rattle.model.specs.NumberedAtoms.{numbered_atoms}
 use Rattle.symmetries.specs.Symmetries.{is_symmetry}
-use Rattle.symmetries.specs.Quotients.{ground_quotient_of}
+use Rattle.symmetries.specs.Orbits.{ground_quotient_of}
 use Rattle.representatives.specs.declared.representatives.Representatives.{Representatives}
 use Rattle.representatives.specs.Representatives.{task_of, atoms_of, exchanges_of}
 

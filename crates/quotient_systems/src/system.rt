@@ -16,7 +16,7 @@ pub struct QuotientSystem<'r, 'g, 't, 'e>(pub &'r Representatives<'g, 't, 'e>);
 impl TransitionSystem for QuotientSystem<'_, '_, '_, '_> {
     ghost use Rattle.std.specs.Prelude.{length};
     ghost use Rattle.representatives.specs.Representatives.{task_of, atoms_of, exchanges_of};
-    ghost use Rattle.symmetries.specs.Quotients.{ground_quotient_of};
+    ghost use Rattle.symmetries.specs.Orbits.{ground_quotient_of};
 
     ghost width_of = { λ system. length (atoms_of system.0.now) };
 

@@ -18,7 +18,7 @@ use Rattle.model.proofs.Tests.{passes_weaker}
 use Rattle.model.proofs.PackedStates.{bits_of-packed_state}
 use Rattle.symmetries.specs.Exchanges.{Exchange, image_of_object, image_of_state, objects_in, are_different}
 use Rattle.symmetries.specs.Symmetries.{is_symmetry}
-use Rattle.symmetries.specs.Quotients.{keeps_atoms, packed_representative}
+use Rattle.symmetries.specs.Orbits.{keeps_atoms, packed_representative}
 use Rattle.symmetries.proofs.Lists.{all-at}
 use Rattle.symmetries.proofs.ExchangeLemmas.{own_inverse}
 use Rattle.task_symmetries.specs.declared.exchange.Exchange as code

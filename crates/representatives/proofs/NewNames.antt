@@ -16,7 +16,7 @@ use Rattle.model.proofs.StaticLemmas.{same_atom}
 use Rattle.model.proofs.PackedStates.{contains-static, contains-fluent, chosen-occurs_in, packed-bits_of_state}
 use Rattle.symmetries.specs.Exchanges.{Exchange, image_of_object, image_of_atom, image_of_state}
 use Rattle.symmetries.specs.Symmetries.{is_symmetry}
-use Rattle.symmetries.specs.Quotients.{representative, keeps_atoms, packed_representative, undone}
+use Rattle.symmetries.specs.Orbits.{representative, keeps_atoms, packed_representative, undone}
 use Rattle.symmetries.proofs.Lists.{all-at, any-found}
 use Rattle.symmetries.proofs.Images.{atom_twice, contains-back, state_itself, state_twice}
 use Rattle.symmetries.proofs.TaskQuotients.{symmetry_of, representative_keeps, representative-statics, quotients_tell, exchanges_can_be_undone}

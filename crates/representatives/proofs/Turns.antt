@@ -12,7 +12,7 @@ use Rattle.model.specs.NumberedAtoms.{are_distinct}
 use Rattle.model.specs.Grounding.{bits_of_state}
 use Rattle.model.proofs.ListLemmas.{Contains-got}
 use Rattle.symmetries.specs.Exchanges.{Exchange, image_of_object, image_of_state, objects_in, are_different}
-use Rattle.symmetries.specs.Quotients.{comes_before, image_before, representative, keeps_atoms}
+use Rattle.symmetries.specs.Orbits.{comes_before, image_before, representative, keeps_atoms}
 use Rattle.symmetries.proofs.Lists.{all-at}
 use Rattle.symmetries.proofs.ExchangeLemmas.{own_inverse}
 use Rattle.symmetries.proofs.RepresentativeLemmas.{are_representatives}

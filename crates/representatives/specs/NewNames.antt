@@ -5,7 +5,7 @@ use Rattle.model.specs.Task.{Atom, Task}
 use Rattle.model.specs.Grounding.{state_of_bits}
 use Rattle.symmetries.specs.Exchanges.{Exchange, image_of_state}
 use Rattle.symmetries.specs.Symmetries.{is_symmetry}
-use Rattle.symmetries.specs.Quotients.{undone}
+use Rattle.symmetries.specs.Orbits.{undone}
 
 -- the second state is the first one, once symmetries of the task are undone that were made
 abbrev pub IsRenamed : Task → List Atom → List Bool → List Bool → Type 0

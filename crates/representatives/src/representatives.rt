@@ -3,7 +3,7 @@ ghost use Rattle.std.specs.Prelude.{◌≡◌, true, length, map, is_some, IfOk,
 ghost use Rattle.std.specs.List.{list_all};
 ghost use Rattle.std.proofs.Props.{props};
 ghost use Rattle.grounding.specs.Ground.{atoms_in};
-ghost use Rattle.symmetries.specs.Quotients.{keeps_atoms};
+ghost use Rattle.symmetries.specs.Orbits.{keeps_atoms};
 ghost use Rattle.task_symmetries.specs.Exchange.{exchange_of};
 ghost use Rattle.representatives.specs.Pairs.{pair_of, swaps_in};
 ghost use Rattle.representatives.specs.Places.{swap_of, swaps_of_all};
@@ -39,7 +39,7 @@ impl<'g, 't, 'e> Representatives<'g, 't, 'e> {
     ghost use Rattle.packed_state.specs.Packed.{bits_of};
     ghost use Rattle.grounding.specs.Ground.{task_in};
     ghost use Rattle.symmetries.specs.Symmetries.{is_symmetry};
-    ghost use Rattle.symmetries.specs.Quotients.{packed_representative};
+    ghost use Rattle.symmetries.specs.Orbits.{packed_representative};
     ghost use Rattle.representatives.specs.Places.{is_earlier_at, swapped_at, FindsFrom};
     ghost use Rattle.representatives.specs.Representatives.{ground_of, task_of, atoms_of, exchanges_of, swaps_of};
     ghost use Rattle.representatives.specs.Names.{name_in};

@@ -23,7 +23,7 @@ use Rattle.listed_systems.specs.Reachable.{AreMoreReachable}
 use Rattle.solver.specs.Limit.{is_limit}
 use Rattle.solver.proofs.ByCost.{more_by_cost}
 use Rattle.symmetries.specs.Exchanges.{Exchange}
-use Rattle.symmetries.specs.Quotients.{quotient_of}
+use Rattle.symmetries.specs.Orbits.{quotient_of}
 use Rattle.quotient_systems.specs.RealPlans.{IsCarriedOut}
 use Rattle.listed_systems.specs.ListedSystem as listed_system
 use Rattle.listed_systems.specs.ListedSystem.{ground_in, exchanges_in, IsListed}

@@ -33,7 +33,7 @@ use Rattle.model.specs.Grounding.{chosen, state_of_bits, ground_system, NamesKep
 use Rattle.certificate_definitions.specs.Certificates.{two, three, Certificate, StateLine, is_number, is_claim, is_mark, is_dead_end_weight, is_state_line, keeps_limits, rise, state_of_line, lines_of, listed_system, are_exchanges, value_of, is_dead_end_of}
 use Rattle.symmetries.specs.Exchanges.{Exchange}
 use Rattle.symmetries.specs.Symmetries.{is_symmetry}
-use Rattle.symmetries.specs.Quotients.{keeps_atoms, quotient_of}
+use Rattle.symmetries.specs.Orbits.{keeps_atoms, quotient_of}
 use Rattle.listed_systems.specs.Exchanges.{can_be_named}
 use Rattle.listed_systems.proofs.ListedLemmas.{DoesAs, length-reachable}
 use Rattle.table_functions.specs.TableFunctions.{SeveralValues}

@@ -15,7 +15,7 @@ use Rattle.model.specs.NumberedAtoms.{numbered_atoms}
 use Rattle.model.specs.StaticallyFalse.{kept_instances}
 use Rattle.symmetries.specs.Exchanges.{Exchange}
 use Rattle.symmetries.specs.Symmetries.{is_symmetry}
-use Rattle.symmetries.specs.Quotients.{quotient_of}
+use Rattle.symmetries.specs.Orbits.{quotient_of}
 use Rattle.certificate_definitions.specs.Certificates.{Certificate, IsClosedFor}
 use Rattle.model.specs.Claims.{Mark, opened, cut, dead}
 use Rattle.certificate.specs.Certificate.{certificate_of}

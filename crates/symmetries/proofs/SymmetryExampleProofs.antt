@@ -1,5 +1,5 @@
 -- What the definitions say of the worked examples. The tests compute; a state is a set, which is asked for its atoms.
-use Rattle.std.proofs.Common.{◌≡◌, ◌∙◌, ℕ, Bool, true, false, ◌||◌, List, [], ◌∷◌, map, None, Some, refl, sym, ap}
+use Rattle.std.proofs.Common.{◌≡◌, ◌∙◌, ℕ, suc, Bool, true, false, ◌||◌, List, [], ◌∷◌, map, None, Some, refl, sym, ap}
 use Rattle.std.specs.Prelude.{cond}
 use Rattle.std.specs.Bool.{beq}
 use Rattle.std.specs.Ordering.{eq_by_cmp}
@@ -10,12 +10,11 @@ use Rattle.model.specs.Meaning.{atom_cmp}
 use Rattle.model.specs.NumberedAtoms.{occurs_in}
 use Rattle.model.proofs.Atoms.{atoms_total, same_state}
 use Rattle.symmetries.specs.Exchanges.{Exchange, image_of_object, objects_in, are_different, image_of_atom, image_of_state}
-use Rattle.symmetries.specs.Quotients.{comes_before, image_before, representative}
+use Rattle.symmetries.specs.Orbits.{comes_before, image_before, with_images, representative}
 use Rattle.symmetries.specs.SymmetryExamples.{swapping, ball_atoms, balls_in, AreExchangesJudged, AreTasksJudged, AreActionsJudged, AreGoalsJudged, AreRepresentativesJudged}
 use Rattle.model.specs.Examples.{ground}
 use Rattle.symmetries.proofs.ExchangeLemmas.{own_inverse}
 use Rattle.symmetries.proofs.Images.{image_of_list}
-use Rattle.symmetries.proofs.RepresentativeLemmas.{are_representatives}
 
 pub exchanges_are_judged : AreExchangesJudged
 exchanges_are_judged = record { gripper_typed = refl; balls = refl; grippers = refl; balls_and_grippers = refl; nothing = refl; two_types = refl; rooms = refl; twice = refl; with_itself = refl }
@@ -80,15 +79,13 @@ module _ (atoms : List Atom) (exchange : Exchange) (different : are_different (o
       is : image_of_state (image_of_object exchange) (from_list xs) ≡ from_list image
       is = image_of_list (image_of_object exchange) (own_inverse exchange different) xs
 
-  stays : list_before atoms image xs ≡ false → representative atoms (exchange ∷ []) (from_list xs) ≡ from_list xs
-  stays none =
-      (are_representatives atoms (exchange ∷ [])).of_image (from_list xs)
-      ∙ ap (λ o. option_map_or (representative atoms (exchange ∷ [])) o (from_list xs)) (found ∙ ap (λ b. cond b (Some (from_list image)) None) none)
+  stays : (n : ℕ) → list_before atoms image xs ≡ false → with_images atoms (exchange ∷ []) (suc n) (from_list xs) ≡ from_list xs
+  stays n none =
+      ap (λ o. option_map_or (with_images atoms (exchange ∷ []) n) o (from_list xs)) (found ∙ ap (λ b. cond b (Some (from_list image)) None) none)
 
-  goes : list_before atoms image xs ≡ true → representative atoms (exchange ∷ []) (from_list xs) ≡ representative atoms (exchange ∷ []) (from_list image)
-  goes before =
-      (are_representatives atoms (exchange ∷ [])).of_image (from_list xs)
-      ∙ ap (λ o. option_map_or (representative atoms (exchange ∷ [])) o (from_list xs)) (found ∙ ap (λ b. cond b (Some (from_list image)) None) before)
+  goes : (n : ℕ) → list_before atoms image xs ≡ true → with_images atoms (exchange ∷ []) (suc n) (from_list xs) ≡ with_images atoms (exchange ∷ []) n (from_list image)
+  goes n before =
+      ap (λ o. option_map_or (with_images atoms (exchange ∷ []) n) o (from_list xs)) (found ∙ ap (λ b. cond b (Some (from_list image)) None) before)
 
 -- the atoms of the two balls
 abbrev in_rooms : ℕ → ℕ → List Atom
@@ -96,11 +93,11 @@ in_rooms first second = ground 1 (2 ∷ first ∷ []) ∷ ground 1 (3 ∷ second
 
 pub representatives_are_judged : AreRepresentativesJudged
 representatives_are_judged = record {
-  exchanged = goes ball_atoms (swapping 2 3) refl (in_rooms 1 0) refl ∙ ap (representative ball_atoms (swapping 2 3 ∷ [])) (turned 1 0) ∙ stays ball_atoms (swapping 2 3) refl (in_rooms 0 1) refl;
-  itself = stays ball_atoms (swapping 2 3) refl (in_rooms 0 1) refl;
-  together = stays ball_atoms (swapping 2 3) refl (in_rooms 1 1) refl;
-  other_order = goes other_atoms (swapping 2 3) refl (in_rooms 0 1) refl ∙ ap (representative other_atoms (swapping 2 3 ∷ [])) (turned 0 1) ∙ stays other_atoms (swapping 2 3) refl (in_rooms 1 0) refl;
-  alone = (are_representatives ball_atoms []).of_image (balls_in 1 0);
+  exchanged = goes ball_atoms (swapping 2 3) refl (in_rooms 1 0) 3 refl ∙ ap (with_images ball_atoms (swapping 2 3 ∷ []) 3) (turned 1 0) ∙ stays ball_atoms (swapping 2 3) refl (in_rooms 0 1) 2 refl;
+  itself = stays ball_atoms (swapping 2 3) refl (in_rooms 0 1) 3 refl;
+  together = stays ball_atoms (swapping 2 3) refl (in_rooms 1 1) 3 refl;
+  other_order = goes other_atoms (swapping 2 3) refl (in_rooms 0 1) 3 refl ∙ ap (with_images other_atoms (swapping 2 3 ∷ []) 3) (turned 0 1) ∙ stays other_atoms (swapping 2 3) refl (in_rooms 1 0) 2 refl;
+  alone = refl;
 }
   where
     other_atoms : List Atom

@@ -8,7 +8,7 @@ use Rattle.model.specs.WellTyped.{is_task}
 use Rattle.model.specs.Examples.{formulas, lifted, ground, root, typed, object_type, adds, deletes, all}
 use Rattle.symmetries.specs.Exchanges.{Exchange}
 use Rattle.symmetries.specs.Symmetries.{is_symmetry}
-use Rattle.symmetries.specs.Quotients.{representative}
+use Rattle.symmetries.specs.Orbits.{representative}
 
 -- these two change places
 abbrev pub swapping : ℕ → ℕ → Exchange

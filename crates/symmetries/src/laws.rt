@@ -1,5 +1,9 @@
 //! Laws of symmetries, over all tasks. They are proved; the calls do nothing.
-ghost use Rattle.symmetries.specs.Laws.{TestIsExact, SymmetriesKeepMeaning, SymmetriesAreAutomorphisms, RepresentativesAreLast, QuotientsTell, ExchangesCanBeUndone, GroundQuotientsAreBisimilar};
+ghost use Rattle.model.specs.Runs.{System};
+ghost use Rattle.model.specs.Claims.{Claim, ClaimHolds, Line, IsClosed, AreBoundsOf, AreDeadEndsOf};
+ghost use Rattle.model.specs.Bisimulation.{IsBisimulationEquivalence};
+ghost use Rattle.std.specs.Prelude.{ℕ, Bool, List};
+ghost use Rattle.symmetries.specs.Laws.{TestIsExact, SymmetriesKeepMeaning, SymmetriesAreAutomorphisms, OrbitsKeepSteps, AlikeStatesAreOfOneOrbit, StatesAloneStandForThemselves, ListingsByExchangesClaim, PackedStatesAreAlike};
 ghost use Rattle.symmetries.specs.SymmetryExamples.{AreExchangesJudged, AreTasksJudged, AreActionsJudged, AreGoalsJudged, AreRepresentativesJudged};
 
 /// An exchange passes the test exactly if its objects are all different and it is a symmetry of the task.
@@ -17,27 +21,48 @@ pub fn symmetries_are_automorphisms()
     ensures { SymmetriesAreAutomorphisms }
 {}
 
-/// The representative of a state is that of the first image that comes before it, and no image comes before a representative.
-pub fn representatives_are_last()
-    ensures { RepresentativesAreLast }
+/// States that automorphisms of a system take into one another have the same steps, at the same costs, and the same goals.
+pub fn orbits_keep_steps<S, A>()
+    ensures { (t : System S A) → OrbitsKeepSteps t }
 {}
 
-/// Each list of instances that solves a task has one that solves its quotient by symmetries at the same cost, and the other way
-/// round. So what is claimed of the one is true of the other, and what a listing claims that is closed for the quotient is true
-/// of every list of instances of the task, of whatever length.
-pub fn quotients_tell()
-    ensures { QuotientsTell }
+/// States with the same representative by symmetries of a task are of one orbit.
+pub fn alike_states_are_of_one_orbit()
+    ensures { AlikeStatesAreOfOneOrbit }
 {}
 
-/// Where the exchanges are undone that were made on the way, each step of the quotient is one of the task, of the same cost: so a
-/// list that solves the quotient is carried out in the task.
-pub fn exchanges_can_be_undone()
-    ensures { ExchangesCanBeUndone }
+/// Without exchanges a state is its own representative.
+pub fn states_alone_stand_for_themselves()
+    ensures { StatesAloneStandForThemselves }
 {}
 
-/// The quotient of the ground task does what the quotient of the task does.
-pub fn ground_quotients_are_bisimilar()
-    ensures { GroundQuotientsAreBisimilar }
+/// A transition system, a bisimulation equivalence of its states, and a relation within it, by which states are looked up.
+pub trait StateClasses<S, A> {
+    ghost system: { System S A };
+
+    ghost same: { S → S → Type 0 };
+
+    ghost alike: { S → S → Type 0 };
+
+    ghost equivalence: { IsBisimulationEquivalence system same };
+
+    ghost within: { (s r : S) → alike s r → same s r };
+}
+
+/// What a listing claims that is closed up to that relation is true.
+pub fn closed_listings_claim<S, A, C: StateClasses<S, A>>()
+    ensures { (value : S → ℕ) (is_dead : S → Bool) (claim : Claim) (lines : List (Line S))
+        → AreBoundsOf C.system value lines → AreDeadEndsOf C.system is_dead lines → IsClosed C.system C.alike value is_dead claim lines → ClaimHolds C.system claim }
+{}
+
+/// What a listing claims that is closed up to symmetries of the task is true of every list of instances, of whatever length.
+pub fn listings_by_exchanges_claim()
+    ensures { ListingsByExchangesClaim }
+{}
+
+/// Packed states are alike exactly where the states are that they stand for.
+pub fn packed_states_are_alike()
+    ensures { PackedStatesAreAlike }
 {}
 
 /// The worked examples of exchanges: balls, grippers and rooms, and objects that are in two pairs.

@@ -1,13 +1,13 @@
-//! Symmetries of planning tasks: exchanges of objects that leave a task as it is, the quotient in which one state stands for all
-//! that they take into one another, and why what is shown of the quotient is so of the task: definitions, in `specs/`, and
-//! their laws.
+//! Symmetries of planning tasks: exchanges of objects that leave a task as it is, the orbits of states that they take into one
+//! another, and why what a listing claims that is closed up to them is so of the task: definitions, in `specs/`, and their laws.
 #![tactic(auto)]
 
 mod laws;
 
 pub use laws::{
-    action_examples_are_judged, exchange_examples_are_judged, exchanges_can_be_undone,
-    goal_examples_are_judged, ground_quotients_are_bisimilar, quotients_tell,
-    representative_examples_are_judged, representatives_are_last, symmetries_are_automorphisms,
-    symmetries_keep_meaning, task_examples_are_judged, test_is_exact,
+    StateClasses, action_examples_are_judged, alike_states_are_of_one_orbit, closed_listings_claim,
+    exchange_examples_are_judged, goal_examples_are_judged, listings_by_exchanges_claim,
+    orbits_keep_steps, packed_states_are_alike, representative_examples_are_judged,
+    states_alone_stand_for_themselves, symmetries_are_automorphisms, symmetries_keep_meaning,
+    task_examples_are_judged, test_is_exact,
 };

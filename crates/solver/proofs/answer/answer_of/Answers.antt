@@ -14,7 +14,7 @@ use Rattle.model.specs.Runs.{System, Solves}
 use Rattle.model.specs.Meaning as meaning
 use Rattle.model.specs.Meaning.{State}
 use Rattle.model.specs.NumberedAtoms.{numbered_atoms}
-use Rattle.symmetries.specs.Quotients.{quotient_of}
+use Rattle.symmetries.specs.Orbits.{quotient_of}
 use Rattle.quotient_systems.specs.RealPlans.{IsCarriedOut}
 use Rattle.certificate_definitions.specs.Certificates.{Certificate}
 use Rattle.listed_systems.specs.Reachable.{AreMoreReachable}

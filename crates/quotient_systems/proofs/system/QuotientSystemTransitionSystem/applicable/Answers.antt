@@ -4,7 +4,7 @@ use Rattle.packed_state.specs.Packed.{bits_of}
 use Rattle.search.specs.Transitions.{AreApplicable}
 use Rattle.representatives.specs.Representatives.{task_of, atoms_of, exchanges_of}
 use Rattle.model.specs.Grounding.{applicable_numbers}
-use Rattle.symmetries.specs.Quotients.{ground_quotient_of}
+use Rattle.symmetries.specs.Orbits.{ground_quotient_of}
 use Rattle.quotient_systems.proofs.Applicable.{are_applicable}
 use Rattle.quotient_systems.proofs.system.QuotientSystemTransitionSystem.applicable.Goals as goal
 

@@ -1,15 +1,15 @@
--- Systems in which one state stands for all that exchanges take into one another: quotients by symmetries (Emerson & Sistla
--- 1996), which a planner searches by representatives of states (orbit space search: Domshlak, Katz & Shleyfman 2015).
-use Rattle.std.specs.Prelude.{◌≡◌, ℕ, zero, suc, ◌^◌, Bool, false, List, [], ◌∷◌, length, map, if◌then◌else◌, Option, Some}
+-- States that symmetries take into one another are of one orbit, and are looked up by a representative (orbit space search: Emerson &
+-- Sistla 1996; Pochter, Zohar & Rosenschein 2011; Domshlak, Katz & Shleyfman 2015).
+use Rattle.std.specs.Prelude.{◌≡◌, ℕ, zero, suc, ◌+◌, ◌*◌, Bool, false, List, [], ◌∷◌, length, map, if◌then◌else◌, Option, Some}
 use Rattle.std.specs.Bool.{beq}
 use Rattle.std.specs.List.{list_all, find}
 use Rattle.std.specs.Option.{option_map, option_map_or}
 use Rattle.std.specs.FinSet.{contains}
-use Rattle.model.specs.Task.{Atom, Task, Instance}
+use Rattle.model.specs.Task.{Atom, Task}
 use Rattle.model.specs.Runs.{System}
-use Rattle.model.specs.Meaning.{State, system_of}
+use Rattle.model.specs.Meaning.{State}
 use Rattle.model.specs.NumberedAtoms.{occurs_in}
-use Rattle.model.specs.Grounding.{state_of_bits, bits_of_state, ground_system}
+use Rattle.model.specs.Grounding.{state_of_bits, bits_of_state}
 use Rattle.symmetries.specs.Exchanges.{Exchange, image_of_object, image_of_atom, image_of_state}
 
 -- ---- of any transition system
@@ -27,15 +27,9 @@ pub record IsAutomorphism {S A : Type 0} (t : System S A) (states : S → S) (ac
   pub costs : (s next : S) (a : A) → t.step s a ≡ Some next → t.cost (actions a) ≡ t.cost a
   pub goals : (s : S) → t.meets_goal (states s) ≡ t.meets_goal s
 
--- The quotient by these representatives: it starts at that of the start, and each step goes on to that of the state which the
--- action leads to.
-abbrev pub quotient : {S A : Type 0} → System S A → (S → S) → System S A
-quotient t represent = record {
-  initial = represent t.initial;
-  step = λ s a. option_map represent (t.step s a);
-  cost = t.cost;
-  meets_goal = t.meets_goal;
-}
+-- some automorphism takes the one state to the other
+abbrev pub AreOfOneOrbit : {S A : Type 0} → System S A → S → S → Type 0
+AreOfOneOrbit {S} {A} t s r = (states : S → S) × (actions : A → A) × IsAutomorphism t states actions × (states s ≡ r)
 
 -- ---- of a task
 
@@ -53,19 +47,19 @@ abbrev pub with_images : List Atom → List Exchange → ℕ → State → State
 with_images atoms exchanges zero s = s
 with_images atoms exchanges (suc n) s = option_map_or (with_images atoms exchanges n) (image_before atoms exchanges s) s
 
--- The representative of a state: as long as an image comes before it, the first such image in its place. Each has fewer sets of
--- these atoms before it than the one that it takes the place of, so this ends.
+-- As many images are taken at most: (n + 1)^2, where there are n exchanges. Exchanges of neighbours bring n + 1 alike objects into their
+-- order by n * (n + 1) / 2 of them.
+abbrev pub most_images : List Exchange → ℕ
+most_images exchanges = (length exchanges + 1) * (length exchanges + 1)
+
+-- The representative of a state: as long as an image comes before it, the first such image in its place, until there is none, or as
+-- many were taken as may be. It is a function of the state; states of one orbit may have different ones.
 abbrev pub representative : List Atom → List Exchange → State → State
-representative atoms exchanges s = with_images atoms exchanges (2 ^ length atoms) s
+representative atoms exchanges = with_images atoms exchanges (most_images exchanges)
 
--- the quotient of a task by these exchanges, where the order of states is by these atoms
-abbrev pub quotient_of : Task → List Atom → List Exchange → System State Instance
-quotient_of task atoms exchanges = quotient (system_of task) (representative atoms exchanges)
-
--- What comes into an object's place where these exchanges, which were made one after another, are undone.
-abbrev pub undone : List Exchange → ℕ → ℕ
-undone [] o = o
-undone (exchange ∷ later) o = image_of_object exchange (undone later o)
+-- the states have the same representative
+abbrev pub AreAlike : List Atom → List Exchange → State → State → Type 0
+AreAlike atoms exchanges s r = representative atoms exchanges s ≡ representative atoms exchanges r
 
 -- ---- of a ground task
 
@@ -77,5 +71,6 @@ keeps_atoms atoms exchange = list_all (λ (a : Atom). occurs_in atoms (image_of_
 abbrev pub packed_representative : Task → List Atom → List Exchange → List Bool → List Bool
 packed_representative task atoms exchanges bits = bits_of_state atoms (representative atoms exchanges (state_of_bits task atoms bits))
 
-abbrev pub ground_quotient_of : Task → List Atom → List Exchange → System (List Bool) ℕ
-ground_quotient_of task atoms exchanges = quotient (ground_system task atoms) (packed_representative task atoms exchanges)
+-- the packed states have the same one
+abbrev pub ArePackedAlike : Task → List Atom → List Exchange → List Bool → List Bool → Type 0
+ArePackedAlike task atoms exchanges bits other = packed_representative task atoms exchanges bits ≡ packed_representative task atoms exchanges other

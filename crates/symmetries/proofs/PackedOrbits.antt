@@ -1,25 +1,22 @@
--- The quotient of the ground task is bisimilar to that of the task.
-use Rattle.std.proofs.Common.{◌∙◌, Bool, List, sym, ap, subst}
+-- Packed states are alike exactly where the states are that they stand for.
+use Rattle.std.proofs.Common.{◌≡◌, ◌∙◌, Bool, List, refl, sym, ap}
 use Rattle.std.specs.Prelude.{IsTrue, All, Contains}
 use Rattle.std.specs.List.{list_all}
-use Rattle.std.specs.Option.{option_map}
 use Rattle.std.specs.Ordering.{eq_by_cmp}
 use Rattle.model.specs.Task.{Atom, Task}
-use Rattle.model.specs.Meaning.{State, atom_cmp, step}
+use Rattle.model.specs.Meaning.{State, atom_cmp}
 use Rattle.model.specs.Fluents.{is_fluent}
 use Rattle.model.specs.NumberedAtoms.{occurs_in, numbered_atoms, HasNumberedFluents}
-use Rattle.model.specs.Grounding.{state_of_bits, ground_step, StandsFor, NamesKept}
-use Rattle.model.specs.Bisimulation.{IsBisimulation}
+use Rattle.model.specs.Grounding.{state_of_bits, bits_of_state, StandsFor}
 use Rattle.model.proofs.StaticLemmas.{same_atom}
-use Rattle.model.proofs.GroundTaskLemmas.{packs_states, ground_task_is_bisimilar}
+use Rattle.model.proofs.GroundTaskLemmas.{packs_states}
 use Rattle.symmetries.specs.Exchanges.{Exchange, image_of_object, image_of_atom, image_of_state}
 use Rattle.symmetries.specs.Symmetries.{is_symmetry}
-use Rattle.symmetries.specs.Quotients.{representative, keeps_atoms, packed_representative, quotient_of, ground_quotient_of}
-use Rattle.symmetries.specs.Laws.{GroundQuotientsAreBisimilar}
+use Rattle.symmetries.specs.Orbits.{representative, AreAlike, keeps_atoms, packed_representative, ArePackedAlike}
+use Rattle.symmetries.specs.Laws.{PackedStatesAreAlike}
 use Rattle.symmetries.proofs.Lists.{all-at, any-found}
 use Rattle.symmetries.proofs.Images.{atom_twice, contains-back}
-use Rattle.symmetries.proofs.QuotientLemmas.{map_some}
-use Rattle.symmetries.proofs.TaskQuotients.{symmetry_of, representative_keeps, representative-statics}
+use Rattle.symmetries.proofs.TaskOrbits.{symmetry_of, representative_keeps, representative-statics}
 
 module _ (task : Task) (more : List Atom) (exchanges : List Exchange) (fluent : All (λ (a : Atom). IsTrue (is_fluent task a.predicate)) more)
     (all : IsTrue (list_all (is_symmetry task) exchanges)) (numbered : IsTrue (list_all (keeps_atoms (numbered_atoms task more)) exchanges)) where
@@ -43,32 +40,13 @@ module _ (task : Task) (more : List Atom) (exchanges : List Exchange) (fluent : 
       (representative_keeps task atoms exchanges all (HasNumberedFluents task atoms) fluents_kept here (packs.fluents bits))
       ∙ ap (representative atoms exchanges) is
 
-  pub ground_quotient_is_bisimilar : IsBisimulation (ground_quotient_of task atoms exchanges) (quotient_of task atoms exchanges) (StandsFor task atoms) (NamesKept task)
-  ground_quotient_is_bisimilar =
-      let both = ground_task_is_bisimilar task more fluent in
-      record {
-        initial = stands _ _ both.initial;
-        forth = λ bits s number next now leads.
-            let mid = map_some (packed_representative task atoms exchanges) (ground_step task atoms bits number) next leads in
-            let led = both.forth bits s number mid.0 now mid.1 in (
-              led.0,
-              representative atoms exchanges led.1,
-              led.2,
-              ap (option_map (representative atoms exchanges)) led.3,
-              subst (λ b. StandsFor task atoms b (representative atoms exchanges led.1)) mid.2 (stands mid.0 led.1 led.4),
-            );
-        back = λ bits s i next now leads.
-            let mid = map_some (representative atoms exchanges) (step task s i) next leads in
-            let led = both.back bits s i mid.0 now mid.1 in (
-              led.0,
-              packed_representative task atoms exchanges led.1,
-              led.2,
-              ap (option_map (packed_representative task atoms exchanges)) led.3,
-              subst (λ r. StandsFor task atoms (packed_representative task atoms exchanges led.1) r) mid.2 (stands led.1 mid.0 led.4),
-            );
-        goals = both.goals;
-        costs = both.costs;
-      }
+  pub alike_seen : (bits other : List Bool) → ArePackedAlike task atoms exchanges bits other → AreAlike atoms exchanges (state_of_bits task atoms bits) (state_of_bits task atoms other)
+  alike_seen bits other is = sym (stands bits (state_of_bits task atoms bits) refl) ∙ ap (state_of_bits task atoms) is ∙ stands other (state_of_bits task atoms other) refl
 
-pub ground_quotients_are_bisimilar : GroundQuotientsAreBisimilar
-ground_quotients_are_bisimilar task more exchanges fluent all numbered = ground_quotient_is_bisimilar task more exchanges fluent all numbered
+pub packed_alike : (task : Task) (atoms : List Atom) (exchanges : List Exchange) (bits other : List Bool)
+    → AreAlike atoms exchanges (state_of_bits task atoms bits) (state_of_bits task atoms other) → ArePackedAlike task atoms exchanges bits other
+packed_alike task atoms exchanges bits other is = ap (bits_of_state atoms) is
+
+pub packed_states_are_alike : PackedStatesAreAlike
+packed_states_are_alike task more exchanges fluent all numbered bits other =
+    (alike_seen task more exchanges fluent all numbered bits other, packed_alike task (numbered_atoms task more) exchanges bits other)
