@@ -1,12 +1,13 @@
 -- A closed listing's claim is true.
-use Rattle.std.proofs.Common.{◌≡◌, ◌∙◌, ℕ, ◌+◌, ◌≤◌, List, [], ◌∷◌, ◌++◌, None, Some, refl, sym, ap, subst, arith}
-use Rattle.std.specs.Prelude.{Bool, IsTrue, Contains}
+use Rattle.std.proofs.Common.{◌≡◌, ◌∙◌, ℕ, zero, suc, ◌+◌, ◌≤◌, List, [], ◌∷◌, ◌++◌, None, Some, refl, sym, ap, subst, arith}
+use Rattle.std.specs.Prelude.{Bool, IsTrue, length, Contains}
+use Rattle.std.specs.List.{AllZip}
 use Rattle.std.specs.Option.{option_and_then}
 use Rattle.std.proofs.lemmas.Bool.{false≢true}
 use Rattle.std.proofs.lemmas.List.Sums.{sum_by-cons}
 use Rattle.std.proofs.lemmas.Option.{same_Some}
 use Rattle.model.specs.Runs.{System, run, cost_of_all, IsReachable}
-use Rattle.model.specs.Bisimulation.{IsBisimulation, IsBisimulationEquivalence}
+use Rattle.model.specs.Bisimulation.{IsBisimulation, IsBisimulationEquivalence, ReachesGoalsOf, ReachGoalsAlike}
 use Rattle.model.specs.Claims.{Claim, bound, none, Allows, ClaimHolds, opened, cut, dead, Line, AreBoundsOf, AreDeadEndsOf, IsClosed, ClosedListingsClaim}
 use Rattle.model.proofs.BisimulationLemmas.{run_forth, same_cost}
 
@@ -30,6 +31,12 @@ reachable_next t s next a (actions, runs) leads = (actions ++ a ∷ [], run_on t
 
 -- ---- related states
 
+same_length : {A B : Type 0} (names : A → B → Type 0) (xs : List A) (ys : List B) → AllZip names xs ys → length xs ≡ length ys
+same_length names [] [] named = refl
+same_length names [] (y ∷ ys) named = absurd (named)
+same_length names (x ∷ xs) [] named = absurd (named)
+same_length names (x ∷ xs) (y ∷ ys) named = ap suc (same_length names xs ys named.1)
+
 module _ {S A : Type 0} (t : System S A) (same : S → S → Type 0) (equivalence : IsBisimulationEquivalence t same) where
   abbrev CostSame : A → A → Type 0
   CostSame a b = t.cost a ≡ t.cost b
@@ -47,81 +54,82 @@ module _ {S A : Type 0} (t : System S A) (same : S → S → Type 0) (equivalenc
     costs = λ a b is. is;
   }
 
-  -- a list that leads to a goal from a state leads to one from each related state, at the same cost
-  pub carried : (plan : List A) (s r end : S) → same s r → run t s plan ≡ Some end → IsTrue (t.meets_goal end)
-      → (other : List A) × (last : S) × (run t r other ≡ Some last) × IsTrue (t.meets_goal last) × (cost_of_all t plan ≡ cost_of_all t other)
-  carried plan s r end now runs goal =
-      let other = run_forth t t same CostSame with_itself plan s r end now runs in
-      (other.0, other.1, other.3, sym (equivalence.goals end other.1 other.4) ∙ goal, same_cost t t same CostSame with_itself plan other.0 other.2)
+  reaches_goals : (s r : S) → same s r → ReachesGoalsOf t s r
+  reaches_goals s r now plan end runs goal =
+      let other = run_forth t t same CostSame with_itself plan s r end now runs in (
+        other.0,
+        other.1,
+        other.3,
+        sym (equivalence.goals end other.1 other.4) ∙ goal,
+        sym (same_length CostSame plan other.0 other.2),
+        sym (same_cost t t same CostSame with_itself plan other.0 other.2),
+      )
 
-  -- ---- from a line on
+  pub related_reach_alike : (s r : S) → same s r → ReachGoalsAlike t s r
+  related_reach_alike s r now = record { forth = reaches_goals s r now; back = reaches_goals r s (equivalence.turned s r now) }
 
-  module _ (alike : S → S → Type 0) (within : (s r : S) → alike s r → same s r) (value : S → ℕ) (is_dead : S → Bool) (claim : Claim) (lines : List (Line S))
-      (lower : AreBoundsOf t value lines) (dead_ends : AreDeadEndsOf t is_dead lines) (closed : IsClosed t alike value is_dead claim lines) where
-    at_cut : (plan : List A) (line : Line S) (s end : S) (rest : ℕ) → Contains lines line → line.mark ≡ cut rest → same line.state s → run t s plan ≡ Some end
-        → IsTrue (t.meets_goal end) → Allows claim (line.cost + cost_of_all t plan)
-    at_cut plan line s end rest listed is_cut now runs goal =
-        let allowed = closed.cuts_allowed line rest listed is_cut in
-        let there = carried plan s line.state end (equivalence.turned line.state s now) runs goal in
-        Allows-≤ claim (line.cost + rest) (line.cost + cost_of_all t plan) allowed.1 (omega (arith, allowed.0, there.4, lower line there.1 there.0 listed there.2 there.3))
+pub equal_reach_alike : {S A : Type 0} (t : System S A) (s r : S) → s ≡ r → ReachGoalsAlike t s r
+equal_reach_alike {S} t s r is = record { forth = from s r is; back = from r s (sym is) }
+  where
+    from : (s r : S) → s ≡ r → ReachesGoalsOf t s r
+    from s r is plan end runs goal = (plan, end, ap (λ x. run t x plan) (sym is) ∙ runs, goal, refl, refl)
 
-    at_dead : (plan : List A) (line : Line S) (s end : S) → Contains lines line → line.mark ≡ dead → same line.state s → run t s plan ≡ Some end
-        → IsTrue (t.meets_goal end) → Allows claim (line.cost + cost_of_all t plan)
-    at_dead plan line s end listed marked now runs goal =
-        let there = carried plan s line.state end (equivalence.turned line.state s now) runs goal in
-        absurd (false≢true (sym (dead_ends line there.1 there.0 listed (closed.dead_are_dead line listed marked) there.2) ∙ there.3))
+-- ---- from a line on
 
-    at_open_goal : (line : Line S) (s end : S) → Contains lines line → line.mark ≡ opened → same line.state s → run t s [] ≡ Some end → IsTrue (t.meets_goal end)
-        → Allows claim (line.cost + cost_of_all t [])
-    at_open_goal line s end listed is_open now runs goal =
-        let is : end ≡ s = cc in
-        let met : t.meets_goal line.state ≡ t.meets_goal end = equivalence.goals line.state s now ∙ ap t.meets_goal (sym is) in
-        Allows-≤ claim line.cost (line.cost + cost_of_all t []) (closed.open_goals_allowed line listed is_open (met ∙ goal)) (omega arith)
+module _ {S A : Type 0} (t : System S A) (alike : S → S → Type 0) (within : (s r : S) → alike s r → ReachGoalsAlike t s r)
+    (value : S → ℕ) (is_dead : S → Bool) (claim : Claim) (lines : List (Line S))
+    (lower : AreBoundsOf t value lines) (dead_ends : AreDeadEndsOf t is_dead lines) (closed : IsClosed t alike value is_dead claim lines) where
+  at_cut : (plan : List A) (line : Line S) (end : S) (rest : ℕ) → Contains lines line → line.mark ≡ cut rest → run t line.state plan ≡ Some end
+      → IsTrue (t.meets_goal end) → Allows claim (line.cost + cost_of_all t plan)
+  at_cut plan line end rest listed is_cut runs goal =
+      let allowed = closed.cuts_allowed line rest listed is_cut in
+      Allows-≤ claim (line.cost + rest) (line.cost + cost_of_all t plan) allowed.1 (omega (arith, allowed.0, lower line end plan listed runs goal))
 
-    -- a list that runs to a goal state from one that is related to a listed state costs what the claim allows, from that line's cost on
-    from_line : (plan : List A) (line : Line S) (s end : S) → Contains lines line → same line.state s → run t s plan ≡ Some end → IsTrue (t.meets_goal end)
-        → Allows claim (line.cost + cost_of_all t plan)
-    from_line [] line s end listed now runs goal =
-        elim line.mark as (λ m. line.mark ≡ m → Allows claim (line.cost + cost_of_all t [])) [
-          | opened ↦ λ is_open. at_open_goal line s end listed is_open now runs goal
-          | cut rest ↦ λ is_cut. at_cut [] line s end rest listed is_cut now runs goal
-          | dead ↦ λ marked. at_dead [] line s end listed marked now runs goal
-        ] refl
-    from_line (a ∷ plan) line s end listed now runs goal =
-        elim line.mark as (λ m. line.mark ≡ m → Allows claim (line.cost + cost_of_all t (a ∷ plan))) [
-          | opened ↦ λ is_open.
-              elim (t.step s a) as (λ o. t.step s a ≡ o → option_and_then (λ next. run t next plan) o ≡ Some end → Allows claim (line.cost + cost_of_all t (a ∷ plan))) [
-                | None ↦ λ _ none_runs. absurd (cc)
-                | Some next ↦ λ leads runs_on.
-                    let led = equivalence.steps s line.state next a (equivalence.turned line.state s now) leads in
-                    let there = closed.successors_listed line led.0 led.1 listed is_open led.2 in
-                    let on = equivalence.joined there.0.state led.1 next (within there.0.state led.1 there.2) (equivalence.turned next led.1 led.4) in
-                    Allows-≤ claim (there.0.cost + cost_of_all t plan) (line.cost + cost_of_all t (a ∷ plan))
-                    (from_line plan there.0 next end there.1 on runs_on goal)
-                    (omega (arith, there.3, led.3, sum_by-cons t.cost a plan))
-              ] refl runs
-          | cut rest ↦ λ is_cut. at_cut (a ∷ plan) line s end rest listed is_cut now runs goal
-          | dead ↦ λ marked. at_dead (a ∷ plan) line s end listed marked now runs goal
-        ] refl
+  at_dead : (plan : List A) (line : Line S) (end : S) → Contains lines line → line.mark ≡ dead → run t line.state plan ≡ Some end
+      → IsTrue (t.meets_goal end) → Allows claim (line.cost + cost_of_all t plan)
+  at_dead plan line end listed marked runs goal =
+      absurd (false≢true (sym (dead_ends line end plan listed (closed.dead_are_dead line listed marked) runs) ∙ goal))
 
-    pub claim-of_closed : ClaimHolds t claim
-    claim-of_closed plan solves =
-        let there = closed.initial_listed in
-        Allows-≤ claim (there.0.cost + cost_of_all t plan) (cost_of_all t plan)
-        (from_line plan there.0 t.initial solves.0 there.1 (within there.0.state t.initial there.2) solves.1 solves.2)
-        (omega (arith, there.3))
+  at_open_goal : (line : Line S) (end : S) → Contains lines line → line.mark ≡ opened → run t line.state [] ≡ Some end → IsTrue (t.meets_goal end)
+      → Allows claim (line.cost + cost_of_all t [])
+  at_open_goal line end listed is_open runs goal =
+      let same : end ≡ line.state = cc in
+      Allows-≤ claim line.cost (line.cost + cost_of_all t []) (closed.open_goals_allowed line listed is_open (subst (λ (s : S). IsTrue (t.meets_goal s)) same goal)) (omega arith)
 
-pub closed_listings_claim : {S A : Type 0} (t : System S A) → ClosedListingsClaim t
-closed_listings_claim t same alike equivalence within value is_dead claim lines lower dead_ends closed =
-    claim-of_closed t same equivalence alike within value is_dead claim lines lower dead_ends closed
+  -- a list that runs from a listed state to a goal state costs what the claim allows, from that line's cost on
+  from_line : (n : ℕ) (plan : List A) (line : Line S) (end : S) → length plan ≡ n → Contains lines line → run t line.state plan ≡ Some end → IsTrue (t.meets_goal end)
+      → Allows claim (line.cost + cost_of_all t plan)
+  from_line n [] line end long listed runs goal =
+      elim line.mark as (λ m. line.mark ≡ m → Allows claim (line.cost + cost_of_all t [])) [
+        | opened ↦ λ is_open. at_open_goal line end listed is_open runs goal
+        | cut rest ↦ λ is_cut. at_cut [] line end rest listed is_cut runs goal
+        | dead ↦ λ marked. at_dead [] line end listed marked runs goal
+      ] refl
+  from_line zero (a ∷ plan) line end long listed runs goal = absurd (cc)
+  from_line (suc n) (a ∷ plan) line end long listed runs goal =
+      elim line.mark as (λ m. line.mark ≡ m → Allows claim (line.cost + cost_of_all t (a ∷ plan))) [
+        | opened ↦ λ is_open.
+            elim (t.step line.state a) as (λ o. t.step line.state a ≡ o → option_and_then (λ next. run t next plan) o ≡ Some end → Allows claim (line.cost + cost_of_all t (a ∷ plan))) [
+              | None ↦ λ _ none_runs. absurd (cc)
+              | Some next ↦ λ leads runs_on.
+                  let there = closed.successors_listed line a next listed is_open leads in
+                  let other = (within there.0.state next there.2).back plan end runs_on goal in
+                  Allows-≤ claim (there.0.cost + cost_of_all t other.0) (line.cost + cost_of_all t (a ∷ plan))
+                  (from_line n other.0 there.0 other.1 (omega (arith, other.4, long)) there.1 other.2 other.3)
+                  (omega (arith, there.3, other.5, sum_by-cons t.cost a plan))
+            ] refl runs
+        | cut rest ↦ λ is_cut. at_cut (a ∷ plan) line end rest listed is_cut runs goal
+        | dead ↦ λ marked. at_dead (a ∷ plan) line end listed marked runs goal
+      ] refl
 
--- ---- equality
+  pub claim-of_closed : ClaimHolds t claim
+  claim-of_closed plan solves =
+      let there = closed.initial_listed in
+      let other = (within there.0.state t.initial there.2).back plan solves.0 solves.1 solves.2 in
+      Allows-≤ claim (there.0.cost + cost_of_all t other.0) (cost_of_all t plan)
+      (from_line (length other.0) other.0 there.0 other.1 refl there.1 other.2 other.3)
+      (omega (arith, there.3, other.5))
 
-pub equality_is_bisimulation : {S A : Type 0} (t : System S A) → IsBisimulationEquivalence t (λ s r. s ≡ r)
-equality_is_bisimulation t = record {
-  itself = λ s. refl;
-  turned = λ s r is. sym is;
-  joined = λ s r q is then_is. is ∙ then_is;
-  steps = λ s r next a is leads. (a, next, ap (λ x. t.step x a) (sym is) ∙ leads, refl, refl);
-  goals = λ s r is. ap t.meets_goal is;
-}
+pub closed_listings_claim : {S A : Type 0} (t : System S A) (alike : S → S → Type 0) → ClosedListingsClaim t alike
+closed_listings_claim t alike within value is_dead claim lines lower dead_ends closed =
+    claim-of_closed t alike within value is_dead claim lines lower dead_ends closed

@@ -2,7 +2,7 @@
 -- Over any transition system, as `Runs`.
 use Rattle.std.specs.Prelude.{◌≡◌, ℕ, ◌+◌, ◌≤◌, Bool, false, IsTrue, List, Contains, Some}
 use Rattle.model.specs.Runs.{System, run, cost_of_all, IsReachable, Solves}
-use Rattle.model.specs.Bisimulation.{IsBisimulationEquivalence}
+use Rattle.model.specs.Bisimulation.{ReachGoalsAlike}
 
 -- what a certificate claims
 pub data Claim : Type 0 where
@@ -71,9 +71,9 @@ pub record IsClosed {S A : Type 0} (t : System S A) (alike : S → S → Type 0)
   pub cuts_allowed : (line : Line S) (rest : ℕ) → Contains lines line → line.mark ≡ cut rest → (rest ≤ value line.state) × Allows claim (line.cost + rest)
   pub dead_are_dead : (line : Line S) → Contains lines line → line.mark ≡ dead → IsTrue (is_dead line.state)
 
--- What a closed listing shows, where states that are alike are related by a bisimulation equivalence: what it claims is true.
-abbrev pub ClosedListingsClaim : {S A : Type 0} → System S A → Type 1
-ClosedListingsClaim {S} {A} t =
-    (same alike : S → S → Type 0) → IsBisimulationEquivalence t same → ((s r : S) → alike s r → same s r)
+-- What a closed listing shows, where the goal is reached alike from states that are alike: what it claims is true.
+abbrev pub ClosedListingsClaim : {S A : Type 0} → System S A → (S → S → Type 0) → Type 0
+ClosedListingsClaim {S} {A} t alike =
+    ((s r : S) → alike s r → ReachGoalsAlike t s r)
     → (value : S → ℕ) (is_dead : S → Bool) (claim : Claim) (lines : List (Line S))
     → AreBoundsOf t value lines → AreDeadEndsOf t is_dead lines → IsClosed t alike value is_dead claim lines → ClaimHolds t claim

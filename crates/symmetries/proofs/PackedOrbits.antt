@@ -4,19 +4,22 @@ use Rattle.std.specs.Prelude.{IsTrue, All, Contains}
 use Rattle.std.specs.List.{list_all}
 use Rattle.std.specs.Ordering.{eq_by_cmp}
 use Rattle.model.specs.Task.{Atom, Task}
-use Rattle.model.specs.Meaning.{State, atom_cmp}
+use Rattle.model.specs.Meaning.{State, atom_cmp, system_of}
 use Rattle.model.specs.Fluents.{is_fluent}
 use Rattle.model.specs.NumberedAtoms.{occurs_in, numbered_atoms, HasNumberedFluents}
-use Rattle.model.specs.Grounding.{state_of_bits, bits_of_state, StandsFor}
+use Rattle.model.specs.Grounding.{state_of_bits, bits_of_state, ground_system, StandsFor, NamesKept}
 use Rattle.model.proofs.StaticLemmas.{same_atom}
-use Rattle.model.proofs.GroundTaskLemmas.{packs_states}
+use Rattle.model.proofs.GroundTaskLemmas.{packs_states, ground_task_is_bisimilar}
+use Rattle.model.proofs.ClaimsLemmas.{related_reach_alike}
+use Rattle.model.proofs.BisimilarListings.{equivalence_back}
 use Rattle.symmetries.specs.Exchanges.{Exchange, image_of_object, image_of_atom, image_of_state}
 use Rattle.symmetries.specs.Symmetries.{is_symmetry}
-use Rattle.symmetries.specs.Orbits.{representative, AreAlike, keeps_atoms, packed_representative, ArePackedAlike}
-use Rattle.symmetries.specs.Laws.{PackedStatesAreAlike}
+use Rattle.symmetries.specs.Orbits.{AreOfOneOrbit, representative, AreAlike, keeps_atoms, packed_representative, ArePackedAlike}
+use Rattle.symmetries.specs.Laws.{PackedStatesAreAlike, GoalsAreReachedAlike}
 use Rattle.symmetries.proofs.Lists.{all-at, any-found}
 use Rattle.symmetries.proofs.Images.{atom_twice, contains-back}
-use Rattle.symmetries.proofs.TaskOrbits.{symmetry_of, representative_keeps, representative-statics}
+use Rattle.symmetries.proofs.OrbitLemmas.{orbits_are_classes}
+use Rattle.symmetries.proofs.TaskOrbits.{symmetry_of, representative_keeps, representative-statics, alike_states_are_of_one_orbit}
 
 module _ (task : Task) (more : List Atom) (exchanges : List Exchange) (fluent : All (λ (a : Atom). IsTrue (is_fluent task a.predicate)) more)
     (all : IsTrue (list_all (is_symmetry task) exchanges)) (numbered : IsTrue (list_all (keeps_atoms (numbered_atoms task more)) exchanges)) where
@@ -50,3 +53,12 @@ packed_alike task atoms exchanges bits other is = ap (bits_of_state atoms) is
 pub packed_states_are_alike : PackedStatesAreAlike
 packed_states_are_alike task more exchanges fluent all numbered bits other =
     (alike_seen task more exchanges fluent all numbered bits other, packed_alike task (numbered_atoms task more) exchanges bits other)
+
+pub goals_are_reached_alike : GoalsAreReachedAlike
+goals_are_reached_alike task more exchanges well fluent all numbered bits other alike =
+    let atoms = numbered_atoms task more in
+    let view = state_of_bits task atoms in
+    let t = system_of task in
+    related_reach_alike (ground_system task atoms) (λ b c. AreOfOneOrbit t (view b) (view c))
+    (equivalence_back (ground_system task atoms) t view (NamesKept task) (ground_task_is_bisimilar task more fluent) (AreOfOneOrbit t) (orbits_are_classes t)) bits other
+    (alike_states_are_of_one_orbit task atoms exchanges well all (view bits) (view other) (alike_seen task more exchanges fluent all numbered bits other alike))

@@ -7,7 +7,7 @@ use Rattle.model.specs.Task.{Atom, Task}
 use Rattle.model.specs.Meaning.{State, system_of}
 use Rattle.model.specs.WellTyped.{is_task}
 use Rattle.model.specs.Fluents.{HasInitialStatics}
-use Rattle.model.proofs.ClaimsLemmas.{closed_listings_claim}
+use Rattle.model.proofs.ClaimsLemmas.{related_reach_alike, closed_listings_claim}
 use Rattle.symmetries.specs.Exchanges.{Exchange, image_of_object, image_of_atom, image_of_state, image_of_instance}
 use Rattle.symmetries.specs.Symmetries.{IsSymmetry, is_symmetry}
 use Rattle.symmetries.specs.Orbits.{AreOfOneOrbit, image_before, with_images, representative, AreAlike}
@@ -66,7 +66,8 @@ states_alone atoms s = refl
 
 pub listings_by_exchanges_claim : ListingsByExchangesClaim
 listings_by_exchanges_claim task atoms exchanges well all value is_dead claim lines statics lower dead_ends closed =
-    closed_listings_claim (system_of task) (AreOfOneOrbit (system_of task)) (AreAlike atoms exchanges) (orbits_are_classes (system_of task))
-    (alike_states_are_of_one_orbit task atoms exchanges well all) value is_dead claim lines
+    closed_listings_claim (system_of task) (AreAlike atoms exchanges)
+    (λ s r alike. related_reach_alike (system_of task) (AreOfOneOrbit (system_of task)) (orbits_are_classes (system_of task)) s r (alike_states_are_of_one_orbit task atoms exchanges well all s r alike))
+    value is_dead claim lines
     (λ line end plan listed runs goal. lower line.state end plan (statics line listed) runs goal)
     (λ line end plan listed reported runs. dead_ends line.state end plan (statics line listed) reported runs) closed

@@ -9,8 +9,8 @@ use Rattle.model.specs.Meaning.{State, holds, changes_of, after_changes, meets_g
 use Rattle.model.specs.WellTyped.{is_formula, is_effect, is_task}
 use Rattle.model.specs.Fluents.{is_fluent, HasInitialStatics}
 use Rattle.model.specs.NumberedAtoms.{numbered_atoms}
-use Rattle.model.specs.Grounding.{state_of_bits}
-use Rattle.model.specs.Bisimulation.{IsBisimulationEquivalence}
+use Rattle.model.specs.Grounding.{state_of_bits, ground_system}
+use Rattle.model.specs.Bisimulation.{IsBisimulationEquivalence, ReachGoalsAlike}
 use Rattle.symmetries.specs.Exchanges.{Exchange, image_of_object, objects_in, are_different, image_of_binding, image_of_state, image_of_instance, image_of_formula, image_of_effect}
 use Rattle.symmetries.specs.Symmetries.{IsSymmetry, is_symmetry}
 use Rattle.symmetries.specs.Orbits.{IsAutomorphism, AreOfOneOrbit, representative, AreAlike, keeps_atoms, ArePackedAlike}
@@ -92,3 +92,10 @@ PackedStatesAreAlike =
     → IsTrue (list_all (is_symmetry task) exchanges) → IsTrue (list_all (keeps_atoms (numbered_atoms task more)) exchanges) → (bits other : List Bool)
     → ArePackedAlike task (numbered_atoms task more) exchanges bits other
     ↔ AreAlike (numbered_atoms task more) exchanges (state_of_bits task (numbered_atoms task more) bits) (state_of_bits task (numbered_atoms task more) other)
+
+-- So the goal is reached alike from packed states that are alike.
+abbrev pub GoalsAreReachedAlike : Type 0
+GoalsAreReachedAlike =
+    (task : Task) (more : List Atom) (exchanges : List Exchange) → IsTrue (is_task task) → All (λ (a : Atom). IsTrue (is_fluent task a.predicate)) more
+    → IsTrue (list_all (is_symmetry task) exchanges) → IsTrue (list_all (keeps_atoms (numbered_atoms task more)) exchanges) → (bits other : List Bool)
+    → ArePackedAlike task (numbered_atoms task more) exchanges bits other → ReachGoalsAlike (ground_system task (numbered_atoms task more)) bits other

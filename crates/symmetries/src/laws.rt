@@ -1,9 +1,8 @@
 //! Laws of symmetries, over all tasks. They are proved; the calls do nothing.
 ghost use Rattle.model.specs.Runs.{System};
-ghost use Rattle.model.specs.Claims.{Claim, ClaimHolds, Line, IsClosed, AreBoundsOf, AreDeadEndsOf};
-ghost use Rattle.model.specs.Bisimulation.{IsBisimulationEquivalence};
-ghost use Rattle.std.specs.Prelude.{ℕ, Bool, List};
-ghost use Rattle.symmetries.specs.Laws.{TestIsExact, SymmetriesKeepMeaning, SymmetriesAreAutomorphisms, OrbitsKeepSteps, AlikeStatesAreOfOneOrbit, StatesAloneStandForThemselves, ListingsByExchangesClaim, PackedStatesAreAlike};
+ghost use Rattle.model.specs.Claims.{ClosedListingsClaim};
+ghost use Rattle.model.specs.Bisimulation.{ReachGoalsAlike};
+ghost use Rattle.symmetries.specs.Laws.{TestIsExact, SymmetriesKeepMeaning, SymmetriesAreAutomorphisms, OrbitsKeepSteps, AlikeStatesAreOfOneOrbit, StatesAloneStandForThemselves, ListingsByExchangesClaim, PackedStatesAreAlike, GoalsAreReachedAlike};
 ghost use Rattle.symmetries.specs.SymmetryExamples.{AreExchangesJudged, AreTasksJudged, AreActionsJudged, AreGoalsJudged, AreRepresentativesJudged};
 
 /// An exchange passes the test exactly if its objects are all different and it is a symmetry of the task.
@@ -36,23 +35,18 @@ pub fn states_alone_stand_for_themselves()
     ensures { StatesAloneStandForThemselves }
 {}
 
-/// A transition system, a bisimulation equivalence of its states, and a relation within it, by which states are looked up.
-pub trait StateClasses<S, A> {
+/// A transition system, and a relation of states from which the goal is reached alike.
+pub trait AlikeStates<S, A> {
     ghost system: { System S A };
-
-    ghost same: { S → S → Type 0 };
 
     ghost alike: { S → S → Type 0 };
 
-    ghost equivalence: { IsBisimulationEquivalence system same };
-
-    ghost within: { (s r : S) → alike s r → same s r };
+    ghost within: { (s r : S) → alike s r → ReachGoalsAlike system s r };
 }
 
 /// What a listing claims that is closed up to that relation is true.
-pub fn closed_listings_claim<S, A, C: StateClasses<S, A>>()
-    ensures { (value : S → ℕ) (is_dead : S → Bool) (claim : Claim) (lines : List (Line S))
-        → AreBoundsOf C.system value lines → AreDeadEndsOf C.system is_dead lines → IsClosed C.system C.alike value is_dead claim lines → ClaimHolds C.system claim }
+pub fn closed_listings_claim<S, A, C: AlikeStates<S, A>>()
+    ensures { ClosedListingsClaim C.system C.alike }
 {}
 
 /// What a listing claims that is closed up to symmetries of the task is true of every list of instances, of whatever length.
@@ -63,6 +57,11 @@ pub fn listings_by_exchanges_claim()
 /// Packed states are alike exactly where the states are that they stand for.
 pub fn packed_states_are_alike()
     ensures { PackedStatesAreAlike }
+{}
+
+/// From packed states that are alike the goal of the ground task is reached alike.
+pub fn goals_are_reached_alike()
+    ensures { GoalsAreReachedAlike }
 {}
 
 /// The worked examples of exchanges: balls, grippers and rooms, and objects that are in two pairs.
