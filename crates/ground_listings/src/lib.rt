@@ -1,0 +1,19 @@
+//! What a search of a ground task is over: the task as a transition system, the exchanges of objects that take its states into one
+//! another, and the listing of its states by classes.
+#![tactic(auto)]
+
+mod exchanges;
+mod ground_listing;
+mod ground_system;
+mod orbit_store;
+mod orbits;
+mod plans;
+mod search_space;
+mod starts;
+
+pub use exchanges::exchanges_of;
+pub use ground_listing::GroundListing;
+pub use ground_system::GroundSystem;
+pub use orbit_store::OrbitStore;
+pub use plans::plan_of;
+pub use search_space::SearchSpace;
