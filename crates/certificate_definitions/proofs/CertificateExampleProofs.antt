@@ -10,7 +10,6 @@ use Rattle.std.proofs.lemmas.List.Kept.{AllPairs-cons}
 use Rattle.std.specs.FinSet.{contains, from_list, contains-from_list}
 use Rattle.model.specs.Task.{Atom, Instance, Task}
 use Rattle.model.specs.Examples.{ground, instance, tie, tie_task}
-use Rattle.model.specs.Runs.{System}
 use Rattle.model.specs.StaticallyFalse.{kept_instances}
 use Rattle.model.specs.NumberedAtoms.{numbered_atoms}
 use Rattle.model.specs.Meaning.{State, cost_of, atom_cmp, step, changes_of, meets_goal, system_of}
@@ -22,7 +21,7 @@ use Rattle.model.specs.Claims as model
 use Rattle.model.specs.Fluents.{is_fluent}
 use Rattle.certificate_definitions.specs.Certificates.{two, StateLine, Certificate, state_of_line, lines_of, is_symmetry_for, AreAlikeFor, value_of, is_dead_end_of, IsClosedFor}
 use Rattle.certificate_definitions.specs.CertificateRefusals.{IsWrongAt, unfair, unfair_goal, dead_unfair, dead_unfair_goal, not_dead}
-use Rattle.certificate_definitions.proofs.WithoutExchanges.{alike_itself, alike_alone, closed_wider}
+use Rattle.certificate_definitions.proofs.WithoutExchanges.{alike_itself, closed_wider}
 use Rattle.certificate_definitions.specs.CertificateExamples.{AreJudged, open_at, cut_at, linked, tied, claims, weighs, zeros, token_reported, start_open}
 use Rattle.table_functions.specs.TableFunctions.{Row, Table}
 use Rattle.potential_functions.specs.PotentialFunctions.{PotentialFunction, or_zero, value_of_state, is_dead_by, is_dead_state}

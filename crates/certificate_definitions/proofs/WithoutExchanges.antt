@@ -1,7 +1,7 @@
 -- Without exchanges only equal states are alike.
-use Rattle.std.proofs.Common.{◌≡◌, ℕ, ◌+◌, List, [], refl, sym, ap, subst}
-use Rattle.std.specs.Prelude.{Bool, Contains, ◌≤◌}
-use Rattle.model.specs.Task.{Atom, Task}
+use Rattle.std.proofs.Common.{◌≡◌, ℕ, ◌+◌, List, [], ap, subst}
+use Rattle.std.specs.Prelude.{Bool}
+use Rattle.model.specs.Task.{Task}
 use Rattle.model.specs.Runs.{System}
 use Rattle.model.specs.Claims.{Claim, Line, IsListedWithin, IsClosed}
 use Rattle.model.specs.Meaning.{State}

@@ -13,4 +13,5 @@ pub mod OrbitLemmas
 pub mod RepresentativeLemmas
 pub mod TaskOrbits
 pub mod PackedOrbits
+pub mod ImagesCompute
 pub mod SymmetryExampleProofs
