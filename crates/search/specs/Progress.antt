@@ -34,18 +34,18 @@ pub record IsLeastWith (sum : ℕ) (open_list : List Waiting) (all : List Node) 
 abbrev pub nodes_in : {S Store : Type 0} → (Store → List S) → Progress Store → List (Found S)
 nodes_in states_of p = found_of (states_of p.store) p.nodes.items
 
-module _ {S Store : Type 0} (t : System S ℕ) (value : S → ℕ) (is_dead : S → Bool) (states_of : Store → List S) (p : Progress Store) where
+module _ {S Store : Type 0} (t : System S ℕ) (class_of : S → S) (value : S → ℕ) (is_dead : S → Bool) (states_of : Store → List S) (p : Progress Store) where
   -- between two turns
   pub record IsSearch : Type 0 where
     pub one_each : length p.nodes.items ≡ length (states_of p.store)
-    pub nodes : AreNodes t value is_dead (nodes_in states_of p) (waiting_in p.open_list)
+    pub nodes : AreNodes t class_of value is_dead (nodes_in states_of p) (waiting_in p.open_list)
     pub heap : IsOpenList p.open_list
 
   -- the turn of a state came: it waits, and is no more in the open list
   pub record IsAtTurn (turn : Turn) : Type 0 where
     pub one_each : length p.nodes.items ≡ length (states_of p.store)
     pub open_list : List Waiting
-    pub nodes : AreNodes t value is_dead (nodes_in states_of p) open_list
+    pub nodes : AreNodes t class_of value is_dead (nodes_in states_of p) open_list
     pub heap : IsOpenList p.open_list
     pub found : Found S
     pub occurs : slice_get (nodes_in states_of p) turn.id.0 ≡ Some found
@@ -64,33 +64,33 @@ module _ {S Store : Type 0} (t : System S ℕ) (value : S → ℕ) (is_dead : S 
     pub occurs : slice_get (nodes_in states_of p) turn.id.0 ≡ Some found
     pub waits : IsWaiting is_dead found
     pub sum : turn.sum ≡ total_of value found
-    pub nodes : AreNodes t value is_dead (nodes_in states_of p) (entry found.node.cost (value found.state) turn.id.0 ∷ waiting_in p.open_list)
-    pub are_open : AreOpen t (nodes_in states_of p)
+    pub nodes : AreNodes t class_of value is_dead (nodes_in states_of p) (entry found.node.cost (value found.state) turn.id.0 ∷ waiting_in p.open_list)
+    pub are_open : AreOpen t class_of (nodes_in states_of p)
     pub heap : IsOpenList p.open_list
 
   -- the state at this place is being expanded
   pub record IsExpanding (i : ℕ) : Type 0 where
     pub search : IsSearch
     pub turn : IsTurn t value (nodes_in states_of p) i
-    pub others_open : AreOpenBut t (nodes_in states_of p) i
+    pub others_open : AreOpenBut t class_of (nodes_in states_of p) i
 
--- what was found stays found, at no higher cost, and the state that is being expanded stays as it is
-pub record Continues {S : Type 0} (old new : List (Found S)) (i : ℕ) : Type 0 where
-  pub found : (s : S) (cost : ℕ) → IsFoundWithin old s cost → IsFoundWithin new s cost
+-- of what was found a state of the class stays found, at no higher cost, and the state that is being expanded stays as it is
+pub record Continues {S : Type 0} (class_of : S → S) (old new : List (Found S)) (i : ℕ) : Type 0 where
+  pub found : (s : S) (cost : ℕ) → IsFoundWithin class_of old s cost → IsFoundWithin class_of new s cost
   pub stays : (n : Found S) → slice_get old i ≡ Some n → slice_get new i ≡ Some n
   pub longer : length old ≤ length new
   pub less : (most : ℕ) → length new ≤ most → work_left most new ≤ work_left most old
 
--- from the node at this place the action leads to a state that is found, at no more than what that costs
-abbrev pub IsListed : {S : Type 0} → System S ℕ → List (Found S) → ℕ → ℕ → S → Type 0
-IsListed {S} t nodes i a s = (n : Found S) → slice_get nodes i ≡ Some n → IsFoundWithin nodes s (n.node.cost + t.cost a)
+-- from the node at this place the action leads to a state of whose class one is found, at no more than what that costs
+abbrev pub IsListed : {S : Type 0} → System S ℕ → (S → S) → List (Found S) → ℕ → ℕ → S → Type 0
+IsListed {S} t class_of nodes i a s = (n : Found S) → slice_get nodes i ≡ Some n → IsFoundWithin class_of nodes s (n.node.cost + t.cost a)
 
--- The action's successor is listed while the state at this place is being expanded.
-pub record Reaches {S Store : Type 0} (t : System S ℕ) (value : S → ℕ) (is_dead : S → Bool) (states_of : Store → List S) (old new : Progress Store) (i max_states : ℕ) (a : ℕ) (s : S) : Type 0 where
-  pub expanding : IsExpanding t value is_dead states_of new i
+-- The action's successor, or one of its class, is listed while the state at this place is being expanded.
+pub record Reaches {S Store : Type 0} (t : System S ℕ) (class_of : S → S) (value : S → ℕ) (is_dead : S → Bool) (states_of : Store → List S) (old new : Progress Store) (i max_states : ℕ) (a : ℕ) (s : S) : Type 0 where
+  pub expanding : IsExpanding t class_of value is_dead states_of new i
   pub within : length (states_of new.store) ≤ max_states
-  pub continues : Continues (nodes_in states_of old) (nodes_in states_of new) i
-  pub listed : IsListed t (nodes_in states_of new) i a s
+  pub continues : Continues class_of (nodes_in states_of old) (nodes_in states_of new) i
+  pub listed : IsListed t class_of (nodes_in states_of new) i a s
 
 -- The limit allows no state more, and nothing has changed.
 pub record IsFull {S Store : Type 0} (t : System S ℕ) (value : S → ℕ) (is_dead : S → Bool) (states_of : Store → List S) (old new : Progress Store) (max_states : ℕ) : Type 0 where
@@ -101,9 +101,9 @@ pub record IsFull {S Store : Type 0} (t : System S ℕ) (value : S → ℕ) (is_
   pub open_list : new.open_list ≡ old.open_list
 
 -- The states' turn is over.
-pub record Expands {S Store : Type 0} (t : System S ℕ) (value : S → ℕ) (is_dead : S → Bool) (states_of : Store → List S) (old new : Progress Store) (max_states : ℕ) : Type 0 where
-  pub search : IsSearch t value is_dead states_of new
-  pub are_open : AreOpen t (nodes_in states_of new)
+pub record Expands {S Store : Type 0} (t : System S ℕ) (class_of : S → S) (value : S → ℕ) (is_dead : S → Bool) (states_of : Store → List S) (old new : Progress Store) (max_states : ℕ) : Type 0 where
+  pub search : IsSearch t class_of value is_dead states_of new
+  pub are_open : AreOpen t class_of (nodes_in states_of new)
   pub within : length (states_of new.store) ≤ max_states
   pub less : work_left max_states (nodes_in states_of new) < work_left max_states (nodes_in states_of old)
 
