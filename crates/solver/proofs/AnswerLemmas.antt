@@ -17,8 +17,9 @@ use Rattle.search.specs.declared.best.Outcome.TheVariants.{Found, Exhausted, Sta
 use Rattle.search.specs.Outcome.{lines_of, AreFound, AreOfOneClass, AreClassesOf, IsTrueOutcome}
 use Rattle.ground_listings.specs.GroundListing.{listed_states}
 use Rattle.ground_listings.specs.Plans.{IsCarriedOut}
+use Rattle.ground_listings.specs.Reachable.{AreMoreReachable}
 use Rattle.ground_listings.specs.SearchSpace as search_space
-use Rattle.ground_listings.specs.SearchSpace.{class_in, ground_in}
+use Rattle.ground_listings.specs.SearchSpace.{class_in, ground_in, IsSearchSpace}
 use Rattle.ground_listings.specs.declared.ground_listing.GroundListing.{GroundListing}
 use Rattle.ground_listings.specs.declared.search_space.SearchSpace.{SearchSpace}
 use Rattle.solver.specs.Limit.{is_limit}
@@ -27,8 +28,9 @@ use Rattle.solver.specs.Guided.{found_in, AreMarksOf, CanBeMarked, IsSearched}
 use Rattle.solver.specs.declared.limits.Limits.{Limits}
 use Rattle.solver.proofs.GuidanceLemmas.{most_value, estimate-most}
 use Rattle.solver.proofs.FoundLines.{found_line, node_at}
+use Rattle.solver.proofs.ByCost.{more_by_cost}
 use Rattle.solver.proofs.LimitLemmas.{limit_claim}
-use Rattle.solver.proofs.TaskLemmas.{length-reachable, costs_at_least}
+use Rattle.ground_listings.proofs.TaskLemmas.{length-reachable, more_reachable, task_costs_at_least}
 use Rattle.model.specs.Task.{Task, Atom, Instance}
 use Rattle.model.specs.Runs.{System, run, cost_of_all, Solves, CostsAtLeast, IsOptimal}
 use Rattle.model.specs.Claims.{Claim, bound, none, Line, IsClosed}
@@ -66,15 +68,15 @@ found_of t class_of estimate is_dead max_states (Exhausted found) told = (none, 
 found_of t class_of estimate is_dead max_states (States least found) told = (bound least, told.1.found)
 
 -- they are as wide as the atoms are many
-pub found_width : (task : Task) (atoms : List Atom) {class_of : List Bool → List Bool} {estimate : List Bool → ℕ} {is_dead : List Bool → Bool} {claim : Claim} {most : ℕ} (states : List (List Bool)) (nodes : List Node)
+pub found_width : (task : Task) (atoms : List Atom) (numbered : atoms ≡ numbered_atoms task []) {class_of : List Bool → List Bool} {estimate : List Bool → ℕ} {is_dead : List Bool → Bool} {claim : Claim} {most : ℕ} (states : List (List Bool)) (nodes : List Node)
     → AreFound (ground_system task atoms) class_of estimate is_dead claim most states nodes → (k : ℕ) (bits : List Bool) → slice_get states k ≡ Some bits → length bits ≡ length atoms
-found_width task atoms states nodes found k bits at =
+found_width task atoms numbered states nodes found k bits at =
     let (node, there) = node_at nodes k (omega (arith, slice_get_within states k bits at, found.one_for_each)) in
     let reached = found.reachable k bits node at there in
-    length-reachable task atoms bits (reached.0, reached.1)
+    length-reachable task atoms numbered bits (reached.0, reached.1)
 
 -- so each has its mark
-module _ (space : SearchSpace) (estimate : List Bool → ℕ) (is_dead : List Bool → Bool) (limits : Limits) (outcome : Outcome GroundListing)
+module _ (space : SearchSpace) (known : IsSearchSpace space) (estimate : List Bool → ℕ) (is_dead : List Bool → Bool) (limits : Limits) (outcome : Outcome GroundListing)
     (is : IsTrueOutcome (search_space.system_of space) (class_in space) estimate is_dead listed_states limits.states outcome) where
   abbrev t : System (List Bool) ℕ
   t = search_space.system_of space
@@ -87,7 +89,7 @@ module _ (space : SearchSpace) (estimate : List Bool → ℕ) (is_dead : List Bo
       record {
         one_for_each = found.one_for_each;
         few = omega (arith, found.within_limit, most);
-        width = λ k d below. found_width (task_in (ground_in space)) (atoms_in (ground_in space)) states (found_in outcome).nodes.items found k (get_or states k d) (slice_get-get_or states k d below);
+        width = λ k d below. found_width (task_in (ground_in space)) (atoms_in (ground_in space)) known.atoms states (found_in outcome).nodes.items found k (get_or states k d) (slice_get-get_or states k d below);
         marked = found.marked;
       }
 
@@ -168,15 +170,20 @@ cheap_plan t class_of value is_dead cost max_states states nodes plan solves fou
 
 -- ---- what the answer says of the task
 
+-- what a search by an estimate tells of more states than it may list is so of the task
+pub more_of_task : (task : Task) (atoms : List Atom) → atoms ≡ numbered_atoms task [] → (value : List Bool → ℕ) (is_dead : List Bool → Bool) (max_states : ℕ)
+    → search.AreMoreReachable (ground_system task atoms) value is_dead max_states → AreMoreReachable (system_of task) max_states
+more_of_task task atoms numbered value is_dead max_states more = more_reachable task atoms numbered max_states (more_by_cost (ground_system task atoms) value is_dead max_states more)
+
 -- the instances of a cheapest list of numbers are a cheapest plan
 pub plan_optimal : (task : Task) (known : List Atom) → known ≡ numbered_atoms task [] → (numbers : List ℕ) (plan : List Instance) → IsCarriedOut (ground_system task known) (system_of task) numbers plan
     → IsOptimal (ground_system task known) numbers → IsOptimal (system_of task) plan
 plan_optimal task known numbered numbers plan carried optimal = (
   carried.solves optimal.0,
-  subst (CostsAtLeast (system_of task)) (sym carried.cost) (costs_at_least task known numbered (cost_of_all (ground_system task known) numbers) optimal.1),
+  subst (CostsAtLeast (system_of task)) (sym carried.cost) (task_costs_at_least task known numbered (cost_of_all (ground_system task known) numbers) optimal.1),
 )
 
-module _ (task : Task) (atoms : List Atom) (class_of : List Bool → List Bool) (guidance : Guidance) (max_states : ℕ) (states : List (List Bool)) (nodes : List Node)
+module _ (task : Task) (atoms : List Atom) (numbered : atoms ≡ numbered_atoms task []) (class_of : List Bool → List Bool) (guidance : Guidance) (max_states : ℕ) (states : List (List Bool)) (nodes : List Node)
     (written : CanBeWritten (length atoms) guidance) (few_atoms : length atoms ≤ 1048576) (few : max_states ≤ 16777216) where
   abbrev u : System (List Bool) ℕ
   u = ground_system task atoms
@@ -184,7 +191,7 @@ module _ (task : Task) (atoms : List Atom) (class_of : List Bool → List Bool) 
   -- the values of found states are small, where so few atoms have numbers
   found_values : (claim : Claim) → AreFound u class_of (estimate_by guidance) (reports_dead guidance) claim max_states states nodes → (k : ℕ) (bits : List Bool) → slice_get states k ≡ Some bits → estimate_by guidance bits ≤ most_value
   found_values claim found k bits at =
-      estimate-most (length atoms) guidance written.within_limits bits (omega (arith, few_atoms, found_width task atoms states nodes found k bits at))
+      estimate-most (length atoms) guidance written.within_limits bits (omega (arith, few_atoms, found_width task atoms numbered states nodes found k bits at))
 
   -- a claim that is shown by values of so few atoms is a certificate's: that of a plan, and that of a search that stops at the limit
   pub claim_allowed : (cost : ℕ) (plan : List ℕ) → Solves u plan → AreFound u class_of (estimate_by guidance) (reports_dead guidance) (bound cost) max_states states nodes

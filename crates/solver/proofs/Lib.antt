@@ -4,12 +4,12 @@ pub mod GuidanceLemmas
 pub mod PotentialGuidance
 pub mod TablesLemmas
 pub mod ConsistentLemmas
-pub mod TaskLemmas
 pub mod ClassLemmas
 pub mod FoundLines
 pub mod ListingLemmas
 pub mod LimitLemmas
 pub mod AnswerLemmas
+pub mod ByCost
 pub mod LoopLemmas
 pub mod PauseLemmas
 pub mod EndLemmas

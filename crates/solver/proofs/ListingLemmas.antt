@@ -36,7 +36,7 @@ use Rattle.symmetries.specs.Symmetries.{is_symmetry}
 use Rattle.symmetries.specs.Orbits.{AreAlike, keeps_atoms}
 use Rattle.ground_listings.specs.Exchanges.{can_be_named}
 use Rattle.solver.proofs.ClassLemmas.{AreClassesBy}
-use Rattle.solver.proofs.TaskLemmas.{both, length-reachable, reached_at}
+use Rattle.ground_listings.proofs.TaskLemmas.{ground_does, length-reachable, reached_at}
 use Rattle.table_functions.specs.TableFunctions.{SeveralValues}
 use Rattle.model.proofs.ListLemmas.{map-Contains}
 use Rattle.model.proofs.LimitsLemmas.{numbered_again}
@@ -217,7 +217,7 @@ module _ (task : Task) (claim : Claim) (most : ℕ) (exchanges : List Exchange) 
     found_width k bits at =
         let (node, there) = node_at nodes k (omega (arith, slice_get_within states k bits at, found.one_for_each)) in
         let reached = found.reachable k bits node at there in
-        length-reachable task atoms bits (reached.0, reached.1)
+        length-reachable task atoms refl bits (reached.0, reached.1)
 
     -- the certificate gives a listed state the value by which it was found
     pub same_value : (k : ℕ) (bits : List Bool) → slice_get states k ≡ Some bits → value_of task made (state_of_bits task atoms bits) ≡ estimate_by guidance bits
@@ -243,7 +243,7 @@ module _ (task : Task) (claim : Claim) (most : ℕ) (exchanges : List Exchange) 
     reached_listed : (line : Line State) → Contains (lines_of task made) line → IsReachableAt (system_of task) line.state line.cost
     reached_listed line among =
         let (k, s, n, at_s, at_n, is) = line_found line among in
-        subst (λ (l : Line State). IsReachableAt (system_of task) l.state l.cost) (sym is) (reached_at task s n.cost (found.reachable k s n at_s at_n))
+        subst (λ (l : Line State). IsReachableAt (system_of task) l.state l.cost) (sym is) (reached_at task atoms refl s n.cost (found.reachable k s n at_s at_n))
 
     pub shown_by : is_task task ≡ true → AreClassesBy task exchanges class_of → list_all (can_be_named task) exchanges ≡ true → CanBeWritten (length atoms) guidance → AreFairBy task atoms guidance → keeps_limits made ≡ true → IsShownBy task claim (length states) made
     shown_by well classes named written fair kept = record {
@@ -265,7 +265,7 @@ module _ (task : Task) (claim : Claim) (most : ℕ) (exchanges : List Exchange) 
         exchanges_are_symmetries = subst (λ (l : List Atom). All (λ (e : Exchange). IsTrue (is_symmetry task e && keeps_atoms l e)) exchanges) (sym (numbered_again task)) (each_passes task atoms exchanges classes.symmetries classes.kept);
         listing_is_closed = subst (λ (alike : State → State → Type 0). IsClosed (system_of task) alike (value_of task made) (is_dead_end_of task made) claim (lines_of task made)) (sym (alike_by task made refl))
             (subst (IsClosed (system_of task) (AreAlike atoms exchanges) (value_of task made) (is_dead_end_of task made) claim) (sym listing)
-            (closed_forth t (system_of task) (state_of_bits task atoms) (NamesKept task) (both task) (AreOfOneClass class_of) (AreAlike atoms exchanges) classes.seen
+            (closed_forth t (system_of task) (state_of_bits task atoms) (NamesKept task) (ground_does task atoms refl) (AreOfOneClass class_of) (AreAlike atoms exchanges) classes.seen
             (λ bits. value_of task made (state_of_bits task atoms bits)) (value_of task made) (λ s. omega arith)
             (λ bits. is_dead_end_of task made (state_of_bits task atoms bits)) (is_dead_end_of task made) (λ s reported. reported) claim lines
             (closed_higher t (AreOfOneClass class_of) (estimate_by guidance) (λ bits. value_of task made (state_of_bits task atoms bits)) (reports_dead guidance) (λ bits. is_dead_end_of task made (state_of_bits task atoms bits)) claim lines

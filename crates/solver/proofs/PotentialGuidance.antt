@@ -62,13 +62,12 @@ written-over_none count p dead_ends range dead_range long dead_long =
       rows_are_distinct = All-nil (λ (t : Table). AllPairs (λ (q r : Row). q.atoms ≢ r.atoms) t.rows);
     }
 
--- potentials that are fair and dead-fair, and settled or high
+-- potentials in range that are fair and dead-fair, and settled or high
 pub record AreGood (s : SearchSpace) (p dead_ends : PotentialFunction) : Type 0 where
   pub range : AreInRange p
   pub dead_range : AreInRange dead_ends
   pub long : length p.weights ≡ length (atoms_in (ground_in s))
   pub dead_long : length dead_ends.weights ≡ length (atoms_in (ground_in s))
-  pub fair : AreFairBy (task_in (ground_in s)) (atoms_in (ground_in s)) (by_potentials p dead_ends)
   pub improved : AreSettledOrHigh (task_in (ground_in s)) (atoms_in (ground_in s)) p
   pub dead_ends_improved : AreDeadSettledOrHigh (task_in (ground_in s)) (atoms_in (ground_in s)) dead_ends
 
@@ -76,7 +75,7 @@ pub guides_by_potentials : (s : SearchSpace) → IsSearchSpace s → (p dead_end
 guides_by_potentials (space.Alone g) known p dead_ends good = record {
   written = potentials-written (length (atoms_in g.now)) p dead_ends good.range good.dead_range good.long good.dead_long;
   exchanges = refl;
-  fair = good.fair;
+  fair = (good.improved.0, good.dead_ends_improved.0);
   improved = good.improved;
   dead_ends_improved = good.dead_ends_improved;
   no_lower = omega arith;
@@ -86,7 +85,7 @@ guides_by_potentials (space.Orbits r) known p dead_ends good =
     record {
       written = written-over_none (length (atoms_in k)) p dead_ends good.range good.dead_range good.long good.dead_long;
       exchanges = known.written;
-      fair = fair-over_none (task_in k) (atoms_in k) p dead_ends good.fair;
+      fair = fair-over_none (task_in k) (atoms_in k) p dead_ends (good.improved.0, good.dead_ends_improved.0);
       improved = good.improved;
       dead_ends_improved = good.dead_ends_improved;
       no_lower = let same = estimates-over_none (task_in k) (atoms_in k) p dead_ends (ground_system (task_in k) (atoms_in k)).initial in omega (arith, same);
