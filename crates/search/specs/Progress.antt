@@ -1,14 +1,17 @@
 -- What a search keeps true from one step to the next.
-use Rattle.std.specs.Prelude.{◌≡◌, ◌≢◌, ℕ, ◌+◌, ◌≤◌, ◌<◌, ◌⊎◌, Bool, List, ◌∷◌, length, slice_get, Some, Contains, All}
+use Rattle.std.specs.Prelude.{◌≡◌, ◌≢◌, ℕ, ◌+◌, ◌≤◌, ◌<◌, ◌⊎◌, ⊤, Bool, false, List, [], ◌∷◌, ◌++◌, length, slice_get, slice_set, Option, Some, Contains, All}
 use Rattle.model.specs.Runs.{System}
 use Rattle.search.specs.declared.nodes.Node.{Node}
 use Rattle.packed_state.specs.Packed.{bits_of}
 use Rattle.search.specs.declared.progress.Buffers.{Buffers}
 use Rattle.search.specs.declared.progress.Progress.{Progress}
 use Rattle.search.specs.declared.turns.Turn.{Turn}
-use Rattle.search.specs.OpenList.{waiting_in, IsOpenList}
+use Rattle.search.specs.declared.listing.Place.{Place}
+use Rattle.search.specs.declared.listing.Place.TheVariants.{New, Listed, Alike}
+use Rattle.search.specs.Listing.{IsAlikeAt}
+use Rattle.search.specs.OpenList.{waiting_in, IsOpenList, JoinsBy}
 use Rattle.search.specs.Outcome.{AreMoreReachable}
-use Rattle.search.specs.Nodes.{Waiting, sum_of, estimate_of, place_of, entry, IsCurrent, IsWaiting, total_of, IsEntryOf, Found, found_of, work_left, AreNodes, IsFoundWithin, AreOpen, AreOpenBut, IsTurn}
+use Rattle.search.specs.Nodes.{Waiting, sum_of, estimate_of, place_of, entry, IsCurrent, IsWaiting, total_of, IsEntryOf, has_been_expanded, status_again, Found, found_of, work_left, AreNodes, IsFoundWithin, AreOpen, AreOpenBut, IsTurn}
 
 -- Of those that wait, the state whose turn it is has the least sum of cost and estimate; of equal sum, the least estimate;
 -- and of these it comes first. It leaves the open list, and the others stay in it.
@@ -84,6 +87,83 @@ pub record Continues {S : Type 0} (class_of : S → S) (old new : List (Found S)
 -- from the node at this place the action leads to a state of whose class one is found, at no more than what that costs
 abbrev pub IsListed : {S : Type 0} → System S ℕ → (S → S) → List (Found S) → ℕ → ℕ → S → Type 0
 IsListed {S} t class_of nodes i a s = (n : Found S) → slice_get nodes i ≡ Some n → IsFoundWithin class_of nodes s (n.node.cost + t.cost a)
+
+-- the place is one of this many, or comes after them
+abbrev pub IsPlaceAmong : ℕ → Place → Type 0
+IsPlaceAmong count (New place) = (place ≡ count) × (count < 16777216)
+IsPlaceAmong count (Listed place) = (place < count) × (count ≤ 16777216)
+IsPlaceAmong count (Alike place) = (place < count) × (count ≤ 16777216)
+
+-- the node at this place costs no more than this
+abbrev pub IsNodeWithin : List Node → ℕ → ℕ → Type 0
+IsNodeWithin nodes place cost = (node : Node) × (slice_get nodes place ≡ Some node) × (node.cost ≤ cost)
+
+-- the node at this place costs more
+abbrev pub IsNodeDearer : List Node → ℕ → ℕ → Type 0
+IsNodeDearer nodes place cost = (node : Node) × (slice_get nodes place ≡ Some node) × (cost < node.cost)
+
+-- a state of the class is found, at no more than this cost
+abbrev pub IsReachedWithin : List Node → ℕ → Place → Type 0
+IsReachedWithin nodes cost (New place) = ⊥
+IsReachedWithin nodes cost (Listed place) = IsNodeWithin nodes place cost
+IsReachedWithin nodes cost (Alike place) = IsNodeWithin nodes place cost
+
+-- no state of the class is found, or this cost is lower
+abbrev pub IsReachedCheaper : List Node → ℕ → Place → Type 0
+IsReachedCheaper nodes cost (New place) = ⊤
+IsReachedCheaper nodes cost (Listed place) = IsNodeDearer nodes place cost
+IsReachedCheaper nodes cost (Alike place) = IsNodeDearer nodes place cost
+
+-- a state that is not listed may take the place of the current one of its class, or join it
+abbrev pub IsFreeFor : {S : Type 0} → (S → S) → (ℕ → Type 0) → List S → ℕ → S → Place → Type 0
+IsFreeFor class_of is_current states count s (New place) = ⊤
+IsFreeFor class_of is_current states count s (Listed place) = ⊤
+IsFreeFor class_of is_current states count s (Alike place) = (count ≡ length states) × (¬ Contains states s) × IsAlikeAt class_of states s place × is_current place
+
+module _ {S Store : Type 0} (states_of : Store → List S) (old new : Progress Store) (s : S) (node : Node) (estimate : Option ℕ) (max_states : ℕ) where
+  -- the state and its node come last
+  pub record Appends : Type 0 where
+    pub room : length (states_of old.store) < max_states
+    pub states : states_of new.store ≡ states_of old.store ++ s ∷ []
+    pub nodes : new.nodes.items ≡ old.nodes.items ++ node ∷ []
+    pub open_list : JoinsBy old.open_list new.open_list node.cost (length old.nodes.items) estimate
+
+  -- they take this place, at which a state was that was never expanded
+  pub record Replaces (place : ℕ) : Type 0 where
+    pub other : Node
+    pub there : slice_get old.nodes.items place ≡ Some other
+    pub waits : has_been_expanded other ≡ false
+    pub states : states_of new.store ≡ slice_set (states_of old.store) place s
+    pub nodes : new.nodes.items ≡ slice_set old.nodes.items place node
+    pub open_list : JoinsBy old.open_list new.open_list node.cost place estimate
+
+  -- the state, which is at this place, has the node now, and waits again if it was expanded
+  pub record Improves (place : ℕ) : Type 0 where
+    pub known : Node
+    pub there : slice_get old.nodes.items place ≡ Some known
+    pub states : states_of new.store ≡ states_of old.store
+    pub nodes : new.nodes.items ≡ slice_set old.nodes.items place (record node { status = status_again known.status estimate })
+    pub open_list : JoinsBy old.open_list new.open_list node.cost place estimate
+
+  -- the state, which comes last already, has the node
+  pub record IsCompleted (place : ℕ) : Type 0 where
+    pub states : states_of new.store ≡ states_of old.store
+    pub nodes : new.nodes.items ≡ old.nodes.items ++ node ∷ []
+    pub open_list : JoinsBy old.open_list new.open_list node.cost place estimate
+
+  -- the state is listed, with the node
+  abbrev pub TakesPlace : Place → Type 0
+  TakesPlace (New place) = IsCompleted place
+  TakesPlace (Listed place) = Improves place
+  TakesPlace (Alike place) = Replaces place ⊎ Appends
+
+-- the limit allows no state more, and nothing has changed: the state is not listed
+pub record IsLeftOut {S Store : Type 0} (states_of : Store → List S) (old new : Progress Store) (s : S) (max_states : ℕ) : Type 0 where
+  pub not_listed : ¬ Contains (states_of old.store) s
+  pub full : length (states_of old.store) ≡ max_states
+  pub store : states_of new.store ≡ states_of old.store
+  pub nodes : new.nodes.items ≡ old.nodes.items
+  pub open_list : new.open_list ≡ old.open_list
 
 -- The action's successor, or one of its class, is listed while the state at this place is being expanded.
 pub record Reaches {S Store : Type 0} (t : System S ℕ) (class_of : S → S) (value : S → ℕ) (is_dead : S → Bool) (states_of : Store → List S) (old new : Progress Store) (i max_states : ℕ) (a : ℕ) (s : S) : Type 0 where

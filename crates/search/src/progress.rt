@@ -4,7 +4,7 @@ ghost use Rattle.packed_state.specs.Packed.{bits_of};
 ghost use Rattle.search.specs.Outcome.{AreClassesOf};
 ghost use Rattle.search.specs.Nodes.{Waiting, IsEntry, IsCurrent, AreOpen, IsPath, IsReachedIn};
 ghost use Rattle.search.specs.OpenList.{waiting_in, IsOpenList, JoinsBy};
-ghost use Rattle.search.specs.Progress.{TakesNext, IsLeastWith, nodes_in, IsSearch, IsAtTurn, IsStopped, IsExpanding, Reaches, IsFull, Expands, AreWide};
+ghost use Rattle.search.specs.Progress.{TakesNext, IsLeastWith, nodes_in, IsSearch, IsAtTurn, IsStopped, IsExpanding, IsPlaceAmong, IsReachedWithin, IsReachedCheaper, IsFreeFor, TakesPlace, IsLeftOut, Reaches, IsFull, Expands, AreWide};
 
 use crate::best::MAX_STATES;
 use crate::guide::Guide;
@@ -12,7 +12,7 @@ use crate::listing::{Place, StateListing};
 use crate::nodes::{FoundStates, Node, NodeStatus, ShortId, StateId, steps_to};
 use crate::open_list::OpenList;
 use crate::transitions::TransitionSystem;
-use crate::turns::{Parent, Successor, Turn};
+use crate::turns::{Parent, Reached, Successor, Turn};
 use faults::NoMemory;
 use packed_state::Packed;
 use std::alloc::Global;
@@ -218,35 +218,65 @@ impl<L: StateListing> Progress<L> {
         let Some(place) = self.store.place(to.state, max_states)? else {
             return Ok(false);
         };
+        if self.is_reached_within(place, cost) {
+            return Ok(true);
+        }
+        let estimate = guide.value_after(parent.state, to.action, to.state, room);
+        let node = parent.child(cost, to.action, NodeStatus::of_reached(estimate));
+        let reached = Reached {
+            state: to.state,
+            node,
+            estimate,
+        };
+        self.take_place(place, reached, max_states)
+    }
+
+    /// Whether the state that is to be listed at this place, or the other one of its class, is reached at no more than this cost.
+    fn is_reached_within(&self, place: Place, cost: u64) -> bool
+        requires { IsPlaceAmong (length self.now.nodes.items) place }
+        ensures { MatchBool result (IsReachedWithin self.now.nodes.items cost place) (IsReachedCheaper self.now.nodes.items cost place) }
+    {
         match place {
-            Place::New(place) => {
-                let value = guide.value_after(parent.state, to.action, to.state, room);
-                let status = NodeStatus::of_reached(value);
-                self.add(StateId(place), parent.child(cost, to.action, status), value)?;
-            }
+            Place::New(_) => false,
+            Place::Listed(place) => self.nodes[place as usize].cost <= cost,
+            Place::Alike(place) => self.nodes[place as usize].cost <= cost,
+        }
+    }
+
+    /// Lists a state that is new, or is reached at a lower cost than before; says whether the limit allows that.
+    ///
+    /// One of the class that was never expanded gives it its place, since no other was reached from it. One that was stays where it
+    /// is, so that each state is still what its action makes of its parent.
+    fn take_place(&mut self, place: Place, reached: Reached<'_>, max_states: u32) -> Result<bool, NoMemory>
+        requires place { IsPlaceAmong (length self.old.nodes.items) place }
+        requires free { IsFreeFor (L.class_of self.old.store) (L.is_current self.old.store) (L.states self.old.store) (length self.old.nodes.items) (bits_of reached.state.now) place }
+        requires width { length (bits_of reached.state.now) ≡ L.width_of self.old.store }
+        requires sum { IfSome reached.estimate (λ e. reached.node.cost + e < 2 ^ 64) }
+        requires within { length (L.states self.old.store) ≤ max_states }
+        requires limit { max_states ≤ MAX_STATES }
+        ensures width { L.width_of self.new.store ≡ L.width_of self.old.store }
+        ensures class { L.class_of self.new.store ≡ L.class_of self.old.store }
+        ensures taken { IfOk result (λ is_taken. MatchBool is_taken
+            (TakesPlace L.states self.old self.new (bits_of reached.entry.state.now) reached.entry.node reached.entry.estimate max_states place)
+            (IsLeftOut L.states self.old self.new (bits_of reached.entry.state.now) max_states)) }
+    {
+        match place {
+            Place::New(place) => self.add(StateId(place), reached.node, reached.estimate)?,
             Place::Listed(place) => {
-                let known = self.nodes[place as usize];
-                if cost < known.cost {
-                    let value = guide.value_after(parent.state, to.action, to.state, room);
-                    let status = known.status.again(value);
-                    self.improve(StateId(place), parent.child(cost, to.action, status), value)?;
-                }
+                let mut node = reached.node;
+                node.status = self.nodes[place as usize].status.again(reached.estimate);
+                self.improve(StateId(place), node, reached.estimate)?;
             }
             Place::Alike(place) => {
-                let other = self.nodes[place as usize];
-                if cost < other.cost {
-                    let value = guide.value_after(parent.state, to.action, to.state, room);
-                    let node = parent.child(cost, to.action, NodeStatus::of_reached(value));
-                    if !other.status.has_been_expanded() {
-                        self.store.replace(place, to.state);
-                        self.improve(StateId(place), node, value)?;
-                    } else if self.store.len() < max_states as usize {
-                        let end = StateId(self.store.len() as u32);
-                        self.store.append(to.state, place)?;
-                        self.add(end, node, value)?;
-                    } else {
-                        return Ok(false);
-                    }
+                if !self.nodes[place as usize].status.has_been_expanded() {
+                    self.store.replace(place, reached.state);
+                    self.improve(StateId(place), reached.node, reached.estimate)?;
+                } else if self.store.len() < max_states as usize {
+                    let last = StateId(self.nodes.len() as u32);
+                    self.store.append(reached.state, place)?;
+                    self.add(last, reached.node, reached.estimate)?;
+                } else {
+                    return Ok(false);
                 }
             }
         }

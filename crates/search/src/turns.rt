@@ -28,6 +28,14 @@ pub(crate) struct Successor<'a> {
     pub(crate) state: &'a Packed,
 }
 
+/// A state as it is reached now: its node, and its estimate, or none since it is reported dead.
+#[derive(Clone, Copy)]
+pub(crate) struct Reached<'a> {
+    pub(crate) state: &'a Packed,
+    pub(crate) node: Node,
+    pub(crate) estimate: Option<u64>,
+}
+
 impl Parent<'_> {
     /// The node of a state that the action leads to, reached from here at this cost.
     pub(crate) fn child(&self, cost: u64, action: u32, status: NodeStatus) -> Node
