@@ -1,5 +1,5 @@
 -- Lists of states with a key for each class of them.
-use Rattle.std.specs.Prelude.{◌≡◌, ℕ, ◌+◌, ◌<◌, ⊥, Bool, List, length, slice_get, Some, Contains}
+use Rattle.std.specs.Prelude.{◌≡◌, ℕ, ◌+◌, ◌<◌, Bool, List, length, slice_get, Some, Contains}
 use Rattle.packed_state.specs.Store.{AreDistinct}
 
 -- Each key has the place of the current state of its class. A listed state is the current one of its class, or it is superseded, and its

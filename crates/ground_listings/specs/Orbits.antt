@@ -1,5 +1,5 @@
 -- The listed states and the keys of their classes, in the terms of the definitions.
-use Rattle.std.specs.Prelude.{◌≡◌, ℕ, Bool, List, length, map, slice_get, Some, Contains, ⊥}
+use Rattle.std.specs.Prelude.{◌≡◌, ℕ, Bool, List, length, map, slice_get, Some, Contains}
 use Rattle.packed_state.specs.Packed.{bits_of}
 use Rattle.packed_state.specs.PooledView.{pooled_width, pooled_states}
 use Rattle.search.specs.declared.listing.Place.{Place}

@@ -2,10 +2,8 @@
 //! them all, found bit by bit.
 #![tactic(auto)]
 
-mod names;
 mod neighbours;
 mod pairs;
 mod representatives;
 
-pub use names::Names;
 pub use representatives::Representatives;
