@@ -1,37 +1,34 @@
 -- What is known of the code's representatives.
 use Rattle.std.proofs.Common.{◌≡◌, ◌∙◌, ℕ, zero, suc, ◌+◌, ◌*◌, ◌^◌, ◌<◌, ◌≤◌, ◌⊎◌, inl, inr, Bool, true, false, List, [], ◌∷◌, map, length, take, get_or, Option, None, Some, refl, sym, ap, subst, arith}
-use Rattle.std.specs.Prelude.{slice_get, slice_index, nat_lt, IsTrue}
+use Rattle.std.specs.Prelude.{slice_get, slice_index, nat_lt}
 use Rattle.std.specs.Global.{Vec}
 use Rattle.std.specs.List.{list_all}
-use Rattle.std.specs.Option.{option_map, option_map_or}
+use Rattle.std.specs.Option.{option_map_or}
 use Rattle.std.proofs.lemmas.Bool.{true≢false, cases_lt, and_from, and_parts, ltb-true, lt-ltb}
 use Rattle.std.proofs.lemmas.Nat.{mul-le}
 use Rattle.std.proofs.lemmas.List.{get_or_read, length-map, take_all}
-use Rattle.std.proofs.lemmas.Option.{slice_get_read, slice_get_within, slice_get-map}
+use Rattle.std.proofs.lemmas.Option.{slice_get_within}
 use Rattle.grounding.specs.declared.ground.Ground.{Ground}
 use Rattle.grounding.specs.Ground.{atoms_in}
 use Rattle.model.specs.Task.{Atom}
 use Rattle.model.specs.Meaning.{State}
 use Rattle.model.specs.Fluents.{is_fluent}
-use Rattle.model.specs.Grounding.{state_of_bits, bits_of_state}
-use Rattle.model.proofs.ListLemmas.{Contains-got}
+use Rattle.model.specs.Grounding.{state_of_bits}
 use Rattle.model.proofs.Tests.{passes_weaker}
 use Rattle.model.proofs.PackedStates.{bits_of-packed_state}
-use Rattle.symmetries.specs.Exchanges.{Exchange, image_of_object, image_of_state, objects_in, are_different}
-use Rattle.symmetries.specs.Symmetries.{is_symmetry}
+use Rattle.symmetries.specs.Exchanges.{Exchange, image_of_object, objects_in, are_different}
 use Rattle.symmetries.specs.Orbits.{with_images, keeps_atoms, packed_representative}
-use Rattle.symmetries.proofs.Lists.{all-at}
 use Rattle.symmetries.proofs.ExchangeLemmas.{own_inverse}
 use Rattle.task_symmetries.specs.declared.exchange.Exchange as code
-use Rattle.task_symmetries.specs.Exchange.{exchange_of, image}
+use Rattle.task_symmetries.specs.Exchange.{exchange_of}
 use Rattle.packed_state.specs.Sets.{has}
 use Rattle.representatives.specs.declared.pairs.Pair.{Pair}
 use Rattle.representatives.specs.declared.representatives.Representatives.{Representatives}
-use Rattle.representatives.specs.Places.{swap_of, swaps_of_all, are_within, is_within, is_earlier, with_swapped, is_earlier_at, swapped_at, FindsFrom}
+use Rattle.representatives.specs.Places.{swap_of, swaps_of_all, are_within, is_within, is_earlier, is_earlier_at, swapped_at, FindsFrom}
 use Rattle.representatives.specs.Apart.{AreAllWithin}
 use Rattle.representatives.specs.Pairs.{pair_of, AreBelow, swap_in, swaps_in}
 use Rattle.representatives.specs.Representatives.{task_of, atoms_of, exchanges_of, swaps_of}
-use Rattle.representatives.proofs.ImageBits.{numbers_within, image_swapped}
+use Rattle.representatives.proofs.ImageBits.{numbers_within}
 use Rattle.representatives.proofs.ApartLemmas.{swap_at, these_below, passed_on}
 use Rattle.representatives.proofs.Turns.{AreKept, all_within, Stands, is_last, ends, turns}
 
@@ -160,17 +157,24 @@ module _ (r : Representatives) where
       at k less (inl below) = passed k below
       at k less (inr past) = finds.1 k past less
 
--- an exchange whose image comes before has a number noted beside it
-pub noted_at : (r : Representatives) (bits : List Bool) (n noted : ℕ) → is_earlier_at (swaps_of r) bits n ≡ true → noted ≡ get_or r.first_neighbours.items n noted → noted ≡ slice_index r.first_neighbours.items n
-noted_at r bits n noted passes at = get_or_read r.first_neighbours.items n noted (within (slice_get (swaps_of r) n) refl) at 0
+-- an exchange whose image comes before is there
+pub number_inside : (r : Representatives) (bits : List Bool) (n : ℕ) → is_earlier_at (swaps_of r) bits n ≡ true → n < length (swaps_of r)
+number_inside r bits n passes = within (slice_get (swaps_of r) n) refl
   where
-    within : (found : Option (List (ℕ × ℕ))) → slice_get (swaps_of r) n ≡ found → n < length r.first_neighbours.items
+    within : (found : Option (List (ℕ × ℕ))) → slice_get (swaps_of r) n ≡ found → n < length (swaps_of r)
     within None none = absurd (true≢false (sym passes ∙ ap (λ o. option_map_or (λ pairs. is_earlier pairs (has bits)) o false) none))
-    within (Some pairs) some =
-        let inside = slice_get_within (swaps_of r) n pairs some in
-        let each = r.each in
-        let long = length-map r.swaps.items swap_in in
-        omega (arith, inside, each, long)
+    within (Some pairs) some = slice_get_within (swaps_of r) n pairs some
+
+-- and has a number noted beside it
+pub noted_inside : (r : Representatives) (bits : List Bool) (n : ℕ) → is_earlier_at (swaps_of r) bits n ≡ true → n < length r.first_neighbours.items
+noted_inside r bits n passes =
+    let inside = number_inside r bits n passes in
+    let each = r.each in
+    let long = length-map r.swaps.items swap_in in
+    omega (arith, inside, each, long)
+
+pub noted_at : (r : Representatives) (bits : List Bool) (n noted : ℕ) → is_earlier_at (swaps_of r) bits n ≡ true → noted ≡ get_or r.first_neighbours.items n noted → noted ≡ slice_index r.first_neighbours.items n
+noted_at r bits n noted passes at = get_or_read r.first_neighbours.items n noted (noted_inside r bits n passes) at 0
 
 -- ---- how many images are left
 
@@ -187,11 +191,11 @@ pub one_taken : (count rounds images left rest : ℕ) → left + (rounds * count
 one_taken count rounds images left rest counted is = omega (arith, counted, is)
 
 -- a round has ended, as one image was taken for each number
-pub round_ended : (count rounds images left : ℕ) → left + (rounds * count + images) ≡ count * count → images ≤ count → (images < count → ⊥) → left + ((rounds + 1) * count + 0) ≡ count * count
+pub round_ended : (count rounds images left : ℕ) → left + (rounds * count + images) ≡ count * count → images ≤ count → count ≤ images → left + ((rounds + 1) * count + 0) ≡ count * count
 round_ended count rounds images left counted most end = omega (arith, counted, most, end)
 
 -- all have
-pub none_left : (count rounds left : ℕ) → left + (rounds * count + 0) ≡ count * count → rounds ≤ count → (rounds < count → ⊥) → left ≡ 0
+pub none_left : (count rounds left : ℕ) → left + (rounds * count + 0) ≡ count * count → rounds ≤ count → count ≤ rounds → left ≡ 0
 none_left count rounds left counted most end =
     let same : rounds ≡ count = omega (arith, most, end) in
     let all : rounds * count ≡ count * count = ap (λ n. n * count) same in
@@ -233,7 +237,7 @@ module _ (r : Representatives) (start : List Bool) (count rounds : ℕ) where
         passed = still_none r bits from number first way.passed finds new is noted;
       }
 
-  pub next_round : (images : ℕ) (bits : List Bool) (from : ℕ) → images ≤ count → (images < count → ⊥) → IsOnTheWay r start count rounds images bits from
+  pub next_round : (images : ℕ) (bits : List Bool) (from : ℕ) → images ≤ count → count ≤ images → IsOnTheWay r start count rounds images bits from
       → IsOnTheWay r start count (rounds + 1) 0 bits from
   next_round images bits from most end way = record {
     counted = way.counted;
@@ -250,7 +254,7 @@ module _ (r : Representatives) (start : List Bool) (count rounds : ℕ) where
       let one = one_left count rounds images way.left more_rounds more_images way.taken in
       has_ended r start one.0 bits (subst (λ n. HaveCome r start n bits) one.1 way.come) from found way.passed finds none
 
-  pub has_come_there : (bits : List Bool) (from : ℕ) → rounds ≤ count → (rounds < count → ⊥) → IsOnTheWay r start count rounds 0 bits from
+  pub has_come_there : (bits : List Bool) (from : ℕ) → rounds ≤ count → count ≤ rounds → IsOnTheWay r start count rounds 0 bits from
       → bits ≡ packed_representative (task_of r) (atoms_of r) (exchanges_of r) start
   has_come_there bits from most end way =
       has_come r start bits (subst (λ n. HaveCome r start n bits) (none_left count rounds way.left way.taken most end) way.come)

@@ -1,12 +1,30 @@
-use Rattle.std.proofs.Common.{◌∙◌, subst, arith}
+use Rattle.std.proofs.Common.{◌≡◌, ◌+◌, length, subst, arith}
 use Rattle.packed_state.specs.Packed.{bits_of}
 use Rattle.representatives.specs.Places.{FindsFrom}
 use Rattle.representatives.specs.Representatives.{swaps_of}
-use Rattle.representatives.proofs.Kept.{IsOnTheWay, begins, image_taken, next_round, has_ended_there, has_come_there, noted_at}
+use Rattle.representatives.proofs.Kept.{begins, image_taken, next_round, has_ended_there, has_come_there, number_inside, noted_inside, noted_at}
 use Rattle.representatives.proofs.representatives.Representatives.represent.Goals as goal
 
 pub rounds-init : goal.rounds-init
-rounds-init c = begins c.args.self.now (bits_of c.args.state.now) _ c.requires
+rounds-init c =
+    let counted : c.len-count.result + 1 ≡ length c.args.self.now.swaps.items + 1 = omega (arith, c.len-count.ensures, c.args.self.now.swaps.ok.0) in
+    begins c.args.self.now (bits_of c.args.state.now) (c.len-count.result + 1) counted c.requires
+
+pub images-init : goal.images-init
+images-init c = c.rounds.invariant
+
+pub exchange-requires-clause-number : goal.exchange-requires-clause-number
+exchange-requires-clause-number c =
+    let r = c.args.self.now in
+    let found = subst (FindsFrom (swaps_of r) (bits_of c.images.state) c.images.from) c.in-Some.is c.next_before.ensures in
+    number_inside r (bits_of c.images.state) c.in-Some.number found.0
+
+pub index-from-requires : goal.index-from-requires
+index-from-requires c =
+    let r = c.args.self.now in
+    let found = subst (FindsFrom (swaps_of r) (bits_of c.images.state) c.images.from) c.in-Some.is c.next_before.ensures in
+    let inside = noted_inside r (bits_of c.images.state) c.in-Some.number found.0 in
+    omega (arith, inside, r.first_neighbours.ok.0)
 
 pub images-preserved : goal.images-preserved
 images-preserved c =
