@@ -8,7 +8,7 @@ use Rattle.model.specs.NumberedAtoms.{numbered_atoms}
 use Rattle.model.specs.Grounding.{state_of_bits}
 use Rattle.model.specs.Instances.{successors_of}
 use Rattle.symmetries.specs.Exchanges.{Exchange}
-use Rattle.symmetries.specs.Quotients.{packed_representative, representative}
+use Rattle.symmetries.specs.Orbits.{packed_representative, representative}
 use Rattle.symmetries.proofs.PackedQuotients.{stands}
 use Rattle.certificate_definitions.specs.Certificates.{Certificate}
 use Rattle.cert_checker.specs.CheckedLines.{AreSymmetries}

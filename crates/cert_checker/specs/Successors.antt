@@ -4,7 +4,7 @@ use Rattle.model.specs.Task.{Task, Instance}
 use Rattle.model.specs.Meaning.{State}
 use Rattle.model.specs.NumberedAtoms.{numbered_atoms}
 use Rattle.model.specs.Instances.{successors_of}
-use Rattle.symmetries.specs.Quotients.{representative}
+use Rattle.symmetries.specs.Orbits.{representative}
 use Rattle.certificate_definitions.specs.Certificates.{Certificate}
 
 -- the state that stands for a state, by the certificate's exchanges

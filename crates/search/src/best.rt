@@ -4,6 +4,7 @@ ghost use Rattle.model.specs.Limits.{max_states_listed};
 ghost use Rattle.search.specs.Outcome.{IsTrueOutcome};
 
 use crate::guide::Guide;
+use crate::listing::OwnClasses;
 use crate::nodes::FoundStates;
 use crate::transitions::TransitionSystem;
 use crate::under_way::{begin, finish};
@@ -16,7 +17,7 @@ pub const MAX_STATES: u32 = 16_777_216;
 
 /// What a search finds out.
 #[derive(Drop)]
-pub enum Outcome<S> {
+pub enum Outcome<L> {
     /// A cheapest plan.
     Found {
         /// Its actions, in order.
@@ -24,19 +25,19 @@ pub enum Outcome<S> {
         /// What they cost together.
         cost: u64,
         /// The states that were found.
-        states: FoundStates<S>,
+        states: FoundStates<L>,
     },
     /// There is no plan.
     Exhausted {
         /// The states that were found: all that are reachable, but for those that only dead ends lead to.
-        states: FoundStates<S>,
+        states: FoundStates<L>,
     },
     /// More states would have to be listed than may be, before any plan is sure to be a cheapest one.
     States {
         /// Each plan costs at least this.
         bound: u64,
         /// The states that were found: as many as may be.
-        states: FoundStates<S>,
+        states: FoundStates<L>,
     },
 }
 
@@ -100,8 +101,39 @@ pub fn best_first<T: TransitionSystem, G: Guide, S: StateStore>(
     requires width { S.width_of store ≡ T.width_of system.now }
     requires some { 1 ≤ max_states }
     requires limit { max_states ≤ max_states_listed }
-    ensures { IfOk result (IsTrueOutcome (T.means system.now) (G.estimate_of guide.now) (G.is_dead guide.now) S.states max_states) }
+    ensures { IfOk result (IsTrueOutcome (T.means system.now) (λ s. s) (G.estimate_of guide.now) (G.is_dead guide.now) S.states max_states) }
 {
-    let search = begin(alloc, system, guide, store)?;
-    finish(alloc, system, guide, search, max_states)
+    let search = begin(alloc, system, guide, OwnClasses(store))?;
+    Ok(match finish(alloc, system, guide, search, max_states)? {
+        Outcome::Found {
+            steps,
+            cost,
+            states,
+        } => Outcome::Found {
+            steps,
+            cost,
+            states: states.in_store(),
+        },
+        Outcome::Exhausted { states } => Outcome::Exhausted {
+            states: states.in_store(),
+        },
+        Outcome::States { bound, states } => Outcome::States {
+            bound,
+            states: states.in_store(),
+        },
+    })
+}
+
+impl<S> FoundStates<OwnClasses<S>> {
+    /// The states in the store that was searched over.
+    fn in_store(self) -> FoundStates<S>
+        ensures store { result.store ≡ self.store.0 }
+        ensures nodes { result.nodes.items ≡ self.nodes.items }
+    {
+        let FoundStates { store, nodes } = self;
+        FoundStates {
+            store: store.0,
+            nodes,
+        }
+    }
 }

@@ -2,37 +2,37 @@
 ghost use Rattle.std.specs.Prelude.{◌≡◌, ◌≤◌, ℕ, [], IfOk};
 ghost use Rattle.model.specs.Limits.{max_states_listed};
 ghost use Rattle.search.specs.OpenList.{IsLeastSum};
-ghost use Rattle.search.specs.Outcome.{IsTrueOutcome};
+ghost use Rattle.search.specs.Outcome.{AreClassesOf, IsTrueOutcome};
 ghost use Rattle.search.specs.UnderWay.{store_in, nodes_of, IsUnderWay, IsTrueHalt};
 
 use crate::best::Outcome;
 use crate::guide::Guide;
+use crate::listing::StateListing;
 use crate::nodes::Node;
 use crate::progress::{Buffers, Progress};
 use crate::transitions::TransitionSystem;
 use faults::NoMemory;
-use packed_state::StateStore;
 use std::alloc::Global;
 
 /// A search that is under way: the states that it found so far, and which of them wait. Its guide's room is an `R`.
 #[derive(Drop)]
-pub struct Search<S, R> {
-    progress: Progress<S>,
+pub struct Search<L, R> {
+    progress: Progress<L>,
     buffers: Buffers<R>,
 }
 
 /// What a search came to.
 #[derive(Drop)]
-pub enum Halt<S, R> {
+pub enum Halt<L, R> {
     /// The answer.
-    Ended(Outcome<S>),
+    Ended(Outcome<L>),
     /// As many states are listed as it was to pause at, and there is no answer yet.
-    Paused(Search<S, R>),
+    Paused(Search<L, R>),
 }
 
-impl<S: StateStore, R> Search<S, R> {
-    /// The states that it found, in the order in which it found them.
-    pub fn store(&self) -> &S
+impl<L: StateListing, R> Search<L, R> {
+    /// The states that it found, in the order in which their places were taken.
+    pub fn store(&self) -> &L
         ensures { result.now ≡ store_in self.now }
     {
         &self.progress.store
@@ -55,17 +55,17 @@ impl<S: StateStore, R> Search<S, R> {
 }
 
 /// Begins a search, which has found the initial state alone.
-pub fn begin<T: TransitionSystem, G: Guide, S: StateStore>(
+pub fn begin<T: TransitionSystem, G: Guide, L: StateListing>(
     alloc: Global,
     system: &T,
     guide: &G,
-    store: S,
-) -> Result<Search<S, G::Room>, NoMemory>
+    store: L,
+) -> Result<Search<L, G::Room>, NoMemory>
     requires guide_width { G.width_of guide.now ≡ T.width_of system.now }
-    requires empty { S.states store ≡ [] }
-    requires width { S.width_of store ≡ T.width_of system.now }
+    requires empty { L.states store ≡ [] }
+    requires width { L.width_of store ≡ T.width_of system.now }
     ensures { IfOk result (λ search. (max_states : ℕ) → 1 ≤ max_states
-        → IsUnderWay (T.means system.now) (G.estimate_of guide.now) (G.is_dead guide.now) (G.fits guide.now) S.states S.width_of (T.width_of system.now) max_states search) }
+        → IsUnderWay (T.means system.now) (L.class_of store) (G.estimate_of guide.now) (G.is_dead guide.now) (G.fits guide.now) L.states L.class_of L.width_of (T.width_of system.now) max_states search) }
 {
     let room = guide.room(alloc)?;
     let mut buffers = Buffers::new(alloc, system.width(), room)?;
@@ -75,19 +75,20 @@ pub fn begin<T: TransitionSystem, G: Guide, S: StateStore>(
 
 /// Goes on with the search until it ends, or at least `pause` states are listed. It pauses between two turns alone, so that
 /// more than `pause` may be listed then: all successors of the state that was expanded last are.
-pub fn go_on<T: TransitionSystem, G: Guide, S: StateStore>(
+pub fn go_on<T: TransitionSystem, G: Guide, L: StateListing>(
     alloc: Global,
     system: &T,
     guide: &G,
-    search: Search<S, G::Room>,
+    search: Search<L, G::Room>,
     pause: u32,
     max_states: u32,
-) -> Result<Halt<S, G::Room>, NoMemory>
+) -> Result<Halt<L, G::Room>, NoMemory>
     requires made_for { G.system_of guide.now ≡ T.means system.now }
     requires guide_width { G.width_of guide.now ≡ T.width_of system.now }
-    requires under_way { IsUnderWay (T.means system.now) (G.estimate_of guide.now) (G.is_dead guide.now) (G.fits guide.now) S.states S.width_of (T.width_of system.now) max_states search }
+    requires under_way { IsUnderWay (T.means system.now) (L.class_of (store_in search)) (G.estimate_of guide.now) (G.is_dead guide.now) (G.fits guide.now) L.states L.class_of L.width_of (T.width_of system.now) max_states search }
+    requires classes { AreClassesOf (T.means system.now) (L.class_of (store_in search)) }
     requires limit { max_states ≤ max_states_listed }
-    ensures { IfOk result (IsTrueHalt (T.means system.now) (G.estimate_of guide.now) (G.is_dead guide.now) (G.fits guide.now) S.states S.width_of (T.width_of system.now) pause max_states) }
+    ensures { IfOk result (IsTrueHalt (T.means system.now) (L.class_of (store_in search)) (G.estimate_of guide.now) (G.is_dead guide.now) (G.fits guide.now) L.states L.class_of L.width_of (T.width_of system.now) pause max_states) }
 {
     let Search {
         mut progress,
@@ -121,18 +122,19 @@ pub fn go_on<T: TransitionSystem, G: Guide, S: StateStore>(
 }
 
 /// Goes on with the search until it ends.
-pub fn finish<T: TransitionSystem, G: Guide, S: StateStore>(
+pub fn finish<T: TransitionSystem, G: Guide, L: StateListing>(
     alloc: Global,
     system: &T,
     guide: &G,
-    search: Search<S, G::Room>,
+    search: Search<L, G::Room>,
     max_states: u32,
-) -> Result<Outcome<S>, NoMemory>
+) -> Result<Outcome<L>, NoMemory>
     requires made_for { G.system_of guide.now ≡ T.means system.now }
     requires guide_width { G.width_of guide.now ≡ T.width_of system.now }
-    requires under_way { IsUnderWay (T.means system.now) (G.estimate_of guide.now) (G.is_dead guide.now) (G.fits guide.now) S.states S.width_of (T.width_of system.now) max_states search }
+    requires under_way { IsUnderWay (T.means system.now) (L.class_of (store_in search)) (G.estimate_of guide.now) (G.is_dead guide.now) (G.fits guide.now) L.states L.class_of L.width_of (T.width_of system.now) max_states search }
+    requires classes { AreClassesOf (T.means system.now) (L.class_of (store_in search)) }
     requires limit { max_states ≤ max_states_listed }
-    ensures { IfOk result (IsTrueOutcome (T.means system.now) (G.estimate_of guide.now) (G.is_dead guide.now) S.states max_states) }
+    ensures { IfOk result (IsTrueOutcome (T.means system.now) (L.class_of (store_in search)) (G.estimate_of guide.now) (G.is_dead guide.now) L.states max_states) }
 {
     match go_on(alloc, system, guide, search, u32::MAX, max_states)? {
         Halt::Ended(outcome) => Ok(outcome),

@@ -1,6 +1,6 @@
 use Rattle.std.proofs.Common.{◌∙◌, ap, length, sym, subst, ◌≡◌}
 use Rattle.packed_state.specs.Packed.{bits_of}
-use Rattle.symmetries.specs.Quotients.{packed_representative}
+use Rattle.symmetries.specs.Orbits.{packed_representative}
 use Rattle.model.specs.Grounding.{state_of_bits}
 use Rattle.cert_checker.specs.PackedListing.{task_at, atoms_at, certificate_at}
 use Rattle.cert_checker.proofs.RepresentedLemmas.{length-representative, represented_there}

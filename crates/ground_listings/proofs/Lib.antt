@@ -1,0 +1,4 @@
+pub mod GroundLemmas
+pub mod TaskLemmas
+pub mod ExchangeLemmas
+pub mod PlanLemmas
