@@ -1,4 +1,4 @@
-//! Tests of what the solver searches by, which is potentials, values over tables and quotients, and of the certificates of its
+//! Tests of what the solver searches by, which is potentials, values over tables and listings by orbits, and of the certificates of its
 //! answers, over either store of states and by the checker.
 #![tactic(auto)]
 
@@ -9,11 +9,11 @@ mod fairness;
 #[cfg(test)]
 mod laws;
 #[cfg(test)]
+mod orbits;
+#[cfg(test)]
 mod plain_certificates;
 #[cfg(test)]
 mod plain_tasks;
-#[cfg(test)]
-mod quotients;
 #[cfg(test)]
 mod scores;
 #[cfg(test)]
