@@ -9,7 +9,7 @@ use crate::plain_tasks::ROWS;
 use certificate::{Cert, Claim, Listed, Mark};
 use faults::NoMemory;
 use grounding::{Ground, GroundFault};
-use listed_systems::GroundSystem;
+use ground_listings::GroundSystem;
 use packed_state::{Packed, PlainStore, StateStore};
 use potentials_improved::{DeadFair, Fair};
 use search::{DeadEnd, EstimateWithDeadEnds, FoundStates, MAX_STATES, Node, Outcome, best_first};

@@ -14,7 +14,7 @@ ghost use Rattle.table_guides.specs.FairTables.{ground_in};
 
 use faults::NoMemory;
 use grounding::{Ground, GroundFault};
-use listed_systems::GroundSystem;
+use ground_listings::GroundSystem;
 use packed_state::PooledStore;
 use potentials::Potentials;
 use search::{Outcome, best_first};
