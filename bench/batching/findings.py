@@ -4,11 +4,13 @@ from __future__ import annotations
 
 import re
 from html import escape
-from typing import Iterable
+from typing import Iterable, Sequence
 
 from batching.limits import wider
 from batching.lines import Line, Result
 from batching.reading import Lines, contradictions, with_other_texts
+from batching.score_tables import score_alarms
+from batching.scores import Score
 
 # How many tasks are named where many have the same to tell.
 MOST_NAMED = 6
@@ -61,9 +63,10 @@ def other_texts(runs: list[Lines]) -> Iterable[str]:
         yield f"{named(found)}: the texts of the same name differ from run to run. They are other tasks, and are not compared"
 
 
-def to_look_at(runs: list[Lines]) -> str:
+def to_look_at(runs: list[Lines], scores: Sequence[Score] = ()) -> str:
     """What contradicts each other or is not accepted, then what is refused or failed."""
-    alarm = [*map(escape, contradictions(runs)), *(it for run in runs for it in refused_certificates(run)), *other_texts(runs)]
+    alarm = [*map(escape, contradictions(runs)), *(it for run in runs for it in refused_certificates(run)), *score_alarms(scores),
+             *other_texts(runs)]
     return listed(alarm, ' class="alarm"') + listed(faults(runs)) or "<p>Nothing.</p>"
 
 

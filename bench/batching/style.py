@@ -24,6 +24,7 @@ table { border-collapse: collapse; font-size: .86rem; font-variant-numeric: tabu
 th, td { padding: .22rem .7rem; text-align: right; border-bottom: 1px solid var(--line); white-space: nowrap; }
 th { font-weight: 600; } th:first-child, td:first-child { text-align: left; }
 tr.group th { border-bottom: none; text-align: left; } tr.sum td { font-weight: 600; border-top: 2px solid var(--frame); }
+table.plans td:nth-child(-n+3), table.plans th:nth-child(-n+3) { text-align: left; } a { color: var(--notice); }
 tr:target { background: var(--target); } .wide { overflow-x: auto; }
 .runs { display: flex; flex-wrap: wrap; gap: 1rem; margin-top: 1.2rem; }
 .run { border: 1px solid var(--line); border-radius: 8px; padding: .8rem 1.2rem; flex: 1 1 22rem; min-width: 0;

@@ -35,7 +35,7 @@ REFUSED_BY_TOOL = 20
 # The status of `check` where a certificate, or the plan beside it, is not accepted.
 REFUSED_BY_CHECK = 12
 # The first line of `explain` where a text is refused, and the lines of the text that it tells next.
-PLACE = re.compile(r"(.*):(\d+):(\d+): fault \d+ \w+")
+PLACE = re.compile(r"(.*?):(\d+):(\d+): (?:fault \d+ \w+|(?:error: )?(?P<message>.*?)(?: \[\d+ \w+\].*)?$)")
 MARKED = re.compile(r" *\d* \|")
 # How `tools/ipc-files` refuses a file.
 PLACE_OF_TOOL = re.compile(r"(.*?):(\d+):(\d+): (.*)")
@@ -101,10 +101,17 @@ def fault_of(end: Ended) -> str | None:
 def explained(task: Task, settings: Settings) -> Explained | None:
     """Where a text that was refused is at fault, and the first sentence on it; None where the program does not tell."""
     words = [settings.program.path, "explain", task.domain, task.problem, "--instances", str(settings.instances)]
-    first, *others = within_limits(words, settings).output.split("\n")
+    return explained_in(within_limits(words, settings).output)
+
+
+def explained_in(output: str) -> Explained | None:
+    """The place and the first sentence in what `explain` says of a text: in its first line, or behind the lines of the text."""
+    first, *others = output.split("\n")
     place = PLACE.match(first)
     if place is None:
         return None
+    if place["message"]:
+        return Explained(place[1], int(place[2]), int(place[3]), place["message"])
     told = next((it for it in others if not MARKED.match(it)), "")
     sentence = SENTENCE.match(told)
     return Explained(place[1], int(place[2]), int(place[3]), sentence[0] if sentence else told)
