@@ -185,6 +185,15 @@ class Reports(RunsRead):
                    "refused, c&amp;d.pddl:3:8", "c/p2 in first: failed, status 1"):
             self.assertIn(it, page)
 
+    def test_what_the_tool_for_competition_files_refuses_is_told_in_its_words(self):
+        said = "`decrease`: numbers that actions change (PDDL 2.1) are not supported"
+        self.put_run("first", Line("a/p1", Result.REFUSED, status=20, explained=Explained("/a/d.pddl", 3, 8, said),
+                                   fault=f"/a/d.pddl:3:8: {said}"))
+        page = self.report("first")
+        self.assertIn("<code>/a/d.pddl:3:8</code> <code>decrease</code>: numbers that actions change (PDDL 2.1) are not supported "
+                      "<small>by tools/ipc-files</small>", page)
+        self.assertIn("<td>refused, d.pddl:3:8</td>", page)
+
     def test_a_fault_of_a_domain_is_told_once(self):
         explained = Explained("/a/domain.pddl", 3, 8, "`b` is none.")
         self.put_run("first", *(Line(f"a/p{it}", Result.REFUSED, explained=explained, fault="fault 7") for it in range(1, 9)))

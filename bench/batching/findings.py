@@ -34,7 +34,9 @@ def fault_of(line: Line) -> str:
     if line.explained is None:
         return f"{line.result.value}, {told}"
     sentence = re.sub("`([^`]*)`", r"<code>\1</code>", escape(line.explained.sentence))
-    return f"<code>{escape(line.explained.place)}</code> {sentence} <small>{told}</small>"
+    # `tools/ipc-files` says all in one line, and the program only a number and a name.
+    is_by_tool = line.fault is not None and line.fault.endswith(line.explained.sentence)
+    return f"<code>{escape(line.explained.place)}</code> {sentence} <small>{'by tools/ipc-files' if is_by_tool else told}</small>"
 
 
 def faults(runs: list[Lines]) -> Iterable[str]:
