@@ -7,8 +7,10 @@ import io
 import json
 import os
 import re
+import signal
 import subprocess
 import sys
+import time
 import unittest
 from contextlib import redirect_stderr, redirect_stdout
 from dataclasses import asdict, replace
@@ -299,6 +301,30 @@ class Words(ScoreRoom):
     def test_a_line_reads_back(self):
         score = Score("x", "a/p1", None, Verdict.MISSING)
         self.assertEqual(score_of(score.text()), score)
+
+
+class Ends(ScoreRoom):
+    def test_processes_end_with_the_command(self):
+        self.task("a/p1", "5")
+        self.task("a/p2", "5")
+        for it in ("p1", "p2"):
+            self.put(f"theirs/a/{it}.plan", "(sleep 5)")
+        self.write_run()
+        words = [sys.executable, f"{ROOT}/bench/score", str(self.room / "run"), str(self.room / "theirs"), "--lanes", "2"]
+        for kind in (signal.SIGTERM, signal.SIGKILL):
+            (self.room / "starts").unlink(missing_ok=True)
+            with self.subTest(kind), subprocess.Popen(words, stdout=subprocess.DEVNULL, stderr=subprocess.DEVNULL) as ran:
+                self.wait_until(lambda: sum(it.startswith("validate") for it in self.starts()) == 2)
+                ran.send_signal(kind)
+                ran.wait(20)
+                self.wait_until(lambda: subprocess.run(["pgrep", "-f", str(self.program)], stdout=subprocess.DEVNULL).returncode)
+
+    def wait_until(self, holds):
+        for _ in range(400):
+            if holds():
+                return
+            time.sleep(0.05)
+        self.fail("it took too long")
 
 
 class Pages(ScoreRoom):

@@ -157,23 +157,23 @@ def rows_by_domain(scores: list[Score]) -> list[list[str]]:
     return found
 
 
-def table(heads: Iterable[str], rows: list[list[str]], left: int) -> str:
-    """A table of text, whose first columns stand to the left."""
+def table(heads: Iterable[str], rows: list[list[str]], left: Iterable[int]) -> str:
+    """A table of text, of which these columns stand to the left."""
     every = [[*heads], *rows]
     widths = [max(len(it[column]) for it in every) for column in range(len(every[0]))]
     lines = []
     for it in every:
-        cells = (cell.ljust(width) if column < left else cell.rjust(width) for column, (cell, width) in enumerate(zip(it, widths)))
+        cells = (cell.ljust(width) if column in left else cell.rjust(width) for column, (cell, width) in enumerate(zip(it, widths)))
         lines.append("  ".join(cells).rstrip())
     return "\n".join(lines)
 
 
 def summary_text(scores: list[Score]) -> str:
-    return table(("planner", "domain", *HEADS), rows_by_domain(scores), 2)
+    return table(("planner", "domain", *HEADS), rows_by_domain(scores), (0, 1))
 
 
 def plans_text(scores: list[Score]) -> str:
     """A line for each plan."""
     known = lambda it: "" if it is None else f"{it:,}"
     rows = [[it.planner, it.task, it.told, known(it.cost), known(it.bound), it.plan or ""] for its in by_task(scores).values() for it in its]
-    return table(("planner", "task", "verdict", "cost", "bound", "plan"), rows, 3)
+    return table(("planner", "task", "verdict", "cost", "bound", "plan"), rows, (0, 1, 2, 5))

@@ -6,8 +6,10 @@ import argparse
 import os
 import sys
 from concurrent.futures import ProcessPoolExecutor
+from concurrent.futures.process import BrokenProcessPool
 from dataclasses import replace
 from fnmatch import fnmatchcase
+from multiprocessing import active_children
 from pathlib import Path
 
 from batching.judging import Judge
@@ -102,8 +104,12 @@ def scores_of(words: argparse.Namespace, settings: Settings) -> list[Score]:
                    for it in tasks]
         try:
             scores = [score for it in waiting for score in it.result()]
-        except BaseException:
+        except BaseException as why:
             pool.shutdown(wait=False, cancel_futures=True)
+            for it in active_children():
+                it.terminate()
+            if isinstance(why, BrokenProcessPool):
+                sys.exit("score: a process of it was ended from elsewhere")
             raise
     return sorted(scores, key=lambda it: planners.index(it.planner))
 
