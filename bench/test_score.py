@@ -151,6 +151,12 @@ class Verdicts(ScoreRoom):
                          [("one", "optimal", True), ("other", "dearer by 1", True)])
         self.assertEqual(ran.returncode, 0)
 
+    def test_a_damaged_plan_of_the_run_leaves_the_bound(self):
+        self.task("a/p1", "5", own="(bad)\n")
+        self.put("theirs/a/p1.plan", "(go 6)")
+        self.write_run()
+        self.assertEqual([it.told for it in self.score()[1]], ["at most 1 above a proved bound"])
+
     def test_an_empty_plan_is_one(self):
         self.task("a/p1", "0")
         self.put("theirs/a/p1.plan", "; cost = 0 (unit cost)\n")
@@ -235,6 +241,13 @@ class CompetitionFiles(ScoreRoom):
             ("refused: line 1: no action is called `other`", None, 1.5), ("refused: line 1: `two` takes 2 objects, not 1", None, 1.5)])
 
 
+    def test_a_damaged_table_is_told(self):
+        self.put("theirs/a/p1.plan", "(two one 4)")
+        self.write_run(converter="sum")
+        self.put("run/answers/a/p1/changes.json", "{")
+        self.assertIn("run/answers/a/p1/changes.json is damaged", self.score()[0].stderr)
+
+
 class PlanFiles(ScoreRoom):
     def found(self, tasks, *files, folder="theirs"):
         for it in files:
@@ -286,6 +299,8 @@ class Words(ScoreRoom):
         self.assertIn("there are no such plans: a plan is called by its task, as gripper/p03.plan", said)
         self.put("other/theirs/a/p1.plan")
         self.assertIn("two planners would be called theirs", self.score(plans=("theirs", "other/theirs"))[0].stderr)
+        self.put("run/tasks.jsonl", "{}\n")
+        self.assertIn("run/tasks.jsonl is damaged", self.score()[0].stderr)
         self.put("run/run.json", "[]")
         self.assertIn("run is no folder of a run", self.score()[0].stderr)
 

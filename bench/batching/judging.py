@@ -44,9 +44,16 @@ class Judge:
         # Where the certificate stands, and what was written in the place of competition files.
         self.folder = folder
         is_converted = settings.converter is not None and os.path.isfile(f"{folder}/changes.json")
-        self.made = Converted.read(task, folder) if is_converted else None
+        self.made = self.converted() if is_converted else None
         self.read = self.made.task if self.made else task
         self.keys = {"task": task.name, "program": settings.program.sum, "texts": texts_sum(task)}
+
+    def converted(self) -> Converted:
+        """What was written in the place of the task's files."""
+        try:
+            return Converted.read(self.task, self.folder)
+        except (ValueError, KeyError, TypeError) as why:
+            raise OSError(f"{self.folder}/changes.json is damaged") from why
 
     def back(self, cost: int | None) -> Cost:
         """A cost of the files that the program reads, in those of the files that were found."""
@@ -61,12 +68,17 @@ class Judge:
         return self.run("check", cert, *words, "--instances", str(self.settings.instances), "--json")
 
     def known(self) -> Known:
-        """What the certificate shows, with the run's own plan where there is one."""
+        """What the certificate shows, with the run's own plan where there is one that is accepted."""
         own = f"{self.folder}/plan.txt"
         if not os.path.isfile(f"{self.folder}/cert.txt"):
             return self.known_by_line()
         has_plan = self.line is not None and self.line.result is Result.PLAN and os.path.isfile(own)
-        end = self.check(*(["--plan", own] if has_plan else []))
+        known = self.shown("--plan", own) if has_plan else None
+        return known if known and known.why is None else self.shown()
+
+    def shown(self, *words: str) -> Known:
+        """What `check` says of the certificate."""
+        end = self.check(*words)
         answer = told(end)
         if end.status == VALID and answer.get("result") in ("optimal", "at least"):
             return Known(answer["cost"], answer["result"] == "optimal")

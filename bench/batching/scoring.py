@@ -87,10 +87,18 @@ def judged(settings: Settings, task: Task, folder: str, line: Line, plans: list[
     return [*scores, *(judge.without_plan(it) for it in planners if it not in {planner for planner, _ in plans})]
 
 
+def tasks_in(run: str) -> list[Task]:
+    """The tasks of a run."""
+    try:
+        return read_tasks(run)
+    except (ValueError, TypeError):
+        sys.exit(f"score: {run}/tasks.jsonl is damaged")
+
+
 def scores_of(words: argparse.Namespace, settings: Settings) -> list[Score]:
     """The scores of all plans, planner by planner."""
     run = os.path.abspath(words.run)
-    tasks = [it for it in read_tasks(run) if not words.task or any(fnmatchcase(it.name, pattern) for pattern in words.task)]
+    tasks = [it for it in tasks_in(run) if not words.task or any(fnmatchcase(it.name, pattern) for pattern in words.task)]
     planners = [planner_of(it)[0] for it in words.plans]
     if len({*planners}) < len(planners):
         sys.exit(f"score: two planners would be called {next(it for it in planners if planners.count(it) > 1)}: name one NAME=FOLDER")

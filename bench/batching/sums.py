@@ -80,7 +80,7 @@ def costs_by_domain(runs: list[Lines]) -> str:
         cells += [cell for run in runs for it in measures for cell in cells_of([run.by_task[task] for task in here], it)]
         kind = ' class="sum"' if domain is None else ""
         lines.append(f"<tr{kind}>{''.join(f'<td>{it}</td>' for it in cells)}</tr>")
-    floors = ", ".join(f"{it.floor:g} {it.name}" for it in measures if it.name in ("s", "cost", "states"))
     which = "all runs have" if len(runs) > 1 else "the run has"
-    return (f"<p>Of the {len(tasks)} tasks that {which} answered. Means are geometric; less than {floors} counts as that.</p>"
+    return (f"<p>Of the {len(tasks)} tasks that {which} answered. Means are geometric: a figure of less than 1 counts as 1, and a "
+            "time of less than 0.001 s as that.</p>"
             f'<div class="wide"><table>{"".join(lines)}</table></div>')
