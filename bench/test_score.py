@@ -50,7 +50,8 @@ if "refused" in open(problem).read():
     print("fault 7 Unexpected in problem at 0..5", file=sys.stderr)
     sys.exit(20)
 if command == "explain":
-    say("%s:%d:1: fault 32 UnknownAction (columns count bytes)\\n   1 | (none)\\n     | ^\\nno action is called `none`." % (file, judged(file)[0]), 20)
+    place = "%s:%d:1: fault 32 UnknownAction (columns count bytes)" % (file, judged(file)[0])
+    say(place + "\\n   1 | (none)\\n     | ^\\nno action is called `none`.", 20)
 if command == "validate":
     number, what = judged(file)
     if what == "none":
@@ -233,7 +234,8 @@ class CompetitionFiles(ScoreRoom):
             self.put(f"run/answers/a/p1/{name}", text)
 
     def test_plans_are_judged_in_the_names_of_what_was_solved(self):
-        for number, text in enumerate(["(GO#A 2)\n(go#a ONE)\n", "(two one 3)\n(worse)\n", "(two one 4)\n", "(other)\n", "(two one)\n"], 1):
+        texts = ["(GO#A 2)\n(go#a ONE)\n", "(two one 3)\n(worse)\n", "(two one 4)\n", "(other)\n", "(two one)\n"]
+        for number, text in enumerate(texts, 1):
             self.put(f"theirs/a/p1.plan.{number}", text)
         self.write_run(converter="sum")
         self.assertEqual([(it.told, it.cost, it.bound) for it in self.score()[1]], [

@@ -19,6 +19,7 @@ from timing import Ended
 
 # Statuses of `validate`.
 VALID, NOT_VALID, REFUSED = 0, 12, 20
+NOT_ACCEPTED = "the certificate is not accepted"
 
 
 @dataclass(frozen=True)
@@ -84,7 +85,7 @@ class Judge:
             return Known(answer["cost"], answer["result"] == "optimal")
         if end.status == VALID and answer.get("result") == "unsolvable":
             return Known(is_unsolvable=True)
-        return Known(why=f"the certificate is not accepted: {words_of(end, self.settings.seconds)}")
+        return Known(why=f"{NOT_ACCEPTED}: {words_of(end, self.settings.seconds)}")
 
     def known_by_line(self) -> Known:
         """What the run's line says of a certificate that was accepted, and is not there any more."""

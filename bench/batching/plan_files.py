@@ -21,7 +21,8 @@ PLAN = re.compile(r"plan|sol")
 # What else may follow a task's name: nothing, an ending or a number.
 ENDING = re.compile(r"(?:\.(?:txt|pddl|ipc|[0-9]+))*")
 # Endings of what is no plan.
-OTHERS = (".pddl", ".json", ".jsonl", ".csv", ".log", ".err", ".sas", ".cert", ".zip", ".gz", ".xz", ".bz2", ".py", ".sh", ".md", ".html")
+OTHERS = (".pddl", ".json", ".jsonl", ".csv", ".log", ".err", ".sas", ".cert", ".zip", ".gz", ".xz", ".bz2",
+          ".py", ".sh", ".md", ".html")
 
 
 class Names:

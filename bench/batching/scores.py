@@ -75,8 +75,8 @@ class Score:
         if self.verdict is Verdict.INVALID:
             return "invalid: the goal is missed" if self.step is None else f"invalid at step {self.step:,}"
         if self.verdict is Verdict.CONTRADICTION:
-            return f"contradiction: costs {self.cost:,}, " + (f"less than the proved bound {self.bound:,}" if self.bound is not None else
-                                                              "where no plan is proved to be")
+            against = "where no plan is proved to be" if self.bound is None else f"less than the proved bound {self.bound:,}"
+            return f"contradiction: costs {self.cost:,}, {against}"
         return self.verdict.value + (f": {self.why}" if self.why else "")
 
     @property
@@ -175,5 +175,6 @@ def summary_text(scores: list[Score]) -> str:
 def plans_text(scores: list[Score]) -> str:
     """A line for each plan."""
     known = lambda it: "" if it is None else f"{it:,}"
-    rows = [[it.planner, it.task, it.told, known(it.cost), known(it.bound), it.plan or ""] for its in by_task(scores).values() for it in its]
+    ordered = [it for its in by_task(scores).values() for it in its]
+    rows = [[it.planner, it.task, it.told, known(it.cost), known(it.bound), it.plan or ""] for it in ordered]
     return table(("planner", "task", "verdict", "cost", "bound", "plan"), rows, (0, 1, 2, 5))

@@ -12,7 +12,7 @@ from fnmatch import fnmatchcase
 from multiprocessing import active_children
 from pathlib import Path
 
-from batching.judging import Judge
+from batching.judging import NOT_ACCEPTED, Judge
 from batching.layouts import Task
 from batching.lines import Line, read_lines
 from batching.plan_files import plans_in
@@ -125,8 +125,8 @@ def scores_of(words: argparse.Namespace, settings: Settings) -> list[Score]:
 def alarms(scores: list[Score]) -> list[str]:
     """What somebody should look at."""
     at = lambda it: f"{it.task} of {it.planner}" + (f" ({it.plan})" if it.plan else "")
-    return [f"{at(it)}: {it.told}" for it in scores
-            if it.verdict in (Verdict.CONTRADICTION, Verdict.FAILED) or it.why and it.why.startswith("the certificate is not accepted")]
+    is_one = lambda it: it.verdict in (Verdict.CONTRADICTION, Verdict.FAILED) or (it.why or "").startswith(NOT_ACCEPTED)
+    return [f"{at(it)}: {it.told}" for it in scores if is_one(it)]
 
 
 def main(usage: str, given: list[str]) -> None:
