@@ -221,3 +221,7 @@ module _ (orbits : Orbits) (known : IsLinked orbits) (s : List Bool) (place : �
   other_current class at_current =
       not_superseded (key_by orbits.representatives.now) (length (atoms_of orbits.representatives.now)) (states_in orbits) (pooled_states orbits.keys) orbits.current.items
       (pooled_states orbits.superseded) orbits.places.items known.listed class place alike.other at_current alike.there
+
+  -- its class has a key
+  pub has_key : (Contains (pooled_states orbits.keys) (key_by orbits.representatives.now s) → ⊥) → ⊥
+  has_key none = known.listed.known place alike.other alike.there (subst (λ (key : List Bool). Contains (pooled_states orbits.keys) key → ⊥) (sym alike.alike) none)

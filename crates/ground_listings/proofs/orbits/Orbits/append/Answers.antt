@@ -1,5 +1,5 @@
 use Rattle.std.proofs.Common.{◌≡◌, ◌∙◌, ℕ, ◌<◌, List, Bool, [], ◌∷◌, ◌++◌, length, set, Some, refl, sym, ap, subst, arith}
-use Rattle.std.specs.Prelude.{slice_get, Contains}
+use Rattle.std.specs.Prelude.{slice_get, vec_len, Contains}
 use Rattle.std.specs.Global.{Vec}
 use Rattle.std.proofs.lemmas.List.{length-map}
 use Rattle.std.proofs.lemmas.Option.{slice_get_within}
@@ -8,7 +8,7 @@ use Rattle.packed_state.specs.declared.pooled.PooledStore.{PooledStore}
 use Rattle.packed_state.specs.Packed.{bits_of}
 use Rattle.packed_state.specs.PooledView.{pooled_width, pooled_states}
 use Rattle.ground_listings.specs.Orbits.{key_by, states_in}
-use Rattle.ground_listings.proofs.OrbitLemmas.{IsLike, states_pushed, put_new, linked_superseded, other_is, other_wide, class_there, other_current}
+use Rattle.ground_listings.proofs.OrbitLemmas.{IsLike, states_pushed, put_new, linked_superseded, other_is, other_wide, class_there, other_current, has_key}
 use Rattle.ground_listings.proofs.orbits.Orbits.append.Goals as goal
 use Rattle.ground_listings.proofs.orbits.Orbits.append.Goals.{After-index}
 
@@ -24,6 +24,19 @@ insert_copy_if_new-requires-clause-width c =
     let old = c.args.self.now in
     ap length (is_other (goal.at.insert_copy_if_new-requires-clause-width c).After-index) ∙ other_wide old c.requires.linked (bits_of c.args.state.now) c.args.place c.requires.alike
     ∙ sym c.requires.linked.superseded_width ∙ ap pooled_width (sym c.represent.ensures.superseded)
+
+pub unreachable-requires : goal.unreachable-requires
+unreachable-requires c =
+    let old = c.args.self.now in
+    has_key old c.requires.linked (bits_of c.args.state.now) c.args.place c.requires.alike
+    (subst (λ (keys : List (List Bool)). Contains keys (key_by old.representatives.now (bits_of c.args.state.now)) → ⊥) (ap pooled_states c.represent.ensures.keys)
+    (subst (λ (key : List Bool). Contains (pooled_states c.represent.new.self.keys) key → ⊥) c.represent.ensures.key c.in_default.ensures))
+
+pub index-requires : goal.index-requires
+index-requires c =
+    let old = c.args.self.now in
+    let inside = slice_get_within (states_in old) c.args.place c.requires.alike.other c.requires.alike.there in
+    omega (arith, inside, length-map old.states.items bits_of, c.reserve.ensures.len, ap (λ (v : Vec Packed). vec_len v) c.represent.ensures.states, old.states.ok.0)
 
 pub index_mut-requires : goal.index_mut-requires
 index_mut-requires c =
