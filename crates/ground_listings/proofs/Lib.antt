@@ -2,3 +2,5 @@ pub mod GroundLemmas
 pub mod TaskLemmas
 pub mod ExchangeLemmas
 pub mod PlanLemmas
+pub mod ByKeys
+pub mod OrbitLemmas

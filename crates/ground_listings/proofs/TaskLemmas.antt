@@ -122,5 +122,5 @@ alike_by r typed numbered symmetries kept =
     (sym numbered) (goals_are_reached_alike task [] (exchanges_of r) typed (λ k d below. absurd (omega (arith, below))) symmetries) kept
 
 pub classes_reach_alike : ClassesReachGoalsAlike
-classes_reach_alike (space.Alone g) known bits other same = equal_reach_alike (ground_system _ _) bits other same
+classes_reach_alike (space.Alone g) known bits other same = equal_reach_alike (search_space.system_of (space.Alone g)) bits other same
 classes_reach_alike (space.Orbits r) known bits other same = alike_by r.now known.typed known.atoms known.symmetries known.kept bits other same

@@ -1,5 +1,6 @@
 -- The listing of a search of a ground task as contracts see it.
 use Rattle.std.specs.Prelude.{ℕ, Bool, List, ⊤}
+use Rattle.packed_state.specs.Store.{AreDistinct}
 use Rattle.packed_state.specs.PooledView.{pooled_width, pooled_states}
 use Rattle.ground_listings.specs.declared.ground_listing.GroundListing.{GroundListing}
 use Rattle.ground_listings.specs.declared.ground_listing.GroundListing.TheVariants as listing
@@ -23,3 +24,7 @@ listed_class (listing.Orbits store) = orbit_class store
 abbrev pub is_current_in : GroundListing → ℕ → Type 0
 is_current_in (listing.Alone own) place = ⊤
 is_current_in (listing.Orbits store) place = is_orbit_current store place
+
+pub are_listed_once : (l : GroundListing) → AreDistinct (listed_states l)
+are_listed_once (listing.Alone own) = own.0.pooled.stored.distinct
+are_listed_once (listing.Orbits store) = store.linked.listed.distinct

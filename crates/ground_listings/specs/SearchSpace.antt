@@ -7,7 +7,7 @@ use Rattle.model.specs.Runs.{System}
 use Rattle.model.specs.WellTyped.{is_task}
 use Rattle.model.specs.NumberedAtoms.{numbered_atoms}
 use Rattle.model.specs.Grounding.{ground_system}
-use Rattle.model.specs.Bisimulation.{ReachGoalsAlike}
+use Rattle.search.specs.Outcome.{AreClassesOf}
 use Rattle.certificate_definitions.specs.Certificates.{three, are_exchanges}
 use Rattle.symmetries.specs.Exchanges.{Exchange}
 use Rattle.symmetries.specs.Symmetries.{is_symmetry}
@@ -54,4 +54,4 @@ pub record IsSearchSpace (s : SearchSpace) : Type 0 where
 
 -- From states of one class the goal is reached alike.
 abbrev pub ClassesReachGoalsAlike : Type 0
-ClassesReachGoalsAlike = (s : SearchSpace) → IsSearchSpace s → (bits other : List Bool) → class_in s bits ≡ class_in s other → ReachGoalsAlike (system_of s) bits other
+ClassesReachGoalsAlike = (s : SearchSpace) → IsSearchSpace s → AreClassesOf (system_of s) (class_in s)

@@ -14,7 +14,7 @@ pub enum GroundListing<'l, 't> {
 }
 
 impl StateListing for GroundListing<'_, '_> {
-    ghost use Rattle.ground_listings.specs.GroundListing.{listed_width, listed_states, listed_class, is_current_in};
+    ghost use Rattle.ground_listings.specs.GroundListing.{listed_width, listed_states, listed_class, is_current_in, are_listed_once};
 
     ghost width_of = { listed_width };
 
@@ -23,6 +23,8 @@ impl StateListing for GroundListing<'_, '_> {
     ghost class_of = { listed_class };
 
     ghost is_current = { is_current_in };
+
+    ghost distinct = { are_listed_once };
 
     fn width(&self) -> u32 {
         match self {

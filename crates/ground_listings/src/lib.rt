@@ -4,6 +4,7 @@
 mod exchanges;
 mod ground_listing;
 mod ground_system;
+mod laws;
 mod orbit_store;
 mod orbits;
 mod plans;
@@ -13,6 +14,7 @@ mod starts;
 pub use exchanges::exchanges_of;
 pub use ground_listing::GroundListing;
 pub use ground_system::GroundSystem;
+pub use laws::classes_reach_goals_alike;
 pub use orbit_store::OrbitStore;
 pub use plans::plan_of;
 pub use search_space::SearchSpace;

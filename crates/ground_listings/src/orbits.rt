@@ -143,7 +143,7 @@ impl<'l, 't> Orbits<'l, 't> {
         ensures states { OnOk result (states_in self.new ≡ states_in self.old ++ bits_of state.now ∷ []) }
         ensures place { IfOk result (λ place. place ≡ length (states_in self.old)) }
     {
-        let copy = state.with_width(self.alloc, state.width())?;
+        let copy = copied(self.alloc, state)?;
         self.states.reserve(1)?;
         self.current.reserve(1)?;
         let place = self.states.len() as u32;
@@ -169,7 +169,7 @@ impl<'l, 't> Orbits<'l, 't> {
         let Some(class) = self.keys.find(&self.key) else {
             unreachable!()
         };
-        let copy = state.with_width(self.alloc, state.width())?;
+        let copy = copied(self.alloc, state)?;
         self.states.reserve(1)?;
         self.places.reserve(1)?;
         self.superseded.insert_copy_if_new(&self.states[place as usize])?;
@@ -192,4 +192,13 @@ impl<'l, 't> Orbits<'l, 't> {
     {
         self.states[place as usize].copy_from(state);
     }
+}
+
+/// The same state.
+fn copied(alloc: Global, state: &Packed) -> Result<Packed, NoMemory>
+    ensures { IfOk result (λ copy. bits_of copy ≡ bits_of state.now) }
+{
+    let mut copy = Packed::empty(alloc, state.width())?;
+    copy.copy_from(state);
+    Ok(copy)
 }

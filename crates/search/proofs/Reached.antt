@@ -145,13 +145,23 @@ module _ {S : Type 0} (t : System S ℕ) (class_of : S → S) (value : S → ℕ
         → (states' ≡ states) × IsStepped states' all open_list a
     reached_before a cost costs (New place) placed reached = absurd (reached)
     reached_before a cost costs (Listed place) (there, stored) (node, at, within) =
-        let n : Found S = record { state = s; node = node } in
-        (stored, (one_each ∙ sym (ap length stored), subst (λ ss. Stepped t class_of value is_dead (found_of states all) (found_of ss all) open_list i a s) (sym stored)
-        (stepped_known a cost costs place n (get-found_of states all place s node there at) refl within)))
+        let n : Found S = record { state = s; node = node } in (
+          stored,
+          (
+            one_each ∙ sym (ap length stored),
+            subst (λ ss. Stepped t class_of value is_dead (found_of states all) (found_of ss all) open_list i a s) (sym stored)
+                (stepped_known a cost costs place n (get-found_of states all place s node there at) refl within),
+          ),
+        )
     reached_before a cost costs (Alike place) (is_new, alike, current, stored) (node, at, within) =
-        let n : Found S = record { state = alike.other; node = node } in
-        (stored, (one_each ∙ sym (ap length stored), subst (λ ss. Stepped t class_of value is_dead (found_of states all) (found_of ss all) open_list i a s) (sym stored)
-        (stepped_known a cost costs place n (get-found_of states all place alike.other node alike.there at) alike.alike within)))
+        let n : Found S = record { state = alike.other; node = node } in (
+          stored,
+          (
+            one_each ∙ sym (ap length stored),
+            subst (λ ss. Stepped t class_of value is_dead (found_of states all) (found_of ss all) open_list i a s) (sym stored)
+                (stepped_known a cost costs place n (get-found_of states all place alike.other node alike.there at) alike.alike within),
+          ),
+        )
 
 -- what is known of the place where a state is to be listed
 module _ {S : Type 0} (class_of : S → S) (is_current : ℕ → Type 0) (old new : List S) (s : S) (max_states : ℕ) where

@@ -29,7 +29,8 @@ pub enum Outcome<L> {
     },
     /// There is no plan.
     Exhausted {
-        /// The states that were found: all that are reachable, but for those that only dead ends lead to.
+        /// The states that were found. Where each is a class of its own, they are all that are reachable, but for those that only
+        /// dead ends lead to.
         states: FoundStates<L>,
     },
     /// More states would have to be listed than may be, before any plan is sure to be a cheapest one.
@@ -53,7 +54,8 @@ pub enum Outcome<L> {
 ///
 /// A state that the guide reports dead is listed as a dead end, and never expanded; with `NoDeadEnd` there is none.
 ///
-/// `begin`, `go_on` and `finish` are the same search in parts, which may pause.
+/// `begin`, `go_on` and `finish` are the same search in parts, which may pause, over any listing of its states. Here each state is a
+/// class of its own.
 ///
 /// What differs from these: the states are in a store, in the order in which they were found, and are named by
 /// their places there; actions are the system's numbers. Where a cheaper way to a waiting state is found, the old entry
@@ -71,11 +73,11 @@ pub enum Outcome<L> {
 /// estimate over the found states that are neither expanded nor reported dead, and the found states prove it (`IsAtLimit`). No
 /// state that is reported dead is expanded, and exactly these are marked dead among the found states. No plan costs less than an
 /// expanded state with its estimate. Where the estimate is consistent, and what follows a state that is reported dead is reported
-/// dead too, an expanded state was reached by a cheapest way, and at the limit none has a greater sum than the bound. The clause
-/// leaves open which of several cheapest plans is answered, which states whose sum is as much as these cost are expanded before,
-/// and the order of the states in the store. Of that order, the contract of `next_waiting` says that it gives the state found first
-/// of those of the least estimate of those of the least sum; that this is the one to be expanded or answered, and that states
-/// are found in the order of the successors, is shown by tests alone.
+/// dead too, an expanded state was reached by a cheapest way, and at the limit none has a greater sum than the bound, nor has the
+/// initial state a greater estimate. The clause leaves open which of several cheapest plans is answered, which states whose sum is as
+/// much as these cost are expanded before, and the order of the states in the store. Of that order, the contract of `next_waiting`
+/// says that it gives the state found first of those of the least estimate of those of the least sum; that this is the one to be
+/// expanded or answered, and that states are found in the order of the successors, is shown by tests alone.
 ///
 /// ```text
 /// let store = PooledStore::new(alloc, system.width())?;

@@ -40,8 +40,8 @@ pub struct Node {
     pub cost: u64,
     /// Whether it is still to be expanded, for the first time or again, was expanded, or is reported a dead end.
     pub status: NodeStatus,
-    /// The state from which it was reached at this cost, which may itself be reached at a lower one since. Of the initial state it
-    /// says nothing.
+    /// The state from which it was reached at this cost, which may itself be reached at a lower one since. It has been expanded, so
+    /// that no other takes its place. Of the initial state it says nothing.
     pub(crate) parent: ShortId,
     /// The action that leads to it from there.
     pub(crate) action: u32,

@@ -23,7 +23,8 @@ use std::cmp::Reverse;
 pub(crate) struct Progress<L> {
     pub(crate) store: L,
     pub(crate) nodes: Vec<Node>,
-    /// Each waiting state, beside entries that are stale: a cheaper way was found, or it was expanded at this cost.
+    /// Each waiting state, beside entries that are stale: a cheaper way was found, also by another state that took the place, or
+    /// the state was expanded at this cost.
     pub(crate) open_list: OpenList,
 }
 
@@ -186,7 +187,8 @@ impl<L: StateListing> Progress<L> {
         self.nodes[id.0 as usize].status = status;
     }
 
-    /// Lists a successor of the state that is being expanded; says whether the limit allows that.
+    /// Lists a successor of the state that is being expanded, unless it or the current one of its class is reached at no more; says
+    /// whether the limit allows that.
     fn reach<T: TransitionSystem, G: Guide>(
         &mut self,
         system: &T,
@@ -247,7 +249,12 @@ impl<L: StateListing> Progress<L> {
     ///
     /// One of the class that was never expanded gives it its place, since no other was reached from it. One that was stays where it
     /// is, so that each state is still what its action makes of its parent.
-    fn take_place(&mut self, place: Place, reached: Reached<'_>, max_states: u32) -> Result<bool, NoMemory>
+    fn take_place(
+        &mut self,
+        place: Place,
+        reached: Reached<'_>,
+        max_states: u32,
+    ) -> Result<bool, NoMemory>
         requires place { IsPlaceAmong (length self.old.nodes.items) place }
         requires free { IsFreeFor (L.class_of self.old.store) (L.is_current self.old.store) (L.states self.old.store) (length self.old.nodes.items) (bits_of reached.state.now) place }
         requires width { length (bits_of reached.state.now) ≡ L.width_of self.old.store }
@@ -284,7 +291,7 @@ impl<L: StateListing> Progress<L> {
     }
 
     /// Lists the successors of the state whose turn it is, which the buffers hold; says whether the limit allows that.
-    /// Where it does not, the state is not expanded: it waits still, but is not in the open list.
+    /// Where it does not, the state is not expanded: it waits again, but is not in the open list.
     pub(crate) fn expand<T: TransitionSystem, G: Guide>(
         &mut self,
         system: &T,

@@ -1,4 +1,26 @@
-//! A search that is under way: it pauses between two turns, and goes on.
+//! A search that is under way: it pauses between two turns, and goes on. It is the one of `best_first`, by classes of states.
+//!
+//! From states of one class the goal is reached alike: what leads from the one to the goal has something of the same cost from the
+//! other. So a state need not be expanded where one of its class is, at no more cost. With the states that symmetries turn into one
+//! another as classes, this is how a search prunes by symmetries (Domshlak, Katz & Shleyfman, Enhanced Symmetry Breaking in
+//! Cost-Optimal Planning as Forward Search, 2012; as orbit space search, with representatives in place of states: Symmetry Breaking
+//! in Deterministic Planning as Forward Search, 2015).
+//!
+//! Here a representative is only a key by which the states of a class are found (`StateListing`). What is listed are the states
+//! themselves, each of which is what its action makes of its parent: so the plan is read along parents, estimates are those of the
+//! states, and no more are listed than are reachable. A key need not be the same for all states of an orbit.
+//!
+//! A state that is reached is compared with the current one of its class:
+//!
+//! - There is none: it is new.
+//! - That is reached at no more: nothing changes.
+//! - That was never expanded: the state takes its place. No other was reached from it.
+//! - That has been expanded: the state is listed as well, and is the current one from then on. The other one stays, as a state that
+//!   was expanded at its cost, so that the states that were reached from it keep their parent.
+//!
+//! A state that is listed itself and is reached at less waits again at its place, as in `best_first`. So several states of one class
+//! may be listed. Where the estimates of a class differ, an expanded state need not have been reached by a cheapest way, consistent
+//! though they are: one of its class may still wait that a cheaper way goes through.
 ghost use Rattle.std.specs.Prelude.{◌≡◌, ◌≤◌, ℕ, [], IfOk};
 ghost use Rattle.model.specs.Limits.{max_states_listed};
 ghost use Rattle.search.specs.OpenList.{IsLeastSum};
@@ -31,7 +53,7 @@ pub enum Halt<L, R> {
 }
 
 impl<L: StateListing, R> Search<L, R> {
-    /// The states that it found, in the order in which their places were taken.
+    /// The states that it lists, in the order in which they were found, except that one may have the place of another of its class.
     pub fn store(&self) -> &L
         ensures { result.now ≡ store_in self.now }
     {
@@ -46,7 +68,7 @@ impl<L: StateListing, R> Search<L, R> {
     }
 
     /// The least sum of cost and estimate in the open list, if anything is in it. Nothing else is claimed of it: an entry may
-    /// be stale, as where a cheaper way to its state was found.
+    /// be stale, as where a cheaper way to its state was found, or another state took its place.
     pub fn bound(&self) -> Option<u64>
         ensures { IsLeastSum self.now.progress.open_list result }
     {
@@ -54,7 +76,7 @@ impl<L: StateListing, R> Search<L, R> {
     }
 }
 
-/// Begins a search, which has found the initial state alone.
+/// Begins a search over this listing, which has no state yet. It has found the initial state alone.
 pub fn begin<T: TransitionSystem, G: Guide, L: StateListing>(
     alloc: Global,
     system: &T,
@@ -74,7 +96,7 @@ pub fn begin<T: TransitionSystem, G: Guide, L: StateListing>(
 }
 
 /// Goes on with the search until it ends, or at least `pause` states are listed. It pauses between two turns alone, so that
-/// more than `pause` may be listed then: all successors of the state that was expanded last are.
+/// more than `pause` may be listed then: also what follows the state that was expanded last.
 pub fn go_on<T: TransitionSystem, G: Guide, L: StateListing>(
     alloc: Global,
     system: &T,

@@ -91,23 +91,25 @@ pub enum Exceeded {
 /// }
 /// ```
 ///
-/// The search goes by fair potentials of the ground task, which are made better first, in at most 8 rounds; the certificate
-/// has them too. Where they are not settled, they give the initial state a value of at least 8. Beside a plan, each state
-/// that the certificate lists as open costs, with its value, no more than the plan. By dead-fair potentials, which the
-/// certificate has beside them and which are settled or high as well, states are reported as dead ends: they are listed, and
-/// the search goes no further from them.
+/// The search goes by fair potentials of the ground task, which are made better first, in at most 8 rounds; the certificate has them
+/// too. Where they are not settled, they give the initial state a value of at least 8. On the way values over tables may be taken in
+/// their place: the potentials of the first are these, which are fair by themselves. Beside a plan, each state that the certificate
+/// lists as open costs, with its value, no more than the plan. By dead-fair potentials, which the certificate has beside them and
+/// which are settled or high as well, states are reported as dead ends: they are listed, and the search goes no further from them.
 ///
-/// Where objects are interchangeable, a state need not be listed if one is, at no greater cost, that exchanges of them take to it
-/// (orbit space search: Domshlak, Katz and Shleyfman, "Symmetry Breaking in Deterministic Planning as Forward Search", 2015). Two such
-/// states are found to be alike by their representatives, which take them into one another often, but not always. The certificate has
-/// the exchanges, each of which is a symmetry of the task. Which exchanges are found is not said.
+/// Where objects are interchangeable, exchanges of them take states into one another, and it suffices to list one of these at no greater
+/// cost than the others (orbit space search: Domshlak, Katz and Shleyfman, "Symmetry Breaking in Deterministic Planning as Forward Search",
+/// 2015). Such states are found by their representatives, which they often have in common, but not always. The certificate has the
+/// exchanges, each of which is a symmetry of the task. Which exchanges are found is not said.
 ///
-/// A certificate then lists at most 100,000 states: different ones of the task, each reached at the cost at which it is listed. Where
-/// more are reachable and may have to be listed, `Unknown(Exceeded::States { .. })` has a certificate of 100,000, and in it the bound
-/// is the least sum of cost and value of a state that is still to be expanded. No open state has a greater sum, and the initial
-/// state's value is no greater. So the answer is a plan or `Unsolvable` wherever all reachable states may be listed. Two limits are reported before any potentials are looked for: `Unknown(Exceeded::Instances)`
-/// exactly where the task has more than 10,000 kept instances, which are those that are statically applicable, and
-/// `Unknown(Exceeded::Atoms)` exactly where it has no more, and more than 1,048,576 atoms would have numbers.
+/// A certificate then lists at most 100,000 states: different ones of the task, each at the cost of a list of instances that leads to
+/// it. Where more are reachable and may have to be listed, `Unknown(Exceeded::States { .. })` has a certificate of 100,000, and in it the
+/// bound is the least sum of cost and value of a state that is still to be expanded. No open state has a greater sum, and the bound is
+/// at least the initial state's value. So where no more are reachable the answer is a plan or `Unsolvable`.
+///
+/// Two limits are reported before any potentials are looked for: `Unknown(Exceeded::Instances)` exactly where the task has more than
+/// 10,000 kept instances, which are those that are statically applicable, and `Unknown(Exceeded::Atoms)` exactly where it has no more,
+/// and more than 1,048,576 atoms would have numbers.
 pub fn solve(alloc: Global, task: &Task, limits: Limits) -> Result<Answer, NoMemory>
     ensures { IfOk result (IsTrueAnswer (task_of task.now) limits.states limits.instances) }
 {

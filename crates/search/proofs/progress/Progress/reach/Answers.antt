@@ -1,6 +1,7 @@
 use Rattle.std.proofs.Common.{◌≡◌, ℕ, ◌+◌, ◌≤◌, ◌<◌, List, Bool, length, get_or, ap, sym, subst, refl, ◌∙◌, arith, Some}
-use Rattle.std.specs.Prelude.{Contains}
+use Rattle.std.specs.Prelude.{MatchBool, Contains}
 use Rattle.search.specs.declared.open_list.OpenList.{OpenList}
+use Rattle.search.specs.declared.progress.Progress.{Progress}
 use Rattle.search.specs.OpenList.{waiting_in}
 use Rattle.std.proofs.lemmas.Option.{get_or_from_slice_get, slice_get_within}
 use Rattle.faults.proofs.Results.{if_ok}
@@ -10,7 +11,7 @@ use Rattle.search.specs.Estimates.{IsConsistent}
 use Rattle.search.specs.Listing.{IsPlacedBy}
 use Rattle.search.specs.Outcome.{is_expanded_status, is_dead_status}
 use Rattle.search.specs.Nodes.{found_of}
-use Rattle.search.specs.Progress.{IsReachedWithin, IsReachedCheaper, IsListed}
+use Rattle.search.specs.Progress.{IsReachedWithin, IsReachedCheaper, IsListed, IsLeftOut, Reaches, IsFull}
 use Rattle.search.proofs.Limit.{more_reachable}
 use Rattle.search.proofs.Linked.{found_of-get, length-found_of}
 use Rattle.search.proofs.Reached.{IsChild, place_among, placed_within, placed_nowhere, free_for, match_each, reached_before, taken}
@@ -189,13 +190,15 @@ returns-clause-listed g c =
     let place = c.in-Some.place in
     let at = goal.at.returns-clause-listed g c in
     let node = c.child-node.result in
+    let old : Progress _ = record { store = c.place.new.self; nodes = c.args.self.now.nodes; open_list = c.args.self.now.open_list } in
     let new = c.take_place.new.self in
     let placed_at = placed g at.In-Some in
     let cheaper : IsReachedCheaper all node.cost place = rw (← c.child-node.ensures.cost, c.if-is_reached_within.false) at c.is_reached_within.ensures in
-    if_ok c.take_place.result
-    (λ is_taken. match_each is_taken
+    if_ok {Q = λ is_listed. MatchBool is_listed (Reaches t class_of value is_dead states_of c.args.self.now new i max_states c.args.to.action s) (IsFull t value is_dead states_of c.args.self.now new max_states)}
+    c.take_place.result
+    (λ is_taken. match_each {B = IsLeftOut states_of old new s max_states} is_taken
     (λ takes.
-    let is = taken t class_of value is_dead states_of states (record { store = c.place.new.self; nodes = c.args.self.now.nodes; open_list = c.args.self.now.open_list }) new i max_states
+    let is = taken t class_of value is_dead states_of states old new i max_states
     e.search.one_each e.search.nodes e.turn e.others_open is_current s node (child g at.After-child-node) c.value_after-estimate.result c.value_after-estimate.ensures.value
     c.requires.within place placed_at cheaper takes in
     record {
