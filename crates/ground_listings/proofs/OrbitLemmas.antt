@@ -1,11 +1,10 @@
 -- What is so of listed states and the keys of their classes, where one joins them or takes another's place.
-use Rattle.std.proofs.Common.{◌≡◌, ◌∙◌, ℕ, zero, suc, ◌<◌, ◌≤◌, Bool, true, false, List, [], ◌∷◌, ◌++◌, length, map, set, get_or, Some, refl, sym, ap, subst, arith}
+use Rattle.std.proofs.Common.{◌≡◌, ◌∙◌, ℕ, zero, suc, ◌<◌, Bool, true, false, List, [], ◌∷◌, ◌++◌, length, map, set, get_or, Some, refl, sym, ap, subst, arith}
 use Rattle.std.specs.Prelude.{slice_get, Contains}
 use Rattle.std.proofs.lemmas.List.{length-map, map_push}
 use Rattle.std.proofs.lemmas.Option.{slice_get_read, slice_get_within, same_Some}
 use Rattle.std.specs.Prelude.{vec_len}
 use Rattle.packed_state.specs.declared.packed.Packed.{Packed}
-use Rattle.packed_state.specs.declared.pooled.PooledStore.{PooledStore}
 use Rattle.packed_state.specs.Packed.{bits_of}
 use Rattle.packed_state.specs.PooledView.{pooled_width, pooled_states}
 use Rattle.packed_state.specs.Store.{AreDistinct, IsPlaced}
@@ -164,7 +163,7 @@ module _ (orbits : Orbits) (known : IsLinked orbits) (s : List Bool) where
       pub alike_there : (bits_of there ≡ s → ⊥) → (Contains (pooled_states orbits.superseded) s → ⊥) → IsPlacedIn orbits s (Alike place)
       alike_there other not_past = (
         neither_listed (key_by orbits.representatives.now) (length (atoms_of orbits.representatives.now)) (states_in orbits) (pooled_states orbits.keys) orbits.current.items
-        (pooled_states orbits.superseded) orbits.places.items known.listed s class place at_class current_there (λ at. other (same_Some (bits_of there) s (sym state_there ∙ at))) not_past,
+            (pooled_states orbits.superseded) orbits.places.items known.listed s class place at_class current_there (λ at. other (same_Some (bits_of there) s (sym state_there ∙ at))) not_past,
         (bits_of there, state_there, known.listed.keyed class place (key_by orbits.representatives.now s) (bits_of there) at_class current_there state_there),
         (class, current_there),
       )

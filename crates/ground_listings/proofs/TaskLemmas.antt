@@ -1,5 +1,5 @@
 -- What is so of the ground task is so of the task; and its goal is reached alike from states of one class.
-use Rattle.std.proofs.Common.{◌≡◌, ◌∙◌, ℕ, Bool, true, List, [], ◌∷◌, length, map, Option, None, Some, refl, sym, ap, subst, arith}
+use Rattle.std.proofs.Common.{◌≡◌, ◌∙◌, ℕ, Bool, List, [], ◌∷◌, length, map, None, Some, refl, sym, ap, subst, arith}
 use Rattle.std.specs.Prelude.{All, IsTrue, slice_get}
 use Rattle.std.specs.List.{list_all}
 use Rattle.std.specs.Option.{option_and_then}
@@ -8,7 +8,6 @@ use Rattle.packed_state.specs.Store.{AreDistinct}
 use Rattle.search.specs.Outcome.{IsReachableAt}
 use Rattle.representatives.specs.declared.representatives.Representatives.{Representatives}
 use Rattle.representatives.specs.Representatives.{task_of, atoms_of, exchanges_of}
-use Rattle.symmetries.specs.Exchanges.{Exchange}
 use Rattle.symmetries.specs.Symmetries.{is_symmetry}
 use Rattle.symmetries.specs.Orbits.{keeps_atoms, ArePackedAlike}
 use Rattle.symmetries.proofs.PackedOrbits.{goals_are_reached_alike}

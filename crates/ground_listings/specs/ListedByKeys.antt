@@ -8,7 +8,6 @@ pub record AreListedByKeys (key_of : List Bool → List Bool) (width : ℕ) (sta
   pub wide : (place : ℕ) (s : List Bool) → slice_get states place ≡ Some s → length s ≡ width
   pub distinct : AreDistinct states
   pub counted : length keys + length superseded ≡ length states
-
   -- the keys and the current states
   pub each : length current ≡ length keys
   pub within : (class place : ℕ) → slice_get current class ≡ Some place → place < length states
@@ -16,7 +15,6 @@ pub record AreListedByKeys (key_of : List Bool → List Bool) (width : ℕ) (sta
   pub known : (place : ℕ) (s : List Bool) → slice_get states place ≡ Some s → ¬ Contains keys (key_of s) → ⊥
   pub found : (place other class : ℕ) (s : List Bool) → slice_get states place ≡ Some s → ¬ Contains superseded s → slice_get keys class ≡ Some (key_of s) → slice_get current class ≡ Some other
       → other ≡ place
-
   -- the superseded ones
   pub all_placed : length places ≡ length superseded
   pub past_within : (past place : ℕ) → slice_get places past ≡ Some place → place < length states

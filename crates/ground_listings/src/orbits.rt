@@ -172,7 +172,8 @@ impl<'l, 't> Orbits<'l, 't> {
         let copy = copied(self.alloc, state)?;
         self.states.reserve(1)?;
         self.places.reserve(1)?;
-        self.superseded.insert_copy_if_new(&self.states[place as usize])?;
+        self.superseded
+            .insert_copy_if_new(&self.states[place as usize])?;
         self.places.push_reserved(place);
         self.current[class as usize] = self.states.len() as u32;
         self.states.push_reserved(copy);

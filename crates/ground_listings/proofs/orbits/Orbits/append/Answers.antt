@@ -1,4 +1,4 @@
-use Rattle.std.proofs.Common.{◌≡◌, ◌∙◌, ℕ, ◌<◌, List, Bool, [], ◌∷◌, ◌++◌, length, set, Some, refl, sym, ap, subst, arith}
+use Rattle.std.proofs.Common.{◌≡◌, ◌∙◌, ℕ, List, Bool, [], ◌∷◌, ◌++◌, length, set, Some, sym, ap, subst, arith}
 use Rattle.std.specs.Prelude.{slice_get, vec_len, Contains}
 use Rattle.std.specs.Global.{Vec}
 use Rattle.std.proofs.lemmas.List.{length-map}
@@ -8,7 +8,7 @@ use Rattle.packed_state.specs.declared.pooled.PooledStore.{PooledStore}
 use Rattle.packed_state.specs.Packed.{bits_of}
 use Rattle.packed_state.specs.PooledView.{pooled_width, pooled_states}
 use Rattle.ground_listings.specs.Orbits.{key_by, states_in}
-use Rattle.ground_listings.proofs.OrbitLemmas.{IsLike, states_pushed, put_new, linked_superseded, other_is, other_wide, class_there, other_current, has_key}
+use Rattle.ground_listings.proofs.OrbitLemmas.{states_pushed, put_new, linked_superseded, other_is, other_wide, class_there, other_current, has_key}
 use Rattle.ground_listings.proofs.orbits.Orbits.append.Goals as goal
 use Rattle.ground_listings.proofs.orbits.Orbits.append.Goals.{After-index}
 
@@ -66,8 +66,8 @@ returns-clause-linked c =
     let past : pooled_states now.superseded ≡ pooled_states old.superseded = ap pooled_states c.represent.ensures.superseded in
     let lacks : Contains (pooled_states now.superseded) (bits_of c.index.result.now) → ⊥ =
     λ among.
-        other_current old c.requires.linked s c.args.place c.requires.alike class at_current
-        (subst (λ (x : List Bool). Contains (pooled_states old.superseded) x) other (subst (λ (xs : List (List Bool)). Contains xs (bits_of c.index.result.now)) past among)) in
+    other_current old c.requires.linked s c.args.place c.requires.alike class at_current
+    (subst (λ (x : List Bool). Contains (pooled_states old.superseded) x) other (subst (λ (xs : List (List Bool)). Contains xs (bits_of c.index.result.now)) past among)) in
     linked_superseded old _ (record {
       representatives = c.represent.ensures.representatives;
       key_width = c.represent.ensures.linked.key_width;

@@ -1,10 +1,10 @@
-use Rattle.std.proofs.Common.{◌≡◌, ◌∙◌, List, Bool, [], ◌∷◌, ◌++◌, length, refl, sym, ap, subst, arith}
+use Rattle.std.proofs.Common.{◌≡◌, ◌∙◌, List, Bool, [], ◌∷◌, ◌++◌, length, refl, ap, subst, arith}
 use Rattle.std.specs.Prelude.{Contains}
 use Rattle.std.proofs.lemmas.List.{length-map}
 use Rattle.packed_state.specs.Packed.{bits_of}
 use Rattle.packed_state.specs.PooledView.{pooled_states}
-use Rattle.ground_listings.specs.Orbits.{key_by, states_in}
-use Rattle.ground_listings.proofs.OrbitLemmas.{IsLike, states_pushed, put_new, linked_begun}
+use Rattle.ground_listings.specs.Orbits.{states_in}
+use Rattle.ground_listings.proofs.OrbitLemmas.{states_pushed, put_new, linked_begun}
 use Rattle.ground_listings.proofs.orbits.Orbits.begin_class.Goals as goal
 
 pub returns-clause-states : goal.returns-clause-states

@@ -1,4 +1,4 @@
-use Rattle.std.proofs.Common.{◌≡◌, ◌∙◌, List, Bool, [], ◌∷◌, ◌++◌, map, length, sym, ap, subst, arith}
+use Rattle.std.proofs.Common.{◌≡◌, ◌∙◌, List, Bool, [], ◌∷◌, ◌++◌, map, length, ap, subst, arith}
 use Rattle.std.specs.Prelude.{Contains}
 use Rattle.std.specs.Global.{Vec}
 use Rattle.std.proofs.lemmas.List.{length-map}
@@ -26,8 +26,7 @@ pub returns-in_ok-place-in-None-clause-placed : goal.returns-in_ok-place-in-None
 returns-in_ok-place-in-None-clause-placed c =
     let old = c.args.self.now in
     let same : states_in c.represent.new.self ≡ states_in old = ap (λ (v : Vec Packed). map bits_of v.items) c.represent.ensures.states in
-    let less = c.if-len-max_states.true in
-    (
+    let less = c.if-len-max_states.true in (
       not_there (goal.at.returns-in_ok-place-in-None-clause-placed c).In-None,
       omega (arith, less, c.len.ensures, ap length same, c.represent.new.self.states.ok.0, length-map c.represent.new.self.states.items bits_of),
       c.in_ok-place-in-None.ensures.states ∙ ap (λ xs. xs ++ bits_of c.args.state.now ∷ []) same,
@@ -36,8 +35,7 @@ returns-in_ok-place-in-None-clause-placed c =
 
 pub returns-in-None-2-clause-placed : goal.returns-in-None-2-clause-placed
 returns-in-None-2-clause-placed c =
-    let same : states_in c.represent.new.self ≡ states_in c.args.self.now = ap (λ (v : Vec Packed). map bits_of v.items) c.represent.ensures.states in
-    (
+    let same : states_in c.represent.new.self ≡ states_in c.args.self.now = ap (λ (v : Vec Packed). map bits_of v.items) c.represent.ensures.states in (
       not_there (goal.at.returns-in-None-2-clause-placed c).In-None,
       omega (arith, c.if-len-max_states.false, c.requires.within, c.len.ensures, ap length same, c.represent.new.self.states.ok.0, length-map c.represent.new.self.states.items bits_of),
       same,

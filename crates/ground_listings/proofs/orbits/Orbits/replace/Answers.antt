@@ -1,6 +1,6 @@
 use Rattle.std.proofs.Common.{refl}
 use Rattle.packed_state.specs.Packed.{bits_of}
-use Rattle.ground_listings.proofs.OrbitLemmas.{IsLike, states_set, linked_replaced}
+use Rattle.ground_listings.proofs.OrbitLemmas.{states_set, linked_replaced}
 use Rattle.ground_listings.proofs.orbits.Orbits.replace.Goals as goal
 
 pub returns-clause-linked : goal.returns-clause-linked
