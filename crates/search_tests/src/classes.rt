@@ -1,8 +1,8 @@
 //! The search over a listing in which two rooms are of one class: the dearer one is found first, and is expanded before the cheaper
 //! one is found, or waits then.
 use crate::far_signs::FarSigns;
-use crate::rooms::{Rooms, room_in};
 use crate::packed_states::set_of;
+use crate::rooms::{Rooms, room_in};
 use crate::searches::are_reached;
 use crate::twins::{Twins, are_twins};
 use faults::NoMemory;
@@ -88,17 +88,21 @@ fn is_as_wanted(alloc: Global, row: &Row) -> Result<bool, NoMemory> {
     let one = set_of(alloc, row.rooms.width, &[1])?;
     let other = set_of(alloc, row.rooms.width, &[2])?;
     match outcome_of(alloc, row, one, other)? {
-        Some(Outcome::Found {
-            steps,
-            cost,
-            states,
-        }) => Ok(row.plan == (steps.as_slice(), cost) && are_listed(alloc, &states, row)?),
+        Some(
+            Outcome::Found {
+                steps,
+                cost,
+                states,
+            },
+        ) => Ok(row.plan == (steps.as_slice(), cost) && are_listed(alloc, &states, row)?),
         _ => Ok(false),
     }
 }
 
 #[test]
-fn a_cheaper_state_of_a_class_takes_the_place_or_is_listed_beside(rt: HostRuntime) -> Result<(), Fail> {
+fn a_cheaper_state_of_a_class_takes_the_place_or_is_listed_beside(
+    rt: HostRuntime,
+) -> Result<(), Fail> {
     for (number, row) in ROWS.iter().enumerate() {
         assert!(rt; is_as_wanted(rt.alloc(), row)?, "row {number}");
     }
