@@ -39,7 +39,7 @@ module _ {S Store : Type 0} (t : System S ℕ) (class_of : S → S) (value : S �
   found_there : (k : ℕ) (s : S) → slice_get states k ≡ Some s → (node : Node) × (slice_get (found_of states all) k ≡ Some (record { state = s; node = node }))
   found_there k s at =
       let (node, there) = get_exists all k (omega (arith, slice_get_within states k s at, search.one_each)) in
-      (node, node_at t value is_dead states all search.one_each k s node at there)
+      (node, node_at t class_of value is_dead states all search.one_each k s node at there)
 
   -- the states that it lists are different ones
   pub distinct : AreDistinct states

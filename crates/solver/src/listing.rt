@@ -52,7 +52,7 @@ pub(crate) fn cert_of(
     requires few { length (atoms_in (ground_in space)) ≤ MAX_ATOMS }
     requires marks { AreMarksOf (estimate_by (guidance_of guidance)) (reports_dead (guidance_of guidance)) found marks.items }
     requires found { AreFound (system_of space) (class_in space) (estimate_by (guidance_of guidance)) (reports_dead (guidance_of guidance)) (claim_of claim) MAX_STATE_LINES (listed_states found.store) found.nodes.items }
-    ensures { IfOk result (λ cert. certificate_of cert ≡ found_certificate (claim_of claim) (exchanges_in space.entry) (atoms_in (ground_in space.entry)) (guidance_of guidance) (listed_states found.store) found.nodes.items) }
+    ensures { IfOk result (λ cert. certificate_of cert ≡ found_certificate (claim_of claim) (exchanges_in space.entry) (atoms_in (ground_in space.entry)) (guidance_of guidance) (listed_states found.entry.store) found.entry.nodes.items) }
 {
     let header = Header {
         version: guidance.version(),
@@ -69,7 +69,7 @@ pub(crate) fn cert_of(
 /// the certificate, and no state is copied.
 fn sets_of(alloc: Global, listing: GroundListing<'_, '_>) -> Result<PooledStore, NoMemory>
     requires { length (listed_states listing) ≤ MAX_STATE_LINES }
-    ensures { IfOk result (λ sets. pooled_states sets ≡ listed_states listing) }
+    ensures { IfOk result (λ sets. pooled_states sets ≡ listed_states listing.entry) }
 {
     match listing {
         GroundListing::Alone(OwnClasses(sets)) => Ok(sets),
