@@ -166,7 +166,7 @@ made_of task atoms cert exchanges representatives classes are width represents s
   width = one_width.keys ∙ ap (λ (cert : Cert). pooled_width (store_in cert)) same_cert ∙ width;
   cheapest =
       subst (λ key. AreCheapest key (pooled_states (store_in cert)) (costs_of (certificate_of cert)) (length (certificate_of cert).lines) (keys_in classes) classes.cheapest.items) (λ i bits. for_cert.same bits i)
-          (subst (λ (cert_now : Cert). AreCheapest (key_by classes) (pooled_states (store_in cert_now)) (costs_of (certificate_of cert_now)) (length (certificate_of cert).lines) (keys_in classes) classes.cheapest.items) same_cert cheapest);
+      (subst (λ (cert_now : Cert). AreCheapest (key_by classes) (pooled_states (store_in cert_now)) (costs_of (certificate_of cert_now)) (length (certificate_of cert).lines) (keys_in classes) classes.cheapest.items) same_cert cheapest);
 }
   where
     for_cert : Represents task atoms (certificate_of cert).exchanges classes.representatives

@@ -24,7 +24,7 @@ const SECOND_LIT: Texts = [
 
 /// Listings of states and what the checker answers. Where only the first lamp is lit the state is its own representative.
 #[rattlefmt::skip]
-static LISTINGS: [(Texts, &[u8], Answer); 8] = [
+static LISTINGS: [(Texts, &[u8], Answer); 10] = [
     (DARK, b"pddl-cert 3\nclaim bound 2\nconstant 0 0\nswap a b\natom 0 0 (on a)\natom 0 0 (on b)\nopen 0\nopen 1 0\nopen 2 0 1\nend 3\n", Ok(Accepted::AtLeast { cost: 2 })),
     (DARK, b"pddl-cert 3\nclaim bound 2\nconstant 0 0\nswap a b\natom 0 0 (on a)\natom 0 0 (on b)\nopen 0\nopen 1 1\nopen 2 0 1\nend 3\n", Ok(Accepted::AtLeast { cost: 2 })),
     (DARK, b"pddl-cert 3\nclaim bound 2\nconstant 0 0\natom 0 0 (on a)\natom 0 0 (on b)\nopen 0\nopen 1 1\nopen 2 0 1\nend 3\n", Err(Line { code: RefusalCode::SuccessorMissing, line: 6 })),
@@ -35,33 +35,19 @@ static LISTINGS: [(Texts, &[u8], Answer); 8] = [
     // the start, or one that is alike
     (SECOND_LIT, b"pddl-cert 3\nclaim bound 1\nconstant 0 0\nswap a b\natom 0 0 (on a)\natom 0 0 (on b)\nopen 0 0\nopen 1 0 1\nend 2\n", Ok(Accepted::AtLeast { cost: 1 })),
     (SECOND_LIT, b"pddl-cert 3\nclaim bound 1\nconstant 0 0\nswap a b\natom 0 0 (on a)\natom 0 0 (on b)\nopen 1 0\nopen 2 0 1\nend 2\n", Err(Plain(RefusalCode::NoInitial))),
-];
-
-/// The value is 1 as long as the first lamp is dark: it is the listed state's own, and not that of its representative.
-#[rattlefmt::skip]
-static VALUES: [(Texts, &[u8], Answer); 2] = [
+    // a value that is 1 as long as the first lamp is dark is the listed state's own, and not that of its representative
     (DARK, b"pddl-cert 3\nclaim bound 2\nconstant 1 0\nswap a b\natom -1 0 (on a)\natom 0 0 (on b)\nopen 0\ncut 1 1 1\nend 2\n", Ok(Accepted::AtLeast { cost: 2 })),
     (DARK, b"pddl-cert 3\nclaim bound 2\nconstant 1 0\nswap a b\natom -1 0 (on a)\natom 0 0 (on b)\nopen 0\ncut 1 1 0\nend 2\n", Err(Line { code: RefusalCode::CutWeak, line: 8 })),
 ];
 
-/// What the checker answers to each.
-fn are_answered(rt: &HostRuntime, rows: &[(Texts, &[u8], Answer)]) -> Result<(), Fail> {
-    for (texts, text, wanted) in rows {
-        on_task(rt, rt.alloc(), texts, |rt, alloc, task| {
+#[test]
+fn listings_are_closed_up_to_exchanges(rt: HostRuntime) -> Result<(), Fail> {
+    for (texts, text, wanted) in &LISTINGS {
+        on_task(&rt, rt.alloc(), texts, |rt, alloc, task| {
             let answer = check_text(alloc, task, text.to_vec(alloc)?, 100);
             assert_eq!(rt; answer, *wanted);
             Ok(())
         })?;
     }
     Ok(())
-}
-
-#[test]
-fn listings_are_closed_up_to_exchanges(rt: HostRuntime) -> Result<(), Fail> {
-    are_answered(&rt, &LISTINGS)
-}
-
-#[test]
-fn values_are_those_of_listed_states(rt: HostRuntime) -> Result<(), Fail> {
-    are_answered(&rt, &VALUES)
 }

@@ -1,5 +1,5 @@
 -- What a search keeps true from one step to the next.
-use Rattle.std.specs.Prelude.{◌≡◌, ◌≢◌, ℕ, ◌+◌, ◌≤◌, ◌<◌, ◌⊎◌, ⊤, Bool, false, List, [], ◌∷◌, ◌++◌, length, slice_get, slice_set, Option, Some, Contains, All}
+use Rattle.std.specs.Prelude.{◌≡◌, ◌≢◌, ℕ, ◌+◌, ◌≤◌, ◌<◌, ◌⊎◌, ⊤, Bool, true, false, List, [], ◌∷◌, ◌++◌, length, slice_get, slice_set, Option, Some, Contains, All}
 use Rattle.model.specs.Runs.{System}
 use Rattle.search.specs.declared.nodes.Node.{Node}
 use Rattle.packed_state.specs.Packed.{bits_of}
@@ -121,14 +121,17 @@ IsFreeFor class_of is_current states count s (Listed place) = ⊤
 IsFreeFor class_of is_current states count s (Alike place) = (count ≡ length states) × (¬ Contains states s) × IsAlikeAt class_of states s place × is_current place
 
 module _ {S Store : Type 0} (states_of : Store → List S) (old new : Progress Store) (s : S) (node : Node) (estimate : Option ℕ) (max_states : ℕ) where
-  -- the state and its node come last
-  pub record Appends : Type 0 where
+  -- the state and its node come last, beside the state at this place, which has been expanded
+  pub record Appends (place : ℕ) : Type 0 where
+    pub other : Node
+    pub there : slice_get old.nodes.items place ≡ Some other
+    pub expanded : has_been_expanded other ≡ true
     pub room : length (states_of old.store) < max_states
     pub states : states_of new.store ≡ states_of old.store ++ s ∷ []
     pub nodes : new.nodes.items ≡ old.nodes.items ++ node ∷ []
     pub open_list : JoinsBy old.open_list new.open_list node.cost (length old.nodes.items) estimate
 
-  -- they take this place, at which a state was that was never expanded
+  -- the state and its node take this place, at which one was that was never expanded
   pub record Replaces (place : ℕ) : Type 0 where
     pub other : Node
     pub there : slice_get old.nodes.items place ≡ Some other
@@ -155,7 +158,7 @@ module _ {S Store : Type 0} (states_of : Store → List S) (old new : Progress S
   abbrev pub TakesPlace : Place → Type 0
   TakesPlace (New place) = IsCompleted place
   TakesPlace (Listed place) = Improves place
-  TakesPlace (Alike place) = Replaces place ⊎ Appends
+  TakesPlace (Alike place) = Replaces place ⊎ Appends place
 
 -- the limit allows no state more, and nothing has changed: the state is not listed
 pub record IsLeftOut {S Store : Type 0} (states_of : Store → List S) (old new : Progress Store) (s : S) (max_states : ℕ) : Type 0 where

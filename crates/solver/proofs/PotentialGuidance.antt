@@ -75,7 +75,7 @@ pub guides_by_potentials : (s : SearchSpace) → IsSearchSpace s → (p dead_end
 guides_by_potentials (space.Alone g) known p dead_ends good = record {
   written = potentials-written (length (atoms_in g.now)) p dead_ends good.range good.dead_range good.long good.dead_long;
   exchanges = refl;
-  fair = (good.improved.0, good.dead_ends_improved.0);
+  fair = (good.improved.fair, good.dead_ends_improved.fair);
   improved = good.improved;
   dead_ends_improved = good.dead_ends_improved;
   no_lower = omega arith;
@@ -85,7 +85,7 @@ guides_by_potentials (space.Orbits r) known p dead_ends good =
     record {
       written = written-over_none (length (atoms_in k)) p dead_ends good.range good.dead_range good.long good.dead_long;
       exchanges = known.written;
-      fair = fair-over_none (task_in k) (atoms_in k) p dead_ends (good.improved.0, good.dead_ends_improved.0);
+      fair = fair-over_none (task_in k) (atoms_in k) p dead_ends (good.improved.fair, good.dead_ends_improved.fair);
       improved = good.improved;
       dead_ends_improved = good.dead_ends_improved;
       no_lower = let same = estimates-over_none (task_in k) (atoms_in k) p dead_ends (ground_system (task_in k) (atoms_in k)).initial in omega (arith, same);

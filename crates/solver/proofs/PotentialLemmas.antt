@@ -36,13 +36,13 @@ value_by-value by p is = ap (λ (s : List Bool → ℤ). value_by s) is ∙ esti
 -- what improving gives in 8 rounds
 pub improved_end : (allowance : Instance → ℕ) (task : Task) (atoms : List Atom) (p q : PotentialFunction) → AreFairAt allowance task atoms q → IsImprovedAt allowance task atoms 8 p q
     → AreSettledOrHighAt allowance task atoms q
-improved_end allowance task atoms p q fair improved = (
-  fair,
-  elim improved.end [
+improved_end allowance task atoms p q fair improved = record {
+  fair = fair;
+  settled_or_high = elim improved.end [
     | inl settled ↦ inl settled
     | inr higher ↦ inr (omega (arith, higher))
-  ],
-)
+  ];
+}
 
 -- there are as many weights as it is begun with
 pub zero-width : (p : PotentialFunction) (count : ℕ) → p ≡ zero_potentials count → length p.weights ≡ count

@@ -9,8 +9,9 @@ use Rattle.certificate_definitions.specs.Certificates.{Certificate, potentials_o
 
 -- They are fair at this allowance by themselves, with no table; and of those near them that are none gives the initial state a greater
 -- value, or they give it at least 8.
-abbrev pub AreSettledOrHighAt : (Instance → ℕ) → Task → List Atom → PotentialFunction → Type 0
-AreSettledOrHighAt allowance task atoms p = AreFairAt allowance task atoms p × (IsSettledAt allowance task atoms p ⊎ (8 ≤ initial_value task atoms p))
+pub record AreSettledOrHighAt (allowance : Instance → ℕ) (task : Task) (atoms : List Atom) (p : PotentialFunction) : Type 0 where
+  pub fair : AreFairAt allowance task atoms p
+  pub settled_or_high : IsSettledAt allowance task atoms p ⊎ (8 ≤ initial_value task atoms p)
 
 -- at the allowance of fair ones, and of dead-fair ones
 abbrev pub AreSettledOrHigh : Task → List Atom → PotentialFunction → Type 0

@@ -28,8 +28,8 @@ classes_by-requires-clause-kept c =
 
 pub returns-in_err-values-clause-first : goal.returns-in_err-values-clause-first
 returns-in_err-values-clause-first c =
-    passed_on (IsFirstGrounded (task_in c.args.grounded.now) (certificate_of c.args.cert.now)) c.from_residual-in_err-values.result c.in_err-values.field-0.0
-    c.from_residual-in_err-values.ensures.1 (c.in_err-values.ensures.first c.requires.symmetric)
+    passed_on (IsFirstGrounded (task_in c.args.grounded.now) (certificate_of c.args.cert.now)) c.from_residual.result c.in_err-values.field-0.0
+    c.from_residual.ensures.1 (c.in_err-values.ensures.first c.requires.symmetric)
 
 pub check_packed-requires : goal.check_packed-requires
 check_packed-requires c =
