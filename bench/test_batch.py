@@ -24,6 +24,8 @@ from batching import ROOT  # noqa: E402
 from batching.layouts import find  # noqa: E402
 from batching.lines import Explained, Line, LinesFile, Result, line_of, read_lines  # noqa: E402
 from batching.runs import Program, Settings  # noqa: E402
+from batching.told import told_on_the_way  # noqa: E402
+from batching.unit import explained_in  # noqa: E402
 
 # Does what the first word of the problem says, and notes each start.
 PROGRAM = """#!{python}
@@ -42,6 +44,10 @@ if words[0] == "explain":
     print(words[1] + ":3:8: fault 7 Unexpected (columns count bytes)\\n   3 | a. b\\n     | ^")
     print("`a. b` may not stand here. More.")
     sys.exit(20)
+if "--progress" in words:
+    for it in ("ground instances=4 atoms=5", "search bound=2 listed=1 expanded=0", "search bound=3 listed=1 expanded=0",
+               "search bound=4 listed=9 expanded=3"):
+        print("progress=" + it, file=sys.stderr, flush=True)
 if do[0] == "spin":
     while True: pass
 if do[0] == "sleep": time.sleep(60)
@@ -50,7 +56,8 @@ if do[0] == "grow": sys.exit(grow())
 if do[0] == "fault":
     print("fault 7 Unexpected in problem at 0..5", file=sys.stderr)
     sys.exit(20)
-open(named("--cert"), "w").write("pddl-cert 2\\nend 3\\n")
+open(named("--cert"), "w").write("pddl-cert 3\\nswap a b\\nswap c d\\ntable 0\\nopen 0\\nend 3\\n")
+print("progress=end listed=3 expanded=2", file=sys.stderr)
 if do[0] == "limit":
     print('{{"bound":%s,"command":"solve","reason":"states","result":"unknown"}}' % do[1])
     sys.exit(11)
@@ -217,7 +224,7 @@ class Lines(Room):
     def test_a_line_reads_back(self):
         line = Line("a b/p1", Result.PLAN, status=0, cost=3, seconds=0.5)
         self.assertEqual(line_of(line.text().encode()), line)
-        self.assertNotRegex(line.text(), "bound|explained")
+        self.assertNotRegex(line.text(), "bound|explained|reached")
         refused = Line("a b/p2", Result.REFUSED, status=20, explained=Explained("domain.pddl", 3, 8, "`a` is none."))
         self.assertEqual(line_of(refused.text().encode()), refused)
         self.assertEqual(refused.explained.place, "domain.pddl:3:8")
@@ -252,6 +259,25 @@ class Lines(Room):
         self.assertEqual([it.task for it in read_lines(self.path)], ["a/p1", "a/p3"])
 
 
+class Told(unittest.TestCase):
+    """What the program says, in the words that it has today and in those that compilers have."""
+
+    def test_both_forms_of_a_refusal_are_read(self):
+        for first, rest, sentence in (
+            ("d:3:8: fault 7 Unexpected (columns count bytes)", "   3 | a. b\n     | ^\n`a. b` may not. More.", "`a. b` may not."),
+            ("d:3:8: error: `a. b` takes 2, not 1 [18 WrongArity]", "   3 | x\n     | ^", "`a. b` takes 2, not 1"),
+            ("d:3:8: error: é [2 Byte] (columns count bytes)", "", "é"),
+        ):
+            self.assertEqual(explained_in(f"{first}\n{rest}\n"), Explained("d", 3, 8, sentence))
+        self.assertIsNone(explained_in("nothing\n"))
+
+    def test_half_a_line_of_progress_tells_nothing(self):
+        whole = "progress=search bound=2 listed=1 expanded=0\n"
+        self.assertEqual(told_on_the_way(whole + "progress=search bound=3 listed=20"),
+                         {"start_value": 2, "reached": 2, "expanded": 0})
+        self.assertEqual(told_on_the_way("progress=failed file=a b=c d\nother\n"), {})
+
+
 class Runs(Room):
     def test_each_result_has_its_line(self):
         self.tasks(plan="plan 3", wrong="wrong 3", spin="spin 1", grow="grow 1", fault="fault 1", kill="kill 1", limit="limit 5")
@@ -261,7 +287,13 @@ class Runs(Room):
                          {"plan": "plan", "wrong": "plan", "spin": "out of time", "grow": "out of memory",
                           "fault": "refused", "kill": "failed", "limit": "out of states"}, ran)
         plan = found["a b/plan"]
-        self.assertEqual((plan.status, plan.cost, plan.states, plan.certificate_bytes, plan.check.accepted), (0, 3, 3, 18, True))
+        self.assertEqual((plan.status, plan.cost, plan.steps, plan.states, plan.check.accepted), (0, 3, 1, 3, True))
+        self.assertEqual((plan.instances, plan.atoms, plan.start_value, plan.expanded, plan.reached), (4, 5, 3, 2, None))
+        self.assertEqual((plan.certificate_version, plan.tables, plan.exchanges, plan.certificate_bytes), (3, 1, 2, 51))
+        self.assertGreater(plan.clock_seconds, 0)
+        spin = found["a b/spin"]
+        self.assertEqual((spin.reached, spin.start_value, spin.expanded, spin.states), (4, 3, 3, None))
+        self.assertRegex(spin.fault, "ended by signal")
         limit = found["a b/limit"]
         self.assertEqual((limit.status, limit.cost, limit.bound, limit.states, limit.check.accepted), (11, None, 5, 3, True))
         self.assertIs(found["a b/wrong"].check.accepted, False)
@@ -464,6 +496,8 @@ class Converted(Room):
         line = self.lines()["a/p1"]
         self.assertEqual((line.result, line.status), (Result.REFUSED, 20))
         self.assertRegex(line.fault, "domain.pddl:1:41: the type `thing` is not declared")
+        domain = str(self.room / "tasks/a/domain.pddl")
+        self.assertEqual(line.explained, Explained(domain, 1, 41, "the type `thing` is not declared"))
 
     def test_a_run_with_other_files_is_another_one(self):
         self.batch("--ipc")

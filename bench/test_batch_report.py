@@ -3,6 +3,7 @@
 
 The lines of runs are put there, so that nothing is run. `bench/test_batch.py` tries these too."""
 
+import csv
 import io
 import json
 import os
@@ -184,6 +185,15 @@ class Reports(RunsRead):
                    "refused, c&amp;d.pddl:3:8", "c/p2 in first: failed, status 1"):
             self.assertIn(it, page)
 
+    def test_what_the_tool_for_competition_files_refuses_is_told_in_its_words(self):
+        said = "`decrease`: numbers that actions change (PDDL 2.1) are not supported"
+        self.put_run("first", Line("a/p1", Result.REFUSED, status=20, explained=Explained("/a/d.pddl", 3, 8, said),
+                                   fault=f"/a/d.pddl:3:8: {said}"))
+        page = self.report("first")
+        self.assertIn("<code>/a/d.pddl:3:8</code> <code>decrease</code>: numbers that actions change (PDDL 2.1) are not supported "
+                      "<small>by tools/ipc-files</small>", page)
+        self.assertIn("<td>refused, d.pddl:3:8</td>", page)
+
     def test_a_fault_of_a_domain_is_told_once(self):
         explained = Explained("/a/domain.pddl", 3, 8, "`b` is none.")
         self.put_run("first", *(Line(f"a/p{it}", Result.REFUSED, explained=explained, fault="fault 7") for it in range(1, 9)))
@@ -191,6 +201,48 @@ class Reports(RunsRead):
                       self.report("first"))
         self.put_run("second", Line("a/p1", Result.REFUSED, explained=explained, fault="fault 7"))
         self.assertIn("a/p1 in first and second: <code>/a/domain.pddl:3:8</code>", self.report("first", "second"))
+
+    def test_costs_have_sums_and_geometric_means(self):
+        plan = lambda task, cost, seconds: Line(task, Result.PLAN, cost=cost, seconds=seconds, states=cost)
+        self.put_run("first", plan("a/p1", 2, 0.1), plan("a/p2", 8, 0.4), plan("b/p1", 0, 0.0), plan("b/p2", 5, 1.0),
+                     Line("c/p1", Result.UNSOLVABLE, seconds=1.0))
+        self.put_run("second", plan("a/p1", 2, 0.2), plan("a/p2", 8, 0.8), plan("b/p1", 0, 0.1), Line("b/p2", Result.TIME, seconds=1.0))
+        table = self.report("first", "second").partition("<h2>Costs</h2>")[2].partition("<h2>")[0]
+        self.assertIn("Of the 3 tasks that all runs have answered.", table)
+        rows = [re.findall("<td>(.*?)</td>", it) for it in re.findall("<tr.*?</tr>", table)]
+        # Costs, seconds and states of the first run, each with its sum and its mean.
+        self.assertEqual([it[:8] for it in rows if it], [["a", "2", "10", "4.00", "0.50", "0.200", "10", "4"],
+                                                         ["b", "1", "0", "1.00", "0.00", "0.001", "0", "1"],
+                                                         ["all", "3", "10", "2.52", "0.50", "0.034", "10", "3"]])
+        self.put_run("third", Line("a/p1", Result.TIME, seconds=1.0))
+        self.assertIn("No task is answered by all runs", self.report("first", "third"))
+
+    def test_a_table_of_commas_has_each_line(self):
+        check = Check(True, "optimal 3", 0.4, 5)
+        self.put_run("first", Line('a,"b/p1', Result.PLAN, cost=3, steps=2, check=check), Line("c/p1", Result.TIME, reached=4))
+        self.put("first/answers/c/p1/plan.txt", "")
+        path = self.room / "table.csv"
+        ran = subprocess.run([sys.executable, f"{ROOT}/bench/batch-report", str(self.room / "first"), "--csv", str(path)])
+        self.assertEqual(ran.returncode, 0)
+        with open(path, newline="", encoding="utf-8") as text:
+            rows = [*csv.DictReader(text)]
+        told = [[it[key] for key in ("run", "domain", "task", "result", "cost", "steps", "reached", "check_verdict")] for it in rows]
+        self.assertEqual(told, [["first", 'a,"b', 'a,"b/p1', "plan", "3", "2", "", "optimal 3"],
+                                ["first", "c", "c/p1", "out of time", "", "", "4", ""]])
+        self.assertEqual([it["plan"] for it in rows], ["", str(self.room / "first/answers/c/p1/plan.txt")])
+
+    def test_points_have_the_hues_of_results(self):
+        self.put_run("first", Line("a/p1", Result.PLAN, cost=3, seconds=0.5, states=9), Line("a/p2", Result.TIME, seconds=1.0),
+                     Line("a/p3", Result.STATES, bound=5, seconds=1.0, states=90))
+        self.put_run("second", *(Line(f"a/p{it}", Result.PLAN, cost=3, seconds=0.5, states=9) for it in (1, 2, 3)))
+        alone, beside = self.report("first"), self.report("first", "second")
+        self.assertEqual(re.findall('<a class="([a-z-]+)" href="#task-([0-9])">', alone)[:2], [("plan", "1"), ("out-of-states", "3")])
+        self.assertEqual(re.findall('<a class="([a-z-]+)" href="#task-([0-9])">', beside)[:3],
+                         [("plan", "1"), ("out-of-time", "2"), ("out-of-states", "3")])
+
+    def test_a_bound_without_a_certificate_is_told_so(self):
+        self.put_run("first", Line("a/p1", Result.TIME, seconds=1.0, reached=4))
+        self.assertIn("<td>at least 4, without a certificate</td>", self.report("first"))
 
     def test_a_limit_is_told_with_its_option(self):
         bound = Line("a/p1", Result.STATES, bound=5, seconds=1.0, check=Check(True, "at least 5", 0.4, 5))

@@ -6,6 +6,7 @@ import os
 import subprocess
 import sys
 import tempfile
+import time
 from dataclasses import dataclass
 from typing import Callable
 
@@ -23,22 +24,26 @@ class Ended:
     seconds: float
     # The most memory in bytes.
     peak: int
+    # By the clock.
+    clock: float = 0.0
 
 
 def ended(words: list[str], prepare: Callable[[], None] | None = None) -> Ended:
     """Runs a command to its end, with no input; `prepare` is called in its process before it begins."""
+    begin = time.monotonic()
     with tempfile.TemporaryFile() as errors:
         child = subprocess.Popen(words, stdin=subprocess.DEVNULL, stdout=subprocess.PIPE, stderr=errors, preexec_fn=prepare)
         with child.stdout as pipe:
             output = pipe.read()
         _, status, usage = os.wait4(child.pid, 0)
+        clock = time.monotonic() - begin
         errors.seek(0)
         said = errors.read()
     code = os.waitstatus_to_exitcode(status)
     # `child` is to know that it has ended.
     child.returncode = code
     seconds, peak = usage.ru_utime + usage.ru_stime, usage.ru_maxrss * 1024
-    return Ended(code if code >= 0 else 128 - code, output.decode(errors="replace"), said.decode(errors="replace"), seconds, peak)
+    return Ended(code if code >= 0 else 128 - code, output.decode(errors="replace"), said.decode(errors="replace"), seconds, peak, clock)
 
 
 def processor() -> str:

@@ -15,6 +15,7 @@ from pathlib import Path
 
 from batching import ROOT
 from batching.layouts import Task
+from plan_forms import NotAPlan, Step
 
 TOOL = f"{ROOT}/tools/ipc-files"
 WRITTEN = ("domain.pddl", "problem.pddl", "changes.json", "original-plan.txt")
@@ -36,6 +37,25 @@ def words_into(task: Task, folder: str) -> list[str]:
 def words_back(folder: str, plan: str) -> list[str]:
     """The command that takes a plan for the files of a folder back."""
     return [sys.executable, TOOL, "--back", folder, plan]
+
+
+def plan_into(steps: list[Step], folder: str) -> list[tuple[tuple[str, ...], int]]:
+    """A plan for the files that were found, as steps for those of a folder, each with the number of the step that it is of. Raises
+    `NotAPlan` where a step is none of the files."""
+    with open(f"{folder}/changes.json", encoding="utf-8") as text:
+        table = json.load(text)
+    actions = {it["name"].lower(): it for it in table["actions"]}
+    names = {name.lower(): written for written, name in table["objects"].items()}
+    found = []
+    for number, (name, *objects) in enumerate((it.words for it in steps), 1):
+        action, line = actions.get(name), steps[number - 1].line
+        if action is None:
+            raise NotAPlan(line, 1, f"no action is called `{name}`")
+        if len(objects) != action["parameters"]:
+            raise NotAPlan(line, 1, f"`{name}` takes {action['parameters']} objects, not {len(objects)}")
+        chosen = [names.get(it, it) for it in objects]
+        found += [((it["name"], *(chosen[at] for at in it["takes"])), number) for it in action["steps"]]
+    return found
 
 
 @dataclass(frozen=True)

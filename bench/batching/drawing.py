@@ -108,8 +108,10 @@ def legend(keys: Iterable[tuple[str, str, str]]) -> str:
 
 
 def mark(number: int, place: str = "") -> str:
-    """The mark of this number, at 0 or moved to a place by an attribute."""
-    return f'<path{place} d="{MARKS[number % len(MARKS)]}"/>'
+    """The mark of this number, at 0 or moved to a place by an attribute. Where there are no more outlines, they begin anew hollow."""
+    rounds, which = divmod(number, len(MARKS))
+    hollow = ' class="hollow"' if rounds % 2 else ""
+    return f'<path{hollow}{place} d="{MARKS[which]}"/>'
 
 
 @dataclass

@@ -4,11 +4,13 @@ from __future__ import annotations
 
 import re
 from html import escape
-from typing import Iterable
+from typing import Iterable, Sequence
 
 from batching.limits import wider
 from batching.lines import Line, Result
 from batching.reading import Lines, contradictions, with_other_texts
+from batching.score_tables import score_alarms
+from batching.scores import Score
 
 # How many tasks are named where many have the same to tell.
 MOST_NAMED = 6
@@ -32,7 +34,9 @@ def fault_of(line: Line) -> str:
     if line.explained is None:
         return f"{line.result.value}, {told}"
     sentence = re.sub("`([^`]*)`", r"<code>\1</code>", escape(line.explained.sentence))
-    return f"<code>{escape(line.explained.place)}</code> {sentence} <small>{told}</small>"
+    # `tools/ipc-files` says all in one line, and the program only a number and a name.
+    is_by_tool = line.fault is not None and line.fault.endswith(line.explained.sentence)
+    return f"<code>{escape(line.explained.place)}</code> {sentence} <small>{'by tools/ipc-files' if is_by_tool else told}</small>"
 
 
 def faults(runs: list[Lines]) -> Iterable[str]:
@@ -61,9 +65,10 @@ def other_texts(runs: list[Lines]) -> Iterable[str]:
         yield f"{named(found)}: the texts of the same name differ from run to run. They are other tasks, and are not compared"
 
 
-def to_look_at(runs: list[Lines]) -> str:
+def to_look_at(runs: list[Lines], scores: Sequence[Score] = ()) -> str:
     """What contradicts each other or is not accepted, then what is refused or failed."""
-    alarm = [*map(escape, contradictions(runs)), *(it for run in runs for it in refused_certificates(run)), *other_texts(runs)]
+    alarm = [*map(escape, contradictions(runs)), *(it for run in runs for it in refused_certificates(run)), *score_alarms(scores),
+             *other_texts(runs)]
     return listed(alarm, ' class="alarm"') + listed(faults(runs)) or "<p>Nothing.</p>"
 
 

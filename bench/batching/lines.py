@@ -24,6 +24,8 @@ class Result(str, Enum):
 
 
 ANSWERS = (Result.PLAN, Result.UNSOLVABLE)
+# The keys that a line lacks where they do not apply.
+SELDOM = ("bound", "reached", "fault", "explained", "changes")
 
 
 @dataclass(frozen=True)
@@ -64,14 +66,31 @@ class Line:
     status: int | None = None
     # Of the files that were found, also where others were solved in their place: then it may have a fraction.
     cost: int | float | None = None
+    # How many steps the plan has.
+    steps: int | None = None
     # Where the limit of states was met: what each plan costs at least, if the program tells that.
     bound: int | float | None = None
-    # Of the processor, with the writing of the certificate.
+    # Where the process was ended by a limit of time or memory: the greatest bound that it told before, of which there is no
+    # certificate.
+    reached: int | float | None = None
+    # The value of the start, which no plan costs less than, by the values that the answer's certificate has.
+    start_value: int | float | None = None
+    # Of the processor, with the writing of the certificate; and by the clock.
     seconds: float | None = None
+    clock_seconds: float | None = None
     peak_bytes: int | None = None
+    # Kept instances and numbered atoms of the grounded task.
+    instances: int | None = None
+    atoms: int | None = None
     # By the certificate's last line.
     states: int | None = None
+    # How many of them were expanded; where there is no certificate, how many were at the last line of progress.
+    expanded: int | None = None
     certificate_bytes: int | None = None
+    certificate_version: int | None = None
+    # Which values were used, and how many exchanges of objects: 0 tables are potentials alone.
+    tables: int | None = None
+    exchanges: int | None = None
     # None where none was asked for, or there is no certificate.
     check: Check | None = None
     # Why there is no answer, in the words of the standard error.
@@ -102,7 +121,7 @@ class Line:
 
     def text(self) -> str:
         """The line, with its LF."""
-        keys = {key: it for key, it in asdict(self).items() if it is not None or key not in ("bound", "fault", "explained", "changes")}
+        keys = {key: it for key, it in asdict(self).items() if it is not None or key not in SELDOM}
         return json.dumps(keys, separators=(",", ":")) + "\n"
 
 

@@ -3,11 +3,16 @@
 from __future__ import annotations
 
 from html import escape
+from typing import Sequence
 
 from batching.findings import limits_met, to_look_at
+from batching.links import Links
 from batching.plots import against, answered_over_time, checking_and_solving, of_one, results_by_domain, states_of, time_of
 from batching.reading import Lines, domains_of, tasks_of
+from batching.score_tables import score_section
+from batching.scores import Score
 from batching.style import style
+from batching.sums import costs_by_domain
 from batching.tables import all_tasks, by_domain
 
 
@@ -74,8 +79,9 @@ def plots(runs: list[Lines], anchors: dict[str, str]) -> str:
     return f'<div class="plots">{"".join(found)}</div>'
 
 
-def page(runs: list[Lines]) -> str:
-    """The whole text."""
+def page(runs: list[Lines], path: str | None = None, scores: Sequence[Score] = ()) -> str:
+    """The whole text, with links to plans and certificates from where the page will stand, and with plans of other planners."""
+    links = Links(path)
     tasks = tasks_of(runs)
     anchors = {task: f"task-{number}" for number, task in enumerate(tasks, 1)}
     title = f"{len(tasks)} tasks, {len(domains_of(tasks))} domains"
@@ -87,13 +93,16 @@ def page(runs: list[Lines]) -> str:
 <div class="runs">{"".join(map(card, runs))}</div>
 <h2>Results</h2>
 {by_domain(runs)}
+<h2>Costs</h2>
+{costs_by_domain(runs)}
 <h2>To look at</h2>
-{to_look_at(runs)}
+{to_look_at(runs, scores)}
 <h2>Limits that were met</h2>
 {limits_met(runs)}
 <h2>Plots</h2>
 {plots(runs, anchors)}
 <h2>All tasks</h2>
-{all_tasks(runs, anchors)}
+{all_tasks(runs, anchors, links)}
+{score_section([*scores], runs, anchors, links)}
 </body></html>
 """

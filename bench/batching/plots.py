@@ -2,11 +2,12 @@
 
 from __future__ import annotations
 
+from dataclasses import dataclass
 from html import escape
 from typing import Callable, Optional
 
 from batching.drawing import LETTER, Axes, Scale, drawn, legend, line, logarithmic, mark, shown, text
-from batching.lines import Line
+from batching.lines import Line, Result
 from batching.reading import Lines, domain_of, domains_of, shared, tasks_of
 from batching.style import RESULTS, hue_class, result_class
 
@@ -65,12 +66,12 @@ def bar(run: Lines, domain: str, scale: Scale, left: float, top: float) -> str:
     return "".join(parts)
 
 
-def time_of(line: Line) -> float:
-    return max(line.seconds, LEAST_TIME)
+def time_of(line: Line) -> float | None:
+    return None if line.seconds is None else max(line.seconds, LEAST_TIME)
 
 
-def check_time_of(line: Line) -> float:
-    return max(line.check.seconds, LEAST_TIME)
+def check_time_of(line: Line) -> float | None:
+    return None if line.check is None else max(line.check.seconds, LEAST_TIME)
 
 
 def states_of(line: Line) -> float | None:
@@ -102,18 +103,31 @@ def steps(axes: Axes, times: list[float], kind: str) -> str:
     return f'<path class="{kind}" d="{"".join(path)}H{axes.place(axes.x.high, 0)[0]:.1f}"/>'
 
 
-def scatter(axes: Axes, points: list[tuple[str, float, float, str]], anchors: dict[str, str]) -> str:
-    """A mark for each task, by its domain, that leads to the task's row of the page: the legend of the marks."""
-    keys = []
-    for number, domain in enumerate(domains_of(it[0] for it in points)):
-        axes.parts.append(f'<g class="{hue_class(number)} marks">')
-        for task, x, y, words in (it for it in points if domain_of(it[0]) == domain):
-            left, top = axes.place(x, y)
-            place = f' transform="translate({left:.1f} {top:.1f})"'
-            axes.parts.append(f'<a href="#{anchors[task]}"><title>{escape(f"{task}: {words}")}</title>{mark(number, place)}</a>')
-        axes.parts.append("</g>")
-        keys.append((hue_class(number), mark(number), domain))
-    return legend(keys)
+@dataclass(frozen=True)
+class Point:
+    """A task by two figures, and what came of it."""
+
+    task: str
+    x: float
+    y: float
+    result: Result
+    words: str
+
+
+def scatter(axes: Axes, points: list[Point], anchors: dict[str, str]) -> str:
+    """A mark for each task that leads to the task's row of the page, in the hue of its result and the shape of its domain: the
+    legends of hues and of shapes."""
+    domains = domains_of(it.task for it in points)
+    axes.parts.append('<g class="marks">')
+    for it in points:
+        left, top = axes.place(it.x, it.y)
+        place = f' transform="translate({left:.1f} {top:.1f})"'
+        axes.parts.append(f'<a class="{result_class(it.result)}" href="#{anchors[it.task]}"><title>{escape(f"{it.task}: {it.words}")}'
+                          f"</title>{mark(domains.index(domain_of(it.task)), place)}</a>")
+    axes.parts.append("</g>")
+    found = [it for it in RESULTS if any(point.result is it for point in points)]
+    hues = legend((result_class(it), '<rect x="-6" y="-5" width="12" height="10"/>', it.value) for it in found)
+    return hues + legend(("", mark(number), domain) for number, domain in enumerate(domains))
 
 
 def against(runs: tuple[Lines, Lines], what: str, value: Value, anchors: dict[str, str]) -> str:
@@ -121,6 +135,8 @@ def against(runs: tuple[Lines, Lines], what: str, value: Value, anchors: dict[st
     rows = [(task, *(value_in(it, task, value) for it in runs)) for task in shared(*runs)]
     rows = [it for it in rows if it[1:] != (None, None)]
     known = [it for _, *both in rows for it in both if it is not None] or [1, 10]
+    # Where one has no answer, its result is the hue.
+    result_of = lambda task: min((it.by_task[task] for it in runs), key=lambda it: it.is_answered).result
     edge = max(known) * 4
     scale = logarithmic([*known, edge], SQUARE)
     axes = Axes(scale, scale, *(f"{what}, {it.name}" for it in runs))
@@ -131,8 +147,8 @@ def against(runs: tuple[Lines, Lines], what: str, value: Value, anchors: dict[st
     axes.parts.append(text(left + 6, top - 6, f"no answer in {runs[1].name}", "quiet"))
     axes.parts.append(text(right + 13, bottom - 6, f"no answer in {runs[0].name}", "quiet", turned=True))
     told = lambda it: "no answer" if it is None else shown(it)
-    keys = scatter(axes, [(task, x or edge, y or edge, f"{told(x)} and {told(y)}") for task, x, y in rows], anchors)
-    return axes.svg() + keys
+    points = [Point(task, x or edge, y or edge, result_of(task), f"{told(x)} and {told(y)}") for task, x, y in rows]
+    return with_legends(axes, points, anchors)
 
 
 def value_in(run: Lines, task: str, value: Value) -> float | None:
@@ -141,23 +157,28 @@ def value_in(run: Lines, task: str, value: Value) -> float | None:
 
 
 def of_one(run: Lines, labels: tuple[str, str], values: tuple[Value, Value], anchors: dict[str, str]) -> str:
-    """Two figures of each task that a run has answered, against each other."""
-    points = [(it.task, *(value(it) for value in values)) for it in run.answered]
-    points = [it for it in points if None not in it]
-    axes = Axes(*(logarithmic([it[number] for it in points], SQUARE) for number in (1, 2)), *labels)
-    return scattered(axes, points, anchors)
+    """Two figures of each task of a run that has both, against each other."""
+    points = points_of(run, values)
+    axes = Axes(logarithmic([it.x for it in points], SQUARE), logarithmic([it.y for it in points], SQUARE), *labels)
+    return with_legends(axes, points, anchors)
 
 
 def checking_and_solving(run: Lines, anchors: dict[str, str]) -> str:
     """What it took to solve each task and to check its certificate, with the line on which both are the same."""
-    points = [(it.task, time_of(it), check_time_of(it)) for it in run.answered if it.check]
-    scale = logarithmic((it for _, *both in points for it in both), SQUARE)
+    points = points_of(run, (time_of, check_time_of))
+    scale = logarithmic((it for point in points for it in (point.x, point.y)), SQUARE)
     axes = Axes(scale, scale, "to solve, s of a processor", "to check, s of a processor")
     axes.parts.append(line(*axes.place(scale.low, scale.low), *axes.place(scale.high, scale.high), "diagonal"))
-    return scattered(axes, points, anchors)
+    return with_legends(axes, points, anchors)
 
 
-def scattered(axes: Axes, points: list[tuple[str, float, float]], anchors: dict[str, str]) -> str:
-    """A plot of these points, each told by its two figures."""
-    keys = scatter(axes, [(task, x, y, f"{shown(x)} and {shown(y)}") for task, x, y in points], anchors)
+def with_legends(axes: Axes, points: list[Point], anchors: dict[str, str]) -> str:
+    """A plot with a mark for each of these points."""
+    keys = scatter(axes, points, anchors)
     return axes.svg() + keys
+
+
+def points_of(run: Lines, values: tuple[Value, Value]) -> list[Point]:
+    """The tasks of a run that have both figures."""
+    rows = ((it, *(value(it) for value in values)) for it in run.by_task.values())
+    return [Point(it.task, x, y, it.result, f"{shown(x)} and {shown(y)}") for it, x, y in rows if None not in (x, y)]

@@ -20,6 +20,13 @@ class Lines:
     name: str
     settings: Settings
     by_task: dict[str, Line]
+    # Where the plans and certificates stand, below `answers`.
+    folder: str
+
+    @property
+    def plan_name(self) -> str:
+        """The file of a task's plan that has the names of the files that were found."""
+        return "original-plan.txt" if self.settings.converter else "plan.txt"
 
     @property
     def answered(self) -> list[Line]:
@@ -54,7 +61,8 @@ def read_run(folder: str) -> Lines:
     others = {it.program for it in lines} - {settings.program.sum}
     if others:
         sys.exit(f"batch-report: {folder} has lines of other programs: {', '.join(map(str, others))}")
-    return Lines(os.path.basename(os.path.abspath(folder)), settings, {it.task: it for it in lines})
+    folder = os.path.abspath(folder)
+    return Lines(os.path.basename(folder), settings, {it.task: it for it in lines}, folder)
 
 
 def tasks_of(runs: list[Lines]) -> list[str]:
@@ -70,6 +78,13 @@ def domains_of(tasks: Iterable[str]) -> list[str]:
 def shared(one: Lines, other: Lines) -> list[str]:
     """The tasks of the same texts that two runs have."""
     return [task for task in tasks_of([one]) if task in other.by_task and one.by_task[task].texts == other.by_task[task].texts]
+
+
+def shared_by_all(runs: list[Lines]) -> list[str]:
+    """The tasks of the same texts that all these runs have."""
+    first, *others = runs
+    common = [{*shared(first, it)} for it in others]
+    return [task for task in tasks_of([first]) if all(task in it for it in common)]
 
 
 def with_other_texts(runs: list[Lines]) -> list[str]:

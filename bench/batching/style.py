@@ -24,6 +24,7 @@ table { border-collapse: collapse; font-size: .86rem; font-variant-numeric: tabu
 th, td { padding: .22rem .7rem; text-align: right; border-bottom: 1px solid var(--line); white-space: nowrap; }
 th { font-weight: 600; } th:first-child, td:first-child { text-align: left; }
 tr.group th { border-bottom: none; text-align: left; } tr.sum td { font-weight: 600; border-top: 2px solid var(--frame); }
+table.plans td:nth-child(-n+3), table.plans th:nth-child(-n+3) { text-align: left; } a { color: var(--notice); }
 tr:target { background: var(--target); } .wide { overflow-x: auto; }
 .runs { display: flex; flex-wrap: wrap; gap: 1rem; margin-top: 1.2rem; }
 .run { border: 1px solid var(--line); border-radius: 8px; padding: .8rem 1.2rem; flex: 1 1 22rem; min-width: 0;
@@ -41,7 +42,8 @@ figcaption { font-weight: 600; margin: .8rem 0 .3rem; }
 .grid { stroke: var(--line); } .frame, .diagonal { stroke: var(--frame); } .edge { stroke: var(--frame); stroke-dasharray: 1 4; }
 .curve { stroke: currentColor; stroke-width: 2; stroke-linejoin: round; } .dashed { stroke-dasharray: 5 3; }
 .plot .marks path { fill: currentColor; fill-opacity: .85; } .plot a:hover path { stroke: var(--ink); stroke-width: 1.5; }
-.bar, .key rect { fill: currentColor; } .bar { stroke: var(--paper); } .key path { fill: currentColor; }
+.plot .marks path.hollow, .key path.hollow { fill: var(--paper); stroke: currentColor; stroke-width: 1.5; }
+.bar, .key rect { fill: currentColor; } .bar { stroke: var(--paper); } .key path:not(.hollow) { fill: currentColor; }
 .legend { list-style: none; display: flex; flex-wrap: wrap; gap: .1rem 1.1rem; margin: .3rem 0 0; padding: 0; font-size: .8rem;
   max-width: 34rem; }
 .key { vertical-align: -1px; margin-right: .3rem; }

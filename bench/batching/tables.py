@@ -7,6 +7,7 @@ from html import escape
 from typing import Iterable
 
 from batching.lines import ANSWERS, Line, Result
+from batching.links import Links
 from batching.reading import Lines, domain_of, domains_of, tasks_of, with_other_texts
 
 
@@ -34,27 +35,50 @@ def by_domain(runs: list[Lines]) -> str:
     return f'<div class="wide"><table>{"".join(lines)}</table></div>'
 
 
-def cells_of(line: Line | None) -> list[object]:
-    """What the table of all tasks has of a line."""
+# What the table of all tasks has of a line.
+HEADS = ["result", "cost", "steps", "start's value", "s", "s by the clock", "MB", "instances", "atoms", "states", "expanded",
+         "certificate, bytes", "values", "check"]
+
+
+def values_of(line: Line) -> str:
+    """Which version the certificate has, and what it uses."""
+    if line.certificate_version is None:
+        return ""
+    used = [f"{count:,} {what}{'' if count == 1 else 's'}" for count, what in ((line.tables, "table"), (line.exchanges, "exchange"))
+            if count]
+    return ", ".join([f"version {line.certificate_version}", *used])
+
+
+def cost_of(line: Line) -> str:
+    """What the plan costs, or what is known of it."""
+    if line.cost is not None:
+        return f"{line.cost:,}"
+    if line.bound is not None:
+        return f"at least {line.bound:,}"
+    return "" if line.reached is None else f"at least {line.reached:,}, without a certificate"
+
+
+def cells_of(run: Lines, line: Line | None, links: Links) -> list[object]:
+    """The cells of a line, from which links lead to the plan and the certificate."""
     if line is None:
-        return ["", "", "", "", "", "", ""]
+        return [""] * len(HEADS)
     known = lambda value, form: "" if value is None else format(value, form)
     verdict = "" if line.check is None else "accepted" if line.check.accepted else f"not accepted: {escape(line.check.verdict)}"
-    cost = f"at least {line.bound:,}" if line.cost is None and line.bound is not None else known(line.cost, ",")
     memory = None if line.peak_bytes is None else line.peak_bytes / 1e6
     where = f", {escape(os.path.basename(line.explained.place))}" if line.explained else ""
-    return [line.result.value + where, cost, known(line.seconds, ",.2f"), known(memory, ",.0f"), known(line.states, ","),
-            known(line.certificate_bytes, ","), verdict]
+    return [line.result.value + where, links.to_plan(run, line, cost_of(line)), known(line.steps, ","), known(line.start_value, ","),
+            known(line.seconds, ",.2f"), known(line.clock_seconds, ",.2f"), known(memory, ",.0f"), known(line.instances, ","),
+            known(line.atoms, ","), known(line.states, ","), known(line.expanded, ","),
+            links.to_certificate(run, line, known(line.certificate_bytes, ",")), values_of(line), verdict]
 
 
-def all_tasks(runs: list[Lines], anchors: dict[str, str]) -> str:
+def all_tasks(runs: list[Lines], anchors: dict[str, str], links: Links) -> str:
     """A table with a row for each task. A name that stands for other texts in another run is marked."""
-    heads = ["result", "cost", "s", "MB", "states", "certificate, bytes", "check"]
-    group = "".join(f'<th colspan="{len(heads)}">{escape(run.name)}</th>' for run in runs)
-    lines = [f'<tr class="group"><th></th>{group}</tr>', row(["task", *heads * len(runs)], "th")]
+    group = "".join(f'<th colspan="{len(HEADS)}">{escape(run.name)}</th>' for run in runs)
+    lines = [f'<tr class="group"><th></th>{group}</tr>', row(["task", *HEADS * len(runs)], "th")]
     marked = {*with_other_texts(runs)}
     for task, anchor in anchors.items():
-        cells = (cell for run in runs for cell in cells_of(run.by_task.get(task)))
+        cells = (cell for run in runs for cell in cells_of(run, run.by_task.get(task), links))
         name = escape(task) + ('<span class="otherwise">texts differ</span>' if task in marked else "")
         lines.append(row([name, *cells], attributes=f' id="{anchor}"'))
     return f'<div class="wide"><table>{"".join(lines)}</table></div>'

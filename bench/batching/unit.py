@@ -15,6 +15,7 @@ from batching.converting import WRITTEN, Converted, words_back, words_into
 from batching.layouts import Task
 from batching.lines import ANSWERS, Check, Explained, Line, Result
 from batching.runs import Program, Settings, put, texts_sum
+from batching.told import told_on_the_way, without_progress
 from timing import Ended, ended, processor
 
 LIBC = ctypes.CDLL(None)
@@ -29,13 +30,19 @@ BY_STATUS = {
     22: Result.MEMORY,
     128 + signal.SIGXCPU: Result.TIME,
 }
+# The status of `tools/ipc-files` where it refuses a file.
+REFUSED_BY_TOOL = 20
 # The status of `check` where a certificate, or the plan beside it, is not accepted.
 REFUSED_BY_CHECK = 12
 # The first line of `explain` where a text is refused, and the lines of the text that it tells next.
-PLACE = re.compile(r"(.*):(\d+):(\d+): fault \d+ \w+")
+PLACE = re.compile(r"(.*?):(\d+):(\d+): (?:fault \d+ \w+|(?:error: )?(?P<message>.*?)(?: \[\d+ \w+\].*)?$)")
 MARKED = re.compile(r" *\d* \|")
+# How `tools/ipc-files` refuses a file.
+PLACE_OF_TOOL = re.compile(r"(.*?):(\d+):(\d+): (.*)")
 # A name between backquotes may have a full stop.
 SENTENCE = re.compile(r"(?:`[^`]*`|[^`])*?\.(?= |$)")
+# The keys of a line that are costs.
+COSTS = ("cost", "bound", "reached", "start_value")
 BY_REASON = {"states": Result.STATES, "instances": Result.INSTANCES, "atoms": Result.ATOMS}
 
 
@@ -88,19 +95,32 @@ def answer_of(end: Ended, seconds: int) -> tuple[Result, int | None]:
 def fault_of(end: Ended) -> str | None:
     """Why there is no answer: the first line of the standard error, or the signal that ended the program."""
     signalled = f"ended by signal {end.status - 128}" if end.status > 128 else None
-    return next(iter(end.errors.splitlines()), signalled)
+    return next(iter(without_progress(end.errors).splitlines()), signalled)
 
 
 def explained(task: Task, settings: Settings) -> Explained | None:
     """Where a text that was refused is at fault, and the first sentence on it; None where the program does not tell."""
     words = [settings.program.path, "explain", task.domain, task.problem, "--instances", str(settings.instances)]
-    first, *others = within_limits(words, settings).output.split("\n")
+    return explained_in(within_limits(words, settings).output)
+
+
+def explained_in(output: str) -> Explained | None:
+    """The place and the first sentence in what `explain` says of a text: in its first line, or behind the lines of the text."""
+    first, *others = output.split("\n")
     place = PLACE.match(first)
     if place is None:
         return None
+    if place["message"]:
+        return Explained(place[1], int(place[2]), int(place[3]), place["message"])
     told = next((it for it in others if not MARKED.match(it)), "")
     sentence = SENTENCE.match(told)
     return Explained(place[1], int(place[2]), int(place[3]), sentence[0] if sentence else told)
+
+
+def explained_by_tool(end: Ended) -> Explained | None:
+    """Where a file is that `tools/ipc-files` refuses, and its sentence; None where it tells no place."""
+    told = PLACE_OF_TOOL.fullmatch(fault_of(end) or "") if end.status == REFUSED_BY_TOOL else None
+    return told and Explained(told[1], int(told[2]), int(told[3]), told[4])
 
 
 def check(task: Task, settings: Settings, cert: str, plan: str | None, claim: dict) -> Check:
@@ -129,6 +149,22 @@ def states_of(cert: str) -> int | None:
     return int(last) if last.endswith(b"\n") and last[:-1].isdigit() else None
 
 
+def head_of(cert: str) -> dict:
+    """The version of a certificate, and how many tables and exchanges it has, by the lines before its states."""
+    keys = {"certificate_version": None, "tables": 0, "exchanges": 0}
+    counted = {b"table": "tables", b"swap": "exchanges"}
+    with open(cert, "rb") as text:
+        for line in text:
+            word, _, rest = line.rstrip(b"\n").partition(b" ")
+            if word == b"pddl-cert":
+                keys["certificate_version"] = int(rest) if rest.isdigit() else None
+            elif word in counted:
+                keys[counted[word]] += 1
+            elif word in (b"open", b"cut", b"dead", b"end"):
+                break
+    return keys
+
+
 def outcome(task: Task, settings: Settings, folder: str) -> Line:
     """Runs a task, with its answer in this folder, and tells how it ended."""
     plan, cert = empty(folder)
@@ -139,15 +175,16 @@ def outcome(task: Task, settings: Settings, folder: str) -> Line:
     if end.status:
         result = result_of(end, settings.seconds)
         result = Result.FAILED if result in ANSWERS else result
-        return Line(task.name, result, **keys, status=end.status, fault=fault_of(end))
+        return Line(task.name, result, **keys, status=end.status, fault=fault_of(end), explained=explained_by_tool(end))
     made = Converted.read(task, folder)
     found = solved(made.task, settings, plan, cert)
     if found["result"] is Result.PLAN:
         end = within_limits(words_back(folder, plan), settings)
         put(f"{folder}/original-plan.txt", end.output)
+        found.update(steps=end.output.count("("))
         if end.status:
             found.update(result=Result.FAILED, fault=fault_of(end))
-    found.update({key: made.cost_back(found[key]) for key in ("cost", "bound") if key in found}, changes=made.changes)
+    found.update({key: made.cost_back(found[key]) for key in COSTS if key in found}, changes=made.changes)
     return Line(task.name, **keys, **found)
 
 
@@ -155,12 +192,18 @@ def solved(task: Task, settings: Settings, plan: str, cert: str) -> dict:
     """Has the program solve a task, with its answer in these files: what a line tells of that."""
     limits = ["--states", str(settings.states), "--instances", str(settings.instances)]
     end = within_limits([settings.program.path, "solve", task.domain, task.problem, *limits,
-                         "--plan", plan, "--cert", cert, "--json"], settings)
+                         "--plan", plan, "--cert", cert, "--json", "--progress"], settings)
     result, cost = answer_of(end, settings.seconds)
     claim, has_plan = claim_of(end, result, cost), result is Result.PLAN
     if not all(map(os.path.isfile, [cert] * (claim is not None) + [plan] * has_plan)):
         result, claim = Result.FAILED, None
-    keys = {"result": result, "status": end.status, "cost": cost, "seconds": round(end.seconds, 3), "peak_bytes": end.peak}
+    keys = {"result": result, "status": end.status, "cost": cost, "seconds": round(end.seconds, 3),
+            "clock_seconds": round(end.clock, 3), "peak_bytes": end.peak, **told_on_the_way(end.errors)}
+    if result not in (Result.TIME, Result.MEMORY):
+        # What was told on the way counts where nothing came at the end.
+        keys.pop("reached", None)
+    if has_plan:
+        keys.update(steps=len(told(end).get("steps", ())))
     if claim:
         keys.update(judged(task, settings, claim, plan if has_plan else None, cert))
     if result not in ANSWERS:
@@ -192,7 +235,7 @@ def claim_of(end: Ended, result: Result, cost: int | None) -> dict | None:
 
 def judged(task: Task, settings: Settings, claim: dict, plan: str | None, cert: str) -> dict:
     """What there is to say of a certificate, with the plan if there is one."""
-    keys = {"states": states_of(cert), "certificate_bytes": os.path.getsize(cert)}
+    keys = {"states": states_of(cert), "certificate_bytes": os.path.getsize(cert), **head_of(cert)}
     if settings.checker:
         keys["check"] = check(task, settings, cert, plan, claim)
     if not settings.keeps_certificates:

@@ -5,12 +5,15 @@ from __future__ import annotations
 import re
 from decimal import Decimal, localcontext
 
+from ipc_files.checking import told as counted
 from ipc_files.files import Task, parameters_of
 from ipc_files.reading import TOKEN
 from ipc_files.told import Refusal
 from ipc_files.trees import Span, Text, entries_of
 
 COST = re.compile(rb"; *cost *= *([0-9]+) *\r?")
+# What `solve` says where it has no plan.
+NO_PLAN = re.compile(rb"\s*(unsolvable|unknown [a-z]+)\b")
 
 
 def table_of(task: Task) -> dict:
@@ -19,6 +22,20 @@ def table_of(task: Task) -> dict:
                 "column": it.at.text.place(it.at.start)[1], "text": it.text} for it in in_order(task)]
     return {"domain": task.domain.text.name, "problem": task.problem.text.name, "changes": changes, "factor": task.factor,
             "actions": actions_of(task), "objects": objects_of(task)}
+
+
+def check_table(table: dict) -> None:
+    """Raises what a table does that is not as `table_of` makes one."""
+    is_well = isinstance(table["factor"], int) and table["factor"] > 0
+    is_well &= all(isinstance(it, str) for pair in table["objects"].items() for it in pair)
+    for action in table["actions"]:
+        is_well &= isinstance(action["name"], str) and bool(action["steps"])
+        is_well &= all(isinstance(it["name"], str) for it in action["steps"])
+        takes = [at for it in action["steps"] for at in it["takes"]]
+        is_well &= all(isinstance(at, int) and 0 <= at < action["parameters"] for at in takes)
+        is_well &= {*takes} == {*range(action["parameters"])}
+    if not is_well:
+        raise ValueError
 
 
 def in_order(task: Task) -> list:
@@ -71,12 +88,12 @@ def chosen_by(steps: list[tuple[Span, list[str]]], action: dict) -> list[str]:
     chosen: list[str | None] = [None] * action["parameters"]
     for index, wanted in enumerate(action["steps"]):
         if index == len(steps):
-            raise Refusal(steps[-1][0], f"`{wanted['name']}` is wanted behind this step")
+            raise Refusal(steps[-1][0], f"expected `{wanted['name']}` after this step")
         at, (name, *objects) = steps[index]
         if name != wanted["name"]:
-            raise Refusal(at, f"`{wanted['name']}` is wanted here")
+            raise Refusal(at, f"expected `{wanted['name']}`, not `{name}`")
         if len(objects) != len(wanted["takes"]):
-            raise Refusal(at, f"`{name}` takes {len(wanted['takes'])} objects")
+            raise Refusal(at, f"`{name}` takes {counted(len(wanted['takes']))}, not {len(objects)}")
         for parameter, it in zip(wanted["takes"], objects):
             if chosen[parameter] not in (None, it):
                 raise Refusal(at, f"the steps of `{action['name']}` choose both `{chosen[parameter]}` and `{it}`")
@@ -87,12 +104,15 @@ def chosen_by(steps: list[tuple[Span, list[str]]], action: dict) -> list[str]:
 def steps_of(plan: Text) -> list[tuple[Span, list[str]]]:
     """The steps of a plan text, in lower case, each with its place."""
     found, open_step, at = [], None, 0
+    answer = NO_PLAN.match(plan.data)
+    if answer:
+        raise Refusal(Span(plan, answer.start(1), answer.end(1)), f"this is the answer `{answer[1].decode()}`, and no plan")
     while at < len(plan.data):
         token = TOKEN.match(plan.data, at)
         span = Span(plan, at, token.end() if token else at + 1)
         word = token and (token[1] or token[2])
         if not token or word and (word == b"(") is (open_step is not None) or word == b")" and not open_step[1]:
-            raise Refusal(span, "a plan is a list of steps, as `(move a b)`")
+            raise Refusal(span, "a plan is a list of steps, as `(move a b)`: tools/plan-of rewrites other forms")
         if word == b"(":
             open_step = (span, [])
         elif word == b")":

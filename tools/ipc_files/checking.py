@@ -201,7 +201,7 @@ class Names:
             if function.head == "total-cost" and (before is not value or value_in(value) != 0):
                 raise Refusal(it.at, "the total cost starts at 0, and once")
             if value_in(before) != value_in(value):
-                raise Refusal(it.at, f"another value of `{function.head}` of these objects stands before")
+                raise Refusal(it.at, f"`{function.head}` of these objects has another value before")
 
     def check_atom(self, atom: Group, known: dict[str, list[Entry]], scope: Scope, objects: dict[str, Entry]) -> None:
         """An atom of one of these predicates, or a function of one of these with its objects."""
@@ -214,7 +214,7 @@ class Names:
         for term, argument in zip(terms, wanted):
             types = self.types_of(term, scope, objects)
             if not self.fits(types, argument.lows):
-                raise Refusal(term.at, f"`{term.shown}` is a `{types[0]}`, and `{name.shown}` wants a `{argument.lows[0]}` here")
+                raise Refusal(term.at, f"`{term.shown}` is a `{types[0]}`, and `{name.shown}` takes a `{argument.lows[0]}` here")
 
     def types_of(self, term: Word, scope: Scope, objects: dict[str, Entry]) -> tuple[str, ...]:
         """The types of a term; the file is refused where it is not known."""

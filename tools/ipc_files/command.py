@@ -7,7 +7,7 @@ import json
 import os
 import sys
 
-from ipc_files.back import in_order, plan_back, table_of
+from ipc_files.back import check_table, in_order, plan_back, table_of
 from ipc_files.checking import MOST_VARIABLES
 from ipc_files.task import mend, read_task
 from ipc_files.told import Refusal
@@ -23,18 +23,49 @@ def arguments(usage: str) -> argparse.Namespace:
     words = argparse.ArgumentParser(prog="tools/ipc-files", description=usage, formatter_class=argparse.RawDescriptionHelpFormatter)
     words.add_argument("files", nargs="*", metavar="DOMAIN PROBLEM", help="the files of a competition")
     words.add_argument("--into", metavar="FOLDER", help="where domain.pddl, problem.pddl and changes.json are written")
-    words.add_argument("--back", nargs=2, metavar=("FOLDER", "PLAN"), help="print the plan in the names of what FOLDER was made of")
+    words.add_argument("--back", nargs="+", metavar=("FOLDER", "PLAN"),
+                       help="print the plan, - for the standard input, in the names of what FOLDER was made of")
     words.add_argument("--variables", type=int, default=MOST_VARIABLES, choices=range(1, MOST_VARIABLES + 1), metavar="N",
                        help="write actions with more than N variables in scope as steps (%(default)s)")
     given = words.parse_args()
-    if bool(given.back) == bool(given.into) or len(given.files) != (0 if given.back else 2):
-        words.error("DOMAIN PROBLEM --into FOLDER, or --back FOLDER PLAN")
+    if given.back and len(given.back) == 1:
+        words.error(f"--back {given.back[0]}: expected the plan's file after the folder, or - for the standard input")
+    is_back = given.back is not None and len(given.back) == 2 and not given.into and not given.files
+    if not is_back and (given.back or not given.into or len(given.files) != 2):
+        words.error("expected DOMAIN PROBLEM --into FOLDER, or --back FOLDER PLAN")
     return given
 
 
 def read_file(path: str) -> Text:
     with open(path, "rb") as file:
         return Text(path, file.read())
+
+
+def read_plan(path: str) -> Text:
+    """A plan's file, or the standard input."""
+    if path == "-":
+        return Text(path, sys.stdin.buffer.read())
+    try:
+        return read_file(path)
+    except FileNotFoundError:
+        print(f"ipc-files: there is no plan {path}: `solve --plan` writes none where it finds none", file=sys.stderr)
+        sys.exit(DEVICE)
+
+
+def taken_back(folder: str, plan: str) -> str:
+    """A plan in the names of the files that a folder was made of."""
+    path = os.path.join(folder, "changes.json")
+    try:
+        with open(path, encoding="utf-8") as text:
+            table = json.load(text)
+        check_table(table)
+    except FileNotFoundError:
+        print(f"ipc-files: there is no {path}: expected a folder that --into has written", file=sys.stderr)
+        sys.exit(DEVICE)
+    except (ValueError, KeyError, TypeError, AttributeError):
+        print(f"ipc-files: {path} is not as --into has written it", file=sys.stderr)
+        sys.exit(REFUSED)
+    return plan_back(read_plan(plan), table)
 
 
 def convert(domain: str, problem: str, folder: str, most_variables: int) -> None:
@@ -64,10 +95,7 @@ def main(usage: str) -> None:
     given = arguments(usage)
     try:
         if given.back:
-            folder, plan = given.back
-            with open(os.path.join(folder, "changes.json"), encoding="utf-8") as text:
-                table = json.load(text)
-            sys.stdout.write(plan_back(read_file(plan), table))
+            sys.stdout.write(taken_back(*given.back))
         else:
             convert(*given.files, given.into, given.variables)
         sys.stdout.flush()

@@ -7,6 +7,7 @@ import re
 
 from ipc_files.told import Refusal
 from ipc_files.trees import Group, Node, Word
+from ipc_files.unsupported import METRIC, refuse_condition, refuse_effect, refuse_fact, refuse_metric, refuse_section
 
 DOMAIN_SECTIONS = (":requirements", ":types", ":constants", ":predicates", ":functions", ":action", ":derived")
 PROBLEM_SECTIONS = (":domain", ":requirements", ":objects", ":init", ":goal", ":metric", ":length")
@@ -33,9 +34,9 @@ def is_number(node: Node) -> bool:
 
 
 def want(holds: bool, node: Node, wanted: str) -> None:
-    """Refuses the file at this node where something else is wanted there."""
+    """Refuses the file at this node where something else is expected there."""
     if not holds:
-        raise Refusal(node.at, f"{wanted} is wanted here")
+        raise Refusal(node.at, f"expected {wanted}")
 
 
 def check_file(tree: Group, kind: str) -> None:
@@ -47,6 +48,7 @@ def check_file(tree: Group, kind: str) -> None:
     sections, seen = DOMAIN_SECTIONS if kind == "domain" else PROBLEM_SECTIONS, set()
     for it in tree.parts[2:]:
         want(isinstance(it, Group) and it.head.startswith(":"), it, "a section")
+        refuse_section(it)
         if it.head not in sections:
             raise Refusal(it.parts[0].at, f"`{it.head}` is no section of a {kind} of the language, and cannot be said otherwise")
         if it.head in seen and it.head not in REPEATABLE:
@@ -77,7 +79,7 @@ def check_typed(around: Group, parts: list[Node], is_entry, wanted: str) -> None
         if isinstance(it, Word) and it.text == "-":
             want(count > 0, it, wanted)
             if index + 1 == len(parts):
-                raise Refusal(around.at, "a type is wanted behind the last `-`")
+                raise Refusal(around.at, "expected a type after the last `-`")
             check_type(parts[index + 1], is_entry is is_variable)
             count, index = 0, index + 2
         else:
@@ -141,7 +143,7 @@ def check_action(section: Group) -> None:
         if it.low in seen:
             raise Refusal(it.at, f"a second `{it.low}`")
         if index + 1 == len(section.parts):
-            raise Refusal(it.at, f"nothing stands behind `{it.low}`")
+            raise Refusal(it.at, f"expected a list after `{it.low}`")
         seen.add(it.low)
         check_part(it.low, section.parts[index + 1])
         index += 2
@@ -174,6 +176,7 @@ def check_atom(atom: Node) -> None:
 def check_condition(formula: Node) -> None:
     """`F` of docs/language.md."""
     want(isinstance(formula, Group), formula, "a condition")
+    refuse_condition(formula)
     head, parts = formula.head, formula.parts[1:]
     counts = {"not": 1, "imply": 2, "=": 2, "exists": 2, "forall": 2}
     if head in counts:
@@ -205,12 +208,21 @@ def check_effect(effect: Node, is_outermost: bool) -> None:
         want(len(parts) == 2, effect, f"`{head}` with 2 parts")
         (check_variables if head == "forall" else check_condition)(parts[0])
         check_effect(parts[1], False)
-    elif head == "increase":
+    elif is_cost(effect):
         if not is_outermost:
             raise Refusal(effect.parts[0].at, "the language has no costs under a `when` or a `forall`")
         check_increase(effect)
     else:
+        refuse_effect(effect)
         check_atom(effect)
+
+
+def is_cost(effect: Group) -> bool:
+    """Whether an effect increases the total cost, or is not even an increase of another number."""
+    if effect.head != "increase":
+        return False
+    of = effect.parts[1] if len(effect.parts) > 1 else None
+    return not isinstance(of, Group) or of.head in ("", "total-cost")
 
 
 def check_increase(effect: Group) -> None:
@@ -220,6 +232,7 @@ def check_increase(effect: Group) -> None:
     want(isinstance(cost, Group) and cost.head == "total-cost" and len(cost.parts) == 1, cost, "`(total-cost)`")
     want(is_number(by) or isinstance(by, Group), by, "a number, or a function of objects")
     if isinstance(by, Group):
+        want(not any(isinstance(it, Group) for it in by.parts), by, "a number, or a function of objects: nothing is reckoned here")
         check_atom(by)
         want(by.head != "total-cost", by, "a number, or a function of objects")
 
@@ -232,6 +245,7 @@ def check_init(section: Group) -> None:
     """Atoms, those under a `not` included, and values of functions."""
     for it in section.parts[1:]:
         want(isinstance(it, Group), it, "a fact")
+        refuse_fact(it)
         atom = it
         if it.head == "=":
             want(len(it.parts) == 3 and isinstance(it.parts[1], Group), it, "`(= (FUNCTION OBJECT ..) NUMBER)`")
@@ -253,10 +267,11 @@ def check_goal(section: Group) -> None:
 def check_metric(section: Group) -> None:
     """The total cost is minimised, or the total time."""
     want(len(section.parts) == 3 and isinstance(section.parts[1], Word), section, "`(:metric minimize (total-cost))`")
+    refuse_metric(*section.parts[1:])
     want(section.parts[1].low == "minimize", section.parts[1], "`minimize`")
-    if not is_total_time(section.parts[2]):
-        of = section.parts[2]
-        want(isinstance(of, Group) and of.head == "total-cost" and len(of.parts) == 1, of, "`(total-cost)` or `(total-time)`")
+    of = section.parts[2]
+    if not is_total_time(of) and not (isinstance(of, Group) and of.head == "total-cost" and len(of.parts) == 1):
+        raise Refusal(of.at, METRIC)
 
 
 def is_total_time(of: Node) -> bool:

@@ -29,7 +29,7 @@ def read(text: Text) -> Group:
         if not (found[1] or found[2]):
             continue
         if whole:
-            raise Refusal(span, "nothing may stand behind the parenthesis that closes the file's list")
+            raise Refusal(span, "nothing may follow the parenthesis that closes the file's list")
         node = word_or_closed(found, span, open_lists)
         if node is None:
             continue

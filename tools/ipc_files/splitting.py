@@ -157,7 +157,7 @@ class Splitting:
         problem.put(":goal", [listed(goal.at, "and", listed(goal.at, self.ready), goal.parts[1])])
         problem.put(":init", [*init.parts[1:], listed(init.at, self.ready)])
         self.task.tell("split", init.at, f"`({self.ready})` is true at the start")
-        self.task.tell("split", goal.at, f"`({self.ready})` is wanted at the end")
+        self.task.tell("split", goal.at, f"`({self.ready})` is added to the goal")
         self.predicates.append(listed(domain.end, self.ready))
 
     def locked(self, action: Group) -> Group:

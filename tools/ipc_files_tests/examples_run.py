@@ -98,7 +98,7 @@ def try_files(checks: Checks, room: Path) -> None:
     status, _, errors = run([sys.executable, TOOL, "domain.pddl", "missing.pddl", "--into", "new"], folder)
     checks.check("a problem that is missing", status == 21 and not (folder / "new").exists(), errors)
     status, _, errors = run([sys.executable, TOOL, "problem.pddl", "domain.pddl", "--into", "new"], folder)
-    told = "problem.pddl:1:9: `(domain NAME)` is wanted here\n"
+    told = "problem.pddl:1:9: expected `(domain NAME)`\n"
     checks.check("a problem in the place of the domain", (status, errors) == (20, told), errors)
     status, _, errors = run([sys.executable, TOOL, "domain.pddl", "--into", "new"], folder)
     checks.check("words that it does not take", status == 2, errors)
@@ -113,10 +113,12 @@ def try_back(checks: Checks, room: Path) -> None:
     cases = {
         "an unknown action": ("(nothing a)", "plan:1:1: no action begins with `nothing`"),
         "a step that is open": ("(set z", "plan:1:1: this step is open at the end"),
-        "a word outside of a step": ("0: (set z)", "plan:1:1: a plan is a list of steps, as `(move a b)`"),
-        "too few objects": ("(set)", "plan:1:1: `set` takes 1 objects"),
-        "steps that do not go on": ("\n".join([split[0], "(set z)"]), f"plan:2:1: `{split[1].split()[0][1:]}` is wanted here"),
-        "steps that end too early": (split[0], f"plan:1:1: `{split[1].split()[0][1:]}` is wanted behind this step"),
+        "a word outside of a step": ("0: (set z)", "plan:1:1: a plan is a list of steps, as `(move a b)`: tools/plan-of rewrites other forms"),
+        "too few objects": ("(set)", "plan:1:1: `set` takes 1 object, not 0"),
+        "an answer without a plan": ("unsolvable\n", "plan:1:1: this is the answer `unsolvable`, and no plan"),
+        "a limit": ("unknown states, at least 6\n", "plan:1:1: this is the answer `unknown states`, and no plan"),
+        "steps that do not go on": ("\n".join([split[0], "(set z)"]), f"plan:2:1: expected `{split[1].split()[0][1:]}`, not `set`"),
+        "steps that end too early": (split[0], f"plan:1:1: expected `{split[1].split()[0][1:]}` after this step"),
     }
     for name, (text, told) in cases.items():
         (room / "plan").write_text(text)
@@ -125,3 +127,63 @@ def try_back(checks: Checks, room: Path) -> None:
     (room / "plan").write_text("; nothing of its cost\n(SET Z)\n")
     status, out, _ = run([sys.executable, TOOL, "--back", "split", "plan"], room)
     checks.check("back: a plan without a cost", (status, out) == (0, "(set z)\n"), out)
+    try_back_words(checks, room)
+
+
+def try_back_words(checks: Checks, room: Path) -> None:
+    """What is said where the plan, or what --into has written, is not there."""
+    (room / "empty").mkdir()
+    (room / "damaged").mkdir()
+    (room / "damaged/changes.json").write_text('{"actions":[{"name":"a"}],"factor":1,"objects":{}}')
+    missing = "ipc-files: there is no plan none: `solve --plan` writes none where it finds none\n"
+    cases = {
+        "no plan": (["split"], 2, "error: --back split: expected the plan's file after the folder, or - for the standard input\n"),
+        "two plans": (["split", "plan", "plan"], 2, "error: expected DOMAIN PROBLEM --into FOLDER, or --back FOLDER PLAN\n"),
+        "a plan that is missing": (["split", "none"], 21, missing),
+        "another folder": (["empty", "plan"], 21, "there is no empty/changes.json: expected a folder that --into has written\n"),
+        "a damaged folder": (["damaged", "plan"], 20, "ipc-files: damaged/changes.json is not as --into has written it\n"),
+    }
+    for name, (words, expected, told) in cases.items():
+        status, out, errors = run([sys.executable, TOOL, "--back", *words], room)
+        checks.check(f"back: {name}", (status, out) == (expected, "") and errors.endswith(told), errors)
+    ran = subprocess.run([sys.executable, TOOL, "--back", "split", "-"], cwd=room, input="(set z)", capture_output=True, text=True)
+    checks.check("back: the standard input", ran.stdout == "(set z)\n", ran.stderr)
+
+
+DOMAIN = """(define (domain d) (:predicates (p ?x) (decrease ?x) (preference ?x)) (:functions (total-cost) (fuel))
+(:action a :parameters (?x) :precondition {} :effect {}))"""
+PROBLEM = "(define (problem q) (:domain d) (:objects o) (:init {}) (:goal {}) (:metric {}))"
+# Of each part that is not supported: in which place of the two texts it stands, and how it is told.
+UNSUPPORTED = {
+    "(decrease (fuel) 1)": ("effect", "numbers that actions change (PDDL 2.1) are not supported"),
+    "(decrease (total-cost) 1)": ("effect", "numbers that actions change (PDDL 2.1) are not supported"),
+    "(assign (fuel) 1)": ("effect", "numbers that actions change (PDDL 2.1) are not supported"),
+    "(increase (fuel) 1)": ("effect", "numbers that actions change (PDDL 2.1) are not supported"),
+    "(increase (total-cost) (* 2 (fuel)))": ("effect", "a function of objects: nothing is reckoned here"),
+    "(oneof (p ?x) (not (p ?x)))": ("effect", "effects by chance, or by choice, are not supported"),
+    "(preference one (p ?x))": ("condition", "preferences (PDDL 3.0) are not supported"),
+    "(forall (?y) (preference (p ?y)))": ("condition", "preferences (PDDL 3.0) are not supported"),
+    "(<= (fuel) 3)": ("condition", "conditions on numbers (PDDL 2.1) are not supported"),
+    "(= (fuel) 3)": ("condition", "conditions on numbers (PDDL 2.1) are not supported"),
+    "(at start (p ?x))": ("condition", "durations (PDDL 2.1) are not supported"),
+    "(sometime (p o))": ("goal", "constraints on plans (PDDL 3.0) are not supported"),
+    "(at 10 (p o))": ("fact", "facts at a time (PDDL 2.2) are not supported"),
+    "maximize (total-cost)": ("metric", "only `(total-cost)` can be minimized"),
+    "minimize (fuel)": ("metric", "only `(total-cost)` can be minimized"),
+    "minimize (+ (total-cost) (is-violated one))": ("metric", "preferences (PDDL 3.0) are not supported"),
+}
+
+
+def try_unsupported(checks: Checks, room: Path) -> None:
+    """Parts of PDDL that the language has not are told by what they are; predicates of the same names are none."""
+    folder = room / "unsupported"
+    folder.mkdir()
+    usual = {"condition": "(decrease ?x)", "effect": "(preference ?x)", "fact": "(decrease o)", "goal": "(preference o)",
+             "metric": "minimize (total-cost)"}
+    cases = [("nothing", "", ""), *((it, *UNSUPPORTED[it]) for it in UNSUPPORTED)]
+    for text, place, told in cases:
+        its = {**usual, place: text}
+        (folder / "domain.pddl").write_text(DOMAIN.format(its["condition"], its["effect"]))
+        (folder / "problem.pddl").write_text(PROBLEM.format(its["fact"], its["goal"], its["metric"]))
+        status, _, errors = convert(folder, room / "supported")
+        checks.check(f"unsupported: {text}", status == (20 if place else 0) and told in errors, errors)
