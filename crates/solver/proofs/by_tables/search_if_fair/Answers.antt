@@ -21,15 +21,15 @@ new-requires-clause-numbered g c =
 pub new-requires-clause-fair : goal.new-requires-clause-fair
 new-requires-clause-fair g c = subst (ReportsValues (task_in c.ground-ground.result.now) (atoms_in c.ground-ground.result.now) (several_of c.args.functions)) c.in-Fair.is c.in_ok-fairness.ensures
 
-pub returns-in_ok-searched-in-Fair-clause-fair : goal.returns-in_ok-searched-in-Fair-clause-fair
-returns-in_ok-searched-in-Fair-clause-fair g c =
+pub returns-in-Fair-clause-fair : goal.returns-in-Fair-clause-fair
+returns-in-Fair-clause-fair g c =
     let guide = c.in_ok-guide-in-Fair.guide in
     let known = ground_in c.args.space in
     subst (AreFair (task_in known) (atoms_in known)) c.in_ok-guide-in-Fair.ensures.functions
     (subst (λ (g : Ground). AreFair (task_in g) (atoms_in g) (functions_in guide)) (c.in_ok-guide-in-Fair.ensures.ground ∙ c.ground-ground.ensures) guide.fair)
 
-pub returns-in_ok-searched-in-Fair-clause-searched : goal.returns-in_ok-searched-in-Fair-clause-searched
-returns-in_ok-searched-in-Fair-clause-searched g c =
+pub returns-in-Fair-clause-searched : goal.returns-in-Fair-clause-searched
+returns-in-Fair-clause-searched g c =
     let searched = c.in_ok-searched-in-Fair.searched in
     subst (λ (s : SeveralValues). IsSearched c.args.space (estimate_by (by_tables s)) (reports_dead (by_tables s)) c.args.limits.states searched.outcome searched.marks.items)
     c.in_ok-guide-in-Fair.ensures.functions c.in_ok-searched-in-Fair.ensures.searched

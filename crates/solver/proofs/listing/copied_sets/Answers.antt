@@ -1,5 +1,5 @@
 use Rattle.std.proofs.Common.{◌∙◌, [], length, take, sym, ap, subst, arith}
-use Rattle.std.proofs.lemmas.List.{length-take-le, take-all}
+use Rattle.std.proofs.lemmas.List.{length-take-le}
 use Rattle.packed_state.specs.Packed.{bits_of}
 use Rattle.packed_state.specs.PooledView.{pooled_states}
 use Rattle.packed_state.specs.Store.{IsPlaced}
