@@ -14,14 +14,15 @@ ghost use Rattle.solver.specs.Said.{HasEnded, IsTrueLine, IsTrueReport, is_open,
 ghost use Rattle.model.specs.NumberedAtoms.{numbered_atoms};
 ghost use Rattle.ground_listings.specs.SearchSpace.{ground_in, IsSearchSpace};
 ghost use Rattle.solver.specs.Solver.{IsTrueAnswer};
-ghost use Rattle.solver.specs.Written.{guidance_of};
+ghost use Rattle.potentials_improved.specs.Potentials.{potentials_of};
+ghost use Rattle.solver.specs.Written.{guidance_of, by_potentials_of};
 ghost use Rattle.solver.specs.declared.answer.Answer.TheVariants.{Unknown};
 ghost use Rattle.certificate.specs.Certificate.{certificate_of};
 ghost use Rattle.certificate.specs.CertificateParts.{listed_of};
 ghost use Rattle.model.specs.Task as model;
 ghost use Rattle.model.specs.WellTyped.{is_task};
 
-use crate::guidance::{Guidance, guidance_by, potential_of};
+use crate::guidance::{Guidance, guidance_by};
 use crate::improved::improved;
 use crate::limits::Limits;
 use crate::listing::cert_of;
@@ -296,13 +297,29 @@ fn solve_by_potentials<E: Sink>(
     };
     match search_in_parts(alloc, space, &guide, given, limits, err)? {
         Parts::ByTables(answer) => Ok(answer),
-        Parts::ByGuide(searched) => {
-            let value = potential_of(alloc, given.potentials)?;
-            let dead_ends = potential_of(alloc, given.dead_ends)?;
-            let guidance = guidance_by(alloc, space, value, dead_ends)?;
-            answer_of(alloc, space, guidance, searched, limits)
-        }
+        Parts::ByGuide(searched) => answer_by_potentials(alloc, space, given, searched, limits),
     }
+}
+
+/// The answer that a search by these potentials came to.
+fn answer_by_potentials(
+    alloc: Global,
+    space: SearchSpace<'_, '_>,
+    given: Given<'_>,
+    searched: Searched<'_, '_>,
+    limits: Limits,
+) -> Result<Answer, NoMemory>
+    requires space { IsSearchSpace space }
+    requires ground { IsGroundOf (task_in (ground_in space)) [] limits.instances (ground_in space) }
+    requires guidance { IsGuidanceFor space (by_potentials_of space (potentials_of given.potentials.now) (potentials_of given.dead_ends.now)) }
+    requires searched { IsSearched space
+        (estimate_by (by_potentials_of space (potentials_of given.potentials.now) (potentials_of given.dead_ends.now)))
+        (reports_dead (by_potentials_of space (potentials_of given.potentials.now) (potentials_of given.dead_ends.now)))
+        limits.states searched.outcome searched.marks.items }
+    ensures { IfOk result (IsTrueAnswer (task_in (ground_in space.entry)) limits.states limits.instances) }
+{
+    let guidance = guidance_by(alloc, space, given.potentials, given.dead_ends)?;
+    answer_of(alloc, space, guidance, searched, limits)
 }
 
 /// The answer that a search by the guidance came to, with its certificate.

@@ -52,11 +52,13 @@ impl Guidance {
 pub(crate) fn guidance_by(
     alloc: Global,
     space: SearchSpace<'_, '_>,
-    value: Potential,
-    dead_ends: Potential,
+    value: &Potentials,
+    dead_ends: &Potentials,
 ) -> Result<Guidance, NoMemory>
-    ensures { IfOk result (λ made. guidance_of made ≡ by_potentials_of space.entry (parts.potential_of value) (parts.potential_of dead_ends)) }
+    ensures { IfOk result (λ made. guidance_of made ≡ by_potentials_of space.entry (potentials_of value.now) (potentials_of dead_ends.now)) }
 {
+    let value = potential_of(alloc, value)?;
+    let dead_ends = potential_of(alloc, dead_ends)?;
     match space {
         SearchSpace::Alone(_) => Ok(Guidance::Potentials { value, dead_ends }),
         SearchSpace::Orbits(_) => {
