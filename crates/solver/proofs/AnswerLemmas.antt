@@ -1,6 +1,6 @@
 -- What the answer says of the task, and what a list of instances that solves says of them.
 use Rattle.std.proofs.Common.{◌≡◌, ℕ, ◌+◌, ◌<◌, ◌≤◌, ◌*◌, Bool, true, false, List, [], ◌∷◌, length, get_or, None, Some, refl, sym, ap, subst, arith}
-use Rattle.std.specs.Prelude.{nat_le, slice_get, Contains, All}
+use Rattle.std.specs.Prelude.{nat_le, slice_get, Contains}
 use Rattle.std.specs.Option.{option_and_then}
 use Rattle.std.specs.List.{list_all}
 use Rattle.std.proofs.lemmas.Bool.{and_parts, and_from, lt-ltb, leb-true}

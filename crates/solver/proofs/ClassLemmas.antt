@@ -11,7 +11,7 @@ use Rattle.representatives.specs.Representatives.{task_of, exchanges_of}
 use Rattle.search.specs.Outcome.{AreOfOneClass}
 use Rattle.symmetries.specs.Exchanges.{Exchange}
 use Rattle.symmetries.specs.Symmetries.{is_symmetry}
-use Rattle.symmetries.specs.Orbits.{representative, AreAlike, keeps_atoms, packed_representative, ArePackedAlike}
+use Rattle.symmetries.specs.Orbits.{representative, AreAlike, keeps_atoms, packed_representative}
 use Rattle.symmetries.proofs.PackedOrbits.{alike_seen}
 use Rattle.ground_listings.specs.SearchSpace.{ground_in, exchanges_in, class_in, IsSearchSpace}
 use Rattle.ground_listings.specs.declared.search_space.SearchSpace.{SearchSpace}

@@ -1,5 +1,5 @@
 -- The certificate of the states that were found before the limit.
-use Rattle.std.proofs.Common.{◌≡◌, ◌∙◌, ℕ, ◌≤◌, Bool, true, List, [], Some, refl, sym, ap, subst, arith}
+use Rattle.std.proofs.Common.{◌≡◌, ◌∙◌, ℕ, ◌≤◌, Bool, true, List, [], Some, sym, ap, subst, arith}
 use Rattle.std.specs.Prelude.{slice_get, Contains}
 use Rattle.std.proofs.lemmas.Bool.{lt-ltb}
 use Rattle.search.specs.declared.nodes.Node.{Node}
@@ -19,7 +19,7 @@ use Rattle.model.specs.Meaning.{State}
 use Rattle.model.specs.NumberedAtoms.{numbered_atoms}
 use Rattle.model.specs.Grounding.{state_of_bits, ground_system}
 use Rattle.model.proofs.ListLemmas.{Contains-map}
-use Rattle.certificate_definitions.specs.Certificates.{Certificate, is_claim, lines_of, value_of}
+use Rattle.certificate_definitions.specs.Certificates.{Certificate, is_claim, value_of}
 
 -- the least sum of a cut is so little that a certificate may claim it
 pub limit_claim : {S : Type 0} (t : System S ℕ) (class_of : S → S) (value : S → ℕ) (is_dead : S → Bool) (max_states least : ℕ) (states : List S) (nodes : List Node)

@@ -22,7 +22,7 @@ use Rattle.ground_listings.proofs.GroundLemmas.{distinct_states}
 use Rattle.solver.specs.Guidance.{Guidance, by_potentials, by_tables, CanBeWritten, AreFairBy, estimate_by, reports_dead, version_by, values_by, first_value}
 use Rattle.solver.proofs.GuidanceLemmas.{AreLimits, limits_of, one_weight_each, weights_of_each, most_value, estimate-most, mark-passes, value-found, value-at-start, dead-found, fair-found}
 use Rattle.solver.proofs.FoundLines.{expanded_of_open, dead_of_reported, found_line, length-lines, node_at}
-use Rattle.model.specs.Task.{Task, Atom, Instance}
+use Rattle.model.specs.Task.{Task, Atom}
 use Rattle.model.specs.WellTyped.{is_task, is_atom}
 use Rattle.model.specs.Runs.{System}
 use Rattle.model.specs.Claims.{Claim, opened, dead, Line, IsClosed}

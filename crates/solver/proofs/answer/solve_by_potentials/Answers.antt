@@ -8,7 +8,7 @@ use Rattle.potentials_improved.specs.FairPotentials as fair
 use Rattle.potentials_improved.specs.Potentials.{potentials_of}
 use Rattle.potentials_improved.specs.FairPotentials.{potentials_in}
 use Rattle.search.specs.Estimates.{value_by}
-use Rattle.solver.specs.Guidance.{estimate_by, reports_dead}
+use Rattle.solver.specs.Guidance.{reports_dead}
 use Rattle.solver.specs.Guided.{IsGuidanceFor, IsSearched}
 use Rattle.solver.specs.Stretches.{IsTrueEnd}
 use Rattle.solver.specs.Written.{by_potentials_of}

@@ -1,4 +1,4 @@
-use Rattle.std.proofs.Common.{◌≡◌, ◌∙◌, ◌≤◌, [], ap, map, length, sym, arith}
+use Rattle.std.proofs.Common.{◌≡◌, ◌∙◌, [], ap, map, length, sym, arith}
 use Rattle.task.specs.TaskParts.{atom_of}
 use Rattle.certificate_reader.specs.Lines.{claim_of}
 use Rattle.certificate.specs.ListedSets.{lines_with}

@@ -7,7 +7,6 @@ use Rattle.model.specs.Grounding.{ground_system}
 use Rattle.ground_listings.specs.GroundListing.{listed_class, listed_states, listed_width}
 use Rattle.ground_listings.specs.SearchSpace.{class_in}
 use Rattle.search.specs.UnderWay as under_way
-use Rattle.search.specs.declared.under_way.Search.{Search}
 use Rattle.solver.specs.Stretches.{IsUnderWay}
 use Rattle.solver.proofs.searched.begin_by.Goals as goal
 

@@ -1,4 +1,4 @@
-use Rattle.std.proofs.Common.{◌≡◌, ◌∙◌, ℕ, Bool, List, sym, ap, subst, length, arith}
+use Rattle.std.proofs.Common.{◌∙◌, ℕ, Bool, List, sym, ap, subst, length, arith}
 use Rattle.grounding.specs.declared.ground.Ground.{Ground}
 use Rattle.grounding.specs.Ground.{task_in, atoms_in}
 use Rattle.model.specs.Grounding.{ground_system}
@@ -7,12 +7,10 @@ use Rattle.ground_listings.specs.GroundListing.{listed_class, listed_states, lis
 use Rattle.ground_listings.specs.SearchSpace.{class_in, ground_in, system_of}
 use Rattle.ground_listings.specs.declared.ground_listing.GroundListing.{GroundListing}
 use Rattle.ground_listings.proofs.TaskLemmas.{classes_reach_alike}
-use Rattle.search.specs.Outcome.{AreClassesOf, IsTrueOutcome}
+use Rattle.search.specs.Outcome.{AreClassesOf}
 use Rattle.search.specs.UnderWay as under_way
 use Rattle.search.specs.UnderWay.{IsTrueHalt, store_in}
 use Rattle.search.specs.declared.nodes.FoundStates.{FoundStates}
-use Rattle.search.specs.declared.under_way.Halt.{Halt}
-use Rattle.search.specs.declared.under_way.Halt.TheVariants.{Ended, Paused}
 use Rattle.solver.specs.Guided.{found_in, AreMarksOf, CanBeMarked}
 use Rattle.solver.specs.Stretches.{IsUnderWay}
 use Rattle.solver.proofs.AnswerLemmas.{can_be_marked, searched, most_of_limit}
