@@ -426,7 +426,21 @@ def exchanges_of(task, said, numbered):
     return found
 
 
-def look_at_open(task, said, exchanges, instances, line, cost, state):
+class Listing:
+    """The listed states of a certificate, which are looked up by their representatives."""
+
+    def __init__(self, said, exchanges):
+        self.exchanges, self.costs = exchanges, {}
+        for state, cost in said.listed.items():
+            key = exchanges.representative(state)
+            self.costs[key] = min(cost, self.costs.get(key, cost))
+
+    def least_cost(self, state):
+        """The least cost of a listed state with the representative of this state; None where there is none."""
+        return self.costs.get(self.exchanges.representative(state))
+
+
+def look_at_open(task, said, listing, instances, line, cost, state):
     """Refused(48), Refused(49) or Refused(50) where the line of an open state is wrong."""
     if task.holds(task.goal, state, {}) and (said.claim is None or cost < said.claim):
         raise Refused(48, line)
@@ -435,19 +449,19 @@ def look_at_open(task, said, exchanges, instances, line, cost, state):
         after = instance.after(state)
         if after is None:
             continue
-        after = exchanges.representative(after)
-        if after not in said.listed:
+        least = listing.least_cost(after)
+        if least is None:
             raise Refused(49, line)
-        if said.listed[after] > cost + instance.cost:
+        if least > cost + instance.cost:
             raise Refused(50, line)
 
 
-def look_at_states(task, said, exchanges, instances):
+def look_at_states(task, said, listing, instances):
     """Refused where the line of a state is wrong: the first such line."""
     instances = by_wanted_atom(instances)
     for line, kind, cost, rest, state in said.states:
         if kind == "open":
-            look_at_open(task, said, exchanges, instances, line, cost, state)
+            look_at_open(task, said, listing, instances, line, cost, state)
         elif kind == "cut":
             if rest > said.value(state) or cost + rest < said.claim:
                 raise Refused(51, line)
@@ -460,9 +474,10 @@ def check(task, data, plan, limit):
     instances, numbered = kept_instances(task, said, limit)
     exchanges = exchanges_of(task, said, numbered)
     look_whether_fair(said, task.sure(task.goal, {}), instances, Fairness(said, numbered))
-    if said.listed.get(exchanges.representative(task.initial)) != 0:
+    listing = Listing(said, exchanges)
+    if listing.least_cost(task.initial) != 0:
         raise Refused(45)
-    look_at_states(task, said, exchanges, instances)
+    look_at_states(task, said, listing, instances)
     if plan is None:
         return "unsolvable" if said.claim is None else f"at least {said.claim}"
     cost = cost_of_plan(task, plan)

@@ -1,4 +1,5 @@
-"""Exchanges of objects, by docs/certificates.md alone: which are symmetries of a task, and which state stands for others."""
+"""Exchanges of objects, by docs/certificates.md alone: which are symmetries of a task, and by which representative a
+state is looked up."""
 import itertools
 
 from pddl_task import typed
@@ -51,12 +52,13 @@ class Exchanges:
                 and all(image(atom) in self.numbers for atom in self.numbers))
 
     def representative(self, state):
-        """As long as an image comes before the state, the first such image in its place."""
-        while True:
+        """As long as an image comes before the state, the first such image in its place; so many images are taken at most."""
+        for _ in range((len(self.exchanges) + 1) ** 2):
             exchange = next((it for it in self.exchanges if it.comes_before(state)), None)
             if exchange is None:
-                return state
+                break
             state = frozenset(map(exchange.image, state))
+        return state
 
 
 def terms_of(part):

@@ -290,10 +290,66 @@ def state_cost_moved(lines, chance):
     return "a cost or a bound of a state is one higher or lower"
 
 
+def count_states(lines):
+    """Says at the end how many states are listed."""
+    lines[lines_of(lines, "end")[-1]] = ["end", str(len(lines_of(lines, *STATES)))]
+
+
 def state_dropped(lines, chance):
     del lines[chance.choice(lines_of(lines, *STATES))]
-    lines[-1] = ["end", str(len(lines_of(lines, *STATES)))]
+    count_states(lines)
     return "a state is dropped"
+
+
+def first_atom(words):
+    """Where the numbers of the atoms begin in the line of a state."""
+    return 3 if words[0] == "cut" else 2
+
+
+def atom_images(lines, names):
+    """Of each atom's number the number of its image, where these objects change places and the image is listed."""
+    image_of = {name: other for pair in zip(names[::2], names[1::2]) for name, other in (pair, pair[::-1])}
+    atoms = [tuple(" ".join(lines[at][width(lines) + 1:])[1:-1].split(" ")) for at in lines_of(lines, "atom")]
+    numbers = {atom: str(number) for number, atom in enumerate(atoms)}
+    images = {number: numbers.get((atom[0], *(image_of.get(name, name) for name in atom[1:]))) for atom, number in numbers.items()}
+    return {number: image for number, image in images.items() if image is not None}
+
+
+def with_image(words, image_of):
+    """The line of a state with the state's image in its place."""
+    first = first_atom(words)
+    return [*words[:first], *sorted((image_of.get(number, number) for number in words[first:]), key=int)]
+
+
+def moved_states(lines, chance):
+    """The lines of states that one exchange takes to others, with what they become: it is one of the `swap` lines."""
+    image_of = atom_images(lines, lines[chance.choice(lines_of(lines, "swap"))][1:])
+    found = {at: with_image(lines[at], image_of) for at in lines_of(lines, *STATES)}
+    return {at: words for at, words in found.items() if words != lines[at]}
+
+
+def states_replaced(lines, chance):
+    images = moved_states(lines, chance)
+    chosen = chance.sample(list(images), chance.choice((1, 1, 1, 1 + len(images) // 2, len(images))))
+    for at in chosen:
+        lines[at] = images[at]
+    return f"images take the places of {len(chosen)} states"
+
+
+def state_doubled(lines, chance):
+    at, words = chance.choice(list(moved_states(lines, chance).items()))
+    words[1] = chance.choice((words[1], words[1], moved(words[1], chance)))
+    lines.insert(chance.choice((at, at + 1, lines_of(lines, *STATES)[0], len(lines) - 1)), words)
+    count_states(lines)
+    return "an image of a state is listed beside it"
+
+
+def member_dropped(lines, chance):
+    state_of = lambda words: tuple(words[first_atom(words):])
+    listed = {state_of(lines[at]) for at in lines_of(lines, *STATES)}
+    del lines[chance.choice([at for at, words in moved_states(lines, chance).items() if state_of(words) in listed])]
+    count_states(lines)
+    return "a state whose image is listed is dropped"
 
 
 def objects_in(lines):
@@ -345,7 +401,8 @@ def word_changed(lines, chance):
 # Those that stand here more than once are taken more often.
 CHANGES = (weight_moved, weight_moved, weight_moved, constant_moved, row_dropped, row_dropped, row_added, row_repeated, table_added,
            table_moved, scope_left, dead_weights_swapped, dead_weights_cleared, values_swapped, state_changed, state_cost_moved,
-           state_dropped, swap_added, swap_added, swap_dropped, swap_changed, claim_changed, line_moved, word_changed)
+           state_dropped, states_replaced, states_replaced, state_doubled, state_doubled, member_dropped, swap_added, swap_added,
+           swap_dropped, swap_changed, claim_changed, line_moved, word_changed)
 
 
 def forged(text, chance):

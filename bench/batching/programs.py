@@ -26,7 +26,7 @@ def program_at(path: str, command: str) -> Program:
     """The program of a file that can be run; leaves, in this command's name, where it is none."""
     if not os.path.isfile(path) or not os.access(path, os.X_OK):
         sys.exit(f"{command}: there is no program {path}. In the top folder ./optplan proves and builds {PROVED}, and "
-                 f"./optplan-unproved builds {UNPROVED} without a proof, in two minutes")
+                 f"./optplan-unproved builds {UNPROVED} without a proof, in some minutes")
     if os.path.isfile(f"{os.path.dirname(os.path.realpath(path))}/tools/building.sh"):
         sys.exit(f"{command}: {path} looks at its sources at each start, and builds what is not built. Start it once, and name the "
                  f"program that it has built then: {PROVED} or {UNPROVED}")

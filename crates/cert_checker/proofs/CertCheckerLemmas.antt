@@ -8,15 +8,14 @@ use Rattle.std.proofs.lemmas.List.{take_all, take_more, map-append, length-map}
 use Rattle.std.proofs.lemmas.List.Elements.{Contains-append_cases}
 use Rattle.std.proofs.lemmas.Option.{same_Some, slice_get_within}
 use Rattle.model.proofs.Tests.{passes_got}
-use Rattle.cert_checker.specs.CheckedLines.{HasCost, IsListedAt, IsOpenClosed, IsCutClosed, IsLineClosed}
+use Rattle.cert_checker.specs.CheckedLines.{HasCost, IsLeastCost, IsOpenClosed, IsCutClosed, IsLineClosed}
 use Rattle.model.specs.Task.{Task, Instance}
 use Rattle.model.specs.Meaning.{State, step, system_of}
 use Rattle.model.specs.Instances.{successors_of}
-use Rattle.cert_checker.specs.Successors.{listed_successors, represented, representative_in}
 use Rattle.model.specs.Claims.{Allows, Mark, opened, cut, dead, Line, IsListedWithin}
-use Rattle.certificate_definitions.specs.Certificates.{Version, one, two, three, Certificate, StateLine, is_dead_end_of, is_mark, is_number, is_state_line, keeps_limits, lines_of, listed_system, rise, state_of_line}
+use Rattle.certificate_definitions.specs.Certificates.{Version, one, two, three, Certificate, StateLine, is_dead_end_of, is_mark, is_number, is_state_line, keeps_limits, lines_of, AreAlikeFor, rise, state_of_line}
 use Rattle.certificate_definitions.specs.CertificateRefusals.{IsListed}
-use Rattle.model.proofs.ListLemmas.{Contains-cases, Contains-map, Contains-none}
+use Rattle.model.proofs.ListLemmas.{Contains-cases, Contains-got, Contains-none}
 use Rattle.task_certificates.proofs.LimitsLemmas.{limits_of}
 use Rattle.model.proofs.InstancesLemmas.{Contains-successors}
 
@@ -45,21 +44,22 @@ same_place xs i x y at_x at_y = cc
 abbrev pub entry : Task → Certificate → StateLine → Line State
 entry task cert l = record { state = state_of_line task cert l; cost = l.cost; mark = l.mark }
 
-pub listed_within : {S : Type 0} (lines : List (Line S)) (s : S) (listed cost : ℕ) → IsListedAt lines s listed → listed ≤ cost → IsListedWithin lines s cost
-listed_within lines s listed cost at le = (at.0, at.1, at.2, omega (arith, at.3))
+pub listed_within : {S : Type 0} (alike : S → S → Type 0) (lines : List (Line S)) (s : S) (listed cost : ℕ) → IsLeastCost alike lines s listed → listed ≤ cost → IsListedWithin alike lines s cost
+listed_within alike lines s listed cost (place, cheapest, is) le =
+    (cheapest.line, Contains-got lines place cheapest.line cheapest.listed, cheapest.is_alike, omega (arith, is, le))
 
 -- ---- the successors of an open state
 
--- each of these states is listed at no more than this cost and that of the instance that leads to it
+-- for each of these states one that is alike is listed at no more than this cost and that of the instance that leads to it
 abbrev pub AllListed : Task → Certificate → ℕ → List (Instance × State) → Type 0
 AllListed task cert cost found =
-    (i : Instance) (next : State) → Contains {X = Instance × State} found (i, next) → IsListedWithin (lines_of task cert) next (cost + (system_of task).cost i)
+    (i : Instance) (next : State) → Contains {X = Instance × State} found (i, next) → IsListedWithin (AreAlikeFor task cert) (lines_of task cert) next (cost + (system_of task).cost i)
 
 pub AllListed-none : (task : Task) (cert : Certificate) (cost : ℕ) → AllListed task cert cost []
 AllListed-none task cert cost i next at = absurd (Contains-none {X = Instance × State} (i, next) at)
 
 pub AllListed-more : {X : Type 0} (task : Task) (cert : Certificate) (cost : ℕ) (view : X → Instance × State) (xs : List X) (k : ℕ) (x : X)
-    → k < length xs → x ≡ get_or xs k x → AllListed task cert cost (map view (take k xs)) → IsListedWithin (lines_of task cert) (view x).1 (cost + (system_of task).cost (view x).0)
+    → k < length xs → x ≡ get_or xs k x → AllListed task cert cost (map view (take k xs)) → IsListedWithin (AreAlikeFor task cert) (lines_of task cert) (view x).1 (cost + (system_of task).cost (view x).0)
     → AllListed task cert cost (map view (take (k + 1) xs))
 AllListed-more {X} task cert cost view xs k x lt at before here i next among =
     let both : map view (take (k + 1) xs) ≡ map view (take k xs) ++ view x ∷ [] =
@@ -67,29 +67,17 @@ AllListed-more {X} task cert cost view xs k x lt at before here i next among =
     elim (Contains-append_cases (map view (take k xs)) (view x ∷ []) (i, next) (subst (λ l. Contains {X = Instance × State} l (i, next)) both among)) [
       | inl earlier ↦ before i next earlier
       | inr last ↦ elim (Contains-cases {X = Instance × State} (view x) [] (i, next) last) [
-        | inl is ↦ subst (λ (p : Instance × State). IsListedWithin (lines_of task cert) p.1 (cost + (system_of task).cost p.0)) is here
+        | inl is ↦ subst (λ (p : Instance × State). IsListedWithin (AreAlikeFor task cert) (lines_of task cert) p.1 (cost + (system_of task).cost p.0)) is here
         | inr none ↦ absurd (Contains-none {X = Instance × State} (i, next) none)
       ]
     ]
 
--- an instance leads to what is among the successors
-listed_leads : (task : Task) (cert : Certificate) (state : State) (i : Instance) (next : State) → (listed_system task cert).step state i ≡ Some next
-    → Contains {X = Instance × State} (listed_successors task cert state) (i, next)
-listed_leads task cert state i next leads =
-    elim (step task state i) as (λ o. step task state i ≡ o → option_map (representative_in task cert) o ≡ Some next → Contains {X = Instance × State} (listed_successors task cert state) (i, next)) [
-      | None ↦ λ _ none_leads. absurd (cc)
-      | Some there ↦ λ steps is.
-          let same : representative_in task cert there ≡ next = same_Some (representative_in task cert there) next is in
-          subst (λ (s : State). Contains {X = Instance × State} (listed_successors task cert state) (i, s)) same
-          (Contains-map {X = Instance × State} {Y = Instance × State} (represented task cert) (successors_of task state) (i, there) (Contains-successors task state i there steps))
-    ] refl leads
-
 pub open_closed : {X : Type 0} (task : Task) (cert : Certificate) (state : State) (cost : ℕ) (view : X → Instance × State) (xs : List X) (k : ℕ)
-    → length xs ≤ k → map view xs ≡ listed_successors task cert state → AllListed task cert cost (map view (take k xs))
+    → length xs ≤ k → map view xs ≡ successors_of task state → AllListed task cert cost (map view (take k xs))
     → (IsTrue ((system_of task).meets_goal state) → Allows cert.claim cost) → IsOpenClosed task cert state cost
 open_closed task cert state cost view xs k past is all goal = record {
   successors_listed = λ i next leads.
-      all i next (subst (λ l. Contains {X = Instance × State} l (i, next)) (sym is ∙ ap (map view) (sym (take_all k xs past))) (listed_leads task cert state i next leads));
+      all i next (subst (λ l. Contains {X = Instance × State} l (i, next)) (sym is ∙ ap (map view) (sym (take_all k xs past))) (Contains-successors task state i next leads));
   goal_allowed = goal;
 }
 
@@ -118,11 +106,11 @@ line_dead task cert s cost reported = record {
 
 -- ---- the initial state
 
-pub listed_at_none : (lines : List (Line State)) (s t : State) (o : Option ℕ) → MatchOption o (¬ IsListed lines s) (IsListedAt lines s) → true ≡ option_eq nat_eq o (Some 0) → s ≡ t
-    → IsListedWithin lines t 0
-listed_at_none lines s t None listed is same = absurd (cc)
-listed_at_none lines s t (Some cost) listed is same =
-    subst (λ r. IsListedWithin lines r 0) same (listed_within lines s cost 0 listed (omega (arith, eqb-true cost 0 (sym is))))
+pub listed_at_none : (alike : State → State → Type 0) (lines : List (Line State)) (s t : State) (o : Option ℕ) → MatchOption o (¬ IsListed alike lines s) (IsLeastCost alike lines s)
+    → true ≡ option_eq nat_eq o (Some 0) → s ≡ t → IsListedWithin alike lines t 0
+listed_at_none alike lines s t None listed is same = absurd (cc)
+listed_at_none alike lines s t (Some cost) listed is same =
+    subst (λ r. IsListedWithin alike lines r 0) same (listed_within alike lines s cost 0 listed (omega (arith, eqb-true cost 0 (sym is))))
 
 -- ---- outcomes
 

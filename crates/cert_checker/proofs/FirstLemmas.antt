@@ -11,16 +11,16 @@ use Rattle.cert_checker.specs.Reasons.{reason_of}
 use Rattle.cert_checker.specs.CertChecker.{IsFirstRefusal, IsFirstSuccessor, IsFirstToLeave}
 use Rattle.cert_checker.specs.FluentAtoms.{AreFluent}
 use Rattle.cert_checker.specs.CheckedLines.{AreRowsDistinct, AreSymmetries, CutsAreAllowed, IsLineClosed, IsRightUpTo}
-use Rattle.cert_checker.specs.Successors.{listed_successors}
+use Rattle.model.specs.Instances.{successors_of}
 use Rattle.model.proofs.ListLemmas.{Contains-got}
 use Rattle.cert_checker.proofs.CertCheckerLemmas.{AllListed, entry, slice_get-map, got_mapped}
 use Rattle.cert_checker.proofs.RefusalsLemmas.{AreApart}
 use Rattle.model.specs.Task.{Task, Instance}
-use Rattle.model.specs.Meaning.{State}
+use Rattle.model.specs.Meaning.{State, system_of}
 use Rattle.model.specs.Limits.{max_numbered_atoms}
 use Rattle.model.specs.Grounding.{exceeded_limit}
 use Rattle.model.specs.Claims.{none, opened, Line, IsListedWithin}
-use Rattle.certificate_definitions.specs.Certificates.{Certificate, StateLine, keeps_limits, lines_of, listed_system, AreFairFor, IsClosedFor}
+use Rattle.certificate_definitions.specs.Certificates.{Certificate, StateLine, keeps_limits, lines_of, AreAlikeFor, AreFairFor, IsClosedFor}
 use Rattle.certificate_definitions.specs.CertificateRefusals.{Reason, state_line, IsFirst}
 use Rattle.certificate_definitions.specs.CertificateChecking.{IsCut}
 use Rattle.certificate_definitions.proofs.CertificateRefusalsLemmas.{apart}
@@ -42,7 +42,7 @@ slice_get-take k xs i x lt at =
 
 -- the one that is gone through now is the first that may leave the listing
 pub first_to_leave : {X : Type 0} (task : Task) (c : Certificate) (place : ℕ) (s : State) (cost : ℕ) (view : X → Instance × State) (xs : List X) (k : ℕ) (x : X)
-    → slice_get (lines_of task c) place ≡ Some (record { state = s; cost = cost; mark = opened }) → k < length xs → x ≡ get_or xs k x → map view xs ≡ listed_successors task c s
+    → slice_get (lines_of task c) place ≡ Some (record { state = s; cost = cost; mark = opened }) → k < length xs → x ≡ get_or xs k x → map view xs ≡ successors_of task s
     → AllListed task c cost (map view (take k xs))
     → IsFirstToLeave task c (state_line c place) (record { state = s; cost = cost; mark = opened }) (view x).0 (view x).1
 first_to_leave {X} task c place s cost view xs k x there lt at is before = record {
@@ -69,7 +69,7 @@ cuts_allowed task c all place l rest below at at_cut claim =
 
 -- all is right up to the first state line
 pub right_from : (task : Task) (c : Certificate) (most : ℕ) → IsTrue (keeps_limits c) → AreRowsDistinct c → AreApart task c → AreFluent task c.atoms → CutsAreAllowed task c (length (lines_of task c))
-    → exceeded_limit most max_numbered_atoms task c.atoms ≡ None → AreSymmetries task c → AreFairFor task c → IsListedWithin (lines_of task c) (listed_system task c).initial 0
+    → exceeded_limit most max_numbered_atoms task c.atoms ≡ None → AreSymmetries task c → AreFairFor task c → IsListedWithin (AreAlikeFor task c) (lines_of task c) (system_of task).initial 0
     → IsRightUpTo task c most 0
 right_from task c most keeps rows apart atoms allowed few symmetric fair initial = record {
   keeps = keeps;

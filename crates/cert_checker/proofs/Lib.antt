@@ -12,7 +12,10 @@ pub mod OrderLemmas
 pub mod TablesLemmas
 pub mod ReportedLemmas
 pub mod FirstLemmas
-pub mod RepresentedLemmas
+pub mod CheapestLemmas
+pub mod ClassLemmas
+pub mod LineStates
+pub mod OnListingLemmas
 pub mod StaysLemmas
 pub mod GroundSuccessors
 pub mod PackedLinesLemmas

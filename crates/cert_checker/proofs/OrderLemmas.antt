@@ -12,7 +12,7 @@ use Rattle.model.specs.Grounding.{exceeded_limit}
 use Rattle.model.specs.Claims.{none, Allows, opened, cut, Line, IsListedWithin}
 use Rattle.model.specs.Fluents.{is_fluent}
 use Rattle.symmetries.specs.Exchanges.{Exchange}
-use Rattle.certificate_definitions.specs.Certificates.{Certificate, lines_of, is_symmetry_for, listed_system, AreFairFor, IsClosedFor}
+use Rattle.certificate_definitions.specs.Certificates.{Certificate, lines_of, is_symmetry_for, AreAlikeFor, AreFairFor, IsClosedFor}
 use Rattle.certificate_definitions.specs.CertificateRefusals.{Reason, not_fluent, repeated, no_initial, unfair, unfair_goal, goal_open, successor_missing, successor_dearer, cut_weak, cut_not_allowed, plan_invalid, plan_dearer, limit, dead_unfair, dead_unfair_goal, not_dead, not_symmetry, HasExchange, exchange_line, IsUnfairIn, IsUnfairAtGoalsIn, IsDeadUnfairIn, IsWrongAt, IsWrong, IsFirst, stage_of, rank_of, state_line}
 use Rattle.cert_checker.specs.FluentAtoms.{AreFluent}
 use Rattle.cert_checker.specs.CheckedLines.{AreSymmetries, CutsAreAllowed, IsLineClosed, IsRightUpTo}
@@ -280,7 +280,7 @@ module _ (task : Task) (c : Certificate) where
   first_initial plan most atoms states within symmetric fair r l (inr (same, inl before)) wrong = omega arith
   first_initial plan most atoms states within symmetric fair r l (inr (same, inr (there, rank))) wrong = omega arith
 
-  in_initial : (plan : Option (List Instance)) (most : ℕ) (r : Reason) (l : ℕ) → IsListedWithin (lines_of task c) (listed_system task c).initial 0 → stage_of r ≡ 4 → IsWrongAt task c r l ⊎ IsWrong task c plan most r → ⊥
+  in_initial : (plan : Option (List Instance)) (most : ℕ) (r : Reason) (l : ℕ) → IsListedWithin (AreAlikeFor task c) (lines_of task c) (system_of task).initial 0 → stage_of r ≡ 4 → IsWrongAt task c r l ⊎ IsWrong task c plan most r → ⊥
   in_initial plan most no_initial l listed stage (inl wrong) = wrong
   in_initial plan most no_initial l listed stage (inr wrong) = wrong listed
   in_initial plan most not_fluent l listed stage wrong = absurd (omega arith)

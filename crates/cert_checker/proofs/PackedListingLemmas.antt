@@ -10,7 +10,7 @@ use Rattle.certificate.specs.declared.cert.Cert.{Cert}
 use Rattle.certificate.specs.Certificate.{certificate_of, store_in}
 use Rattle.certificate.proofs.NumbersLemmas.{sets_are}
 use Rattle.cert_checker.specs.FluentAtoms.{AreFluent}
-use Rattle.cert_checker.specs.CheckedLines.{HasCost, IsListedAs, IsListedAt}
+use Rattle.cert_checker.specs.CheckedLines.{HasCost, IsListedAs}
 use Rattle.cert_checker.specs.PackedLines.{packed_line, HoldsLines, IsPackedListing, NamesAtoms}
 use Rattle.cert_checker.proofs.CertCheckerLemmas.{entry, got_mapped, lines_within_limits, slice_get-map}
 use Rattle.cert_checker.proofs.WeightsLemmas.{alike, value-numbered}
@@ -24,7 +24,6 @@ use Rattle.model.specs.Meaning.{State, initial_state}
 use Rattle.model.specs.Instances.{successors_of}
 use Rattle.model.specs.Claims.{Mark, Line}
 use Rattle.certificate_definitions.specs.Certificates.{Certificate, StateLine, is_state_line, keeps_limits, state_of_line, lines_of}
-use Rattle.certificate_definitions.specs.CertificateRefusals.{IsListed}
 use Rattle.model.specs.NumberedAtoms.{numbered_atoms, HasNumberedFluents}
 use Rattle.model.specs.Grounding.{state_of_bits, bits_of_state, applicable_numbers, PacksStates}
 use Rattle.certificate_definitions.proofs.CertificateRefusalsLemmas.{apart}
@@ -89,7 +88,7 @@ module _ (task : Task) (atoms : List Atom) (c : Certificate) (store : PooledStor
   packs = subst (PacksStates task) (sym listed.numbered) (packs_states task c.atoms (all_fluent task c.atoms listed.fluent))
 
   -- each set stands for the line's state
-  line_state : (l : StateLine) → Contains c.lines l → state_of_bits task atoms (packed_line (length atoms) l) ≡ state_of_line task c l
+  pub line_state : (l : StateLine) → Contains c.lines l → state_of_bits task atoms (packed_line (length atoms) l) ≡ state_of_line task c l
   line_state l at =
       let first = first_numbered task atoms c listed.fluent listed.numbered in
       subst (λ those. state_of_bits task those (packed_line (length those) l) ≡ state_of_line task c l) (sym first.1) (state_packed task c first.0 l (listed.holds.named l at))
@@ -101,23 +100,6 @@ module _ (task : Task) (atoms : List Atom) (c : Certificate) (store : PooledStor
       let set : packed_line (length atoms) l ≡ bits = cc in
       let same : state_of_line task c l ≡ state_of_bits task atoms bits = sym (line_state l (Contains-got c.lines place l at_l)) ∙ ap (state_of_bits task atoms) set in
       slice_get-map (entry task c) c.lines place l at_l ∙ (λ i. Some (record { state = same i; cost = cost_is i; mark = mark_is i }))
-
-  -- a state that is found is listed at the cost of its line
-  pub found_at : (place : ℕ) (bits : List Bool) (cost : ℕ) (mark : Mark) → slice_get (pooled_states store) place ≡ Some bits → HasCost c place cost mark
-      → IsListedAt (lines_of task c) (state_of_bits task atoms bits) cost
-  found_at place bits cost mark at has =
-      let occurs = found_there place bits at cost mark has in
-      (record { state = state_of_bits task atoms bits; cost = cost; mark = mark }, Contains-got (lines_of task c) place _ occurs, refl, refl)
-
-  -- and one that is not found is not listed
-  pub not_listed : (bits : List Bool) → length bits ≡ length atoms → ¬ Contains (pooled_states store) bits → ¬ IsListed (lines_of task c) (state_of_bits task atoms bits)
-  not_listed bits long missing (line, among, is) =
-      let from = map-Contains (entry task c) c.lines line among in
-      let state : Line State → State = λ l. l.state in
-      let same : state_of_bits task atoms (packed_line (length atoms) from.0) ≡ state_of_bits task atoms bits = line_state from.0 from.1 ∙ ap state from.2 ∙ is in
-      let set : packed_line (length atoms) from.0 ≡ bits =
-      sym (packs.one_packed (packed_line (length atoms) from.0) (length-set_of (length atoms) from.0.atoms)) ∙ ap (bits_of_state atoms) same ∙ packs.one_packed bits long in
-      missing (subst (λ sets. Contains sets bits) (sym listed.holds.sets) (subst (Contains (map (packed_line (length atoms)) c.lines)) set (Contains-map (packed_line (length atoms)) c.lines from.0 from.1)))
 
   pub place_within : (place : ℕ) (bits : List Bool) → slice_get (pooled_states store) place ≡ Some bits → place < length c.lines
   place_within place bits at = omega (arith, slice_get_within (pooled_states store) place bits at, as_many c (length atoms) store listed.holds)

@@ -12,16 +12,15 @@ use Rattle.certificate.specs.CertificateParts.{listed_of}
 use Rattle.certificate.specs.ListedSets.{Marked, marked}
 use Rattle.std.proofs.lemmas.List.{length-map}
 use Rattle.cert_checker.specs.Reasons.{reason_of}
-use Rattle.cert_checker.specs.Successors.{listed_successors, represented, representative_in}
-use Rattle.cert_checker.specs.CheckedLines.{HasCost, IsListedAs, IsListedAt, IsTrueAnyway}
+use Rattle.cert_checker.specs.CheckedLines.{HasCost, IsCheapestAt, IsLeastCost, IsListedAs, IsTrueAnyway}
 use Rattle.cert_checker.proofs.CertCheckerLemmas.{got_mapped, slice_get-map}
 use Rattle.model.specs.Task.{Task, Instance}
 use Rattle.model.specs.Meaning.{State, meets_goal, system_of}
 use Rattle.model.specs.Instances.{successors_of}
 use Rattle.model.specs.Claims.{Claim, Allows, opened, cut, dead, Line, IsListedWithin}
-use Rattle.certificate_definitions.specs.Certificates.{Certificate, is_dead_end_of, lines_of, listed_system, value_of}
+use Rattle.certificate_definitions.specs.Certificates.{Certificate, is_dead_end_of, lines_of, AreAlikeFor, value_of}
 use Rattle.certificate_definitions.specs.CertificateRefusals.{goal_open, successor_missing, successor_dearer, cut_weak, not_dead, IsWrongAt, IsListed, state_line}
-use Rattle.model.proofs.ListLemmas.{Contains-place, Contains-map, map-Contains}
+use Rattle.model.proofs.ListLemmas.{Contains-got, Contains-place, Contains-map}
 use Rattle.model.proofs.InstancesLemmas.{successors-Contains}
 use Rattle.certificate_definitions.proofs.CertificateRefusalsLemmas.{apart}
 
@@ -50,20 +49,19 @@ as_many_marks c marks same = sym (length-map marks listed_of) ∙ ap length same
 abbrev pub AreApart : Task → Certificate → Type 0
 AreApart task c = AllPairs (λ (k l : Line State). k.state ≢ l.state) (lines_of task c)
 
--- a state that is listed at one cost is not listed at less
-pub one_cost : {S : Type 0} (lines : List (Line S)) (s : S) (m n : ℕ) → AllPairs (λ (k l : Line S). k.state ≢ l.state) lines → IsListedAt lines s m → IsListedWithin lines s n → m ≤ n
-one_cost {S} lines s m n pairs (k, among_k, state_k, cost_k) (l, among_l, state_l, cost_l) =
+-- a state is listed at one place
+pub listed_once : {S : Type 0} (lines : List (Line S)) (place : ℕ) (k l : Line S) → AllPairs (λ (k l : Line S). k.state ≢ l.state) lines → slice_get lines place ≡ Some k → Contains lines l
+    → k.state ≡ l.state → k ≡ l
+listed_once {S} lines place k l pairs at among same =
     let R : Line S → Line S → Type 0 = λ a b. a.state ≢ b.state in
-    let there_k = Contains-place lines k among_k in
-    let there_l = Contains-place lines l among_l in
-    elim (cases_order there_k.0 there_l.0) [
-      | inl same ↦
-          let at_k = subst (λ i. slice_get lines i ≡ Some k) same there_k.1 in
-          let at_l = there_l.1 in
-          let one : k ≡ l = cc in
-          omega (arith, ap (λ (a : Line S). a.cost) one, cost_k, cost_l)
-      | inr (inl before) ↦ absurd (apart R lines there_k.0 there_l.0 k l pairs before there_k.1 there_l.1 (state_k ∙ sym state_l))
-      | inr (inr after) ↦ absurd (apart R lines there_l.0 there_k.0 l k pairs after there_l.1 there_k.1 (state_l ∙ sym state_k))
+    let there = Contains-place lines l among in
+    elim (cases_order place there.0) [
+      | inl here ↦
+          let at_k = subst (λ i. slice_get lines i ≡ Some k) here at in
+          let at_l = there.1 in
+          cc
+      | inr (inl before) ↦ absurd (apart R lines place there.0 k l pairs before at there.1 same)
+      | inr (inr after) ↦ absurd (apart R lines there.0 place l k pairs after there.1 at (sym same))
     ]
 
 -- ---- the initial state
@@ -71,11 +69,18 @@ one_cost {S} lines s m n pairs (k, among_k, state_k, cost_k) (l, among_l, state_
 not_at_none : (cost : ℕ) → false ≡ nat_eq cost 0 → cost ≤ 0 → ⊥
 not_at_none cost is le = false≢true (is ∙ eq-eqb cost 0 (omega arith))
 
-pub not_listed_at_none : (lines : List (Line State)) (s t : State) (o : Option ℕ) → AllPairs (λ (k l : Line State). k.state ≢ l.state) lines → MatchOption o (¬ IsListed lines s) (IsListedAt lines s)
-    → false ≡ option_eq nat_eq o (Some 0) → s ≡ t → ¬ IsListedWithin lines t 0
-not_listed_at_none lines s t None pairs missing is same (l, among, state, cost) = missing (l, among, state ∙ sym same)
-not_listed_at_none lines s t (Some cost) pairs listed is same within =
-    not_at_none cost is (one_cost lines s cost 0 pairs listed (subst (λ r. IsListedWithin lines r 0) (sym same) within))
+pub not_within : {S : Type 0} (alike : S → S → Type 0) (lines : List (Line S)) (s : S) (listed most : ℕ) → IsLeastCost alike lines s listed → most < listed → ¬ IsListedWithin alike lines s most
+not_within alike lines s listed most (place, cheapest, is) dearer (line, among, is_alike, low) = omega (arith, cheapest.least line among is_alike, is, dearer, low)
+
+pub not_listed_at_none : (alike : State → State → Type 0) (lines : List (Line State)) (s t : State) (o : Option ℕ) → MatchOption o (¬ IsListed alike lines s) (IsLeastCost alike lines s)
+    → false ≡ option_eq nat_eq o (Some 0) → s ≡ t → ¬ IsListedWithin alike lines t 0
+not_listed_at_none alike lines s t None missing is same (l, among, is_alike, cost) = missing (l, among, subst (alike l.state) (sym same) is_alike)
+not_listed_at_none alike lines s t (Some cost) listed is same within =
+    elim (cases_order cost 0) [
+      | inl none ↦ not_at_none cost is (omega (arith, none))
+      | inr (inl below) ↦ absurd (omega (arith, below))
+      | inr (inr above) ↦ not_within alike lines s cost 0 listed above (subst (λ r. IsListedWithin alike lines r 0) (sym same) within)
+    ]
 
 -- ---- open states
 
@@ -83,42 +88,30 @@ pub wrong_goal : (task : Task) (c : Certificate) (place : ℕ) (s : State) (cost
     → IsWrongAt task c goal_open (state_line c place)
 wrong_goal task c place s cost there goal denied = (record { state = s; cost = cost; mark = opened }, (place, refl, there), refl, goal, denied)
 
--- what is among the successors an instance leads to
-pub leads_listed : (task : Task) (c : Certificate) (s : State) (led : Instance × State) → Contains {X = Instance × State} (listed_successors task c s) led
-    → (listed_system task c).step s led.0 ≡ Some led.1
-leads_listed task c s led among =
-    let (before, there, is) = map-Contains {X = Instance × State} {Y = Instance × State} (represented task c) (successors_of task s) led among in
-    subst (λ (led : Instance × State). (listed_system task c).step s led.0 ≡ Some led.1) is
-    (ap (option_map (representative_in task c)) (successors-Contains task s before.0 before.1 there))
-
 -- each successor that is gone through is one that an instance leads to
 pub leads_there : {X : Type 0} (task : Task) (c : Certificate) (s : State) (view : X → Instance × State) (xs : List X) (k : ℕ) (x : X) → k < length xs → x ≡ get_or xs k x
-    → map view xs ≡ listed_successors task c s → (listed_system task c).step s (view x).0 ≡ Some (view x).1
+    → map view xs ≡ successors_of task s → (system_of task).step s (view x).0 ≡ Some (view x).1
 leads_there task c s view xs k x lt at is =
-    leads_listed task c s (view x) (subst (λ l. Contains {X = Instance × State} l (view x)) is (Contains-map view xs x (k, lt, sym at)))
+    successors-Contains task s (view x).0 (view x).1 (subst (λ l. Contains {X = Instance × State} l (view x)) is (Contains-map view xs x (k, lt, sym at)))
 
-pub wrong_missing : (task : Task) (c : Certificate) (place : ℕ) (s : State) (cost : ℕ) (i : Instance) (next : State) → IsListedAs task c place s cost opened → (listed_system task c).step s i ≡ Some next
-    → ¬ IsListed (lines_of task c) next → IsWrongAt task c successor_missing (state_line c place)
+pub wrong_missing : (task : Task) (c : Certificate) (place : ℕ) (s : State) (cost : ℕ) (i : Instance) (next : State) → IsListedAs task c place s cost opened → (system_of task).step s i ≡ Some next
+    → ¬ IsListed (AreAlikeFor task c) (lines_of task c) next → IsWrongAt task c successor_missing (state_line c place)
 wrong_missing task c place s cost i next there leads missing =
     (record { state = s; cost = cost; mark = opened }, i, next, ((place, refl, there), refl, leads), missing)
 
-pub listed_somewhere : (lines : List (Line State)) (s : State) (listed : ℕ) → IsListedAt lines s listed → IsListed lines s
-listed_somewhere lines s listed at = (at.0, at.1, at.2)
+pub listed_somewhere : {S : Type 0} (alike : S → S → Type 0) (lines : List (Line S)) (s : S) (listed : ℕ) → IsLeastCost alike lines s listed → IsListed alike lines s
+listed_somewhere alike lines s listed (place, cheapest, is) = (cheapest.line, Contains-got lines place cheapest.line cheapest.listed, cheapest.is_alike)
 
-pub not_within : (task : Task) (c : Certificate) (s : State) (listed most : ℕ) → AreApart task c → IsListedAt (lines_of task c) s listed → most < listed
-    → ¬ IsListedWithin (lines_of task c) s most
-not_within task c s listed most apart at dearer within = omega (arith, one_cost (lines_of task c) s listed most apart at within)
-
-pub wrong_dearer : (task : Task) (c : Certificate) (place : ℕ) (s : State) (cost : ℕ) (i : Instance) (next : State) (listed : ℕ) → AreApart task c
-    → IsListedAs task c place s cost opened → (listed_system task c).step s i ≡ Some next → IsListedAt (lines_of task c) next listed → cost + (system_of task).cost i < listed
+pub wrong_dearer : (task : Task) (c : Certificate) (place : ℕ) (s : State) (cost : ℕ) (i : Instance) (next : State) (listed : ℕ) → IsListedAs task c place s cost opened
+    → (system_of task).step s i ≡ Some next → IsLeastCost (AreAlikeFor task c) (lines_of task c) next listed → cost + (system_of task).cost i < listed
     → IsWrongAt task c successor_dearer (state_line c place)
-wrong_dearer task c place s cost i next listed apart there leads at dearer = (
+wrong_dearer task c place s cost i next listed there leads at dearer = (
   record { state = s; cost = cost; mark = opened },
   i,
   next,
   ((place, refl, there), refl, leads),
-  listed_somewhere (lines_of task c) next listed at,
-  not_within task c next listed (cost + (system_of task).cost i) apart at dearer,
+  listed_somewhere (AreAlikeFor task c) (lines_of task c) next listed at,
+  not_within (AreAlikeFor task c) (lines_of task c) next listed (cost + (system_of task).cost i) at dearer,
 )
 
 -- ---- cuts

@@ -1,4 +1,4 @@
--- A list of actions that runs stays on open states of a closed listing, to its end or until it comes to a cut.
+-- What a certificate that is closed for a task shows.
 use Rattle.std.proofs.Common.{◌≡◌, ℕ, zero, suc, ◌+◌, ◌<◌, ◌≤◌, true, List, [], ◌∷◌, ◌++◌, length, take, drop, get_or, Option, None, Some, refl, sym, ap, ◌∙◌, subst, arith}
 use Rattle.std.specs.Prelude.{All, Bool, ◌&&◌, Contains, IsTrue, nat_le, nat_lt}
 use Rattle.std.specs.List.{list_all}
@@ -15,12 +15,21 @@ use Rattle.model.specs.Meaning.{State, system_of}
 use Rattle.model.specs.Grounding.{bits_of_state}
 use Rattle.model.specs.Fluents.{is_fluent}
 use Rattle.model.specs.NumberedAtoms.{numbered_atoms}
-use Rattle.model.specs.Claims.{Claim, opened, cut, dead, Line, IsClosed, ClaimHolds, IsLowerBound, AreDeadEnds}
-use Rattle.certificate_definitions.specs.Certificates.{Version, one, two, three, Certificate, potentials_of, several_of, rise, has_tables, is_row, is_table, are_tables, is_dead_end_in, is_dead_end_of, lines_of, listed_system, value_in, value_of, AreFairIn, IsClosedFor}
-use Rattle.symmetries.specs.Laws.{AreDeadEndsOfAll, IsLowerBoundOfAll, QuotientTells, SolveAtSameCost}
-use Rattle.symmetries.proofs.TaskQuotients.{quotients_tell}
+use Rattle.model.specs.Claims.{Claim, opened, cut, dead, Line, IsClosed, ClaimHolds, IsLowerBound, AreDeadEnds, AreBoundsOf, AreDeadEndsOf}
+use Rattle.certificate_definitions.specs.Certificates.{Version, one, two, three, Certificate, potentials_of, several_of, rise, has_tables, is_row, is_table, are_tables, is_dead_end_in, is_dead_end_of, lines_of, AreAlikeFor, value_in, value_of, AreFairIn, IsClosedFor}
+use Rattle.symmetries.specs.Symmetries.{is_symmetry}
+use Rattle.symmetries.specs.Orbits.{AreOfOneOrbit}
+use Rattle.symmetries.specs.Laws.{AreDeadEndsOfAll, HaveInitialStatics, IsLowerBoundOfAll}
+use Rattle.symmetries.proofs.OrbitLemmas.{orbits_are_classes}
+use Rattle.symmetries.proofs.TaskOrbits.{alike_states_are_of_one_orbit, listings_by_exchanges_claim}
+use Rattle.certificate_definitions.proofs.WithoutExchanges.{alike_alone}
+use Rattle.cert_checker.proofs.CertCheckerLemmas.{entry}
+use Rattle.cert_checker.proofs.LineStates.{state_statics}
 use Rattle.cert_checker.proofs.SymmetriesLemmas.{all_symmetries}
-use Rattle.model.proofs.ClaimsLemmas.{reachable_next}
+use Rattle.model.specs.Bisimulation.{IsBisimulationEquivalence}
+use Rattle.model.proofs.ClaimsLemmas.{related_reach_alike}
+use Rattle.model.proofs.ListLemmas.{map-Contains}
+use Rattle.std.specs.FinSet.{contains}
 use Rattle.model.proofs.GroundTaskLemmas.{are_numbered, numbered-distinct, numbered-fluent}
 use Rattle.model.proofs.NumberingLemmas.{distinct-from_pairs, Contains-occurs_in}
 use Rattle.model.proofs.StaticLemmas.{contains-reachable}
@@ -35,135 +44,8 @@ use Rattle.table_functions.proofs.LowerBound.{fair_values_are_sound}
 use Rattle.table_functions.proofs.WithoutTables.{ground_atoms_are_all_numbered}
 use Rattle.cert_checker.proofs.VersionLemmas.{some_value}
 use Rattle.cert_checker.proofs.WeightsLemmas.{alike_itself, value-numbered}
-use Rattle.cert_checker.specs.OnListing.{IsOpenWithin, IsOnCut, StaysListed, to_its_end, to_a_cut}
-
-module _ {S A : Type 0} (t : System S A) (lines : List (Line S)) where
-  open_at_more : (s : S) (m n : ℕ) → IsOpenWithin lines s m → m ≤ n → IsOpenWithin lines s n
-  open_at_more s m n at le = (at.0, at.1, at.2, omega (arith, at.3), at.4)
-
-  -- the state is listed as a cut at no more than this cost
-  abbrev IsListedCut : S → ℕ → Type 0
-  IsListedCut s cost = (line : Line S) × Contains lines line × (line.state ≡ s) × (line.cost ≤ cost) × (rest : ℕ) × (line.mark ≡ cut rest)
-
-  cut_at_more : (s : S) (m n : ℕ) → IsListedCut s m → m ≤ n → IsListedCut s n
-  cut_at_more s m n at le = (at.0, at.1, at.2, omega (arith, at.3), at.4, at.5)
-
-  -- the first n actions lead from this state, at this cost, to an open state, or to a cut
-  abbrev OpenFrom : S → ℕ → List A → ℕ → Type 0
-  OpenFrom from cost plan n = (s : S) × (run t from (take n plan) ≡ Some s) × IsOpenWithin lines s (cost + cost_of_all t (take n plan))
-
-  abbrev CutFrom : S → ℕ → List A → ℕ → Type 0
-  CutFrom from cost plan n = (s : S) × (run t from (take n plan) ≡ Some s) × IsListedCut s (cost + cost_of_all t (take n plan))
-
-  data StaysFrom (from : S) (cost : ℕ) (plan : List A) : Type 0 where
-    all_open : ((n : ℕ) → n ≤ length plan → OpenFrom from cost plan n) → StaysFrom from cost plan
-    open_to : (n : ℕ) → n ≤ length plan → ((k : ℕ) → k < n → OpenFrom from cost plan k) → CutFrom from cost plan n → StaysFrom from cost plan
-
-  -- what follows the first n actions of a list runs on from where they lead
-  rest_runs : (plan : List A) (from s end : S) (n : ℕ) → run t from (take n plan) ≡ Some s → run t from plan ≡ Some end → run t s (drop n plan) ≡ Some end
-  rest_runs [] from s end zero first whole = subst (λ (u : S). run t u [] ≡ Some end) (same_Some from s first) whole
-  rest_runs [] from s end (suc n) first whole = subst (λ (u : S). run t u [] ≡ Some end) (same_Some from s first) whole
-  rest_runs (a ∷ plan) from s end zero first whole = subst (λ (u : S). run t u (a ∷ plan) ≡ Some end) (same_Some from s first) whole
-  rest_runs (a ∷ plan) from s end (suc n) first whole =
-      elim (t.step from a) as (λ o. option_and_then (λ next. run t next (take n plan)) o ≡ Some s → option_and_then (λ next. run t next plan) o ≡ Some end → run t s (drop n plan) ≡ Some end) [
-        | None ↦ λ none_runs _. absurd (cc)
-        | Some next ↦ λ runs_first runs_whole. rest_runs plan next s end n runs_first runs_whole
-      ] first whole
-
-  -- one action before
-  runs_before : (a : A) (plan : List A) (from next s : S) → t.step from a ≡ Some next → run t next plan ≡ Some s → run t from (a ∷ plan) ≡ Some s
-  runs_before a plan from next s leads runs = ap (λ (o : Option S). option_and_then (λ u. run t u plan) o) leads ∙ runs
-
-  costs_before : (a : A) (plan : List A) (cost there : ℕ) → there ≤ cost + t.cost a → there + cost_of_all t plan ≤ cost + cost_of_all t (a ∷ plan)
-  costs_before a plan cost there le = omega (arith, sum_by-cons t.cost a plan)
-
-  module _ (a : A) (plan : List A) (from next : S) (cost there : ℕ) (leads : t.step from a ≡ Some next) (le : there ≤ cost + t.cost a) where
-    open_before : (n : ℕ) → OpenFrom next there plan n → OpenFrom from cost (a ∷ plan) (suc n)
-    open_before n at =
-        (at.0, runs_before a (take n plan) from next at.0 leads at.1, open_at_more at.0 _ _ at.2 (costs_before a (take n plan) cost there le))
-
-    cut_before : (n : ℕ) → CutFrom next there plan n → CutFrom from cost (a ∷ plan) (suc n)
-    cut_before n at =
-        (at.0, runs_before a (take n plan) from next at.0 leads at.1, cut_at_more at.0 _ _ at.2 (costs_before a (take n plan) cost there le))
-
-    stays_before : IsOpenWithin lines from cost → StaysFrom next there plan → StaysFrom from cost (a ∷ plan)
-    stays_before here (all_open each) = all_open each_one
-      where
-        each_one : (n : ℕ) → n ≤ length (a ∷ plan) → OpenFrom from cost (a ∷ plan) n
-        each_one zero within = (from, refl, open_at_more from cost _ here (omega arith))
-        each_one (suc n) within = open_before n (each n (omega arith))
-    stays_before here (open_to m within each at_last) = open_to (suc m) (omega arith) each_one (cut_before m at_last)
-      where
-        each_one : (k : ℕ) → k < suc m → OpenFrom from cost (a ∷ plan) k
-        each_one zero below = (from, refl, open_at_more from cost _ here (omega arith))
-        each_one (suc k) below = open_before k (each k (omega arith))
-
-module _ {S A : Type 0} (t : System S A) (value : S → ℕ) (is_dead : S → Bool) (claim : Claim) (lines : List (Line S)) (dead_ends : AreDeadEnds t is_dead)
-    (closed : IsClosed t value is_dead claim lines) where
-  at_cut : (plan : List A) (line : Line S) (rest : ℕ) → Contains lines line → line.mark ≡ cut rest → StaysFrom t lines line.state line.cost plan
-  at_cut plan line rest listed is_cut = open_to 0 (omega arith) (λ k below. absurd (omega arith)) (line.state, refl, (line, listed, refl, omega arith, rest, is_cut))
-
-  at_end : (line : Line S) → Contains lines line → line.mark ≡ opened → StaysFrom t lines line.state line.cost []
-  at_end line listed is_open = all_open each
-    where
-      each : (n : ℕ) → n ≤ 0 → OpenFrom t lines line.state line.cost [] n
-      each zero within = (line.state, refl, (line, listed, refl, omega arith, is_open))
-      each (suc n) within = absurd (omega arith)
-
-  -- no list that solves meets a state that is listed as a dead end
-  at_dead : (plan : List A) (line : Line S) (end : S) → Contains lines line → line.mark ≡ dead → IsReachable t line.state → run t line.state plan ≡ Some end → IsTrue (t.meets_goal end) → ⊥
-  at_dead plan line end listed marked reached runs goal = false≢true (sym (dead_ends line.state end plan reached (closed.dead_are_dead line listed marked) runs) ∙ goal)
-
-  -- from a listed state on
-  from_line : (plan : List A) (line : Line S) (end : S) → Contains lines line → IsReachable t line.state → run t line.state plan ≡ Some end → IsTrue (t.meets_goal end)
-      → StaysFrom t lines line.state line.cost plan
-  from_line [] line end listed reached runs goal =
-      elim line.mark as (λ m. line.mark ≡ m → StaysFrom t lines line.state line.cost []) [
-        | opened ↦ λ is_open. at_end line listed is_open
-        | cut rest ↦ λ is_cut. at_cut [] line rest listed is_cut
-        | dead ↦ λ marked. absurd (at_dead [] line end listed marked reached runs goal)
-      ] refl
-  from_line (a ∷ plan) line end listed reached runs goal =
-      elim line.mark as (λ m. line.mark ≡ m → StaysFrom t lines line.state line.cost (a ∷ plan)) [
-        | opened ↦ λ is_open.
-            elim (t.step line.state a) as (λ o. t.step line.state a ≡ o → option_and_then (λ next. run t next plan) o ≡ Some end → StaysFrom t lines line.state line.cost (a ∷ plan)) [
-              | None ↦ λ _ none_runs. absurd (cc)
-              | Some next ↦ λ leads runs_on.
-                  let there = closed.successors_listed line a next listed is_open leads in
-                  let stays = from_line plan there.0 end there.1 (subst (IsReachable t) (sym there.2) (reachable_next t line.state next a reached leads))
-                  (subst (λ (s : S). run t s plan ≡ Some end) (sym there.2) runs_on) goal in
-                  stays_before t lines a plan line.state next line.cost there.0.cost leads there.3 (line, listed, refl, omega arith, is_open)
-                  (subst (λ (s : S). StaysFrom t lines s there.0.cost plan) there.2 stays)
-            ] refl runs
-        | cut rest ↦ λ is_cut. at_cut (a ∷ plan) line rest listed is_cut
-        | dead ↦ λ marked. absurd (at_dead (a ∷ plan) line end listed marked reached runs goal)
-      ] refl
-
-  -- where a list that solves comes to a cut, the rest of the list costs at least what the cut stands for
-  left_to_pay : IsLowerBound t value → (plan : List A) (solves : Solves t plan) (n : ℕ) (s : S) (line : Line S) (rest : ℕ)
-      → run t t.initial (take n plan) ≡ Some s → Contains lines line → line.state ≡ s → line.mark ≡ cut rest → rest ≤ cost_of_all t (drop n plan)
-  left_to_pay lower plan solves n s line rest runs listed is is_cut =
-      let others = rest_runs t lines plan t.initial s solves.0 n runs solves.1 in
-      let least = lower s solves.0 (drop n plan) (take n plan, runs) others solves.2 in
-      omega (arith, (closed.cuts_allowed line rest listed is_cut).0, ap value is, least)
-
-  pub stays_listed : IsLowerBound t value → (plan : List A) → Solves t plan → StaysListed t lines plan
-  stays_listed lower plan solves =
-      let there = closed.initial_listed in
-      by_stay there.3
-      (subst (λ (s : S). StaysFrom t lines s there.0.cost plan) there.2
-      (from_line plan there.0 solves.0 there.1 (subst (IsReachable t) (sym there.2) ([], refl)) (subst (λ (s : S). run t s plan ≡ Some solves.0) (sym there.2) solves.1) solves.2))
-    where
-      on_cut : (n : ℕ) → CutFrom t lines t.initial 0 plan n → IsOnCut t lines plan n
-      on_cut n there =
-          let (s, runs, at) = there in
-          let (line, listed, is, low, rest, is_cut) = at in
-          (s, runs, (line, listed, is, omega (arith, low), rest, is_cut, omega (arith, low, left_to_pay lower plan solves n s line rest runs listed is is_cut)))
-
-      by_stay : {cost : ℕ} → cost ≤ 0 → StaysFrom t lines t.initial cost plan → StaysListed t lines plan
-      by_stay {cost} low (all_open each) = to_its_end (λ n within. let at = each n within in (at.0, at.1, open_at_more t lines at.0 _ _ at.2 (omega arith)))
-      by_stay {cost} low (open_to m within each at_last) =
-          to_a_cut m within (λ k below. let at = each k below in (at.0, at.1, open_at_more t lines at.0 _ _ at.2 (omega arith))) (on_cut m (at_last.0, at_last.1, cut_at_more t lines at_last.0 _ _ at_last.2 (omega arith)))
+use Rattle.cert_checker.specs.OnListing.{StaysListed}
+use Rattle.cert_checker.proofs.OnListingLemmas.{stays_listed, equality_keeps_steps}
 
 -- ---- scopes
 
@@ -258,28 +140,47 @@ module _ (task : Task) (c : Certificate) (closed : IsClosedFor task c) where
   pub detects_dead_ends : AreDeadEnds (system_of task) (is_dead_end_of task c)
   detects_dead_ends s end plan reached reported runs = detects_in c.version closed.are_fair s end plan (λ q static. contains-reachable task s q static reached) reported runs
 
-  -- ---- the system whose states are listed
+  -- ---- what is claimed
+
+  -- a state of a line has the initial static atoms, as its other atoms are fluent
+  line_statics : HaveInitialStatics task (lines_of task c)
+  line_statics line listed q static =
+      let from = map-Contains (entry task c) c.lines line listed in
+      ap (λ (l : Line State). contains l.state q) (sym from.2) ∙ state_statics task c more_fluent from.0 q static
+
+  bounds_there : AreBoundsOf (system_of task) (value_of task c) (lines_of task c)
+  bounds_there line end plan listed runs goal = below_in c.version closed.are_fair line.state end plan (line_statics line listed) runs goal
+
+  dead_ends_there : AreDeadEndsOf (system_of task) (is_dead_end_of task c) (lines_of task c)
+  dead_ends_there line end plan listed reported runs = detects_in c.version closed.are_fair line.state end plan (line_statics line listed) reported runs
 
   module _ (well : IsTrue (is_task task)) where
-    told : QuotientTells task (numbered_atoms task c.atoms) c.exchanges
-    told = quotients_tell task (numbered_atoms task c.atoms) c.exchanges well (all_symmetries task c closed.exchanges_are_symmetries)
+    symmetries : IsTrue (list_all (is_symmetry task) c.exchanges)
+    symmetries = all_symmetries task c closed.exchanges_are_symmetries
 
     claim_told : ClaimHolds (system_of task) c.claim
     claim_told =
-        told.closed (value_of task c) (is_dead_end_of task c) c.claim (lines_of task c) (below_in c.version closed.are_fair) (detects_in c.version closed.are_fair) closed.listing_is_closed
+        listings_by_exchanges_claim task (numbered_atoms task c.atoms) c.exchanges well symmetries (value_of task c) (is_dead_end_of task c) c.claim (lines_of task c) line_statics
+        (below_in c.version closed.are_fair) (detects_in c.version closed.are_fair) closed.listing_is_closed
 
-    stays_told : (plan : List Instance) → Solves (listed_system task c) plan → StaysListed (listed_system task c) (lines_of task c) plan
+    stays_told : (plan : List Instance) → Solves (system_of task) plan → StaysListed (system_of task) (AreOfOneOrbit (system_of task)) (lines_of task c) plan
     stays_told plan =
-        stays_listed (listed_system task c) (value_of task c) (is_dead_end_of task c) c.claim (lines_of task c) (told.dead_ends (is_dead_end_of task c) (detects_in c.version closed.are_fair))
-        closed.listing_is_closed (told.bounds (value_of task c) (below_in c.version closed.are_fair)) plan
+        stays_listed (system_of task) (AreAlikeFor task c) (AreOfOneOrbit (system_of task)) (orbits_are_classes (system_of task))
+        (alike_states_are_of_one_orbit task (numbered_atoms task c.atoms) c.exchanges well symmetries) (value_of task c) (is_dead_end_of task c) c.claim (lines_of task c)
+        bounds_there dead_ends_there closed.listing_is_closed plan
+
+  stays_alone : c.exchanges ≡ [] → (plan : List Instance) → Solves (system_of task) plan → StaysListed (system_of task) (λ s r. s ≡ r) (lines_of task c) plan
+  stays_alone none plan =
+      stays_listed (system_of task) (AreAlikeFor task c) (λ s r. s ≡ r) (equality_keeps_steps (system_of task)) (alike_alone task c none)
+      (value_of task c) (is_dead_end_of task c) c.claim (lines_of task c) bounds_there dead_ends_there closed.listing_is_closed plan
 
 pub closed_holds : (task : Task) (c : Certificate) → IsTrue (is_task task) → IsClosedFor task c → ClaimHolds (system_of task) c.claim
 closed_holds task c well closed = claim_told task c closed well
 
--- lists of the task have images in that system
-pub images_solve : (task : Task) (c : Certificate) → IsTrue (is_task task) → IsClosedFor task c → SolveAtSameCost (system_of task) (listed_system task c)
-images_solve task c well closed = (told task c closed well).solves
-
-pub solving_stays : (task : Task) (c : Certificate) (plan : List Instance) → IsTrue (is_task task) → IsClosedFor task c → Solves (listed_system task c) plan
-    → StaysListed (listed_system task c) (lines_of task c) plan
+pub solving_stays : (task : Task) (c : Certificate) (plan : List Instance) → IsTrue (is_task task) → IsClosedFor task c → Solves (system_of task) plan
+    → StaysListed (system_of task) (AreOfOneOrbit (system_of task)) (lines_of task c) plan
 solving_stays task c plan well closed = stays_told task c closed well plan
+
+pub solving_stays_alone : (task : Task) (c : Certificate) (plan : List Instance) → c.exchanges ≡ [] → IsClosedFor task c → Solves (system_of task) plan
+    → StaysListed (system_of task) (λ s r. s ≡ r) (lines_of task c) plan
+solving_stays_alone task c plan none closed = stays_alone task c closed none plan

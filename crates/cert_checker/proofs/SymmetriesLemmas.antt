@@ -13,7 +13,7 @@ use Rattle.task.specs.TaskParts.{object_of}
 use Rattle.model.specs.Task.{Atom, Object, Task}
 use Rattle.symmetries.specs.Exchanges.{Exchange, image_of_object, objects_in, are_different}
 use Rattle.symmetries.specs.Symmetries.{declared_type, is_symmetry, keeps_types, keeps_actions, keeps_values, keeps_statics, keeps_goal}
-use Rattle.symmetries.specs.Quotients.{keeps_atoms}
+use Rattle.symmetries.specs.Orbits.{keeps_atoms}
 use Rattle.task_symmetries.specs.Pairs.{exchange_among, is_object, pair_of, pairs_in, two_by_two}
 use Rattle.model.specs.NumberedAtoms.{numbered_atoms}
 use Rattle.certificate_definitions.specs.Certificates.{Certificate, is_symmetry_for}

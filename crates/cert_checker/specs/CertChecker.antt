@@ -10,13 +10,13 @@ use Rattle.model.specs.Task.{Task, Instance}
 use Rattle.model.specs.Runs.{cost_of_all, IsOptimal, CostsAtLeast, IsUnsolvable}
 use Rattle.model.specs.Meaning.{State, cost_of, system_of}
 use Rattle.model.specs.NumberedAtoms.{numbered_atoms}
+use Rattle.model.specs.Instances.{successors_of}
 use Rattle.model.specs.Claims.{Claim, bound, none, opened, Line, IsListedWithin}
 use Rattle.potential_functions.specs.PotentialFunctions.{PotentialFunction}
 use Rattle.potential_functions.specs.Fair.{nothing, IsFirstUnfairAt}
 use Rattle.table_functions.specs.TableFunctions.{TableFunction, functions_of, dead_ends_of}
 use Rattle.table_functions.specs.FairTables as tables
-use Rattle.certificate_definitions.specs.Certificates.{Version, one, two, three, Certificate, potentials_of, several_of, lines_of}
-use Rattle.cert_checker.specs.Successors.{listed_successors}
+use Rattle.certificate_definitions.specs.Certificates.{Version, one, two, three, Certificate, potentials_of, several_of, lines_of, AreAlikeFor}
 use Rattle.certificate_definitions.specs.CertificateRefusals.{Reason, limit, unfair, unfair_goal, dead_unfair, dead_unfair_goal, successor_missing, successor_dearer, IsFirst, IsListed, HasState, IsUnfairIn, IsDeadUnfairIn, IsWrong, IsWrongAt}
 
 -- What an accepted certificate shows is true, of all lists of instances: the plan that was given is optimal at
@@ -77,24 +77,23 @@ IsNoFault refusal.NoMemory = Unit {0}
 IsNoFault refusal.Device = Unit {0}
 IsNoFault _ = ⊥
 
--- This line lists an open state, from which this instance leads to this state in the system whose states are listed. Each that is
--- applicable there and comes before it, in the order of all instances, leads to a state that is listed at no more than the line's
--- cost and its own.
+-- This line lists an open state, from which this instance leads to this state. Each that is applicable there and comes before it, in
+-- the order of all instances, leads to a state like which one is listed at no more than the line's cost and its own.
 pub record IsFirstToLeave (task : Task) (c : Certificate) (line : ℕ) (l : Line State) (i : Instance) (next : State) : Type 0 where
   pub found_there : HasState task c line l
   pub is_open : l.mark ≡ opened
   pub place : ℕ
-  pub leads : slice_get (listed_successors task c l.state) place ≡ Some (i, next)
-  pub listed_before : (k : ℕ) (j : Instance) (s : State) → k < place → slice_get (listed_successors task c l.state) k ≡ Some (j, s)
-      → IsListedWithin (lines_of task c) s (l.cost + (system_of task).cost j)
+  pub leads : slice_get (successors_of task l.state) place ≡ Some (i, next)
+  pub listed_before : (k : ℕ) (j : Instance) (s : State) → k < place → slice_get (successors_of task l.state) k ≡ Some (j, s)
+      → IsListedWithin (AreAlikeFor task c) (lines_of task c) s (l.cost + (system_of task).cost j)
 
 -- Where a successor is reported for a line, it is the first one, in the order of the instances, that is not as it is to be.
 abbrev pub IsFirstSuccessor : Task → Certificate → Reason → ℕ → Type 0
 IsFirstSuccessor task c successor_missing line =
-    (l : Line State) × (i : Instance) × (next : State) × IsFirstToLeave task c line l i next × ¬ IsListed (lines_of task c) next
+    (l : Line State) × (i : Instance) × (next : State) × IsFirstToLeave task c line l i next × ¬ IsListed (AreAlikeFor task c) (lines_of task c) next
 IsFirstSuccessor task c successor_dearer line =
-    (l : Line State) × (i : Instance) × (next : State) × IsFirstToLeave task c line l i next × IsListed (lines_of task c) next
-    × ¬ IsListedWithin (lines_of task c) next (l.cost + (system_of task).cost i)
+    (l : Line State) × (i : Instance) × (next : State) × IsFirstToLeave task c line l i next × IsListed (AreAlikeFor task c) (lines_of task c) next
+    × ¬ IsListedWithin (AreAlikeFor task c) (lines_of task c) next (l.cost + (system_of task).cost i)
 IsFirstSuccessor task c _ line = Unit {0}
 
 -- What is reported without a line is the first that is wrong; of a value it is wrong at its place.

@@ -4,13 +4,13 @@ use Rattle.task_certificates.specs.declared.refusal.Refusal.{Refusal}
 use Rattle.cert_checker.specs.FluentAtoms.{AreFluent}
 use Rattle.cert_checker.specs.CertChecker.{IsFirstRefusal, IsTrueRefusal}
 use Rattle.model.specs.Task.{Task, Instance}
-use Rattle.model.specs.Meaning.{State, meets_goal}
+use Rattle.model.specs.Meaning.{State, meets_goal, system_of}
 use Rattle.model.specs.Limits.{max_numbered_atoms}
 use Rattle.model.specs.Grounding.{exceeded_limit}
 use Rattle.model.specs.Claims.{none, Allows, Mark, opened, cut, dead, Line, IsListedWithin}
 use Rattle.table_functions.specs.TableFunctions.{Row, Table}
 use Rattle.symmetries.specs.Exchanges.{Exchange}
-use Rattle.certificate_definitions.specs.Certificates.{Certificate, StateLine, keeps_limits, lines_of, is_symmetry_for, listed_system, value_of, is_dead_end_of, AreFairFor}
+use Rattle.certificate_definitions.specs.Certificates.{Certificate, StateLine, keeps_limits, lines_of, is_symmetry_for, AreAlikeFor, value_of, is_dead_end_of, AreFairFor}
 
 -- the refusal is true, whatever plan is given and whatever the limit of kept instances
 abbrev pub IsTrueAnyway : Task → Certificate → Refusal → Type 0
@@ -44,14 +44,21 @@ HasCost c place cost mark = (l : StateLine) × (slice_get c.lines place ≡ Some
 abbrev pub IsListedAs : Task → Certificate → ℕ → State → ℕ → Mark → Type 0
 IsListedAs task c place state cost mark = slice_get (lines_of task c) place ≡ Some (record { state = state; cost = cost; mark = mark })
 
--- the state is listed at just this cost
-abbrev pub IsListedAt : {S : Type 0} → List (Line S) → S → ℕ → Type 0
-IsListedAt {S} lines s cost = (line : Line S) × Contains lines line × (line.state ≡ s) × (line.cost ≡ cost)
+-- at this place a state is listed that is alike, and none is at less
+pub record IsCheapestAt {S : Type 0} (alike : S → S → Type 0) (lines : List (Line S)) (s : S) (place : ℕ) : Type 0 where
+  pub line : Line S
+  pub listed : slice_get lines place ≡ Some line
+  pub is_alike : alike line.state s
+  pub least : (other : Line S) → Contains lines other → alike other.state s → line.cost ≤ other.cost
 
--- An open state listed at this cost has its successors in the listing, in the system whose states are listed, and meets the goal at
--- no less than is claimed.
+-- it is listed at this cost
+abbrev pub IsLeastCost : {S : Type 0} → (S → S → Type 0) → List (Line S) → S → ℕ → Type 0
+IsLeastCost alike lines s cost = (place : ℕ) × (cheapest : IsCheapestAt alike lines s place) × (cheapest.line.cost ≡ cost)
+
+-- For each successor of an open state listed at this cost one that is alike is in the listing, and the state meets the goal at no
+-- less than is claimed.
 pub record IsOpenClosed (task : Task) (c : Certificate) (state : State) (cost : ℕ) : Type 0 where
-  pub successors_listed : (i : Instance) (next : State) → (listed_system task c).step state i ≡ Some next → IsListedWithin (lines_of task c) next (cost + (listed_system task c).cost i)
+  pub successors_listed : (i : Instance) (next : State) → (system_of task).step state i ≡ Some next → IsListedWithin (AreAlikeFor task c) (lines_of task c) next (cost + (system_of task).cost i)
   pub goal_allowed : IsTrue (meets_goal task state) → Allows c.claim cost
 
 -- Of a state that is cut at this cost: the bound of what is still to pay is at most the state's value, and comes with the
@@ -80,7 +87,7 @@ pub record IsRightUpTo (task : Task) (c : Certificate) (most place : ℕ) : Type
   pub within : exceeded_limit most max_numbered_atoms task c.atoms ≡ None
   pub symmetric : AreSymmetries task c
   pub fair : AreFairFor task c
-  pub initial : IsListedWithin (lines_of task c) (listed_system task c).initial 0
+  pub initial : IsListedWithin (AreAlikeFor task c) (lines_of task c) (system_of task).initial 0
   pub lines : (k : ℕ) (l : Line State) → k < place → slice_get (lines_of task c) k ≡ Some l → IsLineClosed task c l
 
 -- All is right, where nothing is wrong with what was read and the ground task keeps its limits.

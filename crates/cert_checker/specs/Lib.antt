@@ -1,10 +1,11 @@
 pub mod Reasons
-pub mod Successors
 pub mod CertChecker
 pub mod Checking
 pub mod FluentAtoms
 pub mod Exchanged
 pub mod Represented
+pub mod CheapestPlaces
+pub mod Classified
 pub mod CheckedLines
 pub mod Weights
 pub mod PackedLines

@@ -2,7 +2,7 @@
 use Rattle.std.specs.Prelude.{◌≡◌, Bool, List, length}
 use Rattle.model.specs.Task.{Atom, Task}
 use Rattle.symmetries.specs.Exchanges.{Exchange}
-use Rattle.symmetries.specs.Quotients.{packed_representative}
+use Rattle.symmetries.specs.Orbits.{packed_representative}
 use Rattle.representatives.specs.declared.representatives.Representatives.{Representatives}
 use Rattle.representatives.specs.Representatives.{task_of, atoms_of, exchanges_of}
 

@@ -23,6 +23,7 @@ ghost use Rattle.cert_checker.specs.SaidRead.{IsCheckLine};
 ghost use Rattle.progress_lines.specs.Said.{AreSaid, stream};
 
 mod answer;
+mod classes;
 mod packed;
 mod steps;
 mod symmetry;
@@ -63,8 +64,8 @@ pub enum Accepted {
 /// The first that applies: the first line at fault, as [`read_cert`] reports it (40 to 44, 52 and 55); 55 where the task
 /// keeps more than `max_instances` instances once it is grounded, or would number more than 1,048,576 atoms; the first exchange that
 /// is no symmetry of the task, by its line (59); the first instance that may lose more of a value than it costs (46), or 47 where more than 0 may be left at a goal, one value after
-/// another; the first that may lose anything of what detects dead ends (56), or 57 where more than 0 of it may be left at a goal; 45 where the initial state is
-/// not listed at 0; what is wrong with the successors, the cost or the cut of a listed state, or with a dead end, line by
+/// another; the first that may lose anything of what detects dead ends (56), or 57 where more than 0 of it may be left at a goal; 45 where no state alike the initial one is
+/// listed at 0; what is wrong with the successors, the cost or the cut of a listed state, or with a dead end, line by
 /// line (48 to 51, 58); what is wrong with the plan (53, 54). [`Refusal::Device`] where the device failed; [`Refusal::NoMemory`] where
 /// memory is refused.
 pub fn check<R: Source>(

@@ -6,8 +6,9 @@ ghost use Rattle.model.specs.Meaning.{system_of};
 ghost use Rattle.model.specs.Claims.{AreDeadEnds, ClaimHolds, IsLowerBound};
 ghost use Rattle.model.specs.WellTyped.{is_task};
 ghost use Rattle.certificate_definitions.specs.CertificateExamples.{AreJudged};
-ghost use Rattle.certificate_definitions.specs.Certificates.{Certificate, is_dead_end_of, lines_of, listed_system, value_of, IsClosedFor, keeps_limits};
-ghost use Rattle.symmetries.specs.Laws.{SolveAtSameCost};
+ghost use Rattle.certificate_definitions.specs.ExchangeExamples.{AreExchangesJudged};
+ghost use Rattle.certificate_definitions.specs.Certificates.{Certificate, is_dead_end_of, lines_of, value_of, IsClosedFor, keeps_limits};
+ghost use Rattle.symmetries.specs.Orbits.{AreOfOneOrbit};
 ghost use Rattle.certificate_definitions.specs.CertificateRefusals.{IsPlanWithin};
 ghost use Rattle.certificate_definitions.specs.CertificateNames.{IsTextOf, are_atoms_of, are_exchanges_of, certificate_text, has_atom_names};
 ghost use Rattle.certificate_definitions.specs.CertificateChecking.{IsAccepted};
@@ -23,21 +24,20 @@ pub fn closed_claim_holds()
     ensures dead_ends { (task : Task) (c : Certificate) → IsClosedFor task c → AreDeadEnds (system_of task) (is_dead_end_of task c) }
 {}
 
-/// Why it is: a list that solves the task has one of the same cost, its images, that solves the system whose states are listed, and
-/// without exchanges both are one. That list stays on open states that are listed at no more than its cost so far, to its end or until
-/// it comes to a cut that is listed so; it meets no dead end. At the cut its cost so far and what it still pays are together at least
-/// the cost of the line and what the cut stands for.
+/// Why it is: a list that solves the task stays on states that symmetries take to open listed ones, listed at no more than its cost so
+/// far, to its end or until it comes to a cut that is listed so; it meets no dead end. At the cut its cost so far and what it still pays
+/// are together at least the cost of the line and what the cut stands for. Without exchanges the states are listed themselves.
 pub fn solving_list_stays_listed()
-    ensures images { (task : Task) (c : Certificate) → IsTrue (is_task task) → IsClosedFor task c
-        → SolveAtSameCost (system_of task) (listed_system task c) }
-    ensures alone { (task : Task) (c : Certificate) → c.exchanges ≡ [] → listed_system task c ≡ system_of task }
     ensures stays { (task : Task) (c : Certificate) (plan : List Instance) → IsTrue (is_task task) → IsClosedFor task c
-        → Solves (listed_system task c) plan → StaysListed (listed_system task c) (lines_of task c) plan }
+        → Solves (system_of task) plan → StaysListed (system_of task) (AreOfOneOrbit (system_of task)) (lines_of task c) plan }
+    ensures alone { (task : Task) (c : Certificate) (plan : List Instance) → c.exchanges ≡ [] → IsClosedFor task c
+        → Solves (system_of task) plan → StaysListed (system_of task) (λ s r. s ≡ r) (lines_of task c) plan }
 {}
 
-/// The worked examples of certificates: small ones that are closed, or what is wrong with them.
+/// The worked examples of certificates: small ones that are closed, or what is wrong with them; with exchanges, too.
 pub fn examples_are_judged()
-    ensures { AreJudged }
+    ensures judged { AreJudged }
+    ensures exchanges { AreExchangesJudged }
 {}
 
 /// What is written of a certificate within the limits, for a well-typed task, is a text that says this certificate, if its exchanges are

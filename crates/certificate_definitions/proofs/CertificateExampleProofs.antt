@@ -10,7 +10,6 @@ use Rattle.std.proofs.lemmas.List.Kept.{AllPairs-cons}
 use Rattle.std.specs.FinSet.{contains, from_list, contains-from_list}
 use Rattle.model.specs.Task.{Atom, Instance, Task}
 use Rattle.model.specs.Examples.{ground, instance, tie, tie_task}
-use Rattle.model.specs.Runs.{System}
 use Rattle.model.specs.StaticallyFalse.{kept_instances}
 use Rattle.model.specs.NumberedAtoms.{numbered_atoms}
 use Rattle.model.specs.Meaning.{State, cost_of, atom_cmp, step, changes_of, meets_goal, system_of}
@@ -20,9 +19,9 @@ use Rattle.model.specs.WellTyped.{is_atom}
 use Rattle.model.specs.Claims.{Claim, bound, Allows, opened, cut, dead, Line, IsListedWithin, IsClosed}
 use Rattle.model.specs.Claims as model
 use Rattle.model.specs.Fluents.{is_fluent}
-use Rattle.certificate_definitions.specs.Certificates.{two, StateLine, Certificate, state_of_line, lines_of, is_symmetry_for, listed_system, value_of, is_dead_end_of, IsClosedFor}
+use Rattle.certificate_definitions.specs.Certificates.{two, StateLine, Certificate, state_of_line, lines_of, is_symmetry_for, AreAlikeFor, value_of, is_dead_end_of, IsClosedFor}
 use Rattle.certificate_definitions.specs.CertificateRefusals.{IsWrongAt, unfair, unfair_goal, dead_unfair, dead_unfair_goal, not_dead}
-use Rattle.certificate_definitions.proofs.WithoutExchanges.{lists_task}
+use Rattle.certificate_definitions.proofs.WithoutExchanges.{alike_itself, closed_wider}
 use Rattle.certificate_definitions.specs.CertificateExamples.{AreJudged, open_at, cut_at, linked, tied, claims, weighs, zeros, token_reported, start_open}
 use Rattle.table_functions.specs.TableFunctions.{Row, Table}
 use Rattle.potential_functions.specs.PotentialFunctions.{PotentialFunction, or_zero, value_of_state, is_dead_by, is_dead_state}
@@ -165,14 +164,14 @@ the_one_line P l line at of_l = by_first (Contains-cases l [] line at)
 one_value : (count : ℕ) (p : PotentialFunction) → length p.weights ≡ count → All (λ (p : PotentialFunction). length p.weights ≡ count) (p ∷ [])
 one_value count p many = All-cons (λ (p : PotentialFunction). length p.weights ≡ count) p [] many (All-nil (λ (p : PotentialFunction). length p.weights ≡ count))
 
--- without exchanges a listing is closed for the task
 no_exchanges : (task : Task) (c : Certificate) → All (λ (e : Exchange). IsTrue (is_symmetry_for task c e)) []
 no_exchanges task c = All-nil (λ (e : Exchange). IsTrue (is_symmetry_for task c e))
 
-closed_in_task : (task : Task) (c : Certificate) → c.exchanges ≡ [] → IsClosed (system_of task) (value_of task c) (is_dead_end_of task c) c.claim (lines_of task c)
-    → IsClosed (listed_system task c) (value_of task c) (is_dead_end_of task c) c.claim (lines_of task c)
-closed_in_task task c none closed =
-    subst (λ t. IsClosed t (value_of task c) (is_dead_end_of task c) c.claim (lines_of task c)) (sym (lists_task task c none)) closed
+-- what is closed for the states themselves is closed up to exchanges
+closed_in_task : (task : Task) (c : Certificate) → IsClosed (system_of task) (λ s r. s ≡ r) (value_of task c) (is_dead_end_of task c) c.claim (lines_of task c)
+    → IsClosed (system_of task) (AreAlikeFor task c) (value_of task c) (is_dead_end_of task c) c.claim (lines_of task c)
+closed_in_task task c closed =
+    closed_wider (system_of task) (λ s r. s ≡ r) (AreAlikeFor task c) (alike_itself task c) (value_of task c) (is_dead_end_of task c) c.claim (lines_of task c) closed
 
 no_rows : All (λ (t : Table). AllPairs (λ (q r : Row). q.atoms ≢ r.atoms) t.rows) []
 no_rows = All-nil (λ (t : Table). AllPairs (λ (q r : Row). q.atoms ≢ r.atoms) t.rows)
@@ -189,10 +188,10 @@ cut_closed = record {
   atoms_are_fluent = All-cons (λ (a : Atom). IsTrue (is_atom tie_task a && is_fluent tie_task a.predicate)) tied [] refl (All-nil (λ (a : Atom). IsTrue (is_atom tie_task a && is_fluent tie_task a.predicate)));
   atoms_are_distinct = λ i j d before within. absurd (omega (arith, before, within));
   states_are_distinct = λ i j d before within. absurd (omega (arith, before, within));
-  listing_is_closed = closed_in_task tie_task (weighs (bound 1) (pos 1) (negsuc 0) (cut_at 0 1 [] ∷ [])) refl (record {
+  listing_is_closed = closed_in_task tie_task (weighs (bound 1) (pos 1) (negsuc 0) (cut_at 0 1 [] ∷ [])) (record {
     initial_listed = (start_cut 1, (0, omega arith, refl), refl, omega arith);
     successors_listed = λ line a next at is_open leads.
-        the_one_line (λ (l : Line State). l.mark ≡ opened → IsListedWithin (start_cut 1 ∷ []) next (l.cost + 1)) (start_cut 1) line at (λ not_cut. absurd (cc)) is_open;
+        the_one_line (λ (l : Line State). l.mark ≡ opened → IsListedWithin (λ s r. s ≡ r) (start_cut 1 ∷ []) next (l.cost + 1)) (start_cut 1) line at (λ not_cut. absurd (cc)) is_open;
     open_goals_allowed = λ line at is_open goal. the_one_line (λ (l : Line State). l.mark ≡ opened → 1 ≤ l.cost) (start_cut 1) line at (λ not_cut. absurd (cc)) is_open;
     cuts_allowed = λ line rest at is_cut.
         the_one_line (λ (l : Line State). l.mark ≡ cut rest → (rest ≤ value_of_state (tied ∷ []) (potentials (pos 1) (negsuc 0)) l.state) × (1 ≤ l.cost + rest)) (start_cut 1) line at
@@ -258,10 +257,10 @@ dead_closed claim = record {
       AllPairs-cons R (ground 0 []) (ground 1 [] ∷ []) (All-cons (R (ground 0 [])) (ground 1 []) [] (λ same. absurd (cc (ap (λ (a : Atom). a.predicate) same))) (All-nil (R (ground 0 []))))
       (λ i j d before within. absurd (omega (arith, before, within)));
   states_are_distinct = λ i j d before within. absurd (omega (arith, before, within));
-  listing_is_closed = closed_in_task token_task (token_reported two claim (pos 2) (minus 1)) refl (record {
+  listing_is_closed = closed_in_task token_task (token_reported two claim (pos 2) (minus 1)) (record {
     initial_listed = (dead_line, (0, omega arith, refl), refl, omega arith);
     successors_listed = λ line a next at is_open leads.
-        the_one_line (λ (l : Line State). l.mark ≡ opened → IsListedWithin (dead_line ∷ []) next (l.cost + cost_of token_task a)) dead_line line at (λ is. absurd (cc)) is_open;
+        the_one_line (λ (l : Line State). l.mark ≡ opened → IsListedWithin (λ s r. s ≡ r) (dead_line ∷ []) next (l.cost + cost_of token_task a)) dead_line line at (λ is. absurd (cc)) is_open;
     open_goals_allowed = λ line at is_open goal. the_one_line (λ (l : Line State). l.mark ≡ opened → Allows claim l.cost) dead_line line at (λ is. absurd (cc)) is_open;
     cuts_allowed = λ line rest at is_cut.
         the_one_line (λ (l : Line State). l.mark ≡ cut rest → (rest ≤ value_of_state token_atoms (zeros token_atoms) l.state) × Allows claim (l.cost + rest)) dead_line line at
@@ -317,10 +316,10 @@ are_judged = record {
     atoms_are_distinct = λ i j d before within. absurd (omega (arith, before, within));
     states_are_distinct = AllPairs-cons (λ (k l : Line State). k.state ≢ l.state) first (second ∷ []) (All-cons (λ (l : Line State). first.state ≢ l.state) second [] apart (All-nil (λ (l : Line State). first.state ≢ l.state)))
         (λ i j d before within. absurd (omega (arith, before, within)));
-    listing_is_closed = closed_in_task tie_task (claims (bound 1) (tied ∷ []) start_open) refl (record {
+    listing_is_closed = closed_in_task tie_task (claims (bound 1) (tied ∷ []) start_open) (record {
       initial_listed = (line_of (open_at 0 []), (0, omega arith, refl), refl, omega arith);
       successors_listed = λ line a next at is_open leads.
-          of_two (λ (l : Line State). l.mark ≡ opened → step tie_task l.state a ≡ Some next → IsListedWithin (first ∷ second ∷ []) next (l.cost + 1)) first second line at
+          of_two (λ (l : Line State). l.mark ≡ opened → step tie_task l.state a ≡ Some next → IsListedWithin (λ s r. s ≡ r) (first ∷ second ∷ []) next (l.cost + 1)) first second line at
           (λ _ leads. (second, (1, omega arith, refl), sym (only_instance a next leads), omega arith)) (λ not_cut _. absurd (cc)) is_open leads;
       open_goals_allowed = λ line at is_open goal.
           of_two (λ (l : Line State). l.mark ≡ opened → IsTrue (meets_goal tie_task l.state) → 1 ≤ l.cost) first second line at
@@ -337,7 +336,7 @@ are_judged = record {
   open_goal = (line_of (open_at 1 (0 ∷ [])), (1, refl, refl), refl, contains-from_list atoms_total (tied ∷ linked ∷ []) tied, λ h. absurd (omega (arith, h)));
   cut_by_its_bound = (line_of (cut_at 1 1 (0 ∷ [])), 1, (1, refl, refl), refl, inl (let none = end_value in omega (arith, none)));
   cut_without_bound = (line_of (cut_at 1 0 (0 ∷ [])), 0, (1, refl, refl), refl, refl);
-  missing = (line_of (open_at 0 []), the_instance, after_it, ((0, refl, refl), refl, ap (λ (t : System State Instance). t.step start the_instance) (lists_task tie_task (claims (bound 1) (tied ∷ []) (open_at 0 [] ∷ [])) refl) ∙ leads_on), λ listed. apart (one_line listed.0 listed.1 listed.2 ∙ sym same_end));
+  missing = (line_of (open_at 0 []), the_instance, after_it, ((0, refl, refl), refl, leads_on), λ listed. apart (one_line listed.0 listed.1 listed.2 ∙ sym same_end));
   dear_start = λ listed.
       of_two (λ (l : Line State). l.cost ≤ 0 → ⊥) (line_of (open_at 1 [])) second listed.0 listed.1 (λ h. absurd (omega (arith, h))) (λ h. absurd (omega (arith, h))) listed.3;
   cut_by_value = cut_closed;

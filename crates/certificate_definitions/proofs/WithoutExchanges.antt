@@ -1,28 +1,31 @@
--- Without exchanges each state stands for itself: the quotient is the task.
-use Rattle.std.proofs.Common.{◌≡◌, ◌∙◌, ℕ, zero, suc, ◌^◌, List, [], length, Option, None, Some, refl, ap}
-use Rattle.std.specs.Option.{option_map}
-use Rattle.model.specs.Task.{Atom, Task}
+-- Without exchanges only equal states are alike.
+use Rattle.std.proofs.Common.{◌≡◌, ℕ, ◌+◌, List, [], ap, subst}
+use Rattle.std.specs.Prelude.{Bool}
+use Rattle.model.specs.Task.{Task}
 use Rattle.model.specs.Runs.{System}
-use Rattle.model.specs.Meaning.{State, system_of}
-use Rattle.symmetries.specs.Quotients.{with_images, representative, quotient, quotient_of}
-use Rattle.certificate_definitions.specs.Certificates.{Certificate, listed_system}
+use Rattle.model.specs.Claims.{Claim, Line, IsListedWithin, IsClosed}
+use Rattle.model.specs.Meaning.{State}
+use Rattle.model.specs.NumberedAtoms.{numbered_atoms}
+use Rattle.symmetries.specs.Orbits.{representative, AreAlike}
+use Rattle.certificate_definitions.specs.Certificates.{Certificate, AreAlikeFor}
 
-stays : (atoms : List Atom) (n : ℕ) (s : State) → with_images atoms [] n s ≡ s
-stays atoms zero s = refl
-stays atoms (suc n) s = refl
+-- a state is alike itself
+pub alike_itself : (task : Task) (c : Certificate) (s r : State) → s ≡ r → AreAlikeFor task c s r
+alike_itself task c s r is = ap (representative (numbered_atoms task c.atoms) c.exchanges) is
 
-pub itself : (atoms : List Atom) (s : State) → representative atoms [] s ≡ s
-itself atoms s = stays atoms (2 ^ length atoms) s
+pub alike_alone : (task : Task) (c : Certificate) → c.exchanges ≡ [] → (s r : State) → AreAlikeFor task c s r → s ≡ r
+alike_alone task c none s r is = subst (λ exchanges. AreAlike (numbered_atoms task c.atoms) exchanges s r) none is
 
-map_itself : {X : Type 0} (o : Option X) → option_map (λ x. x) o ≡ o
-map_itself None = refl
-map_itself (Some x) = refl
-
-quotient_by_none : {S A : Type 0} (t : System S A) → quotient t (λ s. s) ≡ t
-quotient_by_none t = λ i. record { initial = t.initial; step = λ s a. map_itself (t.step s a) i; cost = t.cost; meets_goal = t.meets_goal }
-
-pub without_exchanges : (task : Task) (atoms : List Atom) → quotient_of task atoms [] ≡ system_of task
-without_exchanges task atoms = (λ i. quotient (system_of task) (λ s. itself atoms s i)) ∙ quotient_by_none (system_of task)
-
-pub lists_task : (task : Task) (c : Certificate) → c.exchanges ≡ [] → listed_system task c ≡ system_of task
-lists_task task c none = ap (quotient_of task _) none ∙ without_exchanges task _
+-- what is closed up to one relation is closed up to a wider one
+pub closed_wider : {S A : Type 0} (t : System S A) (alike wider : S → S → Type 0) → ((s r : S) → alike s r → wider s r)
+    → (value : S → ℕ) (is_dead : S → Bool) (claim : Claim) (lines : List (Line S)) → IsClosed t alike value is_dead claim lines → IsClosed t wider value is_dead claim lines
+closed_wider {S} t alike wider widens value is_dead claim lines closed = record {
+  initial_listed = listed t.initial 0 closed.initial_listed;
+  successors_listed = λ line a next among is_open leads. listed next (line.cost + t.cost a) (closed.successors_listed line a next among is_open leads);
+  open_goals_allowed = closed.open_goals_allowed;
+  cuts_allowed = closed.cuts_allowed;
+  dead_are_dead = closed.dead_are_dead;
+}
+  where
+    listed : (s : S) (cost : ℕ) → IsListedWithin alike lines s cost → IsListedWithin wider lines s cost
+    listed s cost (line, among, is, within) = (line, among, widens line.state s is, within)

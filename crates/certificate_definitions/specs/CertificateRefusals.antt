@@ -16,7 +16,7 @@ use Rattle.table_functions.specs.FairTables as fair_tables
 use Rattle.table_functions.specs.FairTables.{is_asked}
 use Rattle.model.specs.Fluents.{is_fluent}
 use Rattle.symmetries.specs.Exchanges.{Exchange}
-use Rattle.certificate_definitions.specs.Certificates.{Version, one, two, three, Certificate, potentials_of, several_of, rows_of, lines_of, is_symmetry_for, listed_system, value_of, is_dead_end_of}
+use Rattle.certificate_definitions.specs.Certificates.{Version, one, two, three, Certificate, potentials_of, several_of, rows_of, lines_of, is_symmetry_for, AreAlikeFor, value_of, is_dead_end_of}
 
 -- the reasons, each with the number that is reported
 pub data Reason : Type 0 where
@@ -62,8 +62,8 @@ abbrev pub HasState : Task → Certificate → ℕ → Line State → Type 0
 HasState task c line l = (place : ℕ) × (line ≡ state_line c place) × (slice_get (lines_of task c) place ≡ Some l)
 
 -- the state is listed, at whatever cost
-abbrev pub IsListed : {S : Type 0} → List (Line S) → S → Type 0
-IsListed {S} lines s = (line : Line S) × Contains lines line × (line.state ≡ s)
+abbrev pub IsListed : {S : Type 0} → (S → S → Type 0) → List (Line S) → S → Type 0
+IsListed {S} alike lines s = (line : Line S) × Contains lines line × alike line.state s
 
 -- the atom, or the state, of this line is in a line before
 abbrev pub IsRepeatedAtom : Certificate → ℕ → Type 0
@@ -73,9 +73,9 @@ abbrev pub IsRepeatedState : Task → Certificate → ℕ → Type 0
 IsRepeatedState task c line =
     (earlier l : Line State) × (before : ℕ) × (before < line) × HasState task c before earlier × HasState task c line l × (earlier.state ≡ l.state)
 
--- this line lists an open state, from which this instance leads to this state, in the system whose states are listed
+-- this line lists an open state, from which this instance leads to this state
 abbrev pub LeadsFrom : Task → Certificate → ℕ → Line State → Instance → State → Type 0
-LeadsFrom task c line l i next = HasState task c line l × (l.mark ≡ opened) × ((listed_system task c).step l.state i ≡ Some next)
+LeadsFrom task c line l i next = HasState task c line l × (l.mark ≡ opened) × ((system_of task).step l.state i ≡ Some next)
 
 -- ---- values that are not fair
 
@@ -125,13 +125,13 @@ IsWrongAt task c not_symmetry line = (e : Exchange) × HasExchange c line e × (
 IsWrongAt task c repeated line = IsRepeatedAtom c line ⊎ IsRepeatedState task c line
 -- its open state meets the goal, at a cost that the claim does not allow
 IsWrongAt task c goal_open line = (l : Line State) × HasState task c line l × (l.mark ≡ opened) × IsTrue (meets_goal task l.state) × ¬ Allows c.claim l.cost
--- an instance leads from its open state to one that is not listed
+-- an instance leads from its open state to one like which none is listed
 IsWrongAt task c successor_missing line =
-    (l : Line State) × (i : Instance) × (next : State) × LeadsFrom task c line l i next × ¬ IsListed (lines_of task c) next
--- an instance leads from its open state to one that is listed, but not at so little as its cost and that of the instance
+    (l : Line State) × (i : Instance) × (next : State) × LeadsFrom task c line l i next × ¬ IsListed (AreAlikeFor task c) (lines_of task c) next
+-- an instance leads from its open state to one like which some are listed, but none at so little as its cost and that of the instance
 IsWrongAt task c successor_dearer line =
-    (l : Line State) × (i : Instance) × (next : State) × LeadsFrom task c line l i next × IsListed (lines_of task c) next
-    × ¬ IsListedWithin (lines_of task c) next (l.cost + (system_of task).cost i)
+    (l : Line State) × (i : Instance) × (next : State) × LeadsFrom task c line l i next × IsListed (AreAlikeFor task c) (lines_of task c) next
+    × ¬ IsListedWithin (AreAlikeFor task c) (lines_of task c) next (l.cost + (system_of task).cost i)
 -- its cut's bound is more than the state's value, or what it claims is less than what is claimed
 IsWrongAt task c cut_weak line =
     (l : Line State) × (rest : ℕ) × HasState task c line l × (l.mark ≡ cut rest) × ((value_of task c l.state < rest) ⊎ ¬ Allows c.claim (l.cost + rest))
@@ -152,8 +152,8 @@ IsWrongAt task c _ line = ⊥
 -- What is wrong, and neither with a line nor with a value: with the whole certificate, with the plan, if one is given, or with the
 -- ground task in which the certificate's atoms have the first numbers, of whose instances at most `most` may be kept.
 abbrev pub IsWrong : Task → Certificate → Option (List Instance) → ℕ → Reason → Type 0
--- the initial state, or the state that stands for it, is not listed at 0
-IsWrong task c plan most no_initial = ¬ IsListedWithin (lines_of task c) (listed_system task c).initial 0
+-- no state that is alike the initial one is listed at 0
+IsWrong task c plan most no_initial = ¬ IsListedWithin (AreAlikeFor task c) (lines_of task c) (system_of task).initial 0
 -- the plan does not solve the task
 IsWrong task c plan most plan_invalid = MatchOption plan ⊥ (λ p. ¬ Solves (system_of task) p)
 -- the plan solves it, and costs more than is claimed

@@ -2,11 +2,10 @@
 use Rattle.std.specs.Prelude.{◌≡◌, ◌≢◌, ℕ, zero, ◌+◌, ◌==◌, Bool, true, false, ◌&&◌, nat_lt, nat_le, ℤ, pos, negsuc, IsTrue, List, [], ◌∷◌, ◌++◌, map, length, get_or, All, AllPairs, slice_get}
 use Rattle.std.specs.List.{list_all, filter_map, flat_map}
 use Rattle.std.specs.FinSet.{from_list}
-use Rattle.model.specs.Task.{Atom, Task, Instance}
+use Rattle.model.specs.Task.{Atom, Task}
 use Rattle.model.specs.WellTyped.{is_atom}
 pub use Rattle.model.specs.Fluents.{is_literal_of, touches, any_touches, is_fluent, static_atoms}
-use Rattle.model.specs.Meaning.{State}
-use Rattle.model.specs.Runs.{System}
+use Rattle.model.specs.Meaning.{State, system_of}
 use Rattle.model.specs.NumberedAtoms.{numbered_atoms}
 use Rattle.model.specs.Claims.{Claim, bound, none, Mark, opened, cut, dead, Line, IsClosed}
 use Rattle.potential_functions.specs.PotentialFunctions.{PotentialFunction, value_of_state, is_dead_state}
@@ -16,7 +15,7 @@ use Rattle.table_functions.specs.TableFunctions.{Row, Table, SeveralValues, func
 use Rattle.table_functions.specs.FairTables as fair_tables
 use Rattle.symmetries.specs.Exchanges.{Exchange}
 use Rattle.symmetries.specs.Symmetries.{is_symmetry}
-use Rattle.symmetries.specs.Quotients.{keeps_atoms, quotient_of}
+use Rattle.symmetries.specs.Orbits.{AreAlike, keeps_atoms}
 
 -- The versions of a certificate's text. From version 2 on a state may be listed as a dead end. In version 3 a state may have
 -- several values, these may look at tables, and one state may stand for all that exchanges of objects take into one another.
@@ -162,10 +161,10 @@ lines_of task certificate =
 abbrev pub is_symmetry_for : Task → Certificate → Exchange → Bool
 is_symmetry_for task c exchange = is_symmetry task exchange && keeps_atoms (numbered_atoms task c.atoms) exchange
 
--- The system whose states are listed: the quotient of the task by the certificate's exchanges, where the certificate's atoms have
--- the first numbers. Without exchanges each state stands for itself.
-abbrev pub listed_system : Task → Certificate → System State Instance
-listed_system task c = quotient_of task (numbered_atoms task c.atoms) c.exchanges
+-- The states are alike by the certificate's exchanges: their representatives are the same, where the certificate's atoms have the first
+-- numbers. Without exchanges only equal states are.
+abbrev pub AreAlikeFor : Task → Certificate → State → State → Type 0
+AreAlikeFor task c = AreAlike (numbered_atoms task c.atoms) c.exchanges
 
 -- ---- what it says of states
 
@@ -205,7 +204,7 @@ abbrev pub AreFairFor : Task → Certificate → Type 0
 AreFairFor task c = AreFairIn c.version task c
 
 -- Its exchanges are symmetries of the task, its values, which have a weight for each of its atoms, are fair, that of dead ends is
--- dead-fair, and its listing is closed for the quotient by the exchanges, by what the values say of states.
+-- dead-fair, and its listing is closed up to the exchanges, by what the values say of the listed states.
 pub record IsClosedFor (task : Task) (certificate : Certificate) : Type 0 where
   pub as_many_values : IsTrue (is_value_count certificate.version (length certificate.values))
   pub one_weight_an_atom : All (λ (p : PotentialFunction). length p.weights ≡ length certificate.atoms) certificate.values
@@ -217,4 +216,4 @@ pub record IsClosedFor (task : Task) (certificate : Certificate) : Type 0 where
   pub atoms_are_distinct : AllPairs (λ (a b : Atom). a ≢ b) certificate.atoms
   pub rows_are_distinct : All (λ (t : Table). AllPairs (λ (q r : Row). q.atoms ≢ r.atoms) t.rows) certificate.tables
   pub states_are_distinct : AllPairs (λ (k l : Line State). k.state ≢ l.state) (lines_of task certificate)
-  pub listing_is_closed : IsClosed (listed_system task certificate) (value_of task certificate) (is_dead_end_of task certificate) certificate.claim (lines_of task certificate)
+  pub listing_is_closed : IsClosed (system_of task) (AreAlikeFor task certificate) (value_of task certificate) (is_dead_end_of task certificate) certificate.claim (lines_of task certificate)

@@ -2,6 +2,7 @@
 pub mod Certificates
 pub mod CertificateRefusals
 pub mod CertificateExamples
+pub mod ExchangeExamples
 pub mod CertificateText
 pub mod CertificateMachine
 pub mod CertificateLines

@@ -1,4 +1,4 @@
-//! Certificates in which one state stands for all that exchanges of objects take into one another.
+//! Certificates with exchanges, made in memory and written.
 use certificate::{Bounds, Cert, Claim, Header, Mark, Potential, StateLine, Version, write_cert};
 use devices::Memory;
 use faults::NoMemory;

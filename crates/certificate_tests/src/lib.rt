@@ -4,6 +4,8 @@
 #[cfg(test)]
 mod certificates;
 #[cfg(test)]
+mod certificates_of_classes;
+#[cfg(test)]
 mod certificates_with_exchanges;
 #[cfg(test)]
 mod certificates_with_tables;

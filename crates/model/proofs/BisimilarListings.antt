@@ -1,10 +1,10 @@
 -- A closed listing of one of two systems that do the same, each state in place of which has one of the other, is a closed
--- listing of the other.
+-- listing of the other; and a bisimulation equivalence of the other is one of the first.
 use Rattle.std.proofs.Common.{◌≡◌, ◌∙◌, ℕ, ◌+◌, ◌≤◌, List, map, Bool, refl, sym, ap, subst, arith}
 use Rattle.std.specs.Prelude.{true, IsTrue}
 use Rattle.model.specs.Runs.{System, IsReachable}
 use Rattle.model.specs.Claims.{Claim, Allows, opened, Line, IsListedWithin, IsClosed, IsLowerBound, AreDeadEnds}
-use Rattle.model.specs.Bisimulation.{IsBisimulation}
+use Rattle.model.specs.Bisimulation.{IsBisimulation, IsBisimulationEquivalence}
 use Rattle.model.proofs.ListLemmas.{Contains-map, map-Contains}
 use Rattle.model.proofs.BisimulationLemmas.{reachable_forth, run_forth, same_cost}
 
@@ -13,41 +13,61 @@ module _ {S A T B : Type 0} (t : System S A) (u : System T B) (view : S → T) (
   abbrev pub line_of : Line S → Line T
   line_of line = record { state = view line.state; cost = line.cost; mark = line.mark }
 
-  listed : (lines : List (Line S)) (s : S) (s' : T) (cost : ℕ) → view s ≡ s' → IsListedWithin lines s cost → IsListedWithin (map line_of lines) s' cost
-  listed lines s s' cost now (line, among, is, within) = (line_of line, Contains-map line_of lines line among, ap view is ∙ now, within)
-
-  -- where the values of the other are no lower, and what is reported as a dead end is reported so there too
-  pub closed_forth : (value : S → ℕ) (value' : T → ℕ) → ((s : S) → value s ≤ value' (view s))
-      → (is_dead : S → Bool) (is_dead' : T → Bool) → ((s : S) → IsTrue (is_dead s) → IsTrue (is_dead' (view s)))
-      → (claim : Claim) (lines : List (Line S)) → IsClosed t value is_dead claim lines → IsClosed u value' is_dead' claim (map line_of lines)
-  closed_forth value value' values is_dead is_dead' deaths claim lines closed = record {
-    initial_listed = listed lines t.initial u.initial 0 both.initial closed.initial_listed;
-    successors_listed = λ line' b next' among is_open leads.
-        let from = map-Contains line_of lines line' among in
-        let line = from.0 in
-        let was_open : line.mark ≡ opened = ap (λ (l : Line T). l.mark) from.2 ∙ is_open in
-        let other = both.back line.state line'.state b next' (ap (λ (l : Line T). l.state) from.2) leads in
-        let there = closed.successors_listed line other.0 other.1 from.1 was_open other.3 in
-        let same : line.cost + t.cost other.0 ≡ line'.cost + u.cost b = omega (arith, ap (λ (l : Line T). l.cost) from.2, both.costs other.0 b other.2) in
-        listed lines other.1 next' (line'.cost + u.cost b) other.4 (subst (λ cost. IsListedWithin lines other.1 cost) same there);
-    open_goals_allowed = λ line' among is_open goal.
-        let from = map-Contains line_of lines line' among in
-        let line = from.0 in
-        let was_open : line.mark ≡ opened = ap (λ (l : Line T). l.mark) from.2 ∙ is_open in
-        let met : t.meets_goal line.state ≡ true = both.goals line.state line'.state (ap (λ (l : Line T). l.state) from.2) ∙ goal in
-        subst (Allows claim) (ap (λ (l : Line T). l.cost) from.2) (closed.open_goals_allowed line from.1 was_open met);
-    cuts_allowed = λ line' rest among is_cut.
-        let from = map-Contains line_of lines line' among in
-        let line = from.0 in
-        let allowed = closed.cuts_allowed line rest from.1 (ap (λ (l : Line T). l.mark) from.2 ∙ is_cut) in
-        let same : value' (view line.state) ≡ value' line'.state = ap (λ (l : Line T). value' l.state) from.2 in
-        (omega (arith, allowed.0, values line.state, same), subst (λ cost. Allows claim (cost + rest)) (ap (λ (l : Line T). l.cost) from.2) allowed.1);
-    dead_are_dead = λ line' among marked.
-        let from = map-Contains line_of lines line' among in
-        let line = from.0 in
-        let there = closed.dead_are_dead line from.1 (ap (λ (l : Line T). l.mark) from.2 ∙ marked) in
-        subst (λ (s' : T). IsTrue (is_dead' s')) (ap (λ (l : Line T). l.state) from.2) (deaths line.state there);
+  -- states whose views are related are related
+  pub equivalence_back : (same : T → T → Type 0) → IsBisimulationEquivalence u same → IsBisimulationEquivalence t (λ s r. same (view s) (view r))
+  equivalence_back same equivalence = record {
+    itself = λ s. equivalence.itself (view s);
+    turned = λ s r now. equivalence.turned (view s) (view r) now;
+    joined = λ s r q now then_now. equivalence.joined (view s) (view r) (view q) now then_now;
+    steps = λ s r next a now leads.
+        let there = both.forth s (view s) a next refl leads in
+        let led = equivalence.steps (view s) (view r) there.1 there.0 now there.3 in
+        let here = both.back r (view r) led.0 led.1 refl led.2 in (
+          here.0,
+          here.1,
+          here.3,
+          both.costs here.0 led.0 here.2 ∙ led.3 ∙ sym (both.costs a there.0 there.2),
+          subst (λ x. same x (view here.1)) (sym there.4) (subst (same there.1) (sym here.4) led.4),
+        );
+    goals = λ s r now. both.goals s (view s) refl ∙ equivalence.goals (view s) (view r) now ∙ sym (both.goals r (view r) refl);
   }
+
+  module _ (alike : S → S → Type 0) (alike' : T → T → Type 0) (seen : (s r : S) → alike s r → alike' (view s) (view r)) where
+    listed : (lines : List (Line S)) (s : S) (s' : T) (cost : ℕ) → view s ≡ s' → IsListedWithin alike lines s cost → IsListedWithin alike' (map line_of lines) s' cost
+    listed lines s s' cost now (line, among, is, within) = (line_of line, Contains-map line_of lines line among, subst (alike' (view line.state)) now (seen line.state s is), within)
+
+    -- where the values of the other are no lower, and what is reported as a dead end is reported so there too
+    pub closed_forth : (value : S → ℕ) (value' : T → ℕ) → ((s : S) → value s ≤ value' (view s))
+        → (is_dead : S → Bool) (is_dead' : T → Bool) → ((s : S) → IsTrue (is_dead s) → IsTrue (is_dead' (view s)))
+        → (claim : Claim) (lines : List (Line S)) → IsClosed t alike value is_dead claim lines → IsClosed u alike' value' is_dead' claim (map line_of lines)
+    closed_forth value value' values is_dead is_dead' deaths claim lines closed = record {
+      initial_listed = listed lines t.initial u.initial 0 both.initial closed.initial_listed;
+      successors_listed = λ line' b next' among is_open leads.
+          let from = map-Contains line_of lines line' among in
+          let line = from.0 in
+          let was_open : line.mark ≡ opened = ap (λ (l : Line T). l.mark) from.2 ∙ is_open in
+          let other = both.back line.state line'.state b next' (ap (λ (l : Line T). l.state) from.2) leads in
+          let there = closed.successors_listed line other.0 other.1 from.1 was_open other.3 in
+          let same : line.cost + t.cost other.0 ≡ line'.cost + u.cost b = omega (arith, ap (λ (l : Line T). l.cost) from.2, both.costs other.0 b other.2) in
+          listed lines other.1 next' (line'.cost + u.cost b) other.4 (subst (λ cost. IsListedWithin alike lines other.1 cost) same there);
+      open_goals_allowed = λ line' among is_open goal.
+          let from = map-Contains line_of lines line' among in
+          let line = from.0 in
+          let was_open : line.mark ≡ opened = ap (λ (l : Line T). l.mark) from.2 ∙ is_open in
+          let met : t.meets_goal line.state ≡ true = both.goals line.state line'.state (ap (λ (l : Line T). l.state) from.2) ∙ goal in
+          subst (Allows claim) (ap (λ (l : Line T). l.cost) from.2) (closed.open_goals_allowed line from.1 was_open met);
+      cuts_allowed = λ line' rest among is_cut.
+          let from = map-Contains line_of lines line' among in
+          let line = from.0 in
+          let allowed = closed.cuts_allowed line rest from.1 (ap (λ (l : Line T). l.mark) from.2 ∙ is_cut) in
+          let same : value' (view line.state) ≡ value' line'.state = ap (λ (l : Line T). value' l.state) from.2 in
+          (omega (arith, allowed.0, values line.state, same), subst (λ cost. Allows claim (cost + rest)) (ap (λ (l : Line T). l.cost) from.2) allowed.1);
+      dead_are_dead = λ line' among marked.
+          let from = map-Contains line_of lines line' among in
+          let line = from.0 in
+          let there = closed.dead_are_dead line from.1 (ap (λ (l : Line T). l.mark) from.2 ∙ marked) in
+          subst (λ (s' : T). IsTrue (is_dead' s')) (ap (λ (l : Line T). l.state) from.2) (deaths line.state there);
+    }
 
   -- values that are no more than what is still to pay in the other system are so in the one
   pub lower_bound_back : (value : S → ℕ) (value' : T → ℕ) → ((s : S) → value s ≤ value' (view s)) → IsLowerBound u value' → IsLowerBound t value

@@ -1,12 +1,15 @@
 -- A closed listing's claim is true.
-use Rattle.std.proofs.Common.{◌≡◌, ◌∙◌, ℕ, ◌+◌, ◌≤◌, List, [], ◌∷◌, ◌++◌, None, Some, refl, sym, ap, subst, arith}
-use Rattle.std.specs.Prelude.{Bool, IsTrue, Contains}
+use Rattle.std.proofs.Common.{◌≡◌, ◌∙◌, ℕ, zero, suc, ◌+◌, ◌≤◌, List, [], ◌∷◌, ◌++◌, None, Some, refl, sym, ap, subst, arith}
+use Rattle.std.specs.Prelude.{Bool, IsTrue, length, Contains}
+use Rattle.std.specs.List.{AllZip}
 use Rattle.std.specs.Option.{option_and_then}
 use Rattle.std.proofs.lemmas.Bool.{false≢true}
 use Rattle.std.proofs.lemmas.List.Sums.{sum_by-cons}
 use Rattle.std.proofs.lemmas.Option.{same_Some}
 use Rattle.model.specs.Runs.{System, run, cost_of_all, IsReachable}
-use Rattle.model.specs.Claims.{Claim, bound, none, Allows, ClaimHolds, opened, cut, dead, Line, IsClosed, IsLowerBound, AreDeadEnds}
+use Rattle.model.specs.Bisimulation.{IsBisimulation, IsBisimulationEquivalence, ReachesGoalsOf, ReachGoalsAlike}
+use Rattle.model.specs.Claims.{Claim, bound, none, Allows, ClaimHolds, opened, cut, dead, Line, AreBoundsOf, AreDeadEndsOf, IsClosed, ClosedListingsClaim}
+use Rattle.model.proofs.BisimulationLemmas.{run_forth, same_cost}
 
 Allows-≤ : (claim : Claim) (m n : ℕ) → Allows claim m → m ≤ n → Allows claim n
 Allows-≤ (bound least) m n allowed le = omega arith
@@ -26,20 +29,66 @@ run_on t (b ∷ plan) s before next a runs leads =
 pub reachable_next : {S A : Type 0} (t : System S A) (s next : S) (a : A) → IsReachable t s → t.step s a ≡ Some next → IsReachable t next
 reachable_next t s next a (actions, runs) leads = (actions ++ a ∷ [], run_on t actions t.initial s next a runs leads)
 
+-- ---- related states
+
+same_length : {A B : Type 0} (names : A → B → Type 0) (xs : List A) (ys : List B) → AllZip names xs ys → length xs ≡ length ys
+same_length names [] [] named = refl
+same_length names [] (y ∷ ys) named = absurd (named)
+same_length names (x ∷ xs) [] named = absurd (named)
+same_length names (x ∷ xs) (y ∷ ys) named = ap suc (same_length names xs ys named.1)
+
+module _ {S A : Type 0} (t : System S A) (same : S → S → Type 0) (equivalence : IsBisimulationEquivalence t same) where
+  abbrev CostSame : A → A → Type 0
+  CostSame a b = t.cost a ≡ t.cost b
+
+  with_itself : IsBisimulation t t same CostSame
+  with_itself = record {
+    initial = equivalence.itself t.initial;
+    forth = λ s r a next now leads.
+        let led = equivalence.steps s r next a now leads in
+        (led.0, led.1, sym led.3, led.2, led.4);
+    back = λ s r b next now leads.
+        let led = equivalence.steps r s next b (equivalence.turned s r now) leads in
+        (led.0, led.1, led.3, led.2, equivalence.turned next led.1 led.4);
+    goals = equivalence.goals;
+    costs = λ a b is. is;
+  }
+
+  reaches_goals : (s r : S) → same s r → ReachesGoalsOf t s r
+  reaches_goals s r now plan end runs goal =
+      let other = run_forth t t same CostSame with_itself plan s r end now runs in (
+        other.0,
+        other.1,
+        other.3,
+        sym (equivalence.goals end other.1 other.4) ∙ goal,
+        sym (same_length CostSame plan other.0 other.2),
+        sym (same_cost t t same CostSame with_itself plan other.0 other.2),
+      )
+
+  pub related_reach_alike : (s r : S) → same s r → ReachGoalsAlike t s r
+  related_reach_alike s r now = record { forth = reaches_goals s r now; back = reaches_goals r s (equivalence.turned s r now) }
+
+pub equal_reach_alike : {S A : Type 0} (t : System S A) (s r : S) → s ≡ r → ReachGoalsAlike t s r
+equal_reach_alike {S} t s r is = record { forth = from s r is; back = from r s (sym is) }
+  where
+    from : (s r : S) → s ≡ r → ReachesGoalsOf t s r
+    from s r is plan end runs goal = (plan, end, ap (λ x. run t x plan) (sym is) ∙ runs, goal, refl, refl)
+
 -- ---- from a line on
 
-module _ {S A : Type 0} (t : System S A) (value : S → ℕ) (is_dead : S → Bool) (claim : Claim) (lines : List (Line S))
-    (lower : IsLowerBound t value) (dead_ends : AreDeadEnds t is_dead) (closed : IsClosed t value is_dead claim lines) where
-  at_cut : (plan : List A) (line : Line S) (end : S) (rest : ℕ) → Contains lines line → line.mark ≡ cut rest → IsReachable t line.state → run t line.state plan ≡ Some end
+module _ {S A : Type 0} (t : System S A) (alike : S → S → Type 0) (within : (s r : S) → alike s r → ReachGoalsAlike t s r)
+    (value : S → ℕ) (is_dead : S → Bool) (claim : Claim) (lines : List (Line S))
+    (lower : AreBoundsOf t value lines) (dead_ends : AreDeadEndsOf t is_dead lines) (closed : IsClosed t alike value is_dead claim lines) where
+  at_cut : (plan : List A) (line : Line S) (end : S) (rest : ℕ) → Contains lines line → line.mark ≡ cut rest → run t line.state plan ≡ Some end
       → IsTrue (t.meets_goal end) → Allows claim (line.cost + cost_of_all t plan)
-  at_cut plan line end rest listed is_cut reached runs goal =
+  at_cut plan line end rest listed is_cut runs goal =
       let allowed = closed.cuts_allowed line rest listed is_cut in
-      Allows-≤ claim (line.cost + rest) (line.cost + cost_of_all t plan) allowed.1 (omega (arith, allowed.0, lower line.state end plan reached runs goal))
+      Allows-≤ claim (line.cost + rest) (line.cost + cost_of_all t plan) allowed.1 (omega (arith, allowed.0, lower line end plan listed runs goal))
 
-  at_dead : (plan : List A) (line : Line S) (end : S) → Contains lines line → line.mark ≡ dead → IsReachable t line.state → run t line.state plan ≡ Some end
+  at_dead : (plan : List A) (line : Line S) (end : S) → Contains lines line → line.mark ≡ dead → run t line.state plan ≡ Some end
       → IsTrue (t.meets_goal end) → Allows claim (line.cost + cost_of_all t plan)
-  at_dead plan line end listed is_dead reached runs goal =
-      absurd (false≢true (sym (dead_ends line.state end plan reached (closed.dead_are_dead line listed is_dead) runs) ∙ goal))
+  at_dead plan line end listed marked runs goal =
+      absurd (false≢true (sym (dead_ends line end plan listed (closed.dead_are_dead line listed marked) runs) ∙ goal))
 
   at_open_goal : (line : Line S) (end : S) → Contains lines line → line.mark ≡ opened → run t line.state [] ≡ Some end → IsTrue (t.meets_goal end)
       → Allows claim (line.cost + cost_of_all t [])
@@ -48,33 +97,39 @@ module _ {S A : Type 0} (t : System S A) (value : S → ℕ) (is_dead : S → Bo
       Allows-≤ claim line.cost (line.cost + cost_of_all t []) (closed.open_goals_allowed line listed is_open (subst (λ (s : S). IsTrue (t.meets_goal s)) same goal)) (omega arith)
 
   -- a list that runs from a listed state to a goal state costs what the claim allows, from that line's cost on
-  from_line : (plan : List A) (line : Line S) (end : S) → Contains lines line → IsReachable t line.state → run t line.state plan ≡ Some end → IsTrue (t.meets_goal end)
+  from_line : (n : ℕ) (plan : List A) (line : Line S) (end : S) → length plan ≡ n → Contains lines line → run t line.state plan ≡ Some end → IsTrue (t.meets_goal end)
       → Allows claim (line.cost + cost_of_all t plan)
-  from_line [] line end listed reached runs goal =
+  from_line n [] line end long listed runs goal =
       elim line.mark as (λ m. line.mark ≡ m → Allows claim (line.cost + cost_of_all t [])) [
         | opened ↦ λ is_open. at_open_goal line end listed is_open runs goal
-        | cut rest ↦ λ is_cut. at_cut [] line end rest listed is_cut reached runs goal
-        | dead ↦ λ is_dead. at_dead [] line end listed is_dead reached runs goal
+        | cut rest ↦ λ is_cut. at_cut [] line end rest listed is_cut runs goal
+        | dead ↦ λ marked. at_dead [] line end listed marked runs goal
       ] refl
-  from_line (a ∷ plan) line end listed reached runs goal =
+  from_line zero (a ∷ plan) line end long listed runs goal = absurd (cc)
+  from_line (suc n) (a ∷ plan) line end long listed runs goal =
       elim line.mark as (λ m. line.mark ≡ m → Allows claim (line.cost + cost_of_all t (a ∷ plan))) [
         | opened ↦ λ is_open.
             elim (t.step line.state a) as (λ o. t.step line.state a ≡ o → option_and_then (λ next. run t next plan) o ≡ Some end → Allows claim (line.cost + cost_of_all t (a ∷ plan))) [
               | None ↦ λ _ none_runs. absurd (cc)
               | Some next ↦ λ leads runs_on.
                   let there = closed.successors_listed line a next listed is_open leads in
-                  Allows-≤ claim (there.0.cost + cost_of_all t plan) (line.cost + cost_of_all t (a ∷ plan))
-                  (from_line plan there.0 end there.1 (subst (IsReachable t) (sym there.2) (reachable_next t line.state next a reached leads)) (subst (λ (s : S). run t s plan ≡ Some end) (sym there.2) runs_on) goal)
-                  (omega (arith, there.3, sum_by-cons t.cost a plan))
+                  let other = (within there.0.state next there.2).back plan end runs_on goal in
+                  Allows-≤ claim (there.0.cost + cost_of_all t other.0) (line.cost + cost_of_all t (a ∷ plan))
+                  (from_line n other.0 there.0 other.1 (omega (arith, other.4, long)) there.1 other.2 other.3)
+                  (omega (arith, there.3, other.5, sum_by-cons t.cost a plan))
             ] refl runs
-        | cut rest ↦ λ is_cut. at_cut (a ∷ plan) line end rest listed is_cut reached runs goal
-        | dead ↦ λ is_dead. at_dead (a ∷ plan) line end listed is_dead reached runs goal
+        | cut rest ↦ λ is_cut. at_cut (a ∷ plan) line end rest listed is_cut runs goal
+        | dead ↦ λ marked. at_dead (a ∷ plan) line end listed marked runs goal
       ] refl
 
-pub claim-of_closed : {S A : Type 0} (t : System S A) (value : S → ℕ) (is_dead : S → Bool) (claim : Claim) (lines : List (Line S))
-    → IsLowerBound t value → AreDeadEnds t is_dead → IsClosed t value is_dead claim lines → ClaimHolds t claim
-claim-of_closed t value is_dead claim lines lower dead_ends closed plan solves =
-    let there = closed.initial_listed in
-    Allows-≤ claim (there.0.cost + cost_of_all t plan) (cost_of_all t plan)
-    (from_line t value is_dead claim lines lower dead_ends closed plan there.0 solves.0 there.1 (subst (IsReachable t) (sym there.2) ([], refl)) (subst (λ s. run t s plan ≡ Some solves.0) (sym there.2) solves.1) solves.2)
-    (omega (arith, there.3))
+  pub claim-of_closed : ClaimHolds t claim
+  claim-of_closed plan solves =
+      let there = closed.initial_listed in
+      let other = (within there.0.state t.initial there.2).back plan solves.0 solves.1 solves.2 in
+      Allows-≤ claim (there.0.cost + cost_of_all t other.0) (cost_of_all t plan)
+      (from_line (length other.0) other.0 there.0 other.1 refl there.1 other.2 other.3)
+      (omega (arith, there.3, other.5))
+
+pub closed_listings_claim : {S A : Type 0} (t : System S A) (alike : S → S → Type 0) → ClosedListingsClaim t alike
+closed_listings_claim t alike within value is_dead claim lines lower dead_ends closed =
+    claim-of_closed t alike within value is_dead claim lines lower dead_ends closed

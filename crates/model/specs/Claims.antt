@@ -2,6 +2,7 @@
 -- Over any transition system, as `Runs`.
 use Rattle.std.specs.Prelude.{◌≡◌, ℕ, ◌+◌, ◌≤◌, Bool, false, IsTrue, List, Contains, Some}
 use Rattle.model.specs.Runs.{System, run, cost_of_all, IsReachable, Solves}
+use Rattle.model.specs.Bisimulation.{ReachGoalsAlike}
 
 -- what a certificate claims
 pub data Claim : Type 0 where
@@ -34,9 +35,9 @@ pub record Line (S : Type 0) : Type 0 where
   pub cost : ℕ
   pub mark : Mark
 
--- the state is listed at no more than this cost
-abbrev pub IsListedWithin : {S : Type 0} → List (Line S) → S → ℕ → Type 0
-IsListedWithin {S} lines s cost = (line : Line S) × Contains lines line × (line.state ≡ s) × (line.cost ≤ cost)
+-- a state that is alike is listed at no more than this cost
+abbrev pub IsListedWithin : {S : Type 0} → (S → S → Type 0) → List (Line S) → S → ℕ → Type 0
+IsListedWithin {S} alike lines s cost = (line : Line S) × Contains lines line × alike line.state s × (line.cost ≤ cost)
 
 -- what is still to pay from a reachable state on is at least its value
 abbrev pub IsLowerBound : {S A : Type 0} → System S A → (S → ℕ) → Type 0
@@ -48,11 +49,31 @@ abbrev pub AreDeadEnds : {S A : Type 0} → System S A → (S → Bool) → Type
 AreDeadEnds {S} {A} t is_dead =
     (s end : S) (plan : List A) → IsReachable t s → IsTrue (is_dead s) → run t s plan ≡ Some end → t.meets_goal end ≡ false
 
--- No list of actions leaves the listing at less than what the claim allows.
-pub record IsClosed {S A : Type 0} (t : System S A) (value : S → ℕ) (is_dead : S → Bool) (claim : Claim) (lines : List (Line S)) : Type 0 where
-  pub initial_listed : IsListedWithin lines t.initial 0
+-- what is still to pay from a listed state on, which need not be reachable, is at least its value
+abbrev pub AreBoundsOf : {S A : Type 0} → System S A → (S → ℕ) → List (Line S) → Type 0
+AreBoundsOf {S} {A} t value lines =
+    (line : Line S) (end : S) (plan : List A) → Contains lines line → run t line.state plan ≡ Some end → IsTrue (t.meets_goal end) → value line.state ≤ cost_of_all t plan
+
+-- a listed state of which this is true is a dead end
+abbrev pub AreDeadEndsOf : {S A : Type 0} → System S A → (S → Bool) → List (Line S) → Type 0
+AreDeadEndsOf {S} {A} t is_dead lines =
+    (line : Line S) (end : S) (plan : List A) → Contains lines line → IsTrue (is_dead line.state) → run t line.state plan ≡ Some end → t.meets_goal end ≡ false
+
+-- No list of actions leaves the listing at less than what the claim allows: of the initial state and of each successor of an open
+-- state some state that is alike is listed, at no more than what it costs to come there. Goals, values and dead ends are those of
+-- the listed state itself. Where states are alike only if they are equal, this speaks of the states themselves. (The closed list
+-- of a search in an orbit space: Domshlak, Katz & Shleyfman 2015.)
+pub record IsClosed {S A : Type 0} (t : System S A) (alike : S → S → Type 0) (value : S → ℕ) (is_dead : S → Bool) (claim : Claim) (lines : List (Line S)) : Type 0 where
+  pub initial_listed : IsListedWithin alike lines t.initial 0
   pub successors_listed : (line : Line S) (a : A) (next : S) → Contains lines line → line.mark ≡ opened → t.step line.state a ≡ Some next
-      → IsListedWithin lines next (line.cost + t.cost a)
+      → IsListedWithin alike lines next (line.cost + t.cost a)
   pub open_goals_allowed : (line : Line S) → Contains lines line → line.mark ≡ opened → IsTrue (t.meets_goal line.state) → Allows claim line.cost
   pub cuts_allowed : (line : Line S) (rest : ℕ) → Contains lines line → line.mark ≡ cut rest → (rest ≤ value line.state) × Allows claim (line.cost + rest)
   pub dead_are_dead : (line : Line S) → Contains lines line → line.mark ≡ dead → IsTrue (is_dead line.state)
+
+-- What a closed listing shows, where the goal is reached alike from states that are alike: what it claims is true.
+abbrev pub ClosedListingsClaim : {S A : Type 0} → System S A → (S → S → Type 0) → Type 0
+ClosedListingsClaim {S} {A} t alike =
+    ((s r : S) → alike s r → ReachGoalsAlike t s r)
+    → (value : S → ℕ) (is_dead : S → Bool) (claim : Claim) (lines : List (Line S))
+    → AreBoundsOf t value lines → AreDeadEndsOf t is_dead lines → IsClosed t alike value is_dead claim lines → ClaimHolds t claim

@@ -74,7 +74,7 @@ impl Packed {
     }
 
     /// Makes it the set that these words hold.
-    pub(crate) fn copy_words(&mut self, words: &[u64])
+    pub fn copy_words(&mut self, words: &[u64])
         requires { AreWordsOf (length (bits_of self.old)) words.now }
         ensures { bits_of self.new ≡ bits_in (length (bits_of self.old)) words.now }
     {

@@ -1,12 +1,15 @@
-//! Which exchanges of objects are symmetries of a task, and by which states they represent others.
+//! Which exchanges of objects are symmetries of a task, by which states they represent others, and where states that they take into one
+//! another are listed.
 ghost use Rattle.std.specs.Prelude.{◌≡◌, length, IfOk};
 ghost use Rattle.packed_state.specs.Packed.{bits_of};
 ghost use Rattle.grounding.specs.Ground.{atoms_in};
 
 use faults::NoMemory;
+use ground_listings::OrbitStore;
 use grounding::Ground;
 use packed_state::Packed;
 use representatives::Representatives;
+use search::{Place, StateListing};
 use std::alloc::Global;
 use std::process::Abort;
 use std::test::Fail;
@@ -129,7 +132,10 @@ fn represents(
     exchanges: &[Exchange],
 ) -> Result<(), Fail> {
     match Representatives::new(alloc, ground, exchanges)? {
-        Some(representatives) => are_represented(rt, alloc, &representatives),
+        Some(representatives) => {
+            are_represented(rt, alloc, &representatives)?;
+            are_listed(rt, alloc, &representatives)
+        }
         None => Err("an image has no number".into()),
     }
 }
@@ -141,6 +147,65 @@ fn balls_are_represented(rt: HostRuntime) -> Result<(), Fail> {
         let exchanges = of_neighbours(alloc, task)?;
         represents(rt, alloc, &ground, &exchanges)
     })
+}
+
+/// Where the state is to be listed. If another one of its class is current, it takes that one's place.
+fn put<L: StateListing>(listing: &mut L, state: &Packed) -> Result<Option<Place>, NoMemory> {
+    if state.width() != listing.width() || listing.len() > 100 {
+        return Ok(None);
+    }
+    let place = listing.place(state, 100)?;
+    if let Some(Place::Alike(current)) = place {
+        listing.replace(current, state);
+    }
+    Ok(place)
+}
+
+/// Where the state is to be listed. If another one of its class is current, it is listed beside that one.
+fn add<L: StateListing>(listing: &mut L, state: &Packed) -> Result<Option<Place>, NoMemory> {
+    if state.width() != listing.width() || listing.len() > 100 {
+        return Ok(None);
+    }
+    let place = listing.place(state, 100)?;
+    if let Some(Place::Alike(current)) = place {
+        listing.append(state, current)?;
+    }
+    Ok(place)
+}
+
+/// Where one state and another of its class are listed: the other one takes its place, then it is listed beside that one, and then both
+/// are there.
+fn places_of(
+    listing: &mut OrbitStore<'_, '_>,
+    one: &Packed,
+    other: &Packed,
+) -> Result<[Option<Place>; 5], NoMemory> {
+    Ok([
+        put(listing, one)?,
+        put(listing, other)?,
+        add(listing, one)?,
+        add(listing, other)?,
+        add(listing, one)?,
+    ])
+}
+
+fn are_listed(
+    rt: &impl Abort,
+    alloc: Global,
+    representatives: &Representatives<'_, '_, '_>,
+) -> Result<(), Fail> {
+    let one = balls_in(alloc, representatives.ground(), &[0, 0, 0, 1])?;
+    let other = balls_in(alloc, representatives.ground(), &[1, 0, 0, 0])?;
+    let mut listing = OrbitStore::new(alloc, representatives)?;
+    let wanted = [
+        Some(Place::New(0)),
+        Some(Place::Alike(0)),
+        Some(Place::Alike(0)),
+        Some(Place::Listed(0)),
+        Some(Place::Listed(1)),
+    ];
+    assert_eq!(rt; places_of(&mut listing, &one, &other)?, wanted);
+    Ok(())
 }
 
 /// Whether all images by the exchange of these objects have numbers.

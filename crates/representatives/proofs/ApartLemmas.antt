@@ -71,7 +71,7 @@ passed_on swaps firsts bits number apart none n below =
 -- ---- the code's pairs
 
 -- those at a place
-pub swap_at : (swaps : List (Vec Pair)) (n : ℕ) (pairs : Vec Pair) → n < length swaps → pairs ≡ get_or swaps n pairs → slice_get (swaps_in swaps) n ≡ Some (swap_in pairs)
+swap_at : (swaps : List (Vec Pair)) (n : ℕ) (pairs : Vec Pair) → n < length swaps → pairs ≡ get_or swaps n pairs → slice_get (swaps_in swaps) n ≡ Some (swap_in pairs)
 swap_at swaps n pairs inside at =
     slice_get-map swap_in swaps n ∙ ap (option_map swap_in) (slice_get-get_or swaps n pairs inside ∙ ap Some (sym at))
 

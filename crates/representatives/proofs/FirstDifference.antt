@@ -8,7 +8,7 @@ use Rattle.std.specs.FinSet.{contains}
 use Rattle.std.proofs.lemmas.Bool.{cases_order, lt-ltb, le-ltb}
 use Rattle.model.specs.Task.{Atom}
 use Rattle.model.specs.Meaning.{State}
-use Rattle.symmetries.specs.Quotients.{comes_before}
+use Rattle.symmetries.specs.Orbits.{comes_before}
 use Rattle.representatives.specs.Places.{decide, is_earlier}
 use Rattle.representatives.proofs.SwappedBits.{pair_at}
 

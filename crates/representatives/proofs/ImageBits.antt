@@ -14,7 +14,7 @@ use Rattle.model.specs.Grounding.{bits_of_state}
 use Rattle.model.proofs.ListLemmas.{Contains-got, Contains-place}
 use Rattle.model.proofs.NumberingLemmas.{occurs_in-Contains, number_of-got}
 use Rattle.symmetries.specs.Exchanges.{image_of_atom, image_of_state}
-use Rattle.symmetries.specs.Quotients.{comes_before}
+use Rattle.symmetries.specs.Orbits.{comes_before}
 use Rattle.symmetries.proofs.Lists.{all-at}
 use Rattle.symmetries.proofs.Images.{atom_twice, contains-back}
 use Rattle.task_symmetries.specs.Numbers.{image_number, exchanged_numbers}

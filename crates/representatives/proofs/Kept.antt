@@ -1,41 +1,38 @@
 -- What is known of the code's representatives.
-use Rattle.std.proofs.Common.{◌≡◌, ◌∙◌, ℕ, ◌^◌, ◌<◌, ◌≤◌, ◌⊎◌, inl, inr, Bool, true, false, List, [], ◌∷◌, map, length, take, get_or, Option, None, Some, refl, sym, ap, subst, arith}
-use Rattle.std.specs.Prelude.{slice_get, slice_index, nat_lt, IsTrue}
+use Rattle.std.proofs.Common.{◌≡◌, ◌∙◌, ℕ, zero, suc, ◌+◌, ◌*◌, ◌^◌, ◌<◌, ◌≤◌, ◌⊎◌, inl, inr, Bool, true, false, List, [], ◌∷◌, map, length, take, get_or, Option, None, Some, refl, sym, ap, subst, arith}
+use Rattle.std.specs.Prelude.{slice_get, slice_index, nat_lt}
 use Rattle.std.specs.Global.{Vec}
 use Rattle.std.specs.List.{list_all}
 use Rattle.std.specs.Option.{option_map, option_map_or}
 use Rattle.std.proofs.lemmas.Bool.{true≢false, cases_lt, and_from, and_parts, ltb-true, lt-ltb}
+use Rattle.std.proofs.lemmas.Nat.{mul-le}
 use Rattle.std.proofs.lemmas.List.{get_or_read, length-map, take_all}
-use Rattle.std.proofs.lemmas.Option.{slice_get_read, slice_get_within, slice_get-map}
+use Rattle.std.proofs.lemmas.Option.{slice_get_within, slice_get-map, slice_get-get_or}
 use Rattle.grounding.specs.declared.ground.Ground.{Ground}
 use Rattle.grounding.specs.Ground.{atoms_in}
 use Rattle.model.specs.Task.{Atom}
 use Rattle.model.specs.Meaning.{State}
 use Rattle.model.specs.Fluents.{is_fluent}
-use Rattle.model.specs.Grounding.{state_of_bits, bits_of_state}
-use Rattle.model.proofs.ListLemmas.{Contains-got}
+use Rattle.model.specs.Grounding.{state_of_bits}
 use Rattle.model.proofs.Tests.{passes_weaker}
 use Rattle.model.proofs.PackedStates.{bits_of-packed_state}
-use Rattle.symmetries.specs.Exchanges.{Exchange, image_of_object, image_of_state, objects_in, are_different}
-use Rattle.symmetries.specs.Symmetries.{is_symmetry}
-use Rattle.symmetries.specs.Quotients.{keeps_atoms, packed_representative}
-use Rattle.symmetries.proofs.Lists.{all-at}
+use Rattle.symmetries.specs.Exchanges.{Exchange, image_of_object, objects_in, are_different}
+use Rattle.symmetries.specs.Orbits.{with_images, keeps_atoms, packed_representative}
 use Rattle.symmetries.proofs.ExchangeLemmas.{own_inverse}
 use Rattle.task_symmetries.specs.declared.exchange.Exchange as code
-use Rattle.task_symmetries.specs.Exchange.{exchange_of, image}
+use Rattle.task_symmetries.specs.Exchange.{exchange_of}
 use Rattle.packed_state.specs.Sets.{has}
 use Rattle.representatives.specs.declared.pairs.Pair.{Pair}
+use Rattle.representatives.specs.declared.run.Run.{Run}
 use Rattle.representatives.specs.declared.representatives.Representatives.{Representatives}
-use Rattle.representatives.specs.Places.{swap_of, swaps_of_all, are_within, is_within, is_earlier, with_swapped, is_earlier_at, swapped_at, FindsFrom}
+use Rattle.representatives.specs.Places.{swap_of, swaps_of_all, are_within, is_within, is_earlier, is_earlier_at, swapped_at, FindsFrom}
 use Rattle.representatives.specs.Apart.{AreAllWithin}
-use Rattle.representatives.specs.NewNames.{IsRenamed, IsRenamedBy}
-use Rattle.representatives.specs.Pairs.{pair_of, AreBelow, swap_in, swaps_in}
+use Rattle.representatives.specs.Pairs.{swaps_in}
+use Rattle.representatives.specs.Runs.{pairs_in_all, swap_in_runs, AreBelow}
 use Rattle.representatives.specs.Representatives.{task_of, atoms_of, exchanges_of, swaps_of}
-use Rattle.representatives.proofs.Ranks.{rank}
-use Rattle.representatives.proofs.ImageBits.{numbers_within, image_swapped}
-use Rattle.representatives.proofs.ApartLemmas.{swap_at, these_below, passed_on}
-use Rattle.representatives.proofs.NewNames.{renamed, renamed_by_none, renamed_by_one_more}
-use Rattle.representatives.proofs.Turns.{AreKept, all_within, Stands, ends, turns}
+use Rattle.representatives.proofs.ImageBits.{numbers_within}
+use Rattle.representatives.proofs.ApartLemmas.{passed_on}
+use Rattle.representatives.proofs.Turns.{AreKept, all_within, Stands, is_last, ends, turns}
 
 all_different : (exchanges : List code.Exchange) → list_all (λ (e : Exchange). are_different (objects_in e)) (map exchange_of exchanges) ≡ true
 all_different [] = refl
@@ -49,14 +46,14 @@ kept_of r = record { distinct = r.ground.now.numbering.distinct; different = all
 pub all_below : (r : Representatives) → AreAllWithin (length (atoms_of r)) (swaps_of r)
 all_below r = subst (AreAllWithin (length (atoms_of r))) (sym r.made) (all_within (atoms_of r) (exchanges_of r) (kept_of r))
 
--- what is known of the pairs at a place
-pub at_index : (r : Representatives) (n : ℕ) (pairs : Vec Pair) (items : List Pair) → n < length (swaps_of r) → pairs ≡ get_or r.swaps.items n pairs → items ≡ pairs.items
-    → (slice_get (swaps_of r) n ≡ Some (map pair_of items)) × AreBelow (length (atoms_of r)) items
-at_index r n pairs items inside at same =
-    let within : n < length r.swaps.items = omega (arith, inside, length-map r.swaps.items swap_in) in (
-      swap_at r.swaps.items n pairs within at ∙ ap (λ l. Some (map pair_of l)) (sym same),
-      these_below r.swaps.items n pairs items within at same (length (atoms_of r)) (all_below r),
-    )
+-- what is known of the runs at a place
+pub at_index : (r : Representatives) (n : ℕ) (runs : Vec Run) (items : List Run) → n < length (swaps_of r) → runs ≡ get_or r.swaps.items n runs → items ≡ runs.items
+    → (slice_get (swaps_of r) n ≡ Some (pairs_in_all items)) × AreBelow (length (atoms_of r)) items
+at_index r n runs items inside at same =
+    let within : n < length r.swaps.items = omega (arith, inside, length-map r.swaps.items swap_in_runs) in
+    let here : slice_get (swaps_of r) n ≡ Some (pairs_in_all items) =
+    slice_get-map swap_in_runs r.swaps.items n ∙ ap (option_map swap_in_runs) (slice_get-get_or r.swaps.items n runs within ∙ ap Some (sym at)) ∙ ap (λ l. Some (pairs_in_all l)) (sym same) in
+    (here, ap (λ o. are_within (length (atoms_of r)) (option_map_or (λ l. l) o [])) (sym here) ∙ all_below r n)
 
 -- ---- how they are made
 
@@ -100,42 +97,51 @@ module _ (r : Representatives) where
   abbrev start_of : List Bool → State
   start_of bits = state_of_bits (task_of r) (atoms_of r) bits
 
-  -- the bits are those of a state with the representative of the one at the start
-  abbrev pub HaveCome : List Bool → List Bool → Type 0
-  HaveCome start bits = Stands (atoms_of r) (exchanges_of r) (start_of start) bits
+  -- the bits are those of a state of which so many images are left to the representative of the one at the start
+  abbrev pub HaveCome : List Bool → ℕ → List Bool → Type 0
+  HaveCome start left bits = Stands (atoms_of r) (exchanges_of r) (start_of start) left bits
 
-  pub starts : (bits : List Bool) → length bits ≡ length (atoms_of r) → HaveCome bits bits
-  starts bits long = record {
-    state = start_of bits;
-    is = bits_of-packed_state (is_fluent (task_of r)) (task_of r).init (atoms_of r) r.ground.now.numbering.fluent r.ground.now.numbering.distinct bits long;
-    same = refl;
-  }
+  -- where an image is taken for each two of as many numbers as this
+  pub starts : (count : ℕ) → count ≡ length r.swaps.items + 1 → (bits : List Bool) → length bits ≡ length (atoms_of r) → HaveCome bits (count * count) bits
+  starts count is bits long =
+      let made = ap length r.made in
+      let each = length-map (exchanges_of r) (swap_of (atoms_of r)) in
+      let given = length-map r.swaps.items swap_in_runs in
+      let same : count ≡ length (exchanges_of r) + 1 = omega (arith, is, made, each, given) in
+      record {
+        state = start_of bits;
+        is = bits_of-packed_state (is_fluent (task_of r)) (task_of r).init (atoms_of r) r.ground.now.numbering.fluent r.ground.now.numbering.distinct bits long;
+        same = ap (λ n. with_images (atoms_of r) (exchanges_of r) (n * n) (start_of bits)) same;
+      }
+
+  -- no image is left
+  pub has_come : (start bits : List Bool) → HaveCome start 0 bits → bits ≡ packed_representative (task_of r) (atoms_of r) (exchanges_of r) start
+  has_come start bits come = is_last (atoms_of r) (exchanges_of r) (kept_of r) (start_of start) bits come
 
   -- no image comes before, where none does from a number on and none did before it
-  pub has_ended : (start bits : List Bool) → HaveCome start bits → (from : ℕ) (found : Option ℕ) → ((n : ℕ) → n < from → is_earlier_at (swaps_of r) bits n ≡ false)
+  pub has_ended : (start : List Bool) (left : ℕ) (bits : List Bool) → HaveCome start (suc left) bits → (from : ℕ) (found : Option ℕ) → ((n : ℕ) → n < from → is_earlier_at (swaps_of r) bits n ≡ false)
       → FindsFrom (swaps_of r) bits from found → ((number : ℕ) → found ≡ Some number → ⊥)
       → bits ≡ packed_representative (task_of r) (atoms_of r) (exchanges_of r) start
-  has_ended start bits come from (Some number) passed finds none = absurd (none number refl)
-  has_ended start bits come from None passed finds none =
-      ends (atoms_of r) (exchanges_of r) (kept_of r) (start_of start) bits come (λ n. ap (λ swaps. is_earlier_at swaps bits n) (sym r.made) ∙ at n (cases_lt n from))
+  has_ended start left bits come from (Some number) passed finds none = absurd (none number refl)
+  has_ended start left bits come from None passed finds none =
+      ends (atoms_of r) (exchanges_of r) (kept_of r) (start_of start) left bits come (λ n. ap (λ swaps. is_earlier_at swaps bits n) (sym r.made) ∙ at n (cases_lt n from))
     where
       at : (n : ℕ) → (n < from) ⊎ (from ≤ n) → is_earlier_at (swaps_of r) bits n ≡ false
       at n (inl below) = passed n below
       at n (inr past) = finds n past
 
   -- the first image that comes before has been taken
-  pub record HasTurned (start bits new : List Bool) : Type 0 where
-    pub come : HaveCome start new
-    pub less : rank new < rank bits
+  pub record HasTurned (start : List Bool) (left : ℕ) (bits new : List Bool) : Type 0 where
+    pub come : HaveCome start left new
     pub wide : length new ≡ length bits
 
-  pub has_turned : (start bits : List Bool) → HaveCome start bits → (from number : ℕ) → ((n : ℕ) → n < from → is_earlier_at (swaps_of r) bits n ≡ false)
-      → FindsFrom (swaps_of r) bits from (Some number) → (new : List Bool) → new ≡ swapped_at (swaps_of r) bits number → HasTurned start bits new
-  has_turned start bits come from number passed finds new is =
-      let turn = turns (atoms_of r) (exchanges_of r) (kept_of r) (start_of start) bits come number (ap (λ swaps. is_earlier_at swaps bits number) (sym r.made) ∙ finds.0)
+  pub has_turned : (start : List Bool) (left : ℕ) (bits : List Bool) → HaveCome start (suc left) bits → (from number : ℕ) → ((n : ℕ) → n < from → is_earlier_at (swaps_of r) bits n ≡ false)
+      → FindsFrom (swaps_of r) bits from (Some number) → (new : List Bool) → new ≡ swapped_at (swaps_of r) bits number → HasTurned start left bits new
+  has_turned start left bits come from number passed finds new is =
+      let turn = turns (atoms_of r) (exchanges_of r) (kept_of r) (start_of start) left bits come number (ap (λ swaps. is_earlier_at swaps bits number) (sym r.made) ∙ finds.0)
       (λ k less. ap (λ swaps. is_earlier_at swaps bits k) (sym r.made) ∙ at k less (cases_lt k from)) in
       let same : swapped_at (swaps_of_all (atoms_of r) (exchanges_of r)) bits number ≡ new = ap (λ swaps. swapped_at swaps bits number) (sym r.made) ∙ sym is in
-      subst (HasTurned start bits) same (record { come = turn.after; less = turn.less; wide = turn.wide })
+      subst (HasTurned start left bits) same (record { come = turn.after; wide = turn.wide })
     where
       at : (k : ℕ) → k < number → (k < from) ⊎ (from ≤ k) → is_earlier_at (swaps_of r) bits k ≡ false
       at k less (inl below) = passed k below
@@ -153,71 +159,104 @@ module _ (r : Representatives) where
       at k less (inl below) = passed k below
       at k less (inr past) = finds.1 k past less
 
--- an exchange whose image comes before has a number noted beside it
+-- an exchange whose image comes before is there
+pub number_inside : (r : Representatives) (bits : List Bool) (n : ℕ) → is_earlier_at (swaps_of r) bits n ≡ true → n < length (swaps_of r)
+number_inside r bits n passes = within (slice_get (swaps_of r) n) refl
+  where
+    within : (found : Option (List (ℕ × ℕ))) → slice_get (swaps_of r) n ≡ found → n < length (swaps_of r)
+    within None none = absurd (true≢false (sym passes ∙ ap (λ o. option_map_or (λ pairs. is_earlier pairs (has bits)) o false) none))
+    within (Some pairs) some = slice_get_within (swaps_of r) n pairs some
+
+-- and has a number noted beside it
+pub noted_inside : (r : Representatives) (bits : List Bool) (n : ℕ) → is_earlier_at (swaps_of r) bits n ≡ true → n < length r.first_neighbours.items
+noted_inside r bits n passes =
+    let inside = number_inside r bits n passes in
+    let each = r.each in
+    let long = length-map r.swaps.items swap_in_runs in
+    omega (arith, inside, each, long)
+
 pub noted_at : (r : Representatives) (bits : List Bool) (n noted : ℕ) → is_earlier_at (swaps_of r) bits n ≡ true → noted ≡ get_or r.first_neighbours.items n noted → noted ≡ slice_index r.first_neighbours.items n
-noted_at r bits n noted passes at = get_or_read r.first_neighbours.items n noted (within (slice_get (swaps_of r) n) refl) at 0
-  where
-    within : (found : Option (List (ℕ × ℕ))) → slice_get (swaps_of r) n ≡ found → n < length r.first_neighbours.items
-    within None none = absurd (true≢false (sym passes ∙ ap (λ o. option_map_or (λ pairs. is_earlier pairs (has bits)) o false) none))
-    within (Some pairs) some =
-        let inside = slice_get_within (swaps_of r) n pairs some in
-        let each = r.each in
-        let long = length-map r.swaps.items swap_in in
-        omega (arith, inside, each, long)
+noted_at r bits n noted passes at = get_or_read r.first_neighbours.items n noted (noted_inside r bits n passes) at 0
 
-pub has_new_names : (r : Representatives) (bits new : List Bool) → new ≡ packed_representative (task_of r) (atoms_of r) (exchanges_of r) bits
-    → IsTrue (list_all (is_symmetry (task_of r)) (exchanges_of r)) → IsRenamed (task_of r) (atoms_of r) bits new
-has_new_names r bits new is all =
-    subst (IsRenamed (task_of r) (atoms_of r) bits) (sym is)
-    (renamed (task_of r) (atoms_of r) (exchanges_of r) r.ground.now.numbering.fluent r.kept all r.ground.now.numbering.statics.task.now.well_typed bits)
+-- ---- how many images are left
 
--- ---- names
+-- before an image is taken in the round after so many, one at least is left
+pub one_left : (count rounds images left : ℕ) → rounds < count → images < count → left + (rounds * count + images) ≡ count * count → (rest : ℕ) × (left ≡ suc rest)
+one_left count rounds images zero more_rounds more_images counted =
+    let within : (rounds + 1) * count ≤ count * count = mul-le (rounds + 1) count count count (omega (arith, more_rounds)) (omega arith) in
+    let next : (rounds + 1) * count ≡ rounds * count + count = omega arith in
+    absurd (omega (arith, counted, more_images, within, next))
+one_left count rounds images (suc rest) more_rounds more_images counted = (rest, refl)
 
--- a number of an exchange whose image comes before the state
-pub number_within : (r : Representatives) (bits : List Bool) (n : ℕ) → is_earlier_at (swaps_of r) bits n ≡ true → n < length r.exchanges.now
-number_within r bits n passes = within (slice_get (swaps_of r) n) refl
-  where
-    within : (found : Option (List (ℕ × ℕ))) → slice_get (swaps_of r) n ≡ found → n < length r.exchanges.now
-    within None none = absurd (true≢false (sym passes ∙ ap (λ o. option_map_or (λ pairs. is_earlier pairs (has bits)) o false) none))
-    within (Some pairs) some =
-        let inside = slice_get_within (swaps_of r) n pairs some in
-        let made = ap length r.made in
-        let each = length-map (exchanges_of r) (swap_of (atoms_of r)) in
-        let given = length-map r.exchanges.now exchange_of in
-        omega (arith, inside, made, each, given)
+-- that one has been taken
+pub one_taken : (count rounds images left rest : ℕ) → left + (rounds * count + images) ≡ count * count → left ≡ suc rest → rest + (rounds * count + (images + 1)) ≡ count * count
+one_taken count rounds images left rest counted is = omega (arith, counted, is)
 
-module _ (r : Representatives) where
-  -- of a state of one width, by the exchange at a number
-  made_image : (bits new : List Bool) (n : ℕ) (e : Exchange) → length bits ≡ length (atoms_of r) → slice_get (exchanges_of r) n ≡ Some e → new ≡ swapped_at (swaps_of r) bits n
-      → new ≡ bits_of_state (atoms_of r) (image_of_state (image_of_object e) (state_of_bits (task_of r) (atoms_of r) bits))
-  made_image bits new n e wide at is =
-      let atoms = atoms_of r in
-      let s = state_of_bits (task_of r) atoms bits in
-      let same : bits_of_state atoms s ≡ bits = bits_of-packed_state (is_fluent (task_of r)) (task_of r).init atoms r.ground.now.numbering.fluent r.ground.now.numbering.distinct bits wide in
-      let there = Contains-got (exchanges_of r) n e at in
-      let kept = kept_of r in
-      let found : slice_get (swaps_of r) n ≡ Some (swap_of atoms e) =
-      ap (λ swaps. slice_get swaps n) r.made ∙ slice_get-map (swap_of atoms) (exchanges_of r) n ∙ ap (option_map (swap_of atoms)) at in
-      is
-      ∙ ap (λ o. option_map_or (λ pairs. with_swapped pairs bits) o bits) found
-      ∙ ap (with_swapped (swap_of atoms e)) (sym same)
-      ∙ sym (image_swapped atoms kept.distinct (image_of_object e) (own_inverse e (all-at (λ (x : Exchange). are_different (objects_in x)) (exchanges_of r) e kept.different there))
-      (all-at (keeps_atoms atoms) (exchanges_of r) e kept.kept there) s)
+-- a round has ended, as one image was taken for each number
+pub round_ended : (count rounds images left : ℕ) → left + (rounds * count + images) ≡ count * count → images ≤ count → count ≤ images → left + ((rounds + 1) * count + 0) ≡ count * count
+round_ended count rounds images left counted most end = omega (arith, counted, most, end)
 
-  -- where exchanges are symmetries, the state is renamed
-  abbrev pub AreNamed : List Bool → (ℕ → ℕ) → List Bool → (ℕ → ℕ) → Type 0
-  AreNamed start names bits now = IsTrue (list_all (is_symmetry (task_of r)) (exchanges_of r)) → IsRenamedBy (task_of r) (atoms_of r) names start now bits
+-- all have
+pub none_left : (count rounds left : ℕ) → left + (rounds * count + 0) ≡ count * count → rounds ≤ count → count ≤ rounds → left ≡ 0
+none_left count rounds left counted most end =
+    let same : rounds ≡ count = omega (arith, most, end) in
+    let all : rounds * count ≡ count * count = ap (λ n. n * count) same in
+    omega (arith, counted, all)
 
-  pub names_given : (names : ℕ → ℕ) (bits : List Bool) → AreNamed bits names bits names
-  names_given names bits all = renamed_by_none (task_of r) (atoms_of r) (exchanges_of r) r.ground.now.numbering.fluent r.kept all names bits
+-- Where so many rounds and so many images of the next have been taken: the state at the start is as many images from its representative
+-- as this one is from there by those that are left, and none by an exchange before `from` comes before it.
+pub record IsOnTheWay (r : Representatives) (start : List Bool) (count rounds images : ℕ) (bits : List Bool) (from : ℕ) : Type 0 where
+  pub counted : count ≡ length r.swaps.items + 1
+  pub wide : length bits ≡ length (atoms_of r)
+  pub left : ℕ
+  pub taken : left + (rounds * count + images) ≡ count * count
+  pub come : HaveCome r start left bits
+  pub passed : (n : ℕ) → n < from → is_earlier_at (swaps_of r) bits n ≡ false
 
-  -- the exchange at the number has been made
-  pub names_changed : (start bits new : List Bool) (names now after : ℕ → ℕ) (n : ℕ) (e : code.Exchange) → AreNamed start names bits now
-      → length bits ≡ length (atoms_of r) → is_earlier_at (swaps_of r) bits n ≡ true → e ≡ get_or r.exchanges.now n e → new ≡ swapped_at (swaps_of r) bits n
-      → ((o : ℕ) → after o ≡ now (image e o)) → AreNamed start names new after
-  names_changed start bits new names now after n e named wide passes at is moved all =
-      let there : slice_get (exchanges_of r) n ≡ Some (exchange_of e) =
-      slice_get-map exchange_of r.exchanges.now n ∙ ap (option_map exchange_of) (slice_get_read r.exchanges.now (length r.exchanges.now) n e refl (number_within r bits n passes) at) in
-      renamed_by_one_more (task_of r) (atoms_of r) (exchanges_of r) r.ground.now.numbering.fluent r.kept all r.ground.now.numbering.statics.task.now.well_typed
-      (exchange_of e) (Contains-got (exchanges_of r) n (exchange_of e) there) names now after start bits new (named all)
-      (made_image bits new n (exchange_of e) wide there is) moved
+pub begins : (r : Representatives) (bits : List Bool) (count : ℕ) → count ≡ length r.swaps.items + 1 → length bits ≡ length (atoms_of r) → IsOnTheWay r bits count 0 0 bits 0
+begins r bits count counted wide = record {
+  counted = counted;
+  wide = wide;
+  left = count * count;
+  taken = omega arith;
+  come = starts r count counted bits wide;
+  passed = λ n below. absurd (omega (arith, below));
+}
+
+module _ (r : Representatives) (start : List Bool) (count rounds : ℕ) where
+  pub image_taken : (images : ℕ) (bits : List Bool) (from : ℕ) → rounds < count → images < count → IsOnTheWay r start count rounds images bits from → (number : ℕ)
+      → FindsFrom (swaps_of r) bits from (Some number) → (new : List Bool) → new ≡ swapped_at (swaps_of r) bits number → (first : ℕ) → first ≡ slice_index r.first_neighbours.items number
+      → IsOnTheWay r start count rounds (images + 1) new first
+  image_taken images bits from more_rounds more_images way number finds new is first noted =
+      let one = one_left count rounds images way.left more_rounds more_images way.taken in
+      let turn = has_turned r start one.0 bits (subst (λ n. HaveCome r start n bits) one.1 way.come) from number way.passed finds new is in
+      record {
+        counted = way.counted;
+        wide = turn.wide ∙ way.wide;
+        left = one.0;
+        taken = one_taken count rounds images way.left one.0 way.taken one.1;
+        come = turn.come;
+        passed = still_none r bits from number first way.passed finds new is noted;
+      }
+
+  pub next_round : (images : ℕ) (bits : List Bool) (from : ℕ) → images ≤ count → count ≤ images → IsOnTheWay r start count rounds images bits from
+      → IsOnTheWay r start count (rounds + 1) 0 bits from
+  next_round images bits from most end way = record {
+    counted = way.counted;
+    wide = way.wide;
+    left = way.left;
+    taken = round_ended count rounds images way.left way.taken most end;
+    come = way.come;
+    passed = way.passed;
+  }
+
+  pub has_ended_there : (images : ℕ) (bits : List Bool) (from : ℕ) → rounds < count → images < count → IsOnTheWay r start count rounds images bits from → (found : Option ℕ)
+      → FindsFrom (swaps_of r) bits from found → ((number : ℕ) → found ≡ Some number → ⊥) → bits ≡ packed_representative (task_of r) (atoms_of r) (exchanges_of r) start
+  has_ended_there images bits from more_rounds more_images way found finds none =
+      let one = one_left count rounds images way.left more_rounds more_images way.taken in
+      has_ended r start one.0 bits (subst (λ n. HaveCome r start n bits) one.1 way.come) from found way.passed finds none
+
+  pub has_come_there : (bits : List Bool) (from : ℕ) → rounds ≤ count → count ≤ rounds → IsOnTheWay r start count rounds 0 bits from
+      → bits ≡ packed_representative (task_of r) (atoms_of r) (exchanges_of r) start
+  has_come_there bits from most end way =
+      has_come r start bits (subst (λ n. HaveCome r start n bits) (none_left count rounds way.left way.taken most end) way.come)

@@ -1,9 +1,10 @@
 pub mod SwappedBits
 pub mod FirstDifference
-pub mod Ranks
 pub mod ImageBits
 pub mod Turns
 pub mod ApartLemmas
-pub mod NewNames
-pub mod NameLemmas
+pub mod RunPairs
+pub mod RunWords
+pub mod RunLists
+pub mod RunSteps
 pub mod Kept

@@ -12,15 +12,12 @@ use Rattle.model.specs.NumberedAtoms.{are_distinct}
 use Rattle.model.specs.Grounding.{bits_of_state}
 use Rattle.model.proofs.ListLemmas.{Contains-got}
 use Rattle.symmetries.specs.Exchanges.{Exchange, image_of_object, image_of_state, objects_in, are_different}
-use Rattle.symmetries.specs.Quotients.{comes_before, image_before, representative, keeps_atoms}
+use Rattle.symmetries.specs.Orbits.{comes_before, image_before, with_images, representative, keeps_atoms}
 use Rattle.symmetries.proofs.Lists.{all-at}
 use Rattle.symmetries.proofs.ExchangeLemmas.{own_inverse}
-use Rattle.symmetries.proofs.RepresentativeLemmas.{are_representatives}
 use Rattle.packed_state.specs.Sets.{has}
 use Rattle.representatives.specs.Places.{swap_of, swaps_of_all, are_within, is_earlier, with_swapped, is_earlier_at, swapped_at}
 use Rattle.representatives.specs.Apart.{AreAllWithin}
-use Rattle.representatives.proofs.FirstDifference.{comes_before-bits}
-use Rattle.representatives.proofs.Ranks.{rank, rank-before}
 use Rattle.representatives.proofs.ImageBits.{numbers_within, image_earlier, image_swapped}
 
 -- ---- the first of a list that passes, seen through a map
@@ -56,11 +53,16 @@ pub record AreKept (atoms : List Atom) (exchanges : List Exchange) : Type 0 wher
   pub different : list_all (λ (e : Exchange). are_different (objects_in e)) exchanges ≡ true
   pub kept : list_all (keeps_atoms atoms) exchanges ≡ true
 
--- The bits are those of a state whose representative is that of the state at the start.
-pub record Stands (atoms : List Atom) (exchanges : List Exchange) (start : State) (bits : List Bool) : Type 0 where
+-- The bits are those of a state of which so many images at most are the representative of the state at the start.
+pub record Stands (atoms : List Atom) (exchanges : List Exchange) (start : State) (left : ℕ) (bits : List Bool) : Type 0 where
   pub state : State
   pub is : bits_of_state atoms state ≡ bits
-  pub same : representative atoms exchanges state ≡ representative atoms exchanges start
+  pub same : with_images atoms exchanges left state ≡ representative atoms exchanges start
+
+-- where no image comes before a state, it stays
+stays : (atoms : List Atom) (exchanges : List Exchange) (left : ℕ) (s : State) → image_before atoms exchanges s ≡ None → with_images atoms exchanges left s ≡ s
+stays atoms exchanges zero s none = refl
+stays atoms exchanges (suc left) s none = ap (λ o. option_map_or (with_images atoms exchanges left) o s) none
 
 module _ (atoms : List Atom) (exchanges : List Exchange) (are : AreKept atoms exchanges) where
   abbrev swaps : List (List (ℕ × ℕ))
@@ -101,7 +103,11 @@ module _ (atoms : List Atom) (exchanges : List Exchange) (are : AreKept atoms ex
       by_found None is = refl
       by_found (Some e) is = sym (earlier e (Contains-got exchanges n e is) s)
 
-  module _ (start : State) (bits : List Bool) (stands : Stands atoms exchanges start bits) where
+  -- no image is left
+  pub is_last : (start : State) (bits : List Bool) → Stands atoms exchanges start 0 bits → bits ≡ bits_of_state atoms (representative atoms exchanges start)
+  is_last start bits stands = sym stands.is ∙ ap (bits_of_state atoms) stands.same
+
+  module _ (start : State) (left : ℕ) (bits : List Bool) (stands : Stands atoms exchanges start (suc left) bits) where
     abbrev s : State
     s = stands.state
 
@@ -113,14 +119,11 @@ module _ (atoms : List Atom) (exchanges : List Exchange) (are : AreKept atoms ex
     ends none =
         let before : image_before atoms exchanges s ≡ None =
         find-none (λ image. comes_before atoms image s) (λ (e : Exchange). image_of_state (image_of_object e) s) exchanges (λ k. test_at k ∙ none k) in
-        let itself : representative atoms exchanges s ≡ s =
-        (are_representatives atoms exchanges).of_image s ∙ ap (λ o. option_map_or (representative atoms exchanges) o s) before in
-        sym stands.is ∙ ap (bits_of_state atoms) (sym itself ∙ stands.same)
+        sym stands.is ∙ ap (bits_of_state atoms) (sym (stays atoms exchanges (suc left) s before) ∙ stands.same)
 
     -- the first that does in its place
     pub record IsTurn (new : List Bool) : Type 0 where
-      pub after : Stands atoms exchanges start new
-      pub less : rank new < rank bits
+      pub after : Stands atoms exchanges start left new
       pub wide : length new ≡ length bits
 
     pub turns : (n : ℕ) → is_earlier_at swaps bits n ≡ true → ((k : ℕ) → k < n → is_earlier_at swaps bits k ≡ false) → IsTurn (swapped_at swaps bits n)
@@ -141,15 +144,11 @@ module _ (atoms : List Atom) (exchanges : List Exchange) (are : AreKept atoms ex
             let made : bits_of_state atoms image ≡ swapped_at swaps bits n =
             swapped e at s ∙ ap (with_swapped (swap_of atoms e)) stands.is
             ∙ sym (at-map (λ pairs. with_swapped pairs bits) (swap_of atoms) exchanges n bits ∙ ap (λ o. option_map_or (λ (x : Exchange). with_swapped (swap_of atoms x) bits) o bits) is) in
-            let long : length (bits_of_state atoms image) ≡ length (bits_of_state atoms s) = length-map atoms (contains image) ∙ sym (length-map atoms (contains s)) in
-            let less : rank (bits_of_state atoms image) < rank (bits_of_state atoms s) =
-            rank-before (bits_of_state atoms image) (bits_of_state atoms s) long (sym (comes_before-bits atoms image s) ∙ passes) in
             record {
               after = record {
                 state = image;
                 is = made;
-                same = sym ((are_representatives atoms exchanges).of_image s ∙ ap (λ o. option_map_or (representative atoms exchanges) o s) before) ∙ stands.same;
+                same = sym (ap (λ o. option_map_or (with_images atoms exchanges left) o s) before) ∙ stands.same;
               };
-              less = let there : rank (bits_of_state atoms image) ≡ rank (swapped_at swaps bits n) = ap rank made in let here : rank (bits_of_state atoms s) ≡ rank bits = ap rank stands.is in omega (arith, less, there, here);
-              wide = ap length (sym made) ∙ long ∙ ap length stands.is;
+              wide = ap length (sym made) ∙ length-map atoms (contains image) ∙ sym (length-map atoms (contains s)) ∙ ap length stands.is;
             }

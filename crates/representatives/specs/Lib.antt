@@ -1,6 +1,5 @@
 pub mod Places
 pub mod Apart
 pub mod Pairs
-pub mod NewNames
-pub mod Names
+pub mod Runs
 pub mod Representatives

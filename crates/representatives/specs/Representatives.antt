@@ -6,7 +6,7 @@ use Rattle.task_symmetries.specs.Exchange.{exchange_of}
 use Rattle.model.specs.Task.{Task, Atom}
 use Rattle.symmetries.specs.Exchanges.{Exchange}
 use Rattle.representatives.specs.declared.representatives.Representatives.{Representatives}
-use Rattle.representatives.specs.Pairs.{swaps_in}
+use Rattle.representatives.specs.Runs.{swaps_in_runs}
 
 abbrev pub ground_of : Representatives → Ground
 ground_of r = r.ground.now
@@ -23,4 +23,4 @@ exchanges_of r = map exchange_of r.exchanges.now
 
 -- what they do to the numbers of atoms
 abbrev pub swaps_of : Representatives → List (List (ℕ × ℕ))
-swaps_of r = swaps_in r.swaps.items
+swaps_of r = swaps_in_runs r.swaps.items

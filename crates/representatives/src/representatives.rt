@@ -3,15 +3,17 @@ ghost use Rattle.std.specs.Prelude.{◌≡◌, true, length, map, is_some, IfOk,
 ghost use Rattle.std.specs.List.{list_all};
 ghost use Rattle.std.proofs.Props.{props};
 ghost use Rattle.grounding.specs.Ground.{atoms_in};
-ghost use Rattle.symmetries.specs.Quotients.{keeps_atoms};
+ghost use Rattle.symmetries.specs.Orbits.{keeps_atoms};
 ghost use Rattle.task_symmetries.specs.Exchange.{exchange_of};
-ghost use Rattle.representatives.specs.Pairs.{pair_of, swaps_in};
+ghost use Rattle.representatives.specs.Pairs.{pair_of};
+ghost use Rattle.representatives.specs.Runs.{swaps_in_runs};
 ghost use Rattle.representatives.specs.Places.{swap_of, swaps_of_all};
 ghost use Rattle.representatives.specs.Apart.{AreApartBelow};
 
-use crate::names::Names;
 use crate::neighbours::first_neighbours;
-use crate::pairs::{Pair, exchange_bits, image_comes_before, pairs_from};
+use crate::pairs::{Pair, pairs_from};
+use crate::run::Run;
+use crate::runs::{exchange_bits, image_comes_before, runs_of_all};
 use faults::NoMemory;
 use grounding::Ground;
 use packed_state::Packed;
@@ -24,26 +26,23 @@ use task_symmetries::{Exchange, exchanged_numbers};
 pub struct Representatives<'g, 't, 'e> {
     ground: &'g Ground<'t>,
     exchanges: &'e [Exchange],
-    /// For each exchange the pairs of numbers of atoms that it takes to each other, by their lower numbers.
-    swaps: Vec<Vec<Pair>>,
+    /// For each exchange the pairs of numbers of atoms that it takes to each other, by their lower numbers, in runs.
+    swaps: Vec<Vec<Run>>,
     /// For each exchange a number below which none has an atom of it.
     first_neighbours: Vec<usize>,
     ghost kept: { list_all (keeps_atoms (atoms_in ground.now)) (map exchange_of exchanges.now) ≡ true } by { Prim.hlevel props },
-    ghost made: { swaps_in swaps.items ≡ swaps_of_all (atoms_in ground.now) (map exchange_of exchanges.now) } by { Prim.hlevel props },
-    ghost apart: { AreApartBelow (swaps_in swaps.items) first_neighbours.items } by { Prim.hlevel props },
+    ghost made: { swaps_in_runs swaps.items ≡ swaps_of_all (atoms_in ground.now) (map exchange_of exchanges.now) } by { Prim.hlevel props },
+    ghost apart: { AreApartBelow (swaps_in_runs swaps.items) first_neighbours.items } by { Prim.hlevel props },
     ghost each: { length first_neighbours.items ≡ length swaps.items },
 }
 
 impl<'g, 't, 'e> Representatives<'g, 't, 'e> {
-    ghost use Rattle.std.specs.Prelude.{◌<◌, IsTrue, OnOk};
+    ghost use Rattle.std.specs.Prelude.{◌<◌};
     ghost use Rattle.packed_state.specs.Packed.{bits_of};
     ghost use Rattle.grounding.specs.Ground.{task_in};
-    ghost use Rattle.symmetries.specs.Symmetries.{is_symmetry};
-    ghost use Rattle.symmetries.specs.Quotients.{packed_representative};
+    ghost use Rattle.symmetries.specs.Orbits.{packed_representative};
     ghost use Rattle.representatives.specs.Places.{is_earlier_at, swapped_at, FindsFrom};
     ghost use Rattle.representatives.specs.Representatives.{ground_of, task_of, atoms_of, exchanges_of, swaps_of};
-    ghost use Rattle.representatives.specs.Names.{name_in};
-    ghost use Rattle.representatives.specs.NewNames.{IsRenamed, IsRenamedBy};
 
     /// Those by these exchanges of the objects of the ground task. `None`, if the image of a numbered atom by one of them has no
     /// number.
@@ -69,10 +68,11 @@ impl<'g, 't, 'e> Representatives<'g, 't, 'e> {
             }
         }
         let first_neighbours = first_neighbours(alloc, ground.width() as usize, swaps.as_slice())?;
+        let runs = runs_of_all(alloc, swaps.as_slice())?;
         Ok(Some(Representatives {
             ground,
             exchanges,
-            swaps,
+            swaps: runs,
             first_neighbours,
         }))
     }
@@ -94,38 +94,23 @@ impl<'g, 't, 'e> Representatives<'g, 't, 'e> {
     }
 
     /// Makes a state its representative: as long as the image by one of the exchanges comes before it, the first such image
-    /// takes its place. Of two states the one comes before in which the least atom is true that is true in one of them alone.
-    /// Where the exchanges are symmetries of the task it is the state under other names of objects. No memory is taken.
+    /// takes its place, but (n + 1)^2 times at most, if there are n exchanges. Of two states the one comes before in which the least
+    /// atom is true that is true in one of them alone. No memory is taken.
     pub fn represent(&self, state: &mut Packed)
         requires { length (bits_of state.old) ≡ length (atoms_of self.now) }
-        ensures represented { bits_of state.new ≡ packed_representative (task_of self.now) (atoms_of self.now) (exchanges_of self.now) (bits_of state.old) }
-        ensures renamed { IsTrue (list_all (is_symmetry (task_of self.now)) (exchanges_of self.now)) →
-            IsRenamed (task_of self.now) (atoms_of self.now) (bits_of state.old) (bits_of state.new) }
+        ensures { bits_of state.new ≡ packed_representative (task_of self.now) (atoms_of self.now) (exchanges_of self.now) (bits_of state.old) }
     {
+        let count = self.swaps.len() + 1;
         let mut from = 0;
-        'images: while let Some(number) = self.next_before(state, from) {
-            self.exchange(number, state);
-            from = self.first_neighbours[number];
+        'rounds: for _ in 0..count {
+            'images: for _ in 0..count {
+                let Some(number) = self.next_before(state, from) else {
+                    return;
+                };
+                self.exchange(number, state);
+                from = self.first_neighbours[number];
+            }
         }
-    }
-
-    /// The same, and the objects of the representative have the names of those that came to their places.
-    ///
-    /// # Errors
-    /// Memory was refused, which says nothing of the state. Nothing is known of it and of the names then.
-    pub fn represent_with(&self, state: &mut Packed, names: &mut Names) -> Result<(), NoMemory>
-        requires { length (bits_of state.old) ≡ length (atoms_of self.now) }
-        ensures represented { OnOk result (bits_of state.new ≡ packed_representative (task_of self.now) (atoms_of self.now) (exchanges_of self.now) (bits_of state.old)) }
-        ensures renamed { OnOk result (IsTrue (list_all (is_symmetry (task_of self.now)) (exchanges_of self.now)) →
-            IsRenamedBy (task_of self.now) (atoms_of self.now) (name_in names.old) (bits_of state.old) (name_in names.new) (bits_of state.new)) }
-    {
-        let mut from = 0;
-        'images: while let Some(number) = self.next_before(state, from) {
-            self.exchange(number, state);
-            names.exchange(&self.exchanges[number])?;
-            from = self.first_neighbours[number];
-        }
-        Ok(())
     }
 
     /// The first exchange, from this number on, whose image of the state comes before it.

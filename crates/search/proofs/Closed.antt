@@ -11,9 +11,9 @@ use Rattle.model.proofs.ListLemmas.{Contains-here, Contains-there, Contains-case
 use Rattle.search.specs.declared.nodes.Node.{Node}
 use Rattle.search.specs.Estimates.{IsAdmissible, IsConsistent}
 use Rattle.search.specs.DeadEnds.{DetectsDeadEnds, ReportsDeadEnds}
-use Rattle.search.specs.Outcome.{is_expanded, is_marked_dead, line_of, lines_of, IsReachableAt, ReachingCostsAtLeast, AreFound, AreExpandedWithin}
+use Rattle.search.specs.Outcome.{AreOfOneClass, AreOwnClasses, AreClassesOf, is_expanded, is_marked_dead, line_of, lines_of, IsReachableAt, ReachingCostsAtLeast, AreFound, AreExpandedWithin}
 use Rattle.search.specs.Nodes.{Waiting, Found, found_of, IsWaiting, total_of, AreNodes, IsFoundWithin, AreOpen, parent_of, begins, follows, IsPath, IsReachedIn, IsWay, dearest}
-use Rattle.search.proofs.Consistent.{lower_bound}
+use Rattle.search.proofs.Consistent.{are_bounds}
 use Rattle.search.proofs.DeadEnds.{are_dead_ends}
 use Rattle.search.proofs.NodesLemmas.{run-push}
 use Rattle.search.proofs.ShortWays.{short_way}
@@ -65,19 +65,19 @@ dead_if false true estimate is = refl
 dead_if false false estimate is = absurd (cc)
 
 -- what a listing needs of the found states
-pub record AreListed {S : Type 0} (t : System S ℕ) (value : S → ℕ) (is_dead : S → Bool) (nodes : List (Found S)) : Type 0 where
+pub record AreListed {S : Type 0} (t : System S ℕ) (class_of : S → S) (value : S → ℕ) (is_dead : S → Bool) (nodes : List (Found S)) : Type 0 where
   pub root : (n : Found S) × (slice_get nodes 0 ≡ Some n) × (n.state ≡ t.initial) × (n.node.cost ≡ 0)
   pub distinct : (j k : ℕ) (m n : Found S) → slice_get nodes j ≡ Some m → slice_get nodes k ≡ Some n → m.state ≡ n.state → j ≡ k
   pub cheap : (k : ℕ) (n : Found S) → slice_get nodes k ≡ Some n → n.node.cost ≤ length nodes * dearest
   pub reachable : (k : ℕ) (n : Found S) → slice_get nodes k ≡ Some n → IsReachableAt t n.state n.node.cost
   pub no_goal : (k : ℕ) (n : Found S) → slice_get nodes k ≡ Some n → is_expanded n.node ≡ true → t.meets_goal n.state ≡ false
-  pub cheapest : IsConsistent t value → DetectsDeadEnds t is_dead → (k : ℕ) (n : Found S) → slice_get nodes k ≡ Some n → is_expanded n.node ≡ true → ReachingCostsAtLeast t n.state n.node.cost
+  pub cheapest : AreOwnClasses class_of → IsConsistent t value → DetectsDeadEnds t is_dead → (k : ℕ) (n : Found S) → slice_get nodes k ≡ Some n → is_expanded n.node ≡ true → ReachingCostsAtLeast t n.state n.node.cost
   pub alive : (k : ℕ) (n : Found S) → slice_get nodes k ≡ Some n → is_expanded n.node ≡ true → is_dead n.state ≡ false
   pub marked : (k : ℕ) (n : Found S) → slice_get nodes k ≡ Some n → is_marked_dead n.node ≡ is_dead n.state
 
 -- what holds of them at any time suffices
-pub are_listed : {S : Type 0} (t : System S ℕ) (value : S → ℕ) (is_dead : S → Bool) (nodes : List (Found S)) (open_list : List Waiting) → AreNodes t value is_dead nodes open_list → AreListed t value is_dead nodes
-are_listed {S} t value is_dead nodes open_list are = record {
+pub are_listed : {S : Type 0} (t : System S ℕ) (class_of : S → S) (value : S → ℕ) (is_dead : S → Bool) (nodes : List (Found S)) (open_list : List Waiting) → AreNodes t class_of value is_dead nodes open_list → AreListed t class_of value is_dead nodes
+are_listed {S} t class_of value is_dead nodes open_list are = record {
   root = are.root;
   distinct = are.distinct;
   cheap = are.cheap;
@@ -88,30 +88,30 @@ are_listed {S} t value is_dead nodes open_list are = record {
   marked = are.marked;
 }
 
-module _ {S : Type 0} (t : System S ℕ) (value : S → ℕ) (is_dead : S → Bool) (states : List S) (all : List Node)
+module _ {S : Type 0} (t : System S ℕ) (class_of : S → S) (value : S → ℕ) (is_dead : S → Bool) (states : List S) (all : List Node)
     (one_each : length all ≡ length states) where
   pub node_at : (k : ℕ) (s : S) (r : Node) → slice_get states k ≡ Some s → slice_get all k ≡ Some r
       → slice_get (found_of states all) k ≡ Some (record { state = s; node = r })
   node_at k s r is_s is_r = get-found_of states all k s r is_s is_r
 
-  listed_within : (s : S) (cost : ℕ) → IsFoundWithin (found_of states all) s cost → IsListedWithin (lines_of value is_dead states all) s cost
+  listed_within : (s : S) (cost : ℕ) → IsFoundWithin class_of (found_of states all) s cost → IsListedWithin (AreOfOneClass class_of) (lines_of value is_dead states all) s cost
   listed_within s cost (k, n, at, is, within) =
       let parts = found_of-get states all k n at in
       (line_of value is_dead n.state n.node, at-line value is_dead states all k n.state n.node parts.0 parts.1, is, within)
 
-  module _ (listed : AreListed t value is_dead (found_of states all)) where
-    pub closed : (claim : Claim) → AreOpen t (found_of states all)
+  module _ (listed : AreListed t class_of value is_dead (found_of states all)) where
+    pub closed : (claim : Claim) → AreOpen t class_of (found_of states all)
         → ((k : ℕ) (n : Found S) → slice_get (found_of states all) k ≡ Some n → IsWaiting is_dead n → Allows claim (total_of value n))
-        → IsClosed t value is_dead claim (lines_of value is_dead states all)
+        → IsClosed t (AreOfOneClass class_of) value is_dead claim (lines_of value is_dead states all)
     closed claim are_open allowed = record {
-      initial_listed = let (n, at, is, free) = listed.root in listed_within t.initial 0 (0, n, at, is, omega (arith, free));
+      initial_listed = let (n, at, is, free) = listed.root in listed_within t.initial 0 (0, n, at, ap class_of is, omega (arith, free));
       successors_listed = λ line a next at mark step.
           let (k, s, r, is_s, is_r, is) = line-at value is_dead states all line at in
           let there = node_at k s r is_s is_r in
           let expanded : is_expanded r ≡ true = open_if (is_expanded r) (is_dead s) (value s) (ap (λ (l : Line S). l.mark) is ∙ mark) in
           let same : s ≡ line.state = ap (λ (l : Line S). l.state) is in
           let same_cost : r.cost ≡ line.cost = ap (λ (l : Line S). l.cost) is in
-          subst (λ c. IsListedWithin (lines_of value is_dead states all) next (c + t.cost a)) same_cost
+          subst (λ c. IsListedWithin (AreOfOneClass class_of) (lines_of value is_dead states all) next (c + t.cost a)) same_cost
           (listed_within next (r.cost + t.cost a)
           (are_open k (record { state = s; node = r }) there expanded a next (ap (λ (x : S). t.step x a) same ∙ step)));
       open_goals_allowed = λ line at mark goal.
@@ -136,8 +136,8 @@ module _ {S : Type 0} (t : System S ℕ) (value : S → ℕ) (is_dead : S → Bo
           ap is_dead (sym (ap (λ (l : Line S). l.state) is)) ∙ reported;
     }
 
-    pub found_states : (claim : Claim) (max_states : ℕ) → length states ≤ max_states → IsClosed t value is_dead claim (lines_of value is_dead states all)
-        → AreFound t value is_dead claim max_states states all
+    pub found_states : (claim : Claim) (max_states : ℕ) → length states ≤ max_states → IsClosed t (AreOfOneClass class_of) value is_dead claim (lines_of value is_dead states all)
+        → AreFound t class_of value is_dead claim max_states states all
     found_states claim max_states within is_closed = record {
       one_for_each = one_each;
       within_limit = within;
@@ -152,20 +152,21 @@ module _ {S : Type 0} (t : System S ℕ) (value : S → ℕ) (is_dead : S → Bo
           let s = get_exists states k (omega (arith, slice_get_within all k r at_r)) in
           let there = node_at k s.0 r s.1 at_r in
           rw (length-found_of states all one_each) at (listed.cheap k (record { state = s.0; node = r }) there);
-      expanded_cheapest = λ consistent detects k s r at_s at_r expanded. listed.cheapest consistent detects k (record { state = s; node = r }) (node_at k s r at_s at_r) expanded;
+      expanded_cheapest = λ own consistent detects k s r at_s at_r expanded. listed.cheapest own consistent detects k (record { state = s; node = r }) (node_at k s r at_s at_r) expanded;
       marked = λ k s r at_s at_r. listed.marked k (record { state = s; node = r }) (node_at k s r at_s at_r);
       expanded_alive = λ k s r at_s at_r expanded. listed.alive k (record { state = s; node = r }) (node_at k s r at_s at_r) expanded;
       closed = is_closed;
     }
 
     -- what a closed listing claims is true
-    pub claimed : IsAdmissible t value → ReportsDeadEnds t is_dead → (claim : Claim) → IsClosed t value is_dead claim (lines_of value is_dead states all) → ClaimHolds t claim
-    claimed admissible reports claim is_closed =
-        claim-of_closed t value is_dead claim (lines_of value is_dead states all) (lower_bound t value admissible) (are_dead_ends t is_dead reports) is_closed
+    pub claimed : AreClassesOf t class_of → IsAdmissible t value → ReportsDeadEnds t is_dead → (claim : Claim) → IsClosed t (AreOfOneClass class_of) value is_dead claim (lines_of value is_dead states all) → ClaimHolds t claim
+    claimed classes admissible reports claim is_closed =
+        let lines = lines_of value is_dead states all in
+        claim-of_closed t (AreOfOneClass class_of) classes value is_dead claim lines (are_bounds t value lines admissible) (are_dead_ends t is_dead lines reports) is_closed
 
-  module _ (open_list : List Waiting) (nodes : AreNodes t value is_dead (found_of states all) open_list) where
-    listing : AreListed t value is_dead (found_of states all)
-    listing = are_listed t value is_dead (found_of states all) open_list nodes
+  module _ (open_list : List Waiting) (nodes : AreNodes t class_of value is_dead (found_of states all) open_list) where
+    listing : AreListed t class_of value is_dead (found_of states all)
+    listing = are_listed t class_of value is_dead (found_of states all) open_list nodes
 
     -- the way to a found state, among the nodes alone
     path_of : (k : ℕ) (way : List ℕ) → IsWay (found_of states all) k way → IsPath all k way
@@ -199,23 +200,23 @@ module _ {S : Type 0} (t : System S ℕ) (value : S → ℕ) (is_dead : S → Bo
         )
 
     -- no list that solves costs less than the sum of the node whose turn came: each has to pass through one that waits
-    pub no_plan_cheaper : IsAdmissible t value → ReportsDeadEnds t is_dead → (one : Found S) → AreOpen t (found_of states all)
+    pub no_plan_cheaper : AreClassesOf t class_of → IsAdmissible t value → ReportsDeadEnds t is_dead → (one : Found S) → AreOpen t class_of (found_of states all)
         → ((k : ℕ) (n : Found S) → slice_get (found_of states all) k ≡ Some n → IsWaiting is_dead n → total_of value one ≤ total_of value n)
         → CostsAtLeast t (total_of value one)
-    no_plan_cheaper admissible reports one are_open least =
+    no_plan_cheaper classes admissible reports one are_open least =
         let sum = total_of value one in
-        claimed listing admissible reports (bound sum) (closed listing (bound sum) are_open (λ k n at waits. least k n at waits))
+        claimed listing classes admissible reports (bound sum) (closed listing (bound sum) are_open (λ k n at waits. least k n at waits))
 
     -- a goal state whose turn came is reached by a cheapest list
-    pub optimal : IsAdmissible t value → ReportsDeadEnds t is_dead → (i : ℕ) (one : Found S) (steps : List ℕ) (max_states : ℕ) → AreOpen t (found_of states all) → slice_get (found_of states all) i ≡ Some one
+    pub optimal : AreClassesOf t class_of → IsAdmissible t value → ReportsDeadEnds t is_dead → (i : ℕ) (one : Found S) (steps : List ℕ) (max_states : ℕ) → AreOpen t class_of (found_of states all) → slice_get (found_of states all) i ≡ Some one
         → ((k : ℕ) (n : Found S) → slice_get (found_of states all) k ≡ Some n → IsWaiting is_dead n → total_of value one ≤ total_of value n)
         → t.meets_goal one.state ≡ true → IsPath all i steps → length steps ≤ length all → length states ≤ max_states
-        → IsOptimal t steps × (cost_of_all t steps ≡ one.node.cost) × AreFound t value is_dead (bound one.node.cost) max_states states all
+        → IsOptimal t steps × (cost_of_all t steps ≡ one.node.cost) × AreFound t class_of value is_dead (bound one.node.cost) max_states states all
         × (length steps ≤ max_states) × AreExpandedWithin value one.node.cost states all
-    optimal admissible reports i one steps max_states are_open occurs least goal path short within =
+    optimal classes admissible reports i one steps max_states are_open occurs least goal path short within =
         let nothing_left : value one.state ≤ 0 = admissible one.state one.state [] refl goal in
         let is_closed = closed listing (bound one.node.cost) are_open (λ k n at waits. omega (arith, least k n at waits, nothing_left)) in
-        let holds = no_plan_cheaper admissible reports one are_open least in
+        let holds = no_plan_cheaper classes admissible reports one are_open least in
         let (runs, no_more) = path_runs i steps one path occurs in
         let solves : Solves t steps = (one.state, runs, goal) in
         let costs : cost_of_all t steps ≡ one.node.cost = omega (arith, no_more, holds steps solves) in (
@@ -227,9 +228,9 @@ module _ {S : Type 0} (t : System S ℕ) (value : S → ℕ) (is_dead : S → Bo
         )
 
     -- where no state waits, none solves
-    pub unsolvable : IsAdmissible t value → ReportsDeadEnds t is_dead → (max_states : ℕ) → AreOpen t (found_of states all)
+    pub unsolvable : AreClassesOf t class_of → IsAdmissible t value → ReportsDeadEnds t is_dead → (max_states : ℕ) → AreOpen t class_of (found_of states all)
         → ((k : ℕ) (n : Found S) → slice_get (found_of states all) k ≡ Some n → IsWaiting is_dead n → ⊥) → length states ≤ max_states
-        → IsUnsolvable t × AreFound t value is_dead none max_states states all
-    unsolvable admissible reports max_states are_open none_waits within =
+        → IsUnsolvable t × AreFound t class_of value is_dead none max_states states all
+    unsolvable classes admissible reports max_states are_open none_waits within =
         let is_closed = closed listing none are_open (λ k n at waits. none_waits k n at waits) in
-        (claimed listing admissible reports none is_closed, found_states listing none max_states within is_closed)
+        (claimed listing classes admissible reports none is_closed, found_states listing none max_states within is_closed)

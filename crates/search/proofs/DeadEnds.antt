@@ -4,7 +4,7 @@ use Rattle.std.specs.Prelude.{IsTrue}
 use Rattle.std.specs.Option.{option_and_then}
 use Rattle.std.proofs.lemmas.Option.{same_Some}
 use Rattle.model.specs.Runs.{System, run}
-use Rattle.model.specs.Claims.{AreDeadEnds}
+use Rattle.model.specs.Claims.{Line, AreDeadEndsOf}
 use Rattle.search.specs.DeadEnds.{DetectsDeadEnds, ReportsDeadEnds}
 
 module _ {S A : Type 0} (t : System S A) (is_dead : S → Bool) (detects : DetectsDeadEnds t is_dead) where
@@ -21,6 +21,6 @@ module _ {S A : Type 0} (t : System S A) (is_dead : S → Bool) (detects : Detec
   pub reports_dead_ends : ReportsDeadEnds t is_dead
   reports_dead_ends s end plan dead runs = detects.no_goal end (dead_along plan s end runs dead)
 
--- so are the reachable ones
-pub are_dead_ends : {S A : Type 0} (t : System S A) (is_dead : S → Bool) → ReportsDeadEnds t is_dead → AreDeadEnds t is_dead
-are_dead_ends t is_dead reports s end plan reached dead runs = reports s end plan dead runs
+-- so are the listed ones
+pub are_dead_ends : {S A : Type 0} (t : System S A) (is_dead : S → Bool) (lines : List (Line S)) → ReportsDeadEnds t is_dead → AreDeadEndsOf t is_dead lines
+are_dead_ends t is_dead lines reports line end plan listed dead runs = reports line.state end plan dead runs

@@ -1,13 +1,23 @@
--- What stays true of the found states while each of them stays found, at no higher cost.
-use Rattle.std.proofs.Common.{◌≡◌, ℕ, ◌+◌, ◌≤◌, ◌≢◌, List, [], Bool, Some, refl, sym, ap, ◌∙◌, arith}
+-- What stays true of the found states while each keeps its place, at no higher cost, and its state if it has been expanded.
+use Rattle.std.proofs.Common.{◌≡◌, ℕ, ◌+◌, ◌≤◌, ◌≢◌, List, [], Bool, Some, true, refl, sym, ap, ◌∙◌, arith}
 use Rattle.std.specs.Prelude.{slice_get, All}
 use Rattle.std.proofs.lemmas.List.Elements.{All-weaker}
 use Rattle.model.specs.Runs.{System}
-use Rattle.search.specs.Nodes.{Waiting, place_of, IsEntryOf, parent_of, begins, follows, IsWay, HasWay, Found, Leads, IsFoundWithin, IsOpen}
+use Rattle.search.specs.Outcome.{AreOfOneClass}
+use Rattle.search.specs.Nodes.{Waiting, place_of, IsEntryOf, has_been_expanded, parent_of, begins, follows, IsWay, HasWay, Found, Leads, IsFoundWithin, IsOpen}
 
--- each node has its state still, and costs no more
-abbrev pub AreKept : {S : Type 0} → List (Found S) → List (Found S) → Type 0
-AreKept {S} nodes after = (k : ℕ) (n : Found S) → slice_get nodes k ≡ Some n → (m : Found S) × (slice_get after k ≡ Some m) × (m.state ≡ n.state) × (m.node.cost ≤ n.node.cost)
+-- The node's place has one of its class still, which costs no more: another one only where it costs less and the node has never been
+-- expanded.
+pub record IsKept {S : Type 0} (class_of : S → S) (after : List (Found S)) (k : ℕ) (n : Found S) : Type 0 where
+  pub now : Found S
+  pub there : slice_get after k ≡ Some now
+  pub alike : AreOfOneClass class_of now.state n.state
+  pub cheaper : now.node.cost ≤ n.node.cost
+  pub same_cost : now.node.cost ≡ n.node.cost → now.state ≡ n.state
+  pub expanded : has_been_expanded n.node ≡ true → (now.state ≡ n.state) × (has_been_expanded now.node ≡ true)
+
+abbrev pub AreKept : {S : Type 0} → (S → S) → List (Found S) → List (Found S) → Type 0
+AreKept {S} class_of nodes after = (k : ℕ) (n : Found S) → slice_get nodes k ≡ Some n → IsKept class_of after k n
 
 module _ {S : Type 0} (nodes after : List (Found S)) where
   -- Ways lead to where they led, if each still goes on from parent to child.
@@ -15,34 +25,42 @@ module _ {S : Type 0} (nodes after : List (Found S)) where
   way_kept again k way (begins first none) = ([], begins first refl)
   way_kept again k way (follows n before elsewhere at earlier is) = again k n elsewhere at (way_kept again (parent_of n.node) before earlier)
 
-  module _ (kept : AreKept nodes after) where
-    pub found_kept : (s : S) (cost : ℕ) → IsFoundWithin nodes s cost → IsFoundWithin after s cost
-    found_kept s cost (k, n, at, is, within) =
-        let (m, there, same, cheaper) = kept k n at in
-        (k, m, there, same ∙ is, omega (arith, cheaper, within))
+  module _ (class_of : S → S) (kept : AreKept class_of nodes after) where
+    pub found_kept : (s : S) (cost : ℕ) → IsFoundWithin class_of nodes s cost → IsFoundWithin class_of after s cost
+    found_kept s cost (k, n, at, alike, within) =
+        let is = kept k n at in
+        (k, is.now, is.there, is.alike ∙ alike, omega (arith, is.cheaper, within))
 
-    pub open_kept : (t : System S ℕ) (n : Found S) → IsOpen t nodes n → IsOpen t after n
+    pub open_kept : (t : System S ℕ) (n : Found S) → IsOpen t class_of nodes n → IsOpen t class_of after n
     open_kept t n is_open a next step = found_kept next (n.node.cost + t.cost a) (is_open a next step)
 
-    -- a node's parent may be reached more cheaply
+    -- a node's parent may be reached more cheaply, and is the same state
     pub leads_kept : (t : System S ℕ) (value : S → ℕ) (is_dead : S → Bool) (n : Found S) → Leads t value is_dead nodes n → Leads t value is_dead after n
     leads_kept t value is_dead n leads =
-        let (m, there, same, cheaper) = kept (parent_of n.node) leads.parent leads.occurs in
+        let is = kept (parent_of n.node) leads.parent leads.occurs in
+        let (same, expanded) = is.expanded leads.expanded in
         record {
-          parent = m;
-          occurs = there;
-          cost = omega (arith, leads.cost, cheaper);
+          parent = is.now;
+          occurs = is.there;
+          cost = omega (arith, leads.cost, is.cheaper);
+          expanded = expanded;
           step = ap (λ (s : S). t.step s n.node.action) same ∙ leads.step;
           no_goal = ap t.meets_goal same ∙ leads.no_goal;
           alive = ap is_dead same ∙ leads.alive;
-          no_dearer = λ plan solves. omega (arith, leads.no_dearer plan solves, cheaper, ap value same);
+          no_dearer = λ plan solves. omega (arith, leads.no_dearer plan solves, is.cheaper, ap value same);
         }
 
+    -- an entry's state stays where it is, or its place is reached at less now
     entry_kept : (value : S → ℕ) (is_dead : S → Bool) (w : Waiting) → IsEntryOf value is_dead nodes w → IsEntryOf value is_dead after w
     entry_kept value is_dead w of =
-        let (m, there, same, cheaper) = kept (place_of w) of.found of.occurs in
-        record { found = m; occurs = there; alive = ap is_dead same ∙ of.alive; estimate = of.estimate ∙ sym (ap value same); part = of.part }
+        let is = kept (place_of w) of.found of.occurs in
+        record {
+          found = is.now;
+          occurs = is.there;
+          no_dearer = omega (arith, of.no_dearer, is.cheaper);
+          alive = λ sums. ap is_dead (is.same_cost (omega (arith, sums, of.no_dearer, is.cheaper))) ∙ of.alive (omega (arith, sums, of.no_dearer, is.cheaper));
+          estimate = λ sums. of.estimate (omega (arith, sums, of.no_dearer, is.cheaper)) ∙ sym (ap value (is.same_cost (omega (arith, sums, of.no_dearer, is.cheaper))));
+        }
 
-    -- an entry's state stays where it is
     pub entries_kept : (value : S → ℕ) (is_dead : S → Bool) (open_list : List Waiting) → All (IsEntryOf value is_dead nodes) open_list → All (IsEntryOf value is_dead after) open_list
     entries_kept value is_dead open_list all = All-weaker (IsEntryOf value is_dead nodes) (IsEntryOf value is_dead after) (entry_kept value is_dead) open_list all

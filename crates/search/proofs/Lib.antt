@@ -9,6 +9,7 @@ pub mod Marked
 pub mod NodesLemmas
 pub mod OpenList
 pub mod OpenListLemmas
+pub mod Reached
 pub mod Steps
 pub mod ShortWays
 pub mod Stopped

@@ -42,8 +42,8 @@ reachable-of_precedes : {S A : Type 0} (t : System S A) (value : S → ℕ) (is_
 reachable-of_precedes t value is_dead s (is_initial is) = ([], ap Some (sym is))
 reachable-of_precedes t value is_dead s (is_next actions before a runs no_goal alive no_dearer step) = (actions ++ a ∷ [], run-push t t.initial actions a before s runs step)
 
-module _ {S : Type 0} (t : System S ℕ) (value : S → ℕ) (is_dead : S → Bool) (states : List S) (all : List Node) (open_list : List Waiting)
-    (one_each : length all ≡ length states) (nodes : AreNodes t value is_dead (found_of states all) open_list) where
+module _ {S : Type 0} (t : System S ℕ) (class_of : S → S) (value : S → ℕ) (is_dead : S → Bool) (states : List S) (all : List Node) (open_list : List Waiting)
+    (one_each : length all ≡ length states) (nodes : AreNodes t class_of value is_dead (found_of states all) open_list) where
   node_there : (k : ℕ) (x : S) → slice_get states k ≡ Some x → (n : Found S) × (slice_get (found_of states all) k ≡ Some n) × (n.state ≡ x)
   node_there k x at =
       let r = get_exists all k (omega (arith, slice_get_within states k x at)) in

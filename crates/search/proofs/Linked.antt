@@ -1,11 +1,11 @@
 -- The found states are the two lists put together, place by place.
-use Rattle.std.proofs.Common.{◌≡◌, ℕ, zero, suc, ◌<◌, List, [], ◌∷◌, ◌++◌, length, set, Some, false, refl, sym, ap, ◌∙◌, subst, arith}
+use Rattle.std.proofs.Common.{◌≡◌, ℕ, zero, suc, ◌<◌, List, [], ◌∷◌, ◌++◌, length, set, Some, true, false, refl, sym, ap, ◌∙◌, subst, arith}
 use Rattle.std.specs.Prelude.{slice_get}
 use Rattle.std.proofs.lemmas.Option.{same_Some, slice_get_within}
 use Rattle.std.proofs.lemmas.List.{length-set, length-append}
 use Rattle.search.specs.declared.nodes.Node.{Node}
-use Rattle.search.specs.Outcome.{is_expanded}
-use Rattle.search.specs.Nodes.{Found, found_of, Updates}
+use Rattle.search.specs.Outcome.{AreOfOneClass, is_expanded}
+use Rattle.search.specs.Nodes.{has_been_expanded, Found, found_of, Updates}
 use Rattle.search.proofs.Lists.{get-push_new, get-push_other, get-set_here, get-set_other}
 use Rattle.search.proofs.Work.{work_push, work_cheaper}
 
@@ -55,15 +55,25 @@ module _ {S : Type 0} where
   found_of-set (x ∷ states) (y ∷ all) (suc k) n r at =
       ap (λ ns. record { state = x; node = y } ∷ ns) (found_of-set states all k n r at)
 
+  -- another state takes the place
+  pub found_of-replace : (states : List S) (all : List Node) (k : ℕ) (n : Found S) (s : S) (r : Node) → slice_get (found_of states all) k ≡ Some n
+      → found_of (set states k s) (set all k r) ≡ set (found_of states all) k (record { state = s; node = r })
+  found_of-replace [] all k n s r at = absurd (cc)
+  found_of-replace (x ∷ states) [] k n s r at = absurd (cc)
+  found_of-replace (x ∷ states) (y ∷ all) zero n s r at = refl
+  found_of-replace (x ∷ states) (y ∷ all) (suc k) n s r at =
+      ap (λ ns. record { state = x; node = y } ∷ ns) (found_of-replace states all k n s r at)
+
   -- a node is new
-  pub updates-push : (nodes : List (Found S)) (m : Found S) → is_expanded m.node ≡ false → ((k : ℕ) (n : Found S) → slice_get nodes k ≡ Some n → n.state ≡ m.state → ⊥)
-      → Updates nodes (nodes ++ m ∷ []) (length nodes) m
-  updates-push nodes m waits is_new =
+  pub updates-push : (class_of : S → S) (nodes : List (Found S)) (m : Found S) → is_expanded m.node ≡ false → ((k : ℕ) (n : Found S) → slice_get nodes k ≡ Some n → n.state ≡ m.state → ⊥)
+      → Updates class_of nodes (nodes ++ m ∷ []) (length nodes) m
+  updates-push class_of nodes m waits is_new =
       let none : (n : Found S) → slice_get nodes (length nodes) ≡ Some n → ⊥ = λ n at. omega (arith, slice_get_within nodes (length nodes) n at) in
       record {
         here = get-push_new nodes m;
         others = λ k other. get-push_other nodes m k other;
         waits = waits;
+        same_class = λ n at. absurd (none n at);
         same_state = λ n at. absurd (none n at);
         cheaper = λ n at. absurd (none n at);
         only = λ k n at same. absurd (is_new k n at same);
@@ -71,18 +81,20 @@ module _ {S : Type 0} where
         less = λ most within cheap. work_push nodes m most waits within cheap;
       }
 
-  -- a node is reached at a lower cost
-  pub updates-set : (nodes : List (Found S)) (j : ℕ) (n m : Found S) → slice_get nodes j ≡ Some n → is_expanded m.node ≡ false → n.state ≡ m.state → m.node.cost < n.node.cost
-      → ((k : ℕ) (x : Found S) → slice_get nodes k ≡ Some x → x.state ≡ n.state → k ≡ j) → Updates nodes (set nodes j m) j m
-  updates-set nodes j n m at waits same cheaper only =
+  -- a node is reached at a lower cost, or another of its class takes its place
+  pub updates-set : (class_of : S → S) (nodes : List (Found S)) (j : ℕ) (n m : Found S) → slice_get nodes j ≡ Some n → is_expanded m.node ≡ false → AreOfOneClass class_of m.state n.state
+      → (has_been_expanded n.node ≡ true → (m.state ≡ n.state) × (has_been_expanded m.node ≡ true)) → m.node.cost < n.node.cost
+      → ((k : ℕ) (x : Found S) → slice_get nodes k ≡ Some x → x.state ≡ m.state → k ≡ j) → Updates class_of nodes (set nodes j m) j m
+  updates-set class_of nodes j n m at waits alike same cheaper only =
       let is : (x : Found S) → slice_get nodes j ≡ Some x → n ≡ x = λ x at_x. same_Some n x (sym at ∙ at_x) in
       record {
         here = get-set_here nodes j m n at;
         others = λ k other. get-set_other nodes j m k other;
         waits = waits;
-        same_state = λ x at_x. subst (λ (y : Found S). y.state ≡ m.state) (is x at_x) same;
+        same_class = λ x at_x. subst (λ (y : Found S). AreOfOneClass class_of m.state y.state) (is x at_x) alike;
+        same_state = λ x at_x. subst (λ (y : Found S). has_been_expanded y.node ≡ true → (m.state ≡ y.state) × (has_been_expanded m.node ≡ true)) (is x at_x) same;
         cheaper = λ x at_x. subst (λ (y : Found S). m.node.cost < y.node.cost) (is x at_x) cheaper;
-        only = λ k x at_x same_x. only k x at_x (same_x ∙ sym same);
+        only = only;
         longer = omega (arith, length-set nodes j m);
         less = λ most _ _. work_cheaper nodes j n m most at waits cheaper;
       }

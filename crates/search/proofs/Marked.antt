@@ -7,11 +7,11 @@ use Rattle.std.proofs.lemmas.List.Elements.{All-cons}
 use Rattle.model.proofs.ListLemmas.{Contains-here, Contains-there}
 use Rattle.model.specs.Runs.{System, CostsAtLeast}
 use Rattle.search.specs.declared.nodes.NodeStatus.{NodeStatus}
-use Rattle.search.specs.declared.nodes.NodeStatus.TheVariants.{Open, Expanded}
+use Rattle.search.specs.declared.nodes.NodeStatus.TheVariants.{Reopened, Expanded}
 use Rattle.search.specs.Estimates.{IsConsistent}
 use Rattle.search.specs.DeadEnds.{DetectsDeadEnds}
-use Rattle.search.specs.Nodes.{Waiting, entry, IsWaiting, total_of, IsEntryOf, parent_of, follows, HasWay, Found, Leads, dearest, AreNodes, IsOpen, AreOpen, AreOpenBut, IsTurn, marked}
-use Rattle.search.specs.Outcome.{is_expanded, is_marked_dead, IsReachableAt, ReachingCostsAtLeast}
+use Rattle.search.specs.Nodes.{Waiting, entry, IsWaiting, total_of, IsEntryOf, has_been_expanded_status, parent_of, follows, HasWay, Found, Leads, dearest, AreNodes, IsOpen, AreOpen, AreOpenBut, IsTurn, marked}
+use Rattle.search.specs.Outcome.{AreOwnClasses, is_expanded, is_marked_dead, IsReachableAt, ReachingCostsAtLeast}
 use Rattle.search.proofs.Kept.{AreKept, way_kept, open_kept, leads_kept, entries_kept}
 
 -- what holds of the found states however far the search is with them
@@ -23,8 +23,8 @@ pub record AreReached {S : Type 0} (t : System S ℕ) (value : S → ℕ) (is_de
   pub reached : (k : ℕ) (n : Found S) → slice_get nodes k ≡ Some n → HasWay nodes k
   pub reachable : (k : ℕ) (n : Found S) → slice_get nodes k ≡ Some n → IsReachableAt t n.state n.node.cost
 
--- the node at one place has another status now
-module _ {S : Type 0} (status : NodeStatus) (nodes after : List (Found S)) (i : ℕ) (one : Found S) (stood : slice_get nodes i ≡ Some one)
+-- the node at one place has another status now, that of one that has been expanded
+module _ {S : Type 0} (status : NodeStatus) (lasting : has_been_expanded_status status ≡ true) (nodes after : List (Found S)) (i : ℕ) (one : Found S) (stood : slice_get nodes i ≡ Some one)
     (here : slice_get after i ≡ Some (marked status one)) (others : (k : ℕ) → k ≢ i → slice_get after k ≡ slice_get nodes k) where
   pub each_marked : (P : ℕ → Found S → Type 0) → P i (marked status one) → ((k : ℕ) (n : Found S) → k ≢ i → slice_get nodes k ≡ Some n → P k n) → (k : ℕ) (n : Found S) → slice_get after k ≡ Some n → P k n
   each_marked P at_i elsewhere k n at =
@@ -36,13 +36,21 @@ module _ {S : Type 0} (status : NodeStatus) (nodes after : List (Found S)) (i : 
   same_marked : (k : ℕ) (n : Found S) → k ≡ i → slice_get nodes k ≡ Some n → one ≡ n
   same_marked k n e at = same_Some one n (sym stood ∙ ap (slice_get nodes) (sym e) ∙ at)
 
-  pub kept_marked : AreKept nodes after
-  kept_marked k n at =
+  pub kept_marked : (class_of : S → S) → AreKept class_of nodes after
+  kept_marked class_of k n at =
       elim (cases_eq k i) [
         | inl e ↦
             let same = same_marked k n e at in
-            (marked status one, ap (slice_get after) e ∙ here, ap (λ (x : Found S). x.state) same, omega (arith, ap (λ (x : Found S). x.node.cost) same))
-        | inr other ↦ (n, others k other ∙ at, refl, omega arith)
+            let same_state : one.state ≡ n.state = ap (λ (x : Found S). x.state) same in
+            record {
+              now = marked status one;
+              there = ap (slice_get after) e ∙ here;
+              alike = ap class_of same_state;
+              cheaper = omega (arith, ap (λ (x : Found S). x.node.cost) same);
+              same_cost = λ _. same_state;
+              expanded = λ _. (same_state, lasting);
+            }
+        | inr other ↦ record { now = n; there = others k other ∙ at; alike = refl; cheaper = omega arith; same_cost = λ _. refl; expanded = λ expanded. (refl, expanded) }
       ]
 
   -- a way leads where it led
@@ -55,26 +63,27 @@ module _ {S : Type 0} (status : NodeStatus) (nodes after : List (Found S)) (i : 
         | inr other ↦ (path ++ n.node.action ∷ [], follows n path elsewhere (others k other ∙ at) leads refl)
       ]
 
-  module _ (t : System S ℕ) (value : S → ℕ) (is_dead : S → Bool) where
+  module _ (t : System S ℕ) (class_of : S → S) (value : S → ℕ) (is_dead : S → Bool) where
     marked_leads : (n : Found S) → Leads t value is_dead after n → Leads t value is_dead after (marked status n)
     marked_leads n leads = record {
       parent = leads.parent;
       occurs = leads.occurs;
       cost = leads.cost;
+      expanded = leads.expanded;
       step = leads.step;
       no_goal = leads.no_goal;
       alive = leads.alive;
       no_dearer = leads.no_dearer;
     }
 
-    pub reached_marked : (open_list : List Waiting) → AreNodes t value is_dead nodes open_list → length after ≡ length nodes → AreReached t value is_dead after
+    pub reached_marked : (open_list : List Waiting) → AreNodes t class_of value is_dead nodes open_list → length after ≡ length nodes → AreReached t value is_dead after
     reached_marked open_list old long =
-        let still : (n : Found S) → Leads t value is_dead nodes n → Leads t value is_dead after n = leads_kept nodes after kept_marked t value is_dead in
+        let still : (n : Found S) → Leads t value is_dead nodes n → Leads t value is_dead after n = leads_kept nodes after class_of (kept_marked class_of) t value is_dead in
         record {
           root =
               let (n, at, is, free) = old.root in
-              let (m, there, same, cheaper) = kept_marked 0 n at in
-              (m, there, same ∙ is, omega (arith, free, cheaper));
+              let kept = kept_marked (λ s. s) 0 n at in
+              (kept.now, kept.there, kept.alike ∙ is, omega (arith, free, kept.cheaper));
           linked = each_marked (λ k n. k ≢ 0 → Leads t value is_dead after n)
               (λ elsewhere. marked_leads one (still one (old.linked i one stood elsewhere)))
               (λ k n _ at elsewhere. still n (old.linked k n at elsewhere));
@@ -94,19 +103,19 @@ module _ {S : Type 0} (status : NodeStatus) (nodes after : List (Found S)) (i : 
 -- its turn begins
 module _ {S : Type 0} (nodes after : List (Found S)) (i : ℕ) (one : Found S) (stood : slice_get nodes i ≡ Some one) (waited : is_expanded one.node ≡ false)
     (here : slice_get after i ≡ Some (marked Expanded one)) (others : (k : ℕ) → k ≢ i → slice_get after k ≡ slice_get nodes k) (long : length after ≡ length nodes)
-    (t : System S ℕ) (value : S → ℕ) (is_dead : S → Bool) (open_list open_list' : List Waiting) (old : AreNodes t value is_dead nodes open_list) (alive : is_dead one.state ≡ false) where
+    (t : System S ℕ) (class_of : S → S) (value : S → ℕ) (is_dead : S → Bool) (open_list open_list' : List Waiting) (old : AreNodes t class_of value is_dead nodes open_list) (alive : is_dead one.state ≡ false) where
   each : (P : ℕ → Found S → Type 0) → P i (marked Expanded one) → ((k : ℕ) (n : Found S) → k ≢ i → slice_get nodes k ≡ Some n → P k n) → (k : ℕ) (n : Found S) → slice_get after k ≡ Some n → P k n
-  each = each_marked Expanded nodes after i one stood here others
+  each = each_marked Expanded refl nodes after i one stood here others
 
-  kept : AreKept nodes after
-  kept = kept_marked Expanded nodes after i one stood here others
+  kept : AreKept class_of nodes after
+  kept = kept_marked Expanded refl nodes after i one stood here others class_of
 
-  pub nodes_marked : t.meets_goal one.state ≡ false → CostsAtLeast t (total_of value one) → (IsConsistent t value → DetectsDeadEnds t is_dead → ReachingCostsAtLeast t one.state one.node.cost)
+  pub nodes_marked : t.meets_goal one.state ≡ false → CostsAtLeast t (total_of value one) → (AreOwnClasses class_of → IsConsistent t value → DetectsDeadEnds t is_dead → ReachingCostsAtLeast t one.state one.node.cost)
       → ((k : ℕ) (n : Found S) → slice_get nodes k ≡ Some n → IsWaiting is_dead n → total_of value one ≤ total_of value n)
       → ((k : ℕ) (n : Found S) → slice_get nodes k ≡ Some n → IsWaiting is_dead n → k ≢ i → Contains open_list' (entry n.node.cost (value n.state) k))
-      → All (IsEntryOf value is_dead nodes) open_list' → AreNodes t value is_dead after open_list'
+      → All (IsEntryOf value is_dead nodes) open_list' → AreNodes t class_of value is_dead after open_list'
   nodes_marked no_goal no_dearer cheapest least queued entries =
-      let are = reached_marked Expanded nodes after i one stood here others t value is_dead open_list old long in
+      let are = reached_marked Expanded refl nodes after i one stood here others t class_of value is_dead open_list old long in
       record {
         root = are.root;
         linked = are.linked;
@@ -116,9 +125,9 @@ module _ {S : Type 0} (nodes after : List (Found S)) (i : ℕ) (one : Found S) (
         reachable = are.reachable;
         no_goal = each (λ k n. is_expanded n.node ≡ true → t.meets_goal n.state ≡ false) (λ _. no_goal) (λ k n _ at. old.no_goal k n at);
         no_dearer = each (λ k n. is_expanded n.node ≡ true → CostsAtLeast t (total_of value n)) (λ _. no_dearer) (λ k n _ at. old.no_dearer k n at);
-        cheapest = λ consistent detects. each (λ k n. is_expanded n.node ≡ true → ReachingCostsAtLeast t n.state n.node.cost)
-            (λ _. cheapest consistent detects)
-            (λ k n _ at. old.cheapest consistent detects k n at);
+        cheapest = λ own consistent detects. each (λ k n. is_expanded n.node ≡ true → ReachingCostsAtLeast t n.state n.node.cost)
+            (λ _. cheapest own consistent detects)
+            (λ k n _ at. old.cheapest own consistent detects k n at);
         alive = each (λ k n. is_expanded n.node ≡ true → is_dead n.state ≡ false) (λ _. alive) (λ k n _ at. old.alive k n at);
         marked = each (λ k n. is_marked_dead n.node ≡ is_dead n.state) (sym alive) (λ k n _ at. old.marked k n at);
         ordered = λ consistent p k x n at_p at_k expanded waits.
@@ -133,7 +142,7 @@ module _ {S : Type 0} (nodes after : List (Found S)) (i : ℕ) (one : Found S) (
         queued = each (λ k n. IsWaiting is_dead n → Contains open_list' (entry n.node.cost (value n.state) k))
             (λ waits. absurd (false≢true (sym waits.0)))
             (λ k n other at waits. queued k n at waits other);
-        entries = entries_kept nodes after kept value is_dead open_list' entries;
+        entries = entries_kept nodes after class_of kept value is_dead open_list' entries;
       }
 
   pub turn_marked : IsTurn t value after i
@@ -146,36 +155,36 @@ module _ {S : Type 0} (nodes after : List (Found S)) (i : ℕ) (one : Found S) (
         (λ k n _ at expanded. old.ordered consistent k i n one at stood expanded (waited, alive));
   }
 
-  pub open_but_marked : AreOpen t nodes → AreOpenBut t after i
-  open_but_marked all = each (λ k n. is_expanded n.node ≡ true → k ≢ i → IsOpen t after n)
+  pub open_but_marked : AreOpen t class_of nodes → AreOpenBut t class_of after i
+  open_but_marked all = each (λ k n. is_expanded n.node ≡ true → k ≢ i → IsOpen t class_of after n)
       (λ _ other. absurd (other refl))
-      (λ k n _ at expanded _. open_kept nodes after kept t n (all k n at expanded))
+      (λ k n _ at expanded _. open_kept nodes after class_of kept t n (all k n at expanded))
 
 -- its turn is taken back: it waits again
-module _ {S : Type 0} (t : System S ℕ) (value : S → ℕ) (is_dead : S → Bool) (nodes after : List (Found S)) (i : ℕ) (turn : IsTurn t value nodes i)
-    (here : slice_get after i ≡ Some (marked Open turn.found)) (others : (k : ℕ) → k ≢ i → slice_get after k ≡ slice_get nodes k) where
-  back : (P : ℕ → Found S → Type 0) → P i (marked Open turn.found) → ((k : ℕ) (n : Found S) → k ≢ i → slice_get nodes k ≡ Some n → P k n) → (k : ℕ) (n : Found S) → slice_get after k ≡ Some n → P k n
-  back = each_marked Open nodes after i turn.found turn.occurs here others
+module _ {S : Type 0} (t : System S ℕ) (class_of : S → S) (value : S → ℕ) (is_dead : S → Bool) (nodes after : List (Found S)) (i : ℕ) (turn : IsTurn t value nodes i)
+    (here : slice_get after i ≡ Some (marked Reopened turn.found)) (others : (k : ℕ) → k ≢ i → slice_get after k ≡ slice_get nodes k) where
+  back : (P : ℕ → Found S → Type 0) → P i (marked Reopened turn.found) → ((k : ℕ) (n : Found S) → k ≢ i → slice_get nodes k ≡ Some n → P k n) → (k : ℕ) (n : Found S) → slice_get after k ≡ Some n → P k n
+  back = each_marked Reopened refl nodes after i turn.found turn.occurs here others
 
-  kept_back : AreKept nodes after
-  kept_back = kept_marked Open nodes after i turn.found turn.occurs here others
+  kept_back : AreKept class_of nodes after
+  kept_back = kept_marked Reopened refl nodes after i turn.found turn.occurs here others class_of
 
   -- of those that are expanded still, each was there
   expanded_back : (P : ℕ → Found S → Type 0) → ((k : ℕ) (n : Found S) → k ≢ i → slice_get nodes k ≡ Some n → is_expanded n.node ≡ true → P k n)
       → (k : ℕ) (n : Found S) → slice_get after k ≡ Some n → is_expanded n.node ≡ true → P k n
   expanded_back P elsewhere = back (λ k n. is_expanded n.node ≡ true → P k n) (λ expanded. absurd (false≢true expanded)) elsewhere
 
-  pub open_unmarked : AreOpenBut t nodes i → AreOpen t after
-  open_unmarked all = expanded_back (λ k n. IsOpen t after n) (λ k n other at expanded. open_kept nodes after kept_back t n (all k n at expanded other))
+  pub open_unmarked : AreOpenBut t class_of nodes i → AreOpen t class_of after
+  open_unmarked all = expanded_back (λ k n. IsOpen t class_of after n) (λ k n other at expanded. open_kept nodes after class_of kept_back t n (all k n at expanded other))
 
-  pub nodes_unmarked : (open_list : List Waiting) → AreNodes t value is_dead nodes open_list → length after ≡ length nodes
-      → AreNodes t value is_dead after (entry turn.found.node.cost (value turn.found.state) i ∷ open_list)
+  pub nodes_unmarked : (open_list : List Waiting) → AreNodes t class_of value is_dead nodes open_list → length after ≡ length nodes
+      → AreNodes t class_of value is_dead after (entry turn.found.node.cost (value turn.found.state) i ∷ open_list)
   nodes_unmarked open_list old long =
       let one = turn.found in
       let first = entry one.node.cost (value one.state) i in
       let alive = old.alive i one turn.occurs turn.expanded in
-      let are = reached_marked Open nodes after i one turn.occurs here others t value is_dead open_list old long in
-      let of : IsEntryOf value is_dead after first = record { found = marked Open one; occurs = here; alive = alive; estimate = refl; part = omega arith } in
+      let are = reached_marked Reopened refl nodes after i one turn.occurs here others t class_of value is_dead open_list old long in
+      let of : IsEntryOf value is_dead after first = record { found = marked Reopened one; occurs = here; no_dearer = omega arith; alive = λ _. alive; estimate = λ _. refl } in
       record {
         root = are.root;
         linked = are.linked;
@@ -185,7 +194,7 @@ module _ {S : Type 0} (t : System S ℕ) (value : S → ℕ) (is_dead : S → Bo
         reachable = are.reachable;
         no_goal = expanded_back (λ k n. t.meets_goal n.state ≡ false) (λ k n _ at. old.no_goal k n at);
         no_dearer = expanded_back (λ k n. CostsAtLeast t (total_of value n)) (λ k n _ at. old.no_dearer k n at);
-        cheapest = λ consistent detects. expanded_back (λ k n. ReachingCostsAtLeast t n.state n.node.cost) (λ k n _ at. old.cheapest consistent detects k n at);
+        cheapest = λ own consistent detects. expanded_back (λ k n. ReachingCostsAtLeast t n.state n.node.cost) (λ k n _ at. old.cheapest own consistent detects k n at);
         alive = expanded_back (λ k n. is_dead n.state ≡ false) (λ k n _ at. old.alive k n at);
         marked = back (λ k n. is_marked_dead n.node ≡ is_dead n.state) (sym alive) (λ k n _ at. old.marked k n at);
         ordered = λ consistent p k x n at_p at_k expanded waits.
@@ -199,13 +208,14 @@ module _ {S : Type 0} (t : System S ℕ) (value : S → ℕ) (is_dead : S → Bo
         queued = back (λ k n. IsWaiting is_dead n → Contains (first ∷ open_list) (entry n.node.cost (value n.state) k))
             (λ _. Contains-here first open_list)
             (λ k n _ at waits. Contains-there first open_list (entry n.node.cost (value n.state) k) (old.queued k n at waits));
-        entries = All-cons (IsEntryOf value is_dead after) first open_list of (entries_kept nodes after kept_back value is_dead open_list old.entries);
+        entries = All-cons (IsEntryOf value is_dead after) first open_list of (entries_kept nodes after class_of kept_back value is_dead open_list old.entries);
       }
 
 -- its turn ends: it is open as the others are
-pub open_all : {S : Type 0} (t : System S ℕ) (nodes : List (Found S)) (i : ℕ) (one : Found S) → slice_get nodes i ≡ Some one → IsOpen t nodes one → AreOpenBut t nodes i → AreOpen t nodes
-open_all {S} t nodes i one occurs is_open others k n at expanded =
+pub open_all : {S : Type 0} (t : System S ℕ) (class_of : S → S) (nodes : List (Found S)) (i : ℕ) (one : Found S) → slice_get nodes i ≡ Some one → IsOpen t class_of nodes one
+    → AreOpenBut t class_of nodes i → AreOpen t class_of nodes
+open_all {S} t class_of nodes i one occurs is_open others k n at expanded =
     elim (cases_eq k i) [
-      | inl e ↦ subst (λ (x : Found S). IsOpen t nodes x) (same_Some one n (sym occurs ∙ ap (slice_get nodes) (sym e) ∙ at)) is_open
+      | inl e ↦ subst (λ (x : Found S). IsOpen t class_of nodes x) (same_Some one n (sym occurs ∙ ap (slice_get nodes) (sym e) ∙ at)) is_open
       | inr other ↦ others k n at expanded other
     ]

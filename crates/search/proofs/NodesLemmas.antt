@@ -10,19 +10,21 @@ use Rattle.std.proofs.lemmas.Bool.{cases_eq, false≢true}
 use Rattle.std.proofs.lemmas.Option.{same_Some}
 use Rattle.std.proofs.lemmas.List.Sums.{sum_by-append}
 use Rattle.model.specs.Runs.{System, run, CostsAtLeast}
+use Rattle.search.specs.declared.nodes.NodeStatus.{NodeStatus}
+use Rattle.search.specs.declared.nodes.NodeStatus.TheVariants.{Open, Reopened, Expanded, Dead}
 use Rattle.search.specs.Estimates.{IsConsistent}
-use Rattle.search.specs.Outcome.{is_expanded, is_marked_dead, IsReachableAt, ReachingCostsAtLeast}
-use Rattle.search.specs.Nodes.{Waiting, entry, IsWaiting, total_of, IsEntryOf, parent_of, begins, follows, IsWay, HasWay, Found, Leads, dearest, AreNodes, IsOpen, AreOpenBut, IsTurn, Updates}
+use Rattle.search.specs.Outcome.{is_expanded_status, is_expanded, is_marked_dead, IsReachableAt, ReachingCostsAtLeast}
+use Rattle.search.specs.Nodes.{Waiting, entry, IsWaiting, total_of, IsEntryOf, has_been_expanded_status, parent_of, begins, follows, IsWay, HasWay, Found, Leads, dearest, AreNodes, IsOpen, AreOpenBut, IsTurn, Updates}
 use Rattle.search.specs.Progress.{Continues, IsListed}
 use Rattle.search.proofs.Kept.{AreKept, way_kept, found_kept, open_kept, leads_kept, entries_kept}
 
 -- What holds of the nodes after a step of an expansion, by which the state is reached by the action.
-pub record Stepped {S : Type 0} (t : System S ℕ) (value : S → ℕ) (is_dead : S → Bool) (nodes after : List (Found S)) (open_list : List Waiting) (i : ℕ) (a : ℕ) (s : S) : Type 0 where
-  pub sound : AreNodes t value is_dead after open_list
+pub record Stepped {S : Type 0} (t : System S ℕ) (class_of : S → S) (value : S → ℕ) (is_dead : S → Bool) (nodes after : List (Found S)) (open_list : List Waiting) (i : ℕ) (a : ℕ) (s : S) : Type 0 where
+  pub sound : AreNodes t class_of value is_dead after open_list
   pub turn : IsTurn t value after i
-  pub others : AreOpenBut t after i
-  pub continues : Continues nodes after i
-  pub listed : IsListed t after i a s
+  pub others : AreOpenBut t class_of after i
+  pub continues : Continues class_of nodes after i
+  pub listed : IsListed t class_of after i a s
 
 -- the open list once a state is reached by a way that is new: its entry joins the others, unless the state is reported dead
 abbrev pub IsJoined : Bool → Waiting → List Waiting → List Waiting → Type 0
@@ -45,7 +47,14 @@ module _ {S A : Type 0} (t : System S A) where
   reachable-push s next cost a (actions, runs, costs) step =
       (actions ++ a ∷ [], run-push t.initial actions a s next runs step, sum_by-append t.cost actions (a ∷ []) ∙ omega (arith, costs))
 
-module _ {S : Type 0} (nodes after : List (Found S)) (j : ℕ) (m : Found S) (updates : Updates nodes after j m) where
+-- what is expanded now has been expanded
+pub expanded_been : (status : NodeStatus) → is_expanded_status status ≡ true → has_been_expanded_status status ≡ true
+expanded_been Open expanded = absurd (false≢true expanded)
+expanded_been Reopened expanded = refl
+expanded_been Expanded expanded = refl
+expanded_been Dead expanded = absurd (false≢true expanded)
+
+module _ {S : Type 0} (class_of : S → S) (nodes after : List (Found S)) (j : ℕ) (m : Found S) (updates : Updates class_of nodes after j m) where
   -- a node after the update is the updated one, or was there before
   pub at_cases : (k : ℕ) (n : Found S) → slice_get after k ≡ Some n → ((k ≡ j) × (m ≡ n)) ⊎ ((k ≢ j) × (slice_get nodes k ≡ Some n))
   at_cases k n at =
@@ -54,13 +63,20 @@ module _ {S : Type 0} (nodes after : List (Found S)) (j : ℕ) (m : Found S) (up
         | inr other ↦ inr (other, sym (updates.others k other) ∙ at)
       ]
 
-  kept_updated : AreKept nodes after
+  kept_updated : AreKept class_of nodes after
   kept_updated k n at =
       elim (cases_eq k j) [
         | inl e ↦
             let was : slice_get nodes j ≡ Some n = ap (slice_get nodes) (sym e) ∙ at in
-            (m, ap (slice_get after) e ∙ updates.here, sym (updates.same_state n was), omega (arith, updates.cheaper n was))
-        | inr other ↦ (n, updates.others k other ∙ at, refl, omega arith)
+            record {
+              now = m;
+              there = ap (slice_get after) e ∙ updates.here;
+              alike = updates.same_class n was;
+              cheaper = omega (arith, updates.cheaper n was);
+              same_cost = λ same. absurd (omega (arith, updates.cheaper n was, same));
+              expanded = updates.same_state n was;
+            }
+        | inr other ↦ record { now = n; there = updates.others k other ∙ at; alike = refl; cheaper = omega arith; same_cost = λ _. refl; expanded = λ expanded. (refl, expanded) }
       ]
 
   -- what holds of the updated node, and of each node before the update, holds of each node after it
@@ -94,7 +110,7 @@ module _ {S : Type 0} (nodes after : List (Found S)) (j : ℕ) (m : Found S) (up
       → IsJoined (is_dead m.state) (entry m.node.cost (value m.state) j) open_list open_list' → HasJoined value is_dead open_list open_list'
   has_joined value is_dead open_list open_list' entries =
       let one = entry m.node.cost (value m.state) j in
-      let all_in : All (IsEntryOf value is_dead after) open_list = entries_kept nodes after kept_updated value is_dead open_list entries in
+      let all_in : All (IsEntryOf value is_dead after) open_list = entries_kept nodes after class_of kept_updated value is_dead open_list entries in
       elim (is_dead m.state) as (λ d. is_dead m.state ≡ d → IsJoined d one open_list open_list' → HasJoined value is_dead open_list open_list') [
         | true ↦ λ dead same. record {
           keeps = λ w at. subst (λ q. Contains q w) (sym same) at;
@@ -102,7 +118,7 @@ module _ {S : Type 0} (nodes after : List (Found S)) (j : ℕ) (m : Found S) (up
           entries = subst (λ q. All (IsEntryOf value is_dead after) q) (sym same) all_in;
         }
         | false ↦ λ alive joins.
-            let of : IsEntryOf value is_dead after one = record { found = m; occurs = updates.here; alive = alive; estimate = refl; part = omega arith } in
+            let of : IsEntryOf value is_dead after one = record { found = m; occurs = updates.here; no_dearer = omega arith; alive = λ _. alive; estimate = λ _. refl } in
             record {
               keeps = λ w at. Contains-permutation (one ∷ open_list) open_list' w joins (Contains-there one open_list w at);
               queued = λ _. Contains-permutation (one ∷ open_list) open_list' one joins (Contains-here one open_list);
@@ -111,7 +127,7 @@ module _ {S : Type 0} (nodes after : List (Found S)) (j : ℕ) (m : Found S) (up
       ] refl
 
   -- a state that an action leads to from the node whose turn it is joins the others, or is now reached at a lower cost
-  module _ (t : System S ℕ) (value : S → ℕ) (is_dead : S → Bool) (i : ℕ) (turn : IsTurn t value nodes i) (open_list : List Waiting) (old : AreNodes t value is_dead nodes open_list)
+  module _ (t : System S ℕ) (value : S → ℕ) (is_dead : S → Bool) (i : ℕ) (turn : IsTurn t value nodes i) (open_list : List Waiting) (old : AreNodes t class_of value is_dead nodes open_list)
       (parent : parent_of m.node ≡ i) (cost : m.node.cost ≡ turn.found.node.cost + t.cost m.node.action) where
     -- a node that costs no more than the one whose turn it is is not the updated one
     not_here : (k : ℕ) (n : Found S) → slice_get nodes k ≡ Some n → n.node.cost ≤ turn.found.node.cost → k ≢ j
@@ -129,8 +145,8 @@ module _ {S : Type 0} (nodes after : List (Found S)) (j : ℕ) (m : Found S) (up
       greatest = λ consistent. each_expanded (λ k n. total_of value n ≤ total_of value turn.found) (turn.greatest consistent);
     }
 
-    open_but_still : AreOpenBut t nodes i → AreOpenBut t after i
-    open_but_still all = each_expanded (λ k n. k ≢ i → IsOpen t after n) (λ k n at expanded other. open_kept nodes after kept_updated t n (all k n at expanded other))
+    open_but_still : AreOpenBut t class_of nodes i → AreOpenBut t class_of after i
+    open_but_still all = each_expanded (λ k n. k ≢ i → IsOpen t class_of after n) (λ k n at expanded other. open_kept nodes after class_of kept_updated t n (all k n at expanded other))
 
     -- costs do not fall along a way, so that the one to the node whose turn it is does not come to the updated one
     way_still : (k : ℕ) (way : List ℕ) → IsWay nodes k way → ((n : Found S) → slice_get nodes k ≡ Some n → n.node.cost ≤ turn.found.node.cost) → IsWay after k way
@@ -161,12 +177,13 @@ module _ {S : Type 0} (nodes after : List (Found S)) (j : ℕ) (m : Found S) (up
 
     nodes_updated : (open_list' : List Waiting) → m.node.cost ≤ length after * dearest → t.step turn.found.state m.node.action ≡ Some m.state
         → (IsConsistent t value → value turn.found.state ≤ t.cost m.node.action + value m.state)
-        → is_marked_dead m.node ≡ is_dead m.state → HasJoined value is_dead open_list open_list' → AreNodes t value is_dead after open_list'
+        → is_marked_dead m.node ≡ is_dead m.state → HasJoined value is_dead open_list open_list' → AreNodes t class_of value is_dead after open_list'
     nodes_updated open_list' affordable step falls reported joined =
         let leads : Leads t value is_dead after m = record {
           parent = turn.found;
           occurs = ap (slice_get after) parent ∙ stays;
           cost = omega (arith, cost);
+          expanded = expanded_been turn.found.node.status turn.expanded;
           step = step;
           no_goal = old.no_goal i turn.found turn.occurs turn.expanded;
           alive = old.alive i turn.found turn.occurs turn.expanded;
@@ -175,9 +192,8 @@ module _ {S : Type 0} (nodes after : List (Found S)) (j : ℕ) (m : Found S) (up
         record {
           root =
               let (n, at, is, free) = old.root in
-              let (x, there, same, cheaper) = kept_updated 0 n at in
-              (x, there, same ∙ is, omega (arith, free, cheaper));
-          linked = each_after (λ k n. k ≢ 0 → Leads t value is_dead after n) (λ _. leads) (λ k n other at elsewhere. leads_kept nodes after kept_updated t value is_dead n (old.linked k n at elsewhere));
+              (n, updates.others 0 (not_here 0 n at (omega (arith, free))) ∙ at, is, free);
+          linked = each_after (λ k n. k ≢ 0 → Leads t value is_dead after n) (λ _. leads) (λ k n other at elsewhere. leads_kept nodes after class_of kept_updated t value is_dead n (old.linked k n at elsewhere));
           distinct = λ p k x n at_p at_k same.
               each_after (λ p x. x.state ≡ n.state → p ≡ k)
               (each_after (λ k n. m.state ≡ n.state → j ≡ k) (λ _. refl) (λ k n other at same. sym (updates.only k n at (sym same))) k n at_k)
@@ -191,7 +207,7 @@ module _ {S : Type 0} (nodes after : List (Found S)) (j : ℕ) (m : Found S) (up
               (λ k n other at. old.reachable k n at);
           no_goal = each_expanded (λ k n. t.meets_goal n.state ≡ false) old.no_goal;
           no_dearer = each_expanded (λ k n. CostsAtLeast t (total_of value n)) old.no_dearer;
-          cheapest = λ consistent detects. each_expanded (λ k n. ReachingCostsAtLeast t n.state n.node.cost) (old.cheapest consistent detects);
+          cheapest = λ own consistent detects. each_expanded (λ k n. ReachingCostsAtLeast t n.state n.node.cost) (old.cheapest own consistent detects);
           alive = each_expanded (λ k n. is_dead n.state ≡ false) old.alive;
           marked = each_after (λ k n. is_marked_dead n.node ≡ is_dead n.state) reported (λ k n other at. old.marked k n at);
           ordered = λ consistent p k x n at_p at_k expanded waits.
@@ -207,17 +223,17 @@ module _ {S : Type 0} (nodes after : List (Found S)) (j : ℕ) (m : Found S) (up
         }
 
     -- all that a step keeps
-    pub stepped : (open_list' : List Waiting) → AreOpenBut t nodes i → m.node.cost ≤ length after * dearest → t.step turn.found.state m.node.action ≡ Some m.state
+    pub stepped : (open_list' : List Waiting) → AreOpenBut t class_of nodes i → m.node.cost ≤ length after * dearest → t.step turn.found.state m.node.action ≡ Some m.state
         → (IsConsistent t value → value turn.found.state ≤ t.cost m.node.action + value m.state)
         → is_marked_dead m.node ≡ is_dead m.state → IsJoined (is_dead m.state) (entry m.node.cost (value m.state) j) open_list open_list'
-        → Stepped t value is_dead nodes after open_list' i m.node.action m.state
+        → Stepped t class_of value is_dead nodes after open_list' i m.node.action m.state
     stepped open_list' others affordable step falls reported joins =
         record {
           sound = nodes_updated open_list' affordable step falls reported (has_joined value is_dead open_list open_list' old.entries joins);
           turn = turn_still;
           others = open_but_still others;
           continues = record {
-            found = found_kept nodes after kept_updated;
+            found = found_kept nodes after class_of kept_updated;
             stays = λ n at. stays ∙ sym turn.occurs ∙ at;
             longer = updates.longer;
             less = λ most within. updates.less most within (omega (arith, affordable, mul-le-mul_right dearest within));

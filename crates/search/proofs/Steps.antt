@@ -1,13 +1,13 @@
 -- The steps of an expansion, over the lists of a search.
-use Rattle.std.proofs.Common.{◌≡◌, ℕ, zero, suc, ◌+◌, ◌*◌, ◌<◌, ◌≤◌, ◌≢◌, ◌⊎◌, inl, inr, List, [], ◌∷◌, ◌++◌, length, set, Bool, Option, None, Some, true, false, refl, sym, ap, ◌∙◌, subst, le_refl, arith}
+use Rattle.std.proofs.Common.{◌≡◌, ℕ, zero, suc, ◌+◌, ◌*◌, ◌<◌, ◌≤◌, ◌≢◌, ◌⊎◌, inl, inr, List, [], ◌∷◌, length, set, Bool, Option, None, Some, true, false, refl, sym, ap, ◌∙◌, subst, le_refl, arith}
 use Rattle.std.specs.Prelude.{◌^◌, slice_get, Contains, All, IfSome, IsPermutation, IsTrue, is_some}
 use Rattle.std.proofs.lemmas.Bool.{false≢true}
 use Rattle.std.proofs.lemmas.Option.{same_Some, slice_get_within}
-use Rattle.std.proofs.lemmas.List.{length-set, length-append}
+use Rattle.std.proofs.lemmas.List.{length-set}
 use Rattle.std.proofs.lemmas.List.Elements.{All-cons, All-nil, All-weaker, All-contains}
 use Rattle.std.proofs.lemmas.List.Sorted.{Contains-permutation, All-permutation}
-use Rattle.std.proofs.Math.Nat.{le_trans, mul-le-mul_right}
-use Rattle.model.proofs.ListLemmas.{Contains-here, Contains-there, Contains-cases, Contains-none, Contains-got}
+use Rattle.std.proofs.Math.Nat.{le_trans}
+use Rattle.model.proofs.ListLemmas.{Contains-here, Contains-there, Contains-cases, Contains-none}
 use Rattle.model.specs.Runs.{System, CostsAtLeast}
 use Rattle.search.specs.declared.nodes.Node.{Node}
 use Rattle.search.specs.declared.nodes.NodeStatus.TheVariants.{Expanded}
@@ -15,103 +15,20 @@ use Rattle.search.specs.declared.nodes.NodeStatus.{NodeStatus}
 use Rattle.search.specs.declared.nodes.ShortId.{ShortId}
 use Rattle.search.specs.Transitions.{AreApplicable}
 use Rattle.search.specs.declared.turns.Turn.{Turn}
-use Rattle.search.specs.Estimates.{IsAdmissible, IsConsistent}
+use Rattle.search.specs.Estimates.{IsAdmissible}
 use Rattle.search.specs.DeadEnds.{ReportsDeadEnds, IsValueUnlessDead}
-use Rattle.search.specs.Outcome.{is_expanded_status, is_dead_status, is_expanded, is_marked_dead, IsReachableAt, ReachingCostsAtLeast}
-use Rattle.packed_state.specs.Store.{IsPlaced}
-use Rattle.search.specs.Nodes.{Waiting, place_of, sum_of, estimate_of, entry, IsEntry, IsWaiting, total_of, IsEntryOf, status_of_reached, parent_of, begins, HasWay, Found, found_of, dearest, work_left, Leads, AreNodes, IsFoundWithin, IsOpen, AreOpen, AreOpenBut, IsTurn, IsCurrent, marked_as, marked}
+use Rattle.search.specs.Outcome.{AreClassesOf, is_expanded_status, is_dead_status, is_expanded, is_marked_dead, IsReachableAt, ReachingCostsAtLeast}
+use Rattle.search.specs.Nodes.{Waiting, place_of, sum_of, estimate_of, entry, IsEntry, IsWaiting, total_of, IsEntryOf, status_of_reached, begins, HasWay, Found, found_of, dearest, work_left, Leads, AreNodes, IsFoundWithin, IsOpen, AreOpen, AreOpenBut, IsTurn, IsCurrent, marked_as, marked}
 use Rattle.search.specs.declared.open_list.OpenList.{OpenList}
 use Rattle.search.specs.OpenList.{waiting_in, IsOpenList, JoinsBy}
 use Rattle.search.specs.Progress.{Continues, IsListed, TakesNext}
 use Rattle.search.proofs.Lists.{get-set_here, get-set_other}
-use Rattle.search.proofs.Linked.{length-found_of, found_of-get, get-found_of, found_of-push, found_of-set, updates-push, updates-set}
+use Rattle.search.proofs.Linked.{length-found_of, found_of-get, found_of-set}
 use Rattle.search.proofs.Closed.{no_plan_cheaper}
 use Rattle.search.proofs.Marked.{nodes_marked, turn_marked, open_but_marked}
 use Rattle.search.proofs.Ways.{cheapest_way}
 use Rattle.search.proofs.Work.{work_marked}
-use Rattle.search.proofs.NodesLemmas.{IsJoined, Stepped, stepped}
-
-module _ {S : Type 0} (t : System S ℕ) (value : S → ℕ) (is_dead : S → Bool) (states : List S) (all : List Node) (open_list : List Waiting) (i : ℕ)
-    (one_each : length all ≡ length states)
-    (nodes : AreNodes t value is_dead (found_of states all) open_list) (turn : IsTurn t value (found_of states all) i) (others : AreOpenBut t (found_of states all) i)
-    (s : S) (now : Node) (waits : is_expanded now ≡ false) (parent : parent_of now ≡ i)
-    (costs : now.cost ≡ turn.found.node.cost + t.cost now.action) (affordable : t.cost now.action ≤ dearest)
-    (step : t.step turn.found.state now.action ≡ Some s) (falls : IsConsistent t value → value turn.found.state ≤ t.cost now.action + value s) where
-  -- the state is new
-  stepped_pushed : is_marked_dead now ≡ is_dead s → (¬ Contains states s) → (open_list' : List Waiting) → IsJoined (is_dead s) (entry now.cost (value s) (length states)) open_list open_list'
-      → Stepped t value is_dead (found_of states all) (found_of (states ++ s ∷ []) (all ++ now ∷ [])) open_list' i now.action s
-  stepped_pushed reported is_new open_list' joins =
-      let m : Found S = record { state = s; node = now } in
-      let place : length (found_of states all) ≡ length states = length-found_of states all one_each in
-      let updates = updates-push (found_of states all) m waits (λ k n at same. is_new (subst (λ x. Contains states x) same (Contains-got states k n.state (found_of-get states all k n at).0))) in
-      let joins' : IsJoined (is_dead s) (entry now.cost (value s) (length (found_of states all))) open_list open_list' = subst (λ p. IsJoined (is_dead s) (entry now.cost (value s) p) open_list open_list') (sym place) joins in
-      subst (λ after. Stepped t value is_dead (found_of states all) after open_list' i now.action s) (sym (found_of-push states all s now one_each))
-      (stepped (found_of states all) (found_of states all ++ m ∷ []) (length (found_of states all)) m updates t value is_dead i turn open_list nodes parent costs open_list' others
-      (omega (arith, costs, affordable, nodes.cheap i turn.found turn.occurs, length-append (found_of states all) (m ∷ []))) step falls reported joins')
-
-  pub stepped_new : is_marked_dead now ≡ is_dead s → (¬ Contains states s) → (states' : List S) (all' : List Node) (place : ℕ) (open_list' : List Waiting)
-      → states' ≡ states ++ s ∷ [] → all' ≡ all ++ now ∷ [] → place ≡ length states
-      → IsJoined (is_dead s) (entry now.cost (value s) place) open_list open_list'
-      → (length all' ≡ length states') × Stepped t value is_dead (found_of states all) (found_of states' all') open_list' i now.action s
-  stepped_new reported is_new states' all' place open_list' is_states is_all at_end joins =
-      let joins' : IsJoined (is_dead s) (entry now.cost (value s) (length states)) open_list open_list' = subst (λ p. IsJoined (is_dead s) (entry now.cost (value s) p) open_list open_list') at_end joins in
-      let same : found_of states' all' ≡ found_of (states ++ s ∷ []) (all ++ now ∷ []) = cc in
-      let count_states : length states' ≡ length states + 1 = ap length is_states ∙ length-append states (s ∷ []) in
-      let count_all : length all' ≡ length all + 1 = ap length is_all ∙ length-append all (now ∷ []) in (
-        omega (arith, count_states, count_all, one_each),
-        subst (λ after. Stepped t value is_dead (found_of states all) after open_list' i now.action s) (sym same) (stepped_pushed reported is_new open_list' joins'),
-      )
-
-  -- the state is now reached at a lower cost
-  stepped_set : is_marked_dead now ≡ is_dead s → (j : ℕ) (reached : Node) → slice_get states j ≡ Some s → slice_get all j ≡ Some reached → now.cost < reached.cost → (open_list' : List Waiting) → IsJoined (is_dead s) (entry now.cost (value s) j) open_list open_list'
-      → Stepped t value is_dead (found_of states all) (found_of states (set all j now)) open_list' i now.action s
-  stepped_set reported j reached is_s is_reached cheaper open_list' joins =
-      let n : Found S = record { state = s; node = reached } in
-      let stood : slice_get (found_of states all) j ≡ Some n = get-found_of states all j s reached is_s is_reached in
-      let m : Found S = record { state = s; node = now } in
-      let updates = updates-set (found_of states all) j n m stood waits refl cheaper (λ k x at same. nodes.distinct k j x n at stood same) in
-      subst (λ after. Stepped t value is_dead (found_of states all) after open_list' i now.action s) (sym (found_of-set states all j n now stood))
-      (stepped (found_of states all) (set (found_of states all) j m) j m updates t value is_dead i turn open_list nodes parent costs open_list' others
-      (omega (arith, cheaper, nodes.cheap j n stood, mul-le-mul_right dearest updates.longer)) step falls reported joins)
-
-  pub stepped_cheaper : is_marked_dead now ≡ is_dead s → (j : ℕ) (reached : Node) → slice_get states j ≡ Some s → slice_get all j ≡ Some reached → now.cost < reached.cost
-      → (states' : List S) (all' : List Node) (open_list' : List Waiting)
-      → states' ≡ states → all' ≡ set all j now → IsJoined (is_dead s) (entry now.cost (value s) j) open_list open_list'
-      → (length all' ≡ length states') × Stepped t value is_dead (found_of states all) (found_of states' all') open_list' i now.action s
-  stepped_cheaper reported j reached is_s is_reached cheaper states' all' open_list' is_states is_all joins =
-      let same : found_of states' all' ≡ found_of states (set all j now) = cc in
-      let count_states : length states' ≡ length states = ap length is_states in
-      let count_all : length all' ≡ length all = ap length is_all ∙ length-set all j now in (
-        omega (arith, count_states, count_all, one_each),
-        subst (λ after. Stepped t value is_dead (found_of states all) after open_list' i now.action s) (sym same) (stepped_set reported j reached is_s is_reached cheaper open_list' joins),
-      )
-
-module _ {S : Type 0} (t : System S ℕ) (value : S → ℕ) (is_dead : S → Bool) (states : List S) (all : List Node) (open_list : List Waiting) (i : ℕ)
-    (one_each : length all ≡ length states)
-    (nodes : AreNodes t value is_dead (found_of states all) open_list) (turn : IsTurn t value (found_of states all) i) (others : AreOpenBut t (found_of states all) i)
-    (s : S) (a cost : ℕ) (costs : cost ≡ turn.found.node.cost + t.cost a) where
-  -- the state is found already, at no higher cost
-  stepped_known : (j : ℕ) (reached : Node) → slice_get states j ≡ Some s → slice_get all j ≡ Some reached → reached.cost ≤ cost
-      → Stepped t value is_dead (found_of states all) (found_of states all) open_list i a s
-  stepped_known j reached is_s is_reached no_dearer =
-      let n : Found S = record { state = s; node = reached } in
-      let stood : slice_get (found_of states all) j ≡ Some n = get-found_of states all j s reached is_s is_reached in
-      record {
-        sound = nodes;
-        turn = turn;
-        others = others;
-        continues = record { found = λ _ _ found. found; stays = λ _ at. at; longer = omega arith; less = λ most _. le_refl _ };
-        listed = λ x at.
-            let same : turn.found ≡ x = same_Some turn.found x (sym turn.occurs ∙ at) in
-            (j, n, stood, refl, omega (arith, costs, no_dearer, ap (λ (y : Found S). y.node.cost) same));
-      }
-
-  pub stepped_same : (j : ℕ) (reached : Node) → slice_get states j ≡ Some s → slice_get all j ≡ Some reached → reached.cost ≤ cost → (states' : List S) → states' ≡ states
-      → (length all ≡ length states') × Stepped t value is_dead (found_of states all) (found_of states' all) open_list i a s
-  stepped_same j reached is_s is_reached no_dearer states' is_states = (
-    one_each ∙ sym (ap length is_states),
-    subst (λ ss. Stepped t value is_dead (found_of states all) (found_of ss all) open_list i a s) (sym is_states) (stepped_known j reached is_s is_reached no_dearer),
-  )
+use Rattle.search.proofs.NodesLemmas.{IsJoined}
 
 -- the open list after a state is found, by what is reported for the state
 pub joined_by : {S : Type 0} (value : S → ℕ) (is_dead : S → Bool) (s : S) (reported : Option ℕ) (old new : OpenList) (cost place : ℕ) → IsValueUnlessDead value is_dead s reported → JoinsBy old new cost place reported
@@ -138,32 +55,17 @@ value_fits value is_dead s None cost reported small = tt
 value_fits value is_dead s (Some estimate) cost (alive, is, fits) small = omega (arith, fits, small)
 
 -- the sums fit
-pub turn_limits : {S : Type 0} (t : System S ℕ) (value : S → ℕ) (is_dead : S → Bool) (nodes : List (Found S)) (open_list : List Waiting) → AreNodes t value is_dead nodes open_list
+pub turn_limits : {S : Type 0} (t : System S ℕ) (class_of : S → S) (value : S → ℕ) (is_dead : S → Bool) (nodes : List (Found S)) (open_list : List Waiting) → AreNodes t class_of value is_dead nodes open_list
     → (i max_states : ℕ) (turn : IsTurn t value nodes i) → length nodes ≤ max_states → max_states ≤ 16777216 → turn.found.node.cost + 4294967295 ≤ 72057598316118015
-turn_limits t value is_dead nodes open_list old i max_states turn within limit = omega (arith, old.cheap i turn.found turn.occurs, within, limit)
+turn_limits t class_of value is_dead nodes open_list old i max_states turn within limit = omega (arith, old.cheap i turn.found turn.occurs, within, limit)
 
 -- what the action leads to from the state that is at the place
 pub leads_from : {S : Type 0} (t : System S ℕ) (states : List S) (before one next : S) (i a : ℕ) → slice_get states i ≡ Some before → slice_get states i ≡ Some one
     → t.step before a ≡ Some next → t.step one a ≡ Some next
 leads_from {S} t states before one next i a occurs at leads = subst (λ (s : S). t.step s a ≡ Some next) (same_Some before one (sym occurs ∙ at)) leads
 
-pub placed_new : {S : Type 0} (old new : List S) (s : S) (place : ℕ) (is_new : Bool) → is_new ≡ true → IsPlaced old new s place is_new → (¬ Contains old s) × (new ≡ old ++ s ∷ []) × (place ≡ length old)
-placed_new old new s place true is placed = placed
-placed_new old new s place false is placed = absurd (false≢true is)
-
-pub placed_old : {S : Type 0} (old new : List S) (s : S) (place : ℕ) (is_new : Bool) → is_new ≡ false → IsPlaced old new s place is_new → (slice_get old place ≡ Some s) × (new ≡ old)
-placed_old old new s place true is placed = absurd (false≢true (sym is))
-placed_old old new s place false is placed = placed
-
--- the first state of a list
-pub placed_first : {S : Type 0} (old new : List S) (s : S) (place : ℕ) (is_new : Bool) → old ≡ [] → IsPlaced old new s place is_new → (new ≡ s ∷ []) × (place ≡ 0)
-placed_first {S} old new s place true empty (is_new, is, at_end) = (is ∙ ap (λ (xs : List S). xs ++ s ∷ []) empty, at_end ∙ ap length empty)
-placed_first {S} old new s place false empty (at, is) =
-    let none : slice_get {X = S} [] place ≡ Some s = subst (λ (xs : List S). slice_get xs place ≡ Some s) empty at in
-    absurd (cc)
-
 -- the initial state alone
-module _ {S : Type 0} (t : System S ℕ) (value : S → ℕ) (is_dead : S → Bool) (states : List S) (all : List Node) (open_list open_list' : List Waiting) (s : S) (place : ℕ)
+module _ {S : Type 0} (t : System S ℕ) (class_of : S → S) (value : S → ℕ) (is_dead : S → Bool) (states : List S) (all : List Node) (open_list open_list' : List Waiting) (s : S) (place : ℕ)
     (status : NodeStatus) (parent : ShortId) (action : ℕ) (waits : is_expanded_status status ≡ false) (reported : is_dead_status status ≡ is_dead s) where
   one_node : Found S
   one_node = record { state = s; node = record { cost = 0; status = status; parent = parent; action = action } }
@@ -191,7 +93,7 @@ module _ {S : Type 0} (t : System S ℕ) (value : S → ℕ) (is_dead : S → Bo
         }
         | false ↦ λ alive joins.
             let joins' : IsPermutation (only_entry ∷ []) open_list' = subst (λ q. IsPermutation (only_entry ∷ q) open_list') empty joins in
-            let of : IsEntryOf value is_dead (one_node ∷ []) only_entry = record { found = one_node; occurs = refl; alive = alive; estimate = refl; part = omega arith } in
+            let of : IsEntryOf value is_dead (one_node ∷ []) only_entry = record { found = one_node; occurs = refl; no_dearer = omega arith; alive = λ _. alive; estimate = λ _. refl } in
             record {
               queued = λ _. Contains-permutation (only_entry ∷ []) open_list' only_entry joins' (Contains-here only_entry []);
               entries = All-permutation (IsEntryOf value is_dead (one_node ∷ [])) (only_entry ∷ []) open_list' joins'
@@ -200,13 +102,13 @@ module _ {S : Type 0} (t : System S ℕ) (value : S → ℕ) (is_dead : S → Bo
       ] refl
 
   pub nodes_start : states ≡ s ∷ [] → all ≡ record { cost = 0; status = status; parent = parent; action = action } ∷ [] → s ≡ t.initial → place ≡ 0 → open_list ≡ [] → IsJoined (is_dead s) (entry 0 (value s) place) open_list open_list'
-      → (length all ≡ length states) × AreNodes t value is_dead (found_of states all) open_list'
+      → (length all ≡ length states) × AreNodes t class_of value is_dead (found_of states all) open_list'
   unfolding one_node
   nodes_start is_states is_all initial first empty joins =
       let nodes : found_of states all ≡ one_node ∷ [] = cc in
       let started = has_started empty (subst (λ p. IsJoined (is_dead s) (entry 0 (value s) p) open_list open_list') first joins) in (
         ap length is_all ∙ sym (ap length is_states),
-        subst (λ ns. AreNodes t value is_dead ns open_list') (sym nodes) (record {
+        subst (λ ns. AreNodes t class_of value is_dead ns open_list') (sym nodes) (record {
           root = (one_node, refl, initial, refl);
           linked = each (λ k n. k ≢ 0 → Leads t value is_dead (one_node ∷ []) n) (λ elsewhere. absurd (elsewhere refl));
           distinct = λ j k m n at_j at_k _. (only j m at_j).0 ∙ sym (only k n at_k).0;
@@ -215,7 +117,7 @@ module _ {S : Type 0} (t : System S ℕ) (value : S → ℕ) (is_dead : S → Bo
           reachable = each (λ k n. IsReachableAt t n.state n.node.cost) ([], ap Some (sym initial), refl);
           no_goal = each (λ k n. is_expanded n.node ≡ true → t.meets_goal n.state ≡ false) (λ expanded. absurd (false≢true (sym waits ∙ expanded)));
           no_dearer = each (λ k n. is_expanded n.node ≡ true → CostsAtLeast t (total_of value n)) (λ expanded. absurd (false≢true (sym waits ∙ expanded)));
-          cheapest = λ _ _. each (λ k n. is_expanded n.node ≡ true → ReachingCostsAtLeast t n.state n.node.cost) (λ expanded. absurd (false≢true (sym waits ∙ expanded)));
+          cheapest = λ _ _ _. each (λ k n. is_expanded n.node ≡ true → ReachingCostsAtLeast t n.state n.node.cost) (λ expanded. absurd (false≢true (sym waits ∙ expanded)));
           alive = each (λ k n. is_expanded n.node ≡ true → is_dead n.state ≡ false) (λ expanded. absurd (false≢true (sym waits ∙ expanded)));
           marked = each (λ k n. is_marked_dead n.node ≡ is_dead n.state) reported;
           ordered = λ _ j k m n at_j _ expanded _. absurd (each (λ j m. is_expanded m.node ≡ true → ⊥) (λ expanded. false≢true (sym waits ∙ expanded)) j m at_j expanded);
@@ -225,13 +127,13 @@ module _ {S : Type 0} (t : System S ℕ) (value : S → ℕ) (is_dead : S → Bo
       )
 
 -- of the actions that are applicable in the state at a place, those whose successors are still to be listed
-pub record AreLeft {S : Type 0} (t : System S ℕ) (nodes : List (Found S)) (i : ℕ) (rest : List ℕ) : Type 0 where
+pub record AreLeft {S : Type 0} (t : System S ℕ) (class_of : S → S) (nodes : List (Found S)) (i : ℕ) (rest : List ℕ) : Type 0 where
   pub sound : (n : Found S) → slice_get nodes i ≡ Some n → (a : ℕ) → Contains rest a → IsTrue (is_some (t.step n.state a))
   pub complete : (n : Found S) → slice_get nodes i ≡ Some n → (a : ℕ) (next : S) → t.step n.state a ≡ Some next
-      → IsFoundWithin nodes next (n.node.cost + t.cost a) ⊎ Contains rest a
+      → IsFoundWithin class_of nodes next (n.node.cost + t.cost a) ⊎ Contains rest a
 
-module _ {S : Type 0} (t : System S ℕ) (nodes : List (Found S)) (i : ℕ) (one : Found S) (occurs : slice_get nodes i ≡ Some one) where
-  pub left_start : (s : S) (numbers : List ℕ) → s ≡ one.state → AreApplicable t s numbers → AreLeft t nodes i numbers
+module _ {S : Type 0} (t : System S ℕ) (class_of : S → S) (nodes : List (Found S)) (i : ℕ) (one : Found S) (occurs : slice_get nodes i ≡ Some one) where
+  pub left_start : (s : S) (numbers : List ℕ) → s ≡ one.state → AreApplicable t s numbers → AreLeft t class_of nodes i numbers
   left_start s numbers is applicable =
       let same : (n : Found S) → slice_get nodes i ≡ Some n → s ≡ n.state = λ n at. is ∙ ap (λ (x : Found S). x.state) (same_Some one n (sym occurs ∙ at)) in
       record {
@@ -239,7 +141,7 @@ module _ {S : Type 0} (t : System S ℕ) (nodes : List (Found S)) (i : ℕ) (one
         complete = λ n at a next step. inr ((applicable a).1 (ap is_some (ap (λ x. t.step x a) (same n at) ∙ step)));
       }
 
-  pub left_more : (after : List (Found S)) (a : ℕ) (s : S) (rest : List ℕ) → AreLeft t nodes i (a ∷ rest) → t.step one.state a ≡ Some s → Continues nodes after i → IsListed t after i a s → AreLeft t after i rest
+  pub left_more : (after : List (Found S)) (a : ℕ) (s : S) (rest : List ℕ) → AreLeft t class_of nodes i (a ∷ rest) → t.step one.state a ≡ Some s → Continues class_of nodes after i → IsListed t class_of after i a s → AreLeft t class_of after i rest
   left_more after a s rest left leads continues listed =
       let now = continues.stays one occurs in
       let was : (n : Found S) → slice_get after i ≡ Some n → slice_get nodes i ≡ Some n = λ n at. occurs ∙ sym now ∙ at in
@@ -253,34 +155,34 @@ module _ {S : Type 0} (t : System S ℕ) (nodes : List (Found S)) (i : ℕ) (one
                     | inl is ↦
                         let same : one ≡ n = same_Some one n (sym now ∙ at) in
                         let is_s : s ≡ next = same_Some s next (sym leads ∙ ap (λ (x : Found S). t.step x.state a) same ∙ ap (t.step n.state) is ∙ step) in
-                        inl (subst (λ x. IsFoundWithin after x (n.node.cost + t.cost b)) is_s (subst (λ b. IsFoundWithin after s (n.node.cost + t.cost b)) is (listed n at)))
+                        inl (subst (λ x. IsFoundWithin class_of after x (n.node.cost + t.cost b)) is_s (subst (λ b. IsFoundWithin class_of after s (n.node.cost + t.cost b)) is (listed n at)))
                     | inr later ↦ inr later
                   ]
             ];
       }
 
-  pub left_end : (rest : List ℕ) → rest ≡ [] → AreLeft t nodes i rest → IsOpen t nodes one
+  pub left_end : (rest : List ℕ) → rest ≡ [] → AreLeft t class_of nodes i rest → IsOpen t class_of nodes one
   left_end rest none left a next step =
       elim (left.complete one occurs a next step) [
         | inl found ↦ found
         | inr among ↦ absurd (Contains-none a (subst (λ r. Contains r a) none among))
       ]
 
-pub continues_trans : {S : Type 0} (first second third : List (Found S)) (i : ℕ) → Continues first second i → Continues second third i → Continues first third i
-continues_trans first second third i one two = record {
+pub continues_trans : {S : Type 0} (class_of : S → S) (first second third : List (Found S)) (i : ℕ) → Continues class_of first second i → Continues class_of second third i → Continues class_of first third i
+continues_trans class_of first second third i one two = record {
   found = λ s cost found. two.found s cost (one.found s cost found);
   stays = λ n at. two.stays n (one.stays n at);
   longer = omega (arith, one.longer, two.longer);
   less = λ most within. le_trans (two.less most within) (one.less most (omega (arith, two.longer, within)));
 }
 
-pub continues_same : {S : Type 0} (nodes : List (Found S)) (i : ℕ) → Continues nodes nodes i
-continues_same nodes i = record { found = λ _ _ found. found; stays = λ _ at. at; longer = omega arith; less = λ most _. le_refl _ }
+pub continues_same : {S : Type 0} (class_of : S → S) (nodes : List (Found S)) (i : ℕ) → Continues class_of nodes nodes i
+continues_same class_of nodes i = record { found = λ _ _ found. found; stays = λ _ at. at; longer = omega arith; less = λ most _. le_refl _ }
 
 -- the state at the place stays there
-pub occurs_still : {S : Type 0} (states states' : List S) (all all' : List Node) (i : ℕ) (n : Found S) (s : S) → slice_get (found_of states all) i ≡ Some n
-    → Continues (found_of states all) (found_of states' all') i → slice_get states i ≡ Some s → slice_get states' i ≡ Some s
-occurs_still states states' all all' i n s at continues occurs =
+pub occurs_still : {S : Type 0} (class_of : S → S) (states states' : List S) (all all' : List Node) (i : ℕ) (n : Found S) (s : S) → slice_get (found_of states all) i ≡ Some n
+    → Continues class_of (found_of states all) (found_of states' all') i → slice_get states i ≡ Some s → slice_get states' i ≡ Some s
+occurs_still class_of states states' all all' i n s at continues occurs =
     (found_of-get states' all' i n (continues.stays n at)).0 ∙ sym (found_of-get states all i n at).0 ∙ occurs
 
 -- the state whose turn it is: it waits, and of those that wait none has a lesser sum; the others are in the open list that is left
@@ -296,13 +198,13 @@ pub record IsNext {S : Type 0} (value : S → ℕ) (is_dead : S → Bool) (state
   pub estimate : turn.estimate ≡ value found.state
 
 -- whose turn it is
-module _ {S : Type 0} (t : System S ℕ) (value : S → ℕ) (is_dead : S → Bool) (states : List S) (all : List Node) (open_list : List Waiting)
-    (one_each : length all ≡ length states) (nodes : AreNodes t value is_dead (found_of states all) open_list) where
+module _ {S : Type 0} (t : System S ℕ) (class_of : S → S) (value : S → ℕ) (is_dead : S → Bool) (states : List S) (all : List Node) (open_list : List Waiting)
+    (one_each : length all ≡ length states) (nodes : AreNodes t class_of value is_dead (found_of states all) open_list) where
   -- the entries are of the nodes
   pub entries_of : All (IsEntry (length all)) open_list
   entries_of =
       All-weaker (IsEntryOf value is_dead (found_of states all)) (IsEntry (length all))
-      (λ w of. (omega (arith, slice_get_within (found_of states all) (place_of w) of.found of.occurs, length-found_of states all one_each, one_each), of.part)) open_list nodes.entries
+      (λ w of. (omega (arith, slice_get_within (found_of states all) (place_of w) of.found of.occurs, length-found_of states all one_each, one_each), omega (arith, of.no_dearer))) open_list nodes.entries
 
   -- a node that waits has a current entry
   pub current_entry : (k : ℕ) (n : Found S) → slice_get (found_of states all) k ≡ Some n → IsWaiting is_dead n → IsCurrent all (entry n.node.cost (value n.state) k)
@@ -317,7 +219,9 @@ module _ {S : Type 0} (t : System S ℕ) (value : S → ℕ) (is_dead : S → Bo
   entry_waits w among (node, occurs, sums, waits) =
       let of = All-contains (IsEntryOf value is_dead (found_of states all)) open_list w nodes.entries among in
       let same : node ≡ of.found.node = same_Some node of.found.node (sym occurs ∙ (found_of-get states all (place_of w) of.found of.occurs).1) in
-      (of.found, of.occurs, (ap (λ (r : Node). is_expanded r) (sym same) ∙ waits, of.alive), omega (arith, sums, of.estimate, ap (λ (r : Node). r.cost) same), of.estimate)
+      let current : of.found.node.cost + estimate_of w ≡ sum_of w = ap (λ (r : Node). r.cost + estimate_of w) (sym same) ∙ sums in
+      let estimate = of.estimate current in
+      (of.found, of.occurs, (ap (λ (r : Node). is_expanded r) (sym same) ∙ waits, of.alive current), omega (arith, current, estimate), estimate)
 
   pub at_turn : (open_list' : List Waiting) (turn : Turn) → TakesNext open_list open_list' all turn → IsNext value is_dead states all open_list' turn
   at_turn open_list' turn takes =
@@ -338,24 +242,24 @@ module _ {S : Type 0} (t : System S ℕ) (value : S → ℕ) (is_dead : S → Bo
       }
 
 -- what holds where the turn of a state has begun: of what was found, it alone is marked as expanded
-pub record HasBegun {S : Type 0} (t : System S ℕ) (value : S → ℕ) (is_dead : S → Bool) (before : List (Found S)) (states : List S) (all : List Node) (open_list : List Waiting) (i : ℕ) (one : Found S) : Type 0 where
+pub record HasBegun {S : Type 0} (t : System S ℕ) (class_of : S → S) (value : S → ℕ) (is_dead : S → Bool) (before : List (Found S)) (states : List S) (all : List Node) (open_list : List Waiting) (i : ℕ) (one : Found S) : Type 0 where
   pub one_each : length all ≡ length states
-  pub nodes : AreNodes t value is_dead (found_of states all) open_list
+  pub nodes : AreNodes t class_of value is_dead (found_of states all) open_list
   pub turn : IsTurn t value (found_of states all) i
-  pub others_open : AreOpenBut t (found_of states all) i
+  pub others_open : AreOpenBut t class_of (found_of states all) i
   pub occurs : slice_get (found_of states all) i ≡ Some (marked Expanded one)
   pub less : (most : ℕ) → work_left most (found_of states all) < work_left most before
 
 -- a turn begins
-module _ {S : Type 0} (t : System S ℕ) (value : S → ℕ) (is_dead : S → Bool) (admissible : IsAdmissible t value) (reports : ReportsDeadEnds t is_dead) (states : List S) (all : List Node) (open_list open_list' : List Waiting)
-    (one_each : length all ≡ length states) (nodes : AreNodes t value is_dead (found_of states all) open_list)
+module _ {S : Type 0} (t : System S ℕ) (class_of : S → S) (classes : AreClassesOf t class_of) (value : S → ℕ) (is_dead : S → Bool) (admissible : IsAdmissible t value) (reports : ReportsDeadEnds t is_dead) (states : List S) (all : List Node) (open_list open_list' : List Waiting)
+    (one_each : length all ≡ length states) (nodes : AreNodes t class_of value is_dead (found_of states all) open_list)
     (i : ℕ) (one : Found S) (occurs : slice_get (found_of states all) i ≡ Some one) (waits : IsWaiting is_dead one)
     (least : (k : ℕ) (n : Found S) → slice_get (found_of states all) k ≡ Some n → IsWaiting is_dead n → total_of value one ≤ total_of value n)
     (rest : (k : ℕ) (n : Found S) → slice_get (found_of states all) k ≡ Some n → IsWaiting is_dead n → k ≢ i → Contains open_list' (entry n.node.cost (value n.state) k))
     (entries : All (IsEntryOf value is_dead (found_of states all)) open_list') where
-  pub turn_begins : t.meets_goal one.state ≡ false → AreOpen t (found_of states all) → (states' : List S) (all' : List Node)
+  pub turn_begins : t.meets_goal one.state ≡ false → AreOpen t class_of (found_of states all) → (states' : List S) (all' : List Node)
       → states' ≡ states → all' ≡ set all i (marked_as Expanded one.node)
-      → HasBegun t value is_dead (found_of states all) states' all' open_list' i one
+      → HasBegun t class_of value is_dead (found_of states all) states' all' open_list' i one
   turn_begins no_goal are_open states' all' is_states is_all =
       let now : Node = marked_as Expanded one.node in
       let marks : found_of states (set all i now) ≡ set (found_of states all) i (marked Expanded one) = found_of-set states all i one now occurs in
@@ -370,12 +274,12 @@ module _ {S : Type 0} (t : System S ℕ) (value : S → ℕ) (is_dead : S → Bo
       let count_all : length all' ≡ length all = ap length is_all ∙ length-set all i now in
       record {
         one_each = omega (arith, count_states, count_all, one_each);
-        nodes = nodes_marked (found_of states all) after i one occurs waits.0 here others long t value is_dead open_list open_list' nodes waits.1 no_goal
-            (no_plan_cheaper t value is_dead states all one_each open_list nodes admissible reports one are_open least)
-            (λ consistent detects. cheapest_way t value is_dead consistent detects (found_of states all) are_open (total_of value one) least open_list nodes i one occurs waits.1 (omega arith))
+        nodes = nodes_marked (found_of states all) after i one occurs waits.0 here others long t class_of value is_dead open_list open_list' nodes waits.1 no_goal
+            (no_plan_cheaper t class_of value is_dead states all one_each open_list nodes classes admissible reports one are_open least)
+            (λ own consistent detects. cheapest_way t class_of own value is_dead consistent detects (found_of states all) are_open (total_of value one) least open_list nodes i one occurs waits.1 (omega arith))
             least rest entries;
-        turn = turn_marked (found_of states all) after i one occurs waits.0 here others long t value is_dead open_list open_list' nodes waits.1;
-        others_open = open_but_marked (found_of states all) after i one occurs waits.0 here others long t value is_dead open_list open_list' nodes waits.1 are_open;
+        turn = turn_marked (found_of states all) after i one occurs waits.0 here others long t class_of value is_dead open_list open_list' nodes waits.1;
+        others_open = open_but_marked (found_of states all) after i one occurs waits.0 here others long t class_of value is_dead open_list open_list' nodes waits.1 are_open;
         occurs = here;
         less = λ most. subst (λ (ns : List (Found S)). work_left most ns < work_left most (found_of states all)) (sym is)
             (work_marked (found_of states all) i one (marked Expanded one) most occurs waits.0 refl refl);

@@ -5,4 +5,5 @@ pub mod Outcome
 pub mod Nodes
 pub mod OpenList
 pub mod Progress
+pub mod Listing
 pub mod UnderWay

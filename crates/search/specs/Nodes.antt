@@ -5,11 +5,11 @@ use Rattle.model.specs.Runs.{System, CostsAtLeast}
 use Rattle.search.specs.declared.nodes.StateId.{StateId}
 use Rattle.search.specs.declared.nodes.Node.{Node}
 use Rattle.search.specs.declared.nodes.NodeStatus.{NodeStatus}
-use Rattle.search.specs.declared.nodes.NodeStatus.TheVariants.{Open, Dead}
+use Rattle.search.specs.declared.nodes.NodeStatus.TheVariants.{Open, Reopened, Expanded, Dead}
 use Rattle.search.specs.declared.nodes.ShortId.{ShortId}
 use Rattle.search.specs.Estimates.{IsConsistent}
 use Rattle.search.specs.DeadEnds.{DetectsDeadEnds}
-use Rattle.search.specs.Outcome.{is_expanded, is_marked_dead, IsReachableAt, ReachingCostsAtLeast, IsCut}
+use Rattle.search.specs.Outcome.{AreOfOneClass, AreOwnClasses, is_expanded, is_marked_dead, IsReachableAt, ReachingCostsAtLeast, IsCut}
 
 -- a waiting state as the open list holds it: the sum of its cost and its estimate, the estimate, and its place
 abbrev pub Waiting : Type 0
@@ -47,6 +47,21 @@ abbrev pub status_of_reached : Option ℕ → NodeStatus
 status_of_reached (Some estimate) = Open
 status_of_reached None = Dead
 
+-- the state has been expanded, in whole or in part, at whatever cost: so it may be the parent of others
+abbrev pub has_been_expanded_status : NodeStatus → Bool
+has_been_expanded_status Open = false
+has_been_expanded_status Reopened = true
+has_been_expanded_status Expanded = true
+has_been_expanded_status Dead = false
+
+abbrev pub has_been_expanded : Node → Bool
+has_been_expanded node = has_been_expanded_status node.status
+
+-- the status of a state that is reached at a lower cost than before
+abbrev pub status_again : NodeStatus → Option ℕ → NodeStatus
+status_again before (Some estimate) = if has_been_expanded_status before then Reopened else Open
+status_again before None = Dead
+
 -- the place of the state that the node was reached from
 abbrev pub parent_of : Node → ℕ
 parent_of node = place_in node.parent
@@ -70,13 +85,14 @@ IsWaiting is_dead n = IsCut is_dead n.state n.node
 abbrev pub total_of : {S : Type 0} → (S → ℕ) → Found S → ℕ
 total_of value n = n.node.cost + value n.state
 
--- the entry is one of a found state that is not reported dead, with the state's estimate
+-- The entry is one of a found state that is reached at the entry's cost or a lower one since. Where it is the same, the entry has the
+-- state's estimate, and the state is not reported dead; an older one may be of a state whose place another of its class took.
 pub record IsEntryOf {S : Type 0} (value : S → ℕ) (is_dead : S → Bool) (nodes : List (Found S)) (w : Waiting) : Type 0 where
   pub found : Found S
   pub occurs : slice_get nodes (place_of w) ≡ Some found
-  pub alive : is_dead found.state ≡ false
-  pub estimate : estimate_of w ≡ value found.state
-  pub part : estimate_of w ≤ sum_of w
+  pub no_dearer : found.node.cost + estimate_of w ≤ sum_of w
+  pub alive : found.node.cost + estimate_of w ≡ sum_of w → is_dead found.state ≡ false
+  pub estimate : found.node.cost + estimate_of w ≡ sum_of w → estimate_of w ≡ value found.state
 
 -- the most that an action may cost
 abbrev pub dearest : ℕ
@@ -92,11 +108,13 @@ work_left most nodes = (most - length nodes) * (most * dearest * 2 + 2) + sum_by
 
 module _ {S : Type 0} (t : System S ℕ) (value : S → ℕ) (is_dead : S → Bool) (nodes : List (Found S)) where
   -- The node's action leads to it from its parent, at no more than its cost. When the node was reached so, the parent was being
-  -- expanded, and cost no less than now: it may have been reached more cheaply since.
+  -- expanded, and cost no less than now: it may have been reached more cheaply since. A state that was never expanded is nobody's
+  -- parent, so that another of its class may take its place.
   pub record Leads (n : Found S) : Type 0 where
     pub parent : Found S
     pub occurs : slice_get nodes (parent_of n.node) ≡ Some parent
     pub cost : parent.node.cost + t.cost n.node.action ≤ n.node.cost
+    pub expanded : has_been_expanded parent.node ≡ true
     pub step : t.step parent.state n.node.action ≡ Some n.state
     pub no_goal : t.meets_goal parent.state ≡ false
     pub alive : is_dead parent.state ≡ false
@@ -122,7 +140,7 @@ IsWay {S} nodes k path = IsPathBy (λ (n : Found S). n.node) nodes k path
 abbrev pub HasWay : {S : Type 0} → List (Found S) → ℕ → Type 0
 HasWay {S} nodes k = (path : List ℕ) × IsWay nodes k path
 
-module _ {S : Type 0} (t : System S ℕ) (value : S → ℕ) (is_dead : S → Bool) (nodes : List (Found S)) where
+module _ {S : Type 0} (t : System S ℕ) (class_of : S → S) (value : S → ℕ) (is_dead : S → Bool) (nodes : List (Found S)) where
   -- What holds of the found states at any time. Those that wait are in the open list, at their cost and with their estimate. Where
   -- the estimate is consistent, none of them has a lesser sum of these than one that was expanded.
   pub record AreNodes (open_list : List Waiting) : Type 0 where
@@ -134,7 +152,7 @@ module _ {S : Type 0} (t : System S ℕ) (value : S → ℕ) (is_dead : S → Bo
     pub reachable : (k : ℕ) (n : Found S) → slice_get nodes k ≡ Some n → IsReachableAt t n.state n.node.cost
     pub no_goal : (k : ℕ) (n : Found S) → slice_get nodes k ≡ Some n → is_expanded n.node ≡ true → t.meets_goal n.state ≡ false
     pub no_dearer : (k : ℕ) (n : Found S) → slice_get nodes k ≡ Some n → is_expanded n.node ≡ true → CostsAtLeast t (n.node.cost + value n.state)
-    pub cheapest : IsConsistent t value → DetectsDeadEnds t is_dead → (k : ℕ) (n : Found S) → slice_get nodes k ≡ Some n → is_expanded n.node ≡ true → ReachingCostsAtLeast t n.state n.node.cost
+    pub cheapest : AreOwnClasses class_of → IsConsistent t value → DetectsDeadEnds t is_dead → (k : ℕ) (n : Found S) → slice_get nodes k ≡ Some n → is_expanded n.node ≡ true → ReachingCostsAtLeast t n.state n.node.cost
     pub alive : (k : ℕ) (n : Found S) → slice_get nodes k ≡ Some n → is_expanded n.node ≡ true → is_dead n.state ≡ false
     pub marked : (k : ℕ) (n : Found S) → slice_get nodes k ≡ Some n → is_marked_dead n.node ≡ is_dead n.state
     pub ordered : IsConsistent t value → (j k : ℕ) (m n : Found S) → slice_get nodes j ≡ Some m → slice_get nodes k ≡ Some n → is_expanded m.node ≡ true → IsWaiting is_dead n
@@ -142,21 +160,21 @@ module _ {S : Type 0} (t : System S ℕ) (value : S → ℕ) (is_dead : S → Bo
     pub queued : (k : ℕ) (n : Found S) → slice_get nodes k ≡ Some n → IsWaiting is_dead n → Contains open_list (entry n.node.cost (value n.state) k)
     pub entries : All (IsEntryOf value is_dead nodes) open_list
 
--- the state is found, at no more than this cost
-abbrev pub IsFoundWithin : {S : Type 0} → List (Found S) → S → ℕ → Type 0
-IsFoundWithin {S} nodes s cost = (k : ℕ) × (n : Found S) × (slice_get nodes k ≡ Some n) × (n.state ≡ s) × (n.node.cost ≤ cost)
+-- a state of its class is found, at no more than this cost
+abbrev pub IsFoundWithin : {S : Type 0} → (S → S) → List (Found S) → S → ℕ → Type 0
+IsFoundWithin {S} class_of nodes s cost = (k : ℕ) × (n : Found S) × (slice_get nodes k ≡ Some n) × AreOfOneClass class_of n.state s × (n.node.cost ≤ cost)
 
--- each state that an action leads to from the node is found, at no more than what that costs
-abbrev pub IsOpen : {S : Type 0} → System S ℕ → List (Found S) → Found S → Type 0
-IsOpen {S} t nodes n = (a : ℕ) (next : S) → t.step n.state a ≡ Some next → IsFoundWithin nodes next (n.node.cost + t.cost a)
+-- of each state that an action leads to from the node one of its class is found, at no more than what that costs
+abbrev pub IsOpen : {S : Type 0} → System S ℕ → (S → S) → List (Found S) → Found S → Type 0
+IsOpen {S} t class_of nodes n = (a : ℕ) (next : S) → t.step n.state a ≡ Some next → IsFoundWithin class_of nodes next (n.node.cost + t.cost a)
 
 -- each expanded state is open
-abbrev pub AreOpen : {S : Type 0} → System S ℕ → List (Found S) → Type 0
-AreOpen {S} t nodes = (k : ℕ) (n : Found S) → slice_get nodes k ≡ Some n → is_expanded n.node ≡ true → IsOpen t nodes n
+abbrev pub AreOpen : {S : Type 0} → System S ℕ → (S → S) → List (Found S) → Type 0
+AreOpen {S} t class_of nodes = (k : ℕ) (n : Found S) → slice_get nodes k ≡ Some n → is_expanded n.node ≡ true → IsOpen t class_of nodes n
 
 -- each expanded state is open, but for the one at this place
-abbrev pub AreOpenBut : {S : Type 0} → System S ℕ → List (Found S) → ℕ → Type 0
-AreOpenBut {S} t nodes i = (k : ℕ) (n : Found S) → slice_get nodes k ≡ Some n → is_expanded n.node ≡ true → k ≢ i → IsOpen t nodes n
+abbrev pub AreOpenBut : {S : Type 0} → System S ℕ → (S → S) → List (Found S) → ℕ → Type 0
+AreOpenBut {S} t class_of nodes i = (k : ℕ) (n : Found S) → slice_get nodes k ≡ Some n → is_expanded n.node ≡ true → k ≢ i → IsOpen t class_of nodes n
 
 -- the node at this place is being expanded; where the estimate is consistent, no expanded one has a greater sum
 pub record IsTurn {S : Type 0} (t : System S ℕ) (value : S → ℕ) (nodes : List (Found S)) (i : ℕ) : Type 0 where
@@ -165,12 +183,14 @@ pub record IsTurn {S : Type 0} (t : System S ℕ) (value : S → ℕ) (nodes : L
   pub expanded : is_expanded found.node ≡ true
   pub greatest : IsConsistent t value → (k : ℕ) (n : Found S) → slice_get nodes k ≡ Some n → is_expanded n.node ≡ true → total_of value n ≤ total_of value found
 
--- Beside one place, at which a node is new or now cheaper and waits, the nodes are the same.
-pub record Updates {S : Type 0} (nodes after : List (Found S)) (j : ℕ) (m : Found S) : Type 0 where
+-- Beside one place, at which a node is new or now cheaper and waits, the nodes are the same. One that is now cheaper has its state
+-- still, or has another of its class, if it was never expanded.
+pub record Updates {S : Type 0} (class_of : S → S) (nodes after : List (Found S)) (j : ℕ) (m : Found S) : Type 0 where
   pub here : slice_get after j ≡ Some m
   pub others : (k : ℕ) → k ≢ j → slice_get after k ≡ slice_get nodes k
   pub waits : is_expanded m.node ≡ false
-  pub same_state : (n : Found S) → slice_get nodes j ≡ Some n → n.state ≡ m.state
+  pub same_class : (n : Found S) → slice_get nodes j ≡ Some n → AreOfOneClass class_of m.state n.state
+  pub same_state : (n : Found S) → slice_get nodes j ≡ Some n → has_been_expanded n.node ≡ true → (m.state ≡ n.state) × (has_been_expanded m.node ≡ true)
   pub cheaper : (n : Found S) → slice_get nodes j ≡ Some n → m.node.cost < n.node.cost
   pub only : (k : ℕ) (n : Found S) → slice_get nodes k ≡ Some n → n.state ≡ m.state → k ≡ j
   pub longer : length nodes ≤ length after

@@ -1,10 +1,11 @@
 -- What a search says of a transition system.
 use Rattle.std.specs.Prelude.{◌≡◌, ℕ, ◌+◌, ◌*◌, ◌<◌, ◌≤◌, Bool, true, false, if◌then◌else◌, List, [], ◌∷◌, length, slice_get, Some, Contains}
 use Rattle.model.specs.Runs.{System, run, cost_of_all, IsReachable, CostsAtLeast, IsOptimal, IsUnsolvable}
+use Rattle.model.specs.Bisimulation.{ReachGoalsAlike}
 use Rattle.model.specs.Claims.{Claim, bound, none, Mark, opened, cut, dead, Line, IsClosed}
 use Rattle.search.specs.declared.nodes.Node.{Node}
 use Rattle.search.specs.declared.nodes.NodeStatus.{NodeStatus}
-use Rattle.search.specs.declared.nodes.NodeStatus.TheVariants.{Open, Expanded, Dead}
+use Rattle.search.specs.declared.nodes.NodeStatus.TheVariants.{Open, Reopened, Expanded, Dead}
 use Rattle.search.specs.declared.best.Outcome.{Outcome}
 use Rattle.search.specs.declared.best.Outcome.TheVariants.{Found, Exhausted, States}
 use Rattle.packed_state.specs.Store.{AreDistinct}
@@ -19,9 +20,22 @@ IsReachableAt {S} {A} t s cost = (actions : List A) × (run t t.initial actions 
 abbrev pub ReachingCostsAtLeast : {S A : Type 0} → System S A → S → ℕ → Type 0
 ReachingCostsAtLeast {S} {A} t s least = (actions : List A) → run t t.initial actions ≡ Some s → least ≤ cost_of_all t actions
 
--- the state was expanded
+-- the two states are of one class
+abbrev pub AreOfOneClass : {S : Type 0} → (S → S) → S → S → Type 0
+AreOfOneClass class_of s r = class_of s ≡ class_of r
+
+-- each state is a class of its own
+abbrev pub AreOwnClasses : {S : Type 0} → (S → S) → Type 0
+AreOwnClasses {S} class_of = (s r : S) → AreOfOneClass class_of s r → s ≡ r
+
+-- the goal is reached alike from states of one class
+abbrev pub AreClassesOf : {S A : Type 0} → System S A → (S → S) → Type 0
+AreClassesOf {S} t class_of = (s r : S) → AreOfOneClass class_of s r → ReachGoalsAlike t s r
+
+-- the state was expanded, at the cost at which it is reached now
 abbrev pub is_expanded_status : NodeStatus → Bool
 is_expanded_status Open = false
+is_expanded_status Reopened = false
 is_expanded_status Expanded = true
 is_expanded_status Dead = false
 
@@ -31,6 +45,7 @@ is_expanded node = is_expanded_status node.status
 -- the state is marked as a dead end
 abbrev pub is_dead_status : NodeStatus → Bool
 is_dead_status Open = false
+is_dead_status Reopened = false
 is_dead_status Expanded = false
 is_dead_status Dead = true
 
@@ -56,22 +71,23 @@ lines_of value is_dead [] nodes = []
 lines_of value is_dead (s ∷ states) [] = []
 lines_of value is_dead (s ∷ states) (node ∷ nodes) = line_of value is_dead s node ∷ lines_of value is_dead states nodes
 
--- what is known of the states that a search by this estimate and this test for dead ends found, no more than it was
--- allowed to list
-pub record AreFound {S A : Type 0} (t : System S A) (value : S → ℕ) (is_dead : S → Bool) (claim : Claim) (max_states : ℕ) (states : List S) (nodes : List Node) : Type 0 where
+-- What is known of the states that a search by these classes, this estimate and this test for dead ends found, no more than it was
+-- allowed to list. Of one class several may be listed.
+pub record AreFound {S A : Type 0} (t : System S A) (class_of : S → S) (value : S → ℕ) (is_dead : S → Bool) (claim : Claim) (max_states : ℕ) (states : List S) (nodes : List Node) : Type 0 where
   pub one_for_each : length nodes ≡ length states
   pub within_limit : length states ≤ max_states
   pub distinct : AreDistinct states
   pub reachable : (k : ℕ) (s : S) (node : Node) → slice_get states k ≡ Some s → slice_get nodes k ≡ Some node → IsReachableAt t s node.cost
   -- no action costs more than 32 bits can say, and a state is reached first from one that was found before
   pub cheap : (k : ℕ) (node : Node) → slice_get nodes k ≡ Some node → node.cost ≤ length states * 4294967295
-  -- where the estimate is consistent, and dead ends are reported along steps, an expanded state was reached by a cheapest way
-  pub expanded_cheapest : IsConsistent t value → DetectsDeadEnds t is_dead → (k : ℕ) (s : S) (node : Node) → slice_get states k ≡ Some s → slice_get nodes k ≡ Some node → is_expanded node ≡ true
+  -- where each state is a class of its own, the estimate is consistent, and dead ends are reported along steps, an expanded state
+  -- was reached by a cheapest way
+  pub expanded_cheapest : AreOwnClasses class_of → IsConsistent t value → DetectsDeadEnds t is_dead → (k : ℕ) (s : S) (node : Node) → slice_get states k ≡ Some s → slice_get nodes k ≡ Some node → is_expanded node ≡ true
       → ReachingCostsAtLeast t s node.cost
   pub marked : AreMarked is_dead states nodes
   -- no state that is reported dead was expanded
   pub expanded_alive : (k : ℕ) (s : S) (node : Node) → slice_get states k ≡ Some s → slice_get nodes k ≡ Some node → is_expanded node ≡ true → is_dead s ≡ false
-  pub closed : IsClosed t value is_dead claim (lines_of value is_dead states nodes)
+  pub closed : IsClosed t (AreOfOneClass class_of) value is_dead claim (lines_of value is_dead states nodes)
 
 -- each expanded state costs, with its estimate, at most this
 abbrev pub AreExpandedWithin : {S : Type 0} → (S → ℕ) → ℕ → List S → List Node → Type 0
@@ -100,25 +116,27 @@ IsCut is_dead s node = (is_expanded node ≡ false) × (is_dead s ≡ false)
 -- What is known of the found states where a search stops at the limit: they are as many as it may list, and they prove that
 -- each list that solves costs at least as much as the least sum of cost and estimate over their cuts, of which there is
 -- one at least. No list that solves costs less than an expanded state with its estimate; where the estimate is consistent, no
--- expanded state has a greater sum than the cuts. A state whose expansion was not finished is a cut.
-pub record IsAtLimit {S A : Type 0} (t : System S A) (value : S → ℕ) (is_dead : S → Bool) (max_states least : ℕ) (states : List S) (nodes : List Node) : Type 0 where
-  pub found : AreFound t value is_dead (bound least) max_states states nodes
+-- expanded state has a greater sum than the cuts, nor has the initial state a greater estimate. A state whose expansion was not
+-- finished is a cut.
+pub record IsAtLimit {S A : Type 0} (t : System S A) (class_of : S → S) (value : S → ℕ) (is_dead : S → Bool) (max_states least : ℕ) (states : List S) (nodes : List Node) : Type 0 where
+  pub found : AreFound t class_of value is_dead (bound least) max_states states nodes
   pub full : length states ≡ max_states
   pub at_most_each_cut : (k : ℕ) (s : S) (node : Node) → slice_get states k ≡ Some s → slice_get nodes k ≡ Some node → IsCut is_dead s node → least ≤ node.cost + value s
   pub of_some_cut : (k : ℕ) × (s : S) × (node : Node) × (slice_get states k ≡ Some s) × (slice_get nodes k ≡ Some node) × IsCut is_dead s node × (node.cost + value s ≡ least)
   pub expanded_no_dearer : (k : ℕ) (s : S) (node : Node) → slice_get states k ≡ Some s → slice_get nodes k ≡ Some node → is_expanded node ≡ true → CostsAtLeast t (node.cost + value s)
   pub expanded_within : IsConsistent t value → AreExpandedWithin value least states nodes
+  pub start_within : IsConsistent t value → value t.initial ≤ least
   pub costs_at_least : CostsAtLeast t least
 
--- The outcome of a search by this estimate and this test for dead ends is true: the steps are a cheapest list that solves,
+-- The outcome of a search by these classes, this estimate and this test for dead ends is true: the steps are a cheapest list that solves,
 -- or none solves, and the found states prove it; or there are more states than the limit, and the found ones prove the bound.
-abbrev pub IsTrueOutcome : {S Store : Type 0} → System S ℕ → (S → ℕ) → (S → Bool) → (Store → List S) → ℕ → Outcome Store → Type 0
-IsTrueOutcome t value is_dead states_of max_states (Found steps cost found) =
+abbrev pub IsTrueOutcome : {S Store : Type 0} → System S ℕ → (S → S) → (S → ℕ) → (S → Bool) → (Store → List S) → ℕ → Outcome Store → Type 0
+IsTrueOutcome t class_of value is_dead states_of max_states (Found steps cost found) =
     IsOptimal t steps.items × (cost_of_all t steps.items ≡ cost)
-    × AreFound t value is_dead (bound cost) max_states (states_of found.store) found.nodes.items
+    × AreFound t class_of value is_dead (bound cost) max_states (states_of found.store) found.nodes.items
     × (length steps.items ≤ max_states)
     × AreExpandedWithin value cost (states_of found.store) found.nodes.items
-IsTrueOutcome t value is_dead states_of max_states (Exhausted found) =
-    IsUnsolvable t × AreFound t value is_dead none max_states (states_of found.store) found.nodes.items
-IsTrueOutcome t value is_dead states_of max_states (States least found) =
-    AreMoreReachable t value is_dead max_states × IsAtLimit t value is_dead max_states least (states_of found.store) found.nodes.items
+IsTrueOutcome t class_of value is_dead states_of max_states (Exhausted found) =
+    IsUnsolvable t × AreFound t class_of value is_dead none max_states (states_of found.store) found.nodes.items
+IsTrueOutcome t class_of value is_dead states_of max_states (States least found) =
+    AreMoreReachable t value is_dead max_states × IsAtLimit t class_of value is_dead max_states least (states_of found.store) found.nodes.items

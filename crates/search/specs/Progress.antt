@@ -1,14 +1,17 @@
 -- What a search keeps true from one step to the next.
-use Rattle.std.specs.Prelude.{◌≡◌, ◌≢◌, ℕ, ◌+◌, ◌≤◌, ◌<◌, ◌⊎◌, Bool, List, ◌∷◌, length, slice_get, Some, Contains, All}
+use Rattle.std.specs.Prelude.{◌≡◌, ◌≢◌, ℕ, ◌+◌, ◌≤◌, ◌<◌, ◌⊎◌, ⊤, Bool, true, false, List, [], ◌∷◌, ◌++◌, length, slice_get, slice_set, Option, Some, Contains, All}
 use Rattle.model.specs.Runs.{System}
 use Rattle.search.specs.declared.nodes.Node.{Node}
 use Rattle.packed_state.specs.Packed.{bits_of}
 use Rattle.search.specs.declared.progress.Buffers.{Buffers}
 use Rattle.search.specs.declared.progress.Progress.{Progress}
 use Rattle.search.specs.declared.turns.Turn.{Turn}
-use Rattle.search.specs.OpenList.{waiting_in, IsOpenList}
+use Rattle.search.specs.declared.listing.Place.{Place}
+use Rattle.search.specs.declared.listing.Place.TheVariants.{New, Listed, Alike}
+use Rattle.search.specs.Listing.{IsAlikeAt}
+use Rattle.search.specs.OpenList.{waiting_in, IsOpenList, JoinsBy}
 use Rattle.search.specs.Outcome.{AreMoreReachable}
-use Rattle.search.specs.Nodes.{Waiting, sum_of, estimate_of, place_of, entry, IsCurrent, IsWaiting, total_of, IsEntryOf, Found, found_of, work_left, AreNodes, IsFoundWithin, AreOpen, AreOpenBut, IsTurn}
+use Rattle.search.specs.Nodes.{Waiting, sum_of, estimate_of, place_of, entry, IsCurrent, IsWaiting, total_of, IsEntryOf, has_been_expanded, status_again, Found, found_of, work_left, AreNodes, IsFoundWithin, AreOpen, AreOpenBut, IsTurn}
 
 -- Of those that wait, the state whose turn it is has the least sum of cost and estimate; of equal sum, the least estimate;
 -- and of these it comes first. It leaves the open list, and the others stay in it.
@@ -34,18 +37,18 @@ pub record IsLeastWith (sum : ℕ) (open_list : List Waiting) (all : List Node) 
 abbrev pub nodes_in : {S Store : Type 0} → (Store → List S) → Progress Store → List (Found S)
 nodes_in states_of p = found_of (states_of p.store) p.nodes.items
 
-module _ {S Store : Type 0} (t : System S ℕ) (value : S → ℕ) (is_dead : S → Bool) (states_of : Store → List S) (p : Progress Store) where
+module _ {S Store : Type 0} (t : System S ℕ) (class_of : S → S) (value : S → ℕ) (is_dead : S → Bool) (states_of : Store → List S) (p : Progress Store) where
   -- between two turns
   pub record IsSearch : Type 0 where
     pub one_each : length p.nodes.items ≡ length (states_of p.store)
-    pub nodes : AreNodes t value is_dead (nodes_in states_of p) (waiting_in p.open_list)
+    pub nodes : AreNodes t class_of value is_dead (nodes_in states_of p) (waiting_in p.open_list)
     pub heap : IsOpenList p.open_list
 
   -- the turn of a state came: it waits, and is no more in the open list
   pub record IsAtTurn (turn : Turn) : Type 0 where
     pub one_each : length p.nodes.items ≡ length (states_of p.store)
     pub open_list : List Waiting
-    pub nodes : AreNodes t value is_dead (nodes_in states_of p) open_list
+    pub nodes : AreNodes t class_of value is_dead (nodes_in states_of p) open_list
     pub heap : IsOpenList p.open_list
     pub found : Found S
     pub occurs : slice_get (nodes_in states_of p) turn.id.0 ≡ Some found
@@ -64,33 +67,113 @@ module _ {S Store : Type 0} (t : System S ℕ) (value : S → ℕ) (is_dead : S 
     pub occurs : slice_get (nodes_in states_of p) turn.id.0 ≡ Some found
     pub waits : IsWaiting is_dead found
     pub sum : turn.sum ≡ total_of value found
-    pub nodes : AreNodes t value is_dead (nodes_in states_of p) (entry found.node.cost (value found.state) turn.id.0 ∷ waiting_in p.open_list)
-    pub are_open : AreOpen t (nodes_in states_of p)
+    pub nodes : AreNodes t class_of value is_dead (nodes_in states_of p) (entry found.node.cost (value found.state) turn.id.0 ∷ waiting_in p.open_list)
+    pub are_open : AreOpen t class_of (nodes_in states_of p)
     pub heap : IsOpenList p.open_list
 
   -- the state at this place is being expanded
   pub record IsExpanding (i : ℕ) : Type 0 where
     pub search : IsSearch
     pub turn : IsTurn t value (nodes_in states_of p) i
-    pub others_open : AreOpenBut t (nodes_in states_of p) i
+    pub others_open : AreOpenBut t class_of (nodes_in states_of p) i
 
--- what was found stays found, at no higher cost, and the state that is being expanded stays as it is
-pub record Continues {S : Type 0} (old new : List (Found S)) (i : ℕ) : Type 0 where
-  pub found : (s : S) (cost : ℕ) → IsFoundWithin old s cost → IsFoundWithin new s cost
+-- of what was found a state of the class stays found, at no higher cost, and the state that is being expanded stays as it is
+pub record Continues {S : Type 0} (class_of : S → S) (old new : List (Found S)) (i : ℕ) : Type 0 where
+  pub found : (s : S) (cost : ℕ) → IsFoundWithin class_of old s cost → IsFoundWithin class_of new s cost
   pub stays : (n : Found S) → slice_get old i ≡ Some n → slice_get new i ≡ Some n
   pub longer : length old ≤ length new
   pub less : (most : ℕ) → length new ≤ most → work_left most new ≤ work_left most old
 
--- from the node at this place the action leads to a state that is found, at no more than what that costs
-abbrev pub IsListed : {S : Type 0} → System S ℕ → List (Found S) → ℕ → ℕ → S → Type 0
-IsListed {S} t nodes i a s = (n : Found S) → slice_get nodes i ≡ Some n → IsFoundWithin nodes s (n.node.cost + t.cost a)
+-- from the node at this place the action leads to a state of whose class one is found, at no more than what that costs
+abbrev pub IsListed : {S : Type 0} → System S ℕ → (S → S) → List (Found S) → ℕ → ℕ → S → Type 0
+IsListed {S} t class_of nodes i a s = (n : Found S) → slice_get nodes i ≡ Some n → IsFoundWithin class_of nodes s (n.node.cost + t.cost a)
 
--- The action's successor is listed while the state at this place is being expanded.
-pub record Reaches {S Store : Type 0} (t : System S ℕ) (value : S → ℕ) (is_dead : S → Bool) (states_of : Store → List S) (old new : Progress Store) (i max_states : ℕ) (a : ℕ) (s : S) : Type 0 where
-  pub expanding : IsExpanding t value is_dead states_of new i
+-- the place is one of this many, or comes after them
+abbrev pub IsPlaceAmong : ℕ → Place → Type 0
+IsPlaceAmong count (New place) = (place ≡ count) × (count < 16777216)
+IsPlaceAmong count (Listed place) = (place < count) × (count ≤ 16777216)
+IsPlaceAmong count (Alike place) = (place < count) × (count ≤ 16777216)
+
+-- the node at this place costs no more than this
+abbrev pub IsNodeWithin : List Node → ℕ → ℕ → Type 0
+IsNodeWithin nodes place cost = (node : Node) × (slice_get nodes place ≡ Some node) × (node.cost ≤ cost)
+
+-- the node at this place costs more
+abbrev pub IsNodeDearer : List Node → ℕ → ℕ → Type 0
+IsNodeDearer nodes place cost = (node : Node) × (slice_get nodes place ≡ Some node) × (cost < node.cost)
+
+-- a state of the class is found, at no more than this cost
+abbrev pub IsReachedWithin : List Node → ℕ → Place → Type 0
+IsReachedWithin nodes cost (New place) = ⊥
+IsReachedWithin nodes cost (Listed place) = IsNodeWithin nodes place cost
+IsReachedWithin nodes cost (Alike place) = IsNodeWithin nodes place cost
+
+-- no state of the class is found, or this cost is lower
+abbrev pub IsReachedCheaper : List Node → ℕ → Place → Type 0
+IsReachedCheaper nodes cost (New place) = ⊤
+IsReachedCheaper nodes cost (Listed place) = IsNodeDearer nodes place cost
+IsReachedCheaper nodes cost (Alike place) = IsNodeDearer nodes place cost
+
+-- a state that is not listed may take the place of the current one of its class, or join it
+abbrev pub IsFreeFor : {S : Type 0} → (S → S) → (ℕ → Type 0) → List S → ℕ → S → Place → Type 0
+IsFreeFor class_of is_current states count s (New place) = ⊤
+IsFreeFor class_of is_current states count s (Listed place) = ⊤
+IsFreeFor class_of is_current states count s (Alike place) = (count ≡ length states) × (¬ Contains states s) × IsAlikeAt class_of states s place × is_current place
+
+module _ {S Store : Type 0} (states_of : Store → List S) (old new : Progress Store) (s : S) (node : Node) (estimate : Option ℕ) (max_states : ℕ) where
+  -- the state and its node come last, beside the state at this place, which has been expanded
+  pub record Appends (place : ℕ) : Type 0 where
+    pub other : Node
+    pub there : slice_get old.nodes.items place ≡ Some other
+    pub expanded : has_been_expanded other ≡ true
+    pub room : length (states_of old.store) < max_states
+    pub states : states_of new.store ≡ states_of old.store ++ s ∷ []
+    pub nodes : new.nodes.items ≡ old.nodes.items ++ node ∷ []
+    pub open_list : JoinsBy old.open_list new.open_list node.cost (length old.nodes.items) estimate
+
+  -- the state and its node take this place, at which one was that was never expanded
+  pub record Replaces (place : ℕ) : Type 0 where
+    pub other : Node
+    pub there : slice_get old.nodes.items place ≡ Some other
+    pub waits : has_been_expanded other ≡ false
+    pub states : states_of new.store ≡ slice_set (states_of old.store) place s
+    pub nodes : new.nodes.items ≡ slice_set old.nodes.items place node
+    pub open_list : JoinsBy old.open_list new.open_list node.cost place estimate
+
+  -- the state, which is at this place, has the node now, and waits again if it was expanded
+  pub record Improves (place : ℕ) : Type 0 where
+    pub known : Node
+    pub there : slice_get old.nodes.items place ≡ Some known
+    pub states : states_of new.store ≡ states_of old.store
+    pub nodes : new.nodes.items ≡ slice_set old.nodes.items place (record node { status = status_again known.status estimate })
+    pub open_list : JoinsBy old.open_list new.open_list node.cost place estimate
+
+  -- the state, which comes last already, has the node
+  pub record IsCompleted (place : ℕ) : Type 0 where
+    pub states : states_of new.store ≡ states_of old.store
+    pub nodes : new.nodes.items ≡ old.nodes.items ++ node ∷ []
+    pub open_list : JoinsBy old.open_list new.open_list node.cost place estimate
+
+  -- the state is listed, with the node
+  abbrev pub TakesPlace : Place → Type 0
+  TakesPlace (New place) = IsCompleted place
+  TakesPlace (Listed place) = Improves place
+  TakesPlace (Alike place) = Replaces place ⊎ Appends place
+
+-- the limit allows no state more, and nothing has changed: the state is not listed
+pub record IsLeftOut {S Store : Type 0} (states_of : Store → List S) (old new : Progress Store) (s : S) (max_states : ℕ) : Type 0 where
+  pub not_listed : ¬ Contains (states_of old.store) s
+  pub full : length (states_of old.store) ≡ max_states
+  pub store : states_of new.store ≡ states_of old.store
+  pub nodes : new.nodes.items ≡ old.nodes.items
+  pub open_list : new.open_list ≡ old.open_list
+
+-- The action's successor, or one of its class, is listed while the state at this place is being expanded.
+pub record Reaches {S Store : Type 0} (t : System S ℕ) (class_of : S → S) (value : S → ℕ) (is_dead : S → Bool) (states_of : Store → List S) (old new : Progress Store) (i max_states : ℕ) (a : ℕ) (s : S) : Type 0 where
+  pub expanding : IsExpanding t class_of value is_dead states_of new i
   pub within : length (states_of new.store) ≤ max_states
-  pub continues : Continues (nodes_in states_of old) (nodes_in states_of new) i
-  pub listed : IsListed t (nodes_in states_of new) i a s
+  pub continues : Continues class_of (nodes_in states_of old) (nodes_in states_of new) i
+  pub listed : IsListed t class_of (nodes_in states_of new) i a s
 
 -- The limit allows no state more, and nothing has changed.
 pub record IsFull {S Store : Type 0} (t : System S ℕ) (value : S → ℕ) (is_dead : S → Bool) (states_of : Store → List S) (old new : Progress Store) (max_states : ℕ) : Type 0 where
@@ -101,9 +184,9 @@ pub record IsFull {S Store : Type 0} (t : System S ℕ) (value : S → ℕ) (is_
   pub open_list : new.open_list ≡ old.open_list
 
 -- The states' turn is over.
-pub record Expands {S Store : Type 0} (t : System S ℕ) (value : S → ℕ) (is_dead : S → Bool) (states_of : Store → List S) (old new : Progress Store) (max_states : ℕ) : Type 0 where
-  pub search : IsSearch t value is_dead states_of new
-  pub are_open : AreOpen t (nodes_in states_of new)
+pub record Expands {S Store : Type 0} (t : System S ℕ) (class_of : S → S) (value : S → ℕ) (is_dead : S → Bool) (states_of : Store → List S) (old new : Progress Store) (max_states : ℕ) : Type 0 where
+  pub search : IsSearch t class_of value is_dead states_of new
+  pub are_open : AreOpen t class_of (nodes_in states_of new)
   pub within : length (states_of new.store) ≤ max_states
   pub less : work_left max_states (nodes_in states_of new) < work_left max_states (nodes_in states_of old)
 

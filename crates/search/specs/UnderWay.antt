@@ -17,17 +17,19 @@ store_in search = search.progress.store
 abbrev pub nodes_of : {Store R : Type 0} → Search Store R → List Node
 nodes_of search = search.progress.nodes.items
 
-module _ {S Store R : Type 0} (t : System S ℕ) (value : S → ℕ) (is_dead : S → Bool) (fits : R → Type 0) (states_of : Store → List S) (width_of : Store → ℕ) (width : ℕ) where
-  -- Between two turns of a search of states of this width, which listed no more of them than it may.
+module _ {S Store R : Type 0} (t : System S ℕ) (class_of : S → S) (value : S → ℕ) (is_dead : S → Bool) (fits : R → Type 0) (states_of : Store → List S) (classes_of : Store → S → S)
+    (width_of : Store → ℕ) (width : ℕ) where
+  -- Between two turns of a search of states of this width by these classes, which listed no more of them than it may.
   pub record IsUnderWay (max_states : ℕ) (s : Search Store R) : Type 0 where
-    pub search : IsSearch t value is_dead states_of s.progress
-    pub are_open : AreOpen t (nodes_in states_of s.progress)
+    pub search : IsSearch t class_of value is_dead states_of s.progress
+    pub are_open : AreOpen t class_of (nodes_in states_of s.progress)
     pub within : length (states_of (store_in s)) ≤ max_states
+    pub store_classes : classes_of (store_in s) ≡ class_of
     pub store_width : width_of (store_in s) ≡ width
     pub buffers : AreWide width s.buffers
     pub room : fits s.buffers.room
 
   -- The search ended with a true outcome, or goes on once as many states are listed as it is to pause at.
   abbrev pub IsTrueHalt : ℕ → ℕ → Halt Store R → Type 0
-  IsTrueHalt pause max_states (Ended outcome) = IsTrueOutcome t value is_dead states_of max_states outcome
+  IsTrueHalt pause max_states (Ended outcome) = IsTrueOutcome t class_of value is_dead states_of max_states outcome
   IsTrueHalt pause max_states (Paused search) = IsUnderWay max_states search × (pause ≤ length (states_of (store_in search)))

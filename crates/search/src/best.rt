@@ -4,6 +4,7 @@ ghost use Rattle.model.specs.Limits.{max_states_listed};
 ghost use Rattle.search.specs.Outcome.{IsTrueOutcome};
 
 use crate::guide::Guide;
+use crate::listing::OwnClasses;
 use crate::nodes::FoundStates;
 use crate::transitions::TransitionSystem;
 use crate::under_way::{begin, finish};
@@ -16,7 +17,7 @@ pub const MAX_STATES: u32 = 16_777_216;
 
 /// What a search finds out.
 #[derive(Drop)]
-pub enum Outcome<S> {
+pub enum Outcome<L> {
     /// A cheapest plan.
     Found {
         /// Its actions, in order.
@@ -24,19 +25,20 @@ pub enum Outcome<S> {
         /// What they cost together.
         cost: u64,
         /// The states that were found.
-        states: FoundStates<S>,
+        states: FoundStates<L>,
     },
     /// There is no plan.
     Exhausted {
-        /// The states that were found: all that are reachable, but for those that only dead ends lead to.
-        states: FoundStates<S>,
+        /// The states that were found. Where each is a class of its own, they are all that are reachable, but for those that only
+        /// dead ends lead to.
+        states: FoundStates<L>,
     },
     /// More states would have to be listed than may be, before any plan is sure to be a cheapest one.
     States {
         /// Each plan costs at least this.
         bound: u64,
         /// The states that were found: as many as may be.
-        states: FoundStates<S>,
+        states: FoundStates<L>,
     },
 }
 
@@ -52,7 +54,8 @@ pub enum Outcome<S> {
 ///
 /// A state that the guide reports dead is listed as a dead end, and never expanded; with `NoDeadEnd` there is none.
 ///
-/// `begin`, `go_on` and `finish` are the same search in parts, which may pause.
+/// `begin`, `go_on` and `finish` are the same search in parts, which may pause, over any listing of its states. Here each state is a
+/// class of its own.
 ///
 /// What differs from these: the states are in a store, in the order in which they were found, and are named by
 /// their places there; actions are the system's numbers. Where a cheaper way to a waiting state is found, the old entry
@@ -70,11 +73,11 @@ pub enum Outcome<S> {
 /// estimate over the found states that are neither expanded nor reported dead, and the found states prove it (`IsAtLimit`). No
 /// state that is reported dead is expanded, and exactly these are marked dead among the found states. No plan costs less than an
 /// expanded state with its estimate. Where the estimate is consistent, and what follows a state that is reported dead is reported
-/// dead too, an expanded state was reached by a cheapest way, and at the limit none has a greater sum than the bound. The clause
-/// leaves open which of several cheapest plans is answered, which states whose sum is as much as these cost are expanded before,
-/// and the order of the states in the store. Of that order, the contract of `next_waiting` says that it gives the state found first
-/// of those of the least estimate of those of the least sum; that this is the one to be expanded or answered, and that states
-/// are found in the order of the successors, is shown by tests alone.
+/// dead too, an expanded state was reached by a cheapest way, and at the limit none has a greater sum than the bound, nor has the
+/// initial state a greater estimate. The clause leaves open which of several cheapest plans is answered, which states whose sum is as
+/// much as these cost are expanded before, and the order of the states in the store. Of that order, the contract of `next_waiting`
+/// says that it gives the state found first of those of the least estimate of those of the least sum; that this is the one to be
+/// expanded or answered, and that states are found in the order of the successors, is shown by tests alone.
 ///
 /// ```text
 /// let store = PooledStore::new(alloc, system.width())?;
@@ -100,8 +103,39 @@ pub fn best_first<T: TransitionSystem, G: Guide, S: StateStore>(
     requires width { S.width_of store ≡ T.width_of system.now }
     requires some { 1 ≤ max_states }
     requires limit { max_states ≤ max_states_listed }
-    ensures { IfOk result (IsTrueOutcome (T.means system.now) (G.estimate_of guide.now) (G.is_dead guide.now) S.states max_states) }
+    ensures { IfOk result (IsTrueOutcome (T.means system.now) (λ s. s) (G.estimate_of guide.now) (G.is_dead guide.now) S.states max_states) }
 {
-    let search = begin(alloc, system, guide, store)?;
-    finish(alloc, system, guide, search, max_states)
+    let search = begin(alloc, system, guide, OwnClasses(store))?;
+    Ok(match finish(alloc, system, guide, search, max_states)? {
+        Outcome::Found {
+            steps,
+            cost,
+            states,
+        } => Outcome::Found {
+            steps,
+            cost,
+            states: states.in_store(),
+        },
+        Outcome::Exhausted { states } => Outcome::Exhausted {
+            states: states.in_store(),
+        },
+        Outcome::States { bound, states } => Outcome::States {
+            bound,
+            states: states.in_store(),
+        },
+    })
+}
+
+impl<S> FoundStates<OwnClasses<S>> {
+    /// The states in the store that was searched over.
+    fn in_store(self) -> FoundStates<S>
+        ensures store { result.store ≡ self.store.0 }
+        ensures nodes { result.nodes.items ≡ self.nodes.items }
+    {
+        let FoundStates { store, nodes } = self;
+        FoundStates {
+            store: store.0,
+            nodes,
+        }
+    }
 }

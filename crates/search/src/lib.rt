@@ -1,10 +1,11 @@
-//! Best-first search of a transition system, over any store of its states.
+//! Best-first search of a transition system, over any listing of its states.
 #![tactic(auto)]
 
 mod best;
 mod dead_ends;
 mod estimates;
 mod guide;
+mod listing;
 mod nodes;
 mod open_list;
 mod progress;
@@ -16,6 +17,7 @@ pub use best::{MAX_STATES, Outcome, best_first};
 pub use dead_ends::{DeadEnd, NoDeadEnd};
 pub use estimates::{Estimate, NoEstimate, value_of};
 pub use guide::{EstimateWithDeadEnds, Guide};
+pub use listing::{OwnClasses, Place, StateListing};
 pub use nodes::{FoundStates, Node, NodeStatus, StateId};
 pub use transitions::TransitionSystem;
 pub use under_way::{Halt, Search, begin, finish, go_on};

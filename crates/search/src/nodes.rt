@@ -1,7 +1,7 @@
 //! The states that a search found, and how it reached them.
 ghost use Rattle.std.specs.Prelude.{◌≡◌, ◌+◌, ◌*◌, ◌<◌, ◌≤◌, length, IfOk};
 ghost use Rattle.search.specs.Outcome.{is_expanded};
-ghost use Rattle.search.specs.Nodes.{place_in, status_of_reached, IsPath, IsReachedIn};
+ghost use Rattle.search.specs.Nodes.{has_been_expanded_status, place_in, status_again, status_of_reached, IsPath, IsReachedIn};
 
 use crate::best::MAX_STATES;
 use faults::NoMemory;
@@ -22,9 +22,12 @@ pub(crate) struct ShortId {
 /// How far a search is with a found state.
 #[derive(Clone, Copy, Debug, PartialEq, Eq)]
 pub enum NodeStatus {
-    /// It is still to be expanded, for the first time or, since it was reached at a lower cost, again.
+    /// It is still to be expanded, for the first time.
     Open,
-    /// It was expanded: all its successors are among the found states.
+    /// It was expanded, in whole or in part, and is still to be expanded again: it was reached at a lower cost since, or the limit
+    /// came before all its successors.
+    Reopened,
+    /// It was expanded: of each successor one of its class is among the found states.
     Expanded,
     /// It is reported a dead end, and is never expanded.
     Dead,
@@ -35,10 +38,10 @@ pub enum NodeStatus {
 pub struct Node {
     /// What some list of actions that leads to the state costs.
     pub cost: u64,
-    /// Whether it is still to be expanded, was expanded, or is reported a dead end.
+    /// Whether it is still to be expanded, for the first time or again, was expanded, or is reported a dead end.
     pub status: NodeStatus,
-    /// The state from which it was reached at this cost, which may itself be reached at a lower one since. Of the initial state it
-    /// says nothing.
+    /// The state from which it was reached at this cost, which may itself be reached at a lower one since. It has been expanded, so
+    /// that no other takes its place. Of the initial state it says nothing.
     pub(crate) parent: ShortId,
     /// The action that leads to it from there.
     pub(crate) action: u32,
@@ -46,10 +49,10 @@ pub struct Node {
 
 /// The states that a search found.
 #[derive(Drop)]
-pub struct FoundStates<S> {
+pub struct FoundStates<L> {
     /// The states.
-    pub store: S,
-    /// For each state of the store, in the same order, how it was reached.
+    pub store: L,
+    /// For each of them, in the same order, how it was reached.
     pub nodes: Vec<Node>,
 }
 
@@ -63,10 +66,27 @@ impl NodeStatus {
             None => NodeStatus::Dead,
         }
     }
+
+    /// That of a state that is reached at a lower cost than before and has this estimate, or none since it is reported dead.
+    pub(crate) fn again(self, estimate: Option<u64>) -> NodeStatus
+        ensures { result ≡ status_again self estimate }
+    {
+        match estimate {
+            Some(_) if self.has_been_expanded() => NodeStatus::Reopened,
+            _ => NodeStatus::of_reached(estimate),
+        }
+    }
+
+    /// Whether the state has been expanded, in whole or in part. If not, no other was reached from it.
+    pub(crate) fn has_been_expanded(self) -> bool
+        ensures { result ≡ has_been_expanded_status self }
+    {
+        matches!(self, NodeStatus::Reopened | NodeStatus::Expanded)
+    }
 }
 
 impl Node {
-    /// Whether the state was expanded.
+    /// Whether the state was expanded, at the cost at which it is reached now.
     pub fn is_expanded(&self) -> bool
         ensures { result ≡ is_expanded self.now }
     {

@@ -1,28 +1,30 @@
 //! How far a search has come: the states found so far, and which of them wait to be expanded.
 ghost use Rattle.std.specs.Prelude.{◌≡◌, ◌≢◌, ℕ, ◌+◌, ◌<◌, ◌≤◌, ◌^◌, true, false, List, [], ◌∷◌, ◌++◌, length, slice_get, slice_set, Contains, All, MatchBool, MatchOption, IfOk, IfNone, IfSome, OnOk, OnSome, Some};
 ghost use Rattle.packed_state.specs.Packed.{bits_of};
-ghost use Rattle.packed_state.specs.Store.{IsPlaced};
+ghost use Rattle.search.specs.Outcome.{AreClassesOf};
 ghost use Rattle.search.specs.Nodes.{Waiting, IsEntry, IsCurrent, AreOpen, IsPath, IsReachedIn};
 ghost use Rattle.search.specs.OpenList.{waiting_in, IsOpenList, JoinsBy};
-ghost use Rattle.search.specs.Progress.{TakesNext, IsLeastWith, nodes_in, IsSearch, IsAtTurn, IsStopped, IsExpanding, Reaches, IsFull, Expands, AreWide};
+ghost use Rattle.search.specs.Progress.{TakesNext, IsLeastWith, nodes_in, IsSearch, IsAtTurn, IsStopped, IsExpanding, IsPlaceAmong, IsReachedWithin, IsReachedCheaper, IsFreeFor, TakesPlace, IsLeftOut, Reaches, IsFull, Expands, AreWide};
 
 use crate::best::MAX_STATES;
 use crate::guide::Guide;
+use crate::listing::{Place, StateListing};
 use crate::nodes::{FoundStates, Node, NodeStatus, ShortId, StateId, steps_to};
 use crate::open_list::OpenList;
 use crate::transitions::TransitionSystem;
-use crate::turns::{Parent, Successor, Turn};
+use crate::turns::{Parent, Reached, Successor, Turn};
 use faults::NoMemory;
-use packed_state::{Packed, StateStore};
+use packed_state::Packed;
 use std::alloc::Global;
 use std::cmp::Reverse;
 
 /// How far a search has come.
 #[derive(Drop)]
-pub(crate) struct Progress<S> {
-    pub(crate) store: S,
+pub(crate) struct Progress<L> {
+    pub(crate) store: L,
     pub(crate) nodes: Vec<Node>,
-    /// Each waiting state, beside entries that are stale: a cheaper way was found, or it was expanded at this cost.
+    /// Each waiting state, beside entries that are stale: a cheaper way was found, also by another state that took the place, or
+    /// the state was expanded at this cost.
     pub(crate) open_list: OpenList,
 }
 
@@ -54,52 +56,28 @@ impl<R: Drop> Buffers<R> {
     }
 }
 
-/// The state's place in the store, and whether it is new there; `None` if it would be one too many.
-fn place_of_state<S: StateStore>(
-    store: &mut S,
-    state: &Packed,
-    max_states: u32,
-) -> Result<Option<(StateId, bool)>, NoMemory>
-    requires width { length (bits_of state.now) ≡ S.width_of store.old }
-    requires within { length (S.states store.old) ≤ max_states }
-    requires limit { max_states ≤ MAX_STATES }
-    ensures width { S.width_of store.new ≡ S.width_of store.old }
-    ensures within { IfOk result (λ _. length (S.states store.new) ≤ max_states) }
-    ensures placed { IfOk result (λ r. MatchOption r
-        ((¬ Contains (S.states store.old) (bits_of state.now)) × (length (S.states store.old) ≡ max_states) × (S.states store.new ≡ S.states store.old))
-        (λ p. IsPlaced (S.states store.old) (S.states store.new) (bits_of state.now) p.0.0 p.1)) }
-{
-    if store.len() < max_states as usize {
-        let (place, is_new) = store.insert_copy_if_new(state)?;
-        return Ok(Some((StateId(place), is_new)));
-    }
-    match store.find(state) {
-        Some(place) => Ok(Some((StateId(place), false))),
-        None => Ok(None),
-    }
-}
-
-impl<S: StateStore> Progress<S> {
+impl<L: StateListing> Progress<L> {
     /// The initial state alone is found, and waits unless it is reported dead.
     pub(crate) fn start<T: TransitionSystem, G: Guide>(
         alloc: Global,
         system: &T,
         guide: &G,
         room: &mut G::Room,
-        mut store: S,
-    ) -> Result<Progress<S>, NoMemory>
+        mut store: L,
+    ) -> Result<Progress<L>, NoMemory>
         requires guide_width { G.width_of guide.now ≡ T.width_of system.now }
         requires room { G.fits guide.now room.old }
-        requires empty { S.states store ≡ [] }
-        requires width { S.width_of store ≡ T.width_of system.now }
+        requires empty { L.states store ≡ [] }
+        requires width { L.width_of store ≡ T.width_of system.now }
         ensures room { IfOk result (λ _. G.fits guide.now room.new) }
-        ensures search { IfOk result (λ p. IsSearch (T.means system.now) (G.estimate_of guide.now) (G.is_dead guide.now) S.states p) }
-        ensures open { IfOk result (λ p. AreOpen (T.means system.now) (nodes_in S.states p)) }
-        ensures one { IfOk result (λ p. length (S.states p.store) ≡ 1) }
-        ensures width { IfOk result (λ p. S.width_of p.store ≡ T.width_of system.now) }
+        ensures search { IfOk result (λ p. IsSearch (T.means system.now) (L.class_of store) (G.estimate_of guide.now) (G.is_dead guide.now) L.states p) }
+        ensures open { IfOk result (λ p. AreOpen (T.means system.now) (L.class_of store) (nodes_in L.states p)) }
+        ensures one { IfOk result (λ p. length (L.states p.store) ≡ 1) }
+        ensures width { IfOk result (λ p. L.width_of p.store ≡ T.width_of system.now) }
+        ensures class { IfOk result (λ p. L.class_of p.store ≡ L.class_of store) }
     {
         let initial = system.initial(alloc)?;
-        let (place, _) = store.insert_copy_if_new(&initial)?;
+        store.place(&initial, 1)?;
         let mut progress = Progress {
             store,
             nodes: Vec::new(alloc),
@@ -112,7 +90,7 @@ impl<S: StateStore> Progress<S> {
             parent: ShortId::new(StateId(0)),
             action: 0,
         };
-        progress.add(StateId(place), node, value)?;
+        progress.add(StateId(0), node, value)?;
         Ok(progress)
     }
 
@@ -209,7 +187,8 @@ impl<S: StateStore> Progress<S> {
         self.nodes[id.0 as usize].status = status;
     }
 
-    /// Lists a successor of the state that is being expanded; says whether the limit allows that.
+    /// Lists a successor of the state that is being expanded, unless it or the current one of its class is reached at no more; says
+    /// whether the limit allows that.
     fn reach<T: TransitionSystem, G: Guide>(
         &mut self,
         system: &T,
@@ -220,38 +199,99 @@ impl<S: StateStore> Progress<S> {
         max_states: u32,
     ) -> Result<bool, NoMemory>
         requires made_for { G.system_of guide.now ≡ T.means system.now }
-        requires guide_width { G.width_of guide.now ≡ S.width_of self.old.store }
-        requires expanding { IsExpanding (T.means system.now) (G.estimate_of guide.now) (G.is_dead guide.now) S.states self.old parent.now.id.0 }
-        requires parent { slice_get (S.states self.old.store) parent.now.id.0 ≡ Some (bits_of parent.now.state.now) }
-        requires parent_width { length (bits_of parent.now.state.now) ≡ S.width_of self.old.store }
+        requires guide_width { G.width_of guide.now ≡ L.width_of self.old.store }
+        requires expanding { IsExpanding (T.means system.now) (L.class_of self.old.store) (G.estimate_of guide.now) (G.is_dead guide.now) L.states self.old parent.now.id.0 }
+        requires parent { slice_get (L.states self.old.store) parent.now.id.0 ≡ Some (bits_of parent.now.state.now) }
+        requires parent_width { length (bits_of parent.now.state.now) ≡ L.width_of self.old.store }
         requires room { G.is_at guide.now room.old (bits_of parent.now.state.now) }
         requires leads { (T.means system.now).step (bits_of parent.now.state.now) to.action ≡ Some (bits_of to.state.now) }
-        requires width { length (bits_of to.state.now) ≡ S.width_of self.old.store }
-        requires within { length (S.states self.old.store) ≤ max_states }
+        requires width { length (bits_of to.state.now) ≡ L.width_of self.old.store }
+        requires within { length (L.states self.old.store) ≤ max_states }
         requires limit { max_states ≤ MAX_STATES }
-        ensures width { S.width_of self.new.store ≡ S.width_of self.old.store }
+        ensures width { L.width_of self.new.store ≡ L.width_of self.old.store }
+        ensures class { L.class_of self.new.store ≡ L.class_of self.old.store }
         ensures room { IfOk result (λ _. G.is_at guide.now room.new (bits_of parent.now.state.now)) }
         ensures listed { IfOk result (λ is_listed. MatchBool is_listed
-            (Reaches (T.means system.now) (G.estimate_of guide.now) (G.is_dead guide.now) S.states self.old self.new parent.now.id.0 max_states to.entry.action (bits_of to.entry.state.now))
-            (IsFull (T.means system.now) (G.estimate_of guide.now) (G.is_dead guide.now) S.states self.old self.new max_states)) }
+            (Reaches (T.means system.now) (L.class_of self.old.store) (G.estimate_of guide.now) (G.is_dead guide.now) L.states self.old self.new parent.now.id.0 max_states to.entry.action (bits_of to.entry.state.now))
+            (IsFull (T.means system.now) (G.estimate_of guide.now) (G.is_dead guide.now) L.states self.old self.new max_states)) }
     {
         let before = self.nodes[parent.id.0 as usize];
         let cost = before.cost + u64::from(system.cost(to.action));
-        let Some((id, is_new)) = place_of_state(&mut self.store, to.state, max_states)? else {
+        let Some(place) = self.store.place(to.state, max_states)? else {
             return Ok(false);
         };
-        if is_new {
-            let value = guide.value_after(parent.state, to.action, to.state, room);
-            self.add(id, parent.child(cost, to.action, value), value)?;
-        } else if cost < self.nodes[id.0 as usize].cost {
-            let value = guide.value_after(parent.state, to.action, to.state, room);
-            self.improve(id, parent.child(cost, to.action, value), value)?;
+        if self.is_reached_within(place, cost) {
+            return Ok(true);
+        }
+        let estimate = guide.value_after(parent.state, to.action, to.state, room);
+        let node = parent.child(cost, to.action, NodeStatus::of_reached(estimate));
+        let reached = Reached {
+            state: to.state,
+            node,
+            estimate,
+        };
+        self.take_place(place, reached, max_states)
+    }
+
+    /// Whether the state that is to be listed at this place, or the other one of its class, is reached at no more than this cost.
+    fn is_reached_within(&self, place: Place, cost: u64) -> bool
+        requires { IsPlaceAmong (length self.now.nodes.items) place }
+        ensures { MatchBool result (IsReachedWithin self.now.nodes.items cost place) (IsReachedCheaper self.now.nodes.items cost place) }
+    {
+        match place {
+            Place::New(_) => false,
+            Place::Listed(place) => self.nodes[place as usize].cost <= cost,
+            Place::Alike(place) => self.nodes[place as usize].cost <= cost,
+        }
+    }
+
+    /// Lists a state that is new, or is reached at a lower cost than before; says whether the limit allows that.
+    ///
+    /// One of the class that was never expanded gives it its place, since no other was reached from it. One that was stays where it
+    /// is, so that each state is still what its action makes of its parent.
+    fn take_place(
+        &mut self,
+        place: Place,
+        reached: Reached<'_>,
+        max_states: u32,
+    ) -> Result<bool, NoMemory>
+        requires place { IsPlaceAmong (length self.old.nodes.items) place }
+        requires free { IsFreeFor (L.class_of self.old.store) (L.is_current self.old.store) (L.states self.old.store) (length self.old.nodes.items) (bits_of reached.state.now) place }
+        requires width { length (bits_of reached.state.now) ≡ L.width_of self.old.store }
+        requires sum { IfSome reached.estimate (λ e. reached.node.cost + e < 2 ^ 64) }
+        requires within { length (L.states self.old.store) ≤ max_states }
+        requires limit { max_states ≤ MAX_STATES }
+        ensures width { L.width_of self.new.store ≡ L.width_of self.old.store }
+        ensures class { L.class_of self.new.store ≡ L.class_of self.old.store }
+        ensures taken { IfOk result (λ is_taken. MatchBool is_taken
+            (TakesPlace L.states self.old self.new (bits_of reached.entry.state.now) reached.entry.node reached.entry.estimate max_states place)
+            (IsLeftOut L.states self.old self.new (bits_of reached.entry.state.now) max_states)) }
+    {
+        match place {
+            Place::New(place) => self.add(StateId(place), reached.node, reached.estimate)?,
+            Place::Listed(place) => {
+                let mut node = reached.node;
+                node.status = self.nodes[place as usize].status.again(reached.estimate);
+                self.improve(StateId(place), node, reached.estimate)?;
+            }
+            Place::Alike(place) => {
+                if !self.nodes[place as usize].status.has_been_expanded() {
+                    self.store.replace(place, reached.state);
+                    self.improve(StateId(place), reached.node, reached.estimate)?;
+                } else if self.store.len() < max_states as usize {
+                    let last = StateId(self.nodes.len() as u32);
+                    self.store.append(reached.state, place)?;
+                    self.add(last, reached.node, reached.estimate)?;
+                } else {
+                    return Ok(false);
+                }
+            }
         }
         Ok(true)
     }
 
     /// Lists the successors of the state whose turn it is, which the buffers hold; says whether the limit allows that.
-    /// Where it does not, the state is not expanded: it waits still, but is not in the open list.
+    /// Where it does not, the state is not expanded: it waits again, but is not in the open list.
     pub(crate) fn expand<T: TransitionSystem, G: Guide>(
         &mut self,
         system: &T,
@@ -262,22 +302,24 @@ impl<S: StateStore> Progress<S> {
     ) -> Result<bool, NoMemory>
         requires made_for { G.system_of guide.now ≡ T.means system.now }
         requires guide_width { G.width_of guide.now ≡ T.width_of system.now }
-        requires turn { IsAtTurn (T.means system.now) (G.estimate_of guide.now) (G.is_dead guide.now) S.states self.old turn }
+        requires turn { IsAtTurn (T.means system.now) (L.class_of self.old.store) (G.estimate_of guide.now) (G.is_dead guide.now) L.states self.old turn }
+        requires classes { AreClassesOf (T.means system.now) (L.class_of self.old.store) }
         requires value { turn.estimate ≡ G.estimate_of guide.now (bits_of buffers.old.state) }
         requires room { G.fits guide.now buffers.old.room }
-        requires open { AreOpen (T.means system.now) (nodes_in S.states self.old) }
-        requires state { slice_get (S.states self.old.store) turn.id.0 ≡ Some (bits_of buffers.old.state) }
+        requires open { AreOpen (T.means system.now) (L.class_of self.old.store) (nodes_in L.states self.old) }
+        requires state { slice_get (L.states self.old.store) turn.id.0 ≡ Some (bits_of buffers.old.state) }
         requires no_goal { (T.means system.now).meets_goal (bits_of buffers.old.state) ≡ false }
-        requires width { S.width_of self.old.store ≡ T.width_of system.now }
+        requires width { L.width_of self.old.store ≡ T.width_of system.now }
         requires buffers { AreWide (T.width_of system.now) buffers.old }
-        requires within { length (S.states self.old.store) ≤ max_states }
+        requires within { length (L.states self.old.store) ≤ max_states }
         requires limit { max_states ≤ MAX_STATES }
-        ensures width { IfOk result (λ _. S.width_of self.new.store ≡ T.width_of system.now) }
+        ensures width { IfOk result (λ _. L.width_of self.new.store ≡ T.width_of system.now) }
+        ensures class { IfOk result (λ _. L.class_of self.new.store ≡ L.class_of self.old.store) }
         ensures buffers { IfOk result (λ _. AreWide (T.width_of system.now) buffers.new) }
         ensures room { IfOk result (λ _. G.fits guide.now buffers.new.room) }
         ensures listed { IfOk result (λ is_listed. MatchBool is_listed
-            (Expands (T.means system.now) (G.estimate_of guide.now) (G.is_dead guide.now) S.states self.old self.new max_states)
-            (IsStopped (T.means system.now) (G.estimate_of guide.now) (G.is_dead guide.now) S.states self.new turn max_states)) }
+            (Expands (T.means system.now) (L.class_of self.old.store) (G.estimate_of guide.now) (G.is_dead guide.now) L.states self.old self.new max_states)
+            (IsStopped (T.means system.now) (L.class_of self.old.store) (G.estimate_of guide.now) (G.is_dead guide.now) L.states self.new turn max_states)) }
     {
         system.applicable(&buffers.state, &mut buffers.applicable)?;
         self.mark(turn.id, NodeStatus::Expanded);
@@ -293,7 +335,7 @@ impl<S: StateStore> Progress<S> {
                 state: &buffers.next,
             };
             if !self.reach(system, guide, &mut buffers.room, &parent, to, max_states)? {
-                self.mark(turn.id, NodeStatus::Open);
+                self.mark(turn.id, NodeStatus::Reopened);
                 return Ok(false);
             }
         }
@@ -305,7 +347,7 @@ impl<S: StateStore> Progress<S> {
         self,
         alloc: Global,
         goal: StateId,
-    ) -> Result<(Vec<u32>, FoundStates<S>), NoMemory>
+    ) -> Result<(Vec<u32>, FoundStates<L>), NoMemory>
         requires { IsReachedIn self.nodes.items goal.0 (length self.nodes.items) }
         ensures path { IfOk result (λ r. IsPath self.nodes.items goal.0 r.0.items) }
         ensures short { IfOk result (λ r. length r.0.items ≤ length self.nodes.items) }
@@ -316,7 +358,7 @@ impl<S: StateStore> Progress<S> {
         Ok((steps, self.into_states()))
     }
 
-    pub(crate) fn into_states(self) -> FoundStates<S>
+    pub(crate) fn into_states(self) -> FoundStates<L>
         ensures store { result.store ≡ self.store }
         ensures nodes { result.nodes.items ≡ self.nodes.items }
     {

@@ -1,6 +1,6 @@
 //! The state whose turn it is, as the open list gives it and as its successors need it.
 ghost use Rattle.std.specs.Prelude.{◌≡◌, ◌<◌};
-ghost use Rattle.search.specs.Nodes.{parent_of, status_of_reached};
+ghost use Rattle.search.specs.Nodes.{parent_of};
 
 use crate::best::MAX_STATES;
 use crate::nodes::{Node, NodeStatus, ShortId, StateId};
@@ -28,18 +28,26 @@ pub(crate) struct Successor<'a> {
     pub(crate) state: &'a Packed,
 }
 
+/// A state as it is reached now: its node, and its estimate, or none since it is reported dead.
+#[derive(Clone, Copy)]
+pub(crate) struct Reached<'a> {
+    pub(crate) state: &'a Packed,
+    pub(crate) node: Node,
+    pub(crate) estimate: Option<u64>,
+}
+
 impl Parent<'_> {
-    /// The node of a state that the action leads to, reached from here at this cost: one of this estimate, or reported dead.
-    pub(crate) fn child(&self, cost: u64, action: u32, estimate: Option<u64>) -> Node
+    /// The node of a state that the action leads to, reached from here at this cost.
+    pub(crate) fn child(&self, cost: u64, action: u32, status: NodeStatus) -> Node
         requires { self.now.id.0 < MAX_STATES }
         ensures cost { result.cost ≡ cost }
-        ensures status { result.status ≡ status_of_reached estimate }
+        ensures status { result.status ≡ status }
         ensures parent { parent_of result ≡ self.now.id.0 }
         ensures action { result.action ≡ action }
     {
         Node {
             cost,
-            status: NodeStatus::of_reached(estimate),
+            status,
             parent: ShortId::new(self.id),
             action,
         }

@@ -1,3 +1,4 @@
 pub mod Rooms
 pub mod BlindRooms
 pub mod FarSigns
+pub mod Twins

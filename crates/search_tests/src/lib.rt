@@ -4,6 +4,8 @@
 #[cfg(test)]
 mod blind_rooms;
 #[cfg(test)]
+mod classes;
+#[cfg(test)]
 mod dear_doors;
 #[cfg(test)]
 mod far_signs;
@@ -25,3 +27,5 @@ mod searches;
 mod sets;
 #[cfg(test)]
 mod signs;
+#[cfg(test)]
+mod twins;

@@ -8,7 +8,8 @@ use crate::signs::Signs;
 use faults::NoMemory;
 use packed_state::{PlainStore, StateStore};
 use search::{
-    EstimateWithDeadEnds, Guide, Halt, Outcome, Search, TransitionSystem, begin, finish, go_on,
+    EstimateWithDeadEnds, FoundStates, Guide, Halt, Outcome, OwnClasses, Search, StateListing,
+    TransitionSystem, begin, finish, go_on,
 };
 use std::alloc::Global;
 use std::test::Fail;
@@ -23,7 +24,7 @@ static CLIMB: Row = Row {
 /// How many states a search has listed, how many nodes it has, and the least sum of one that waits.
 type Seen = (usize, usize, Option<u64>);
 
-fn seen<S: StateStore, R>(search: &Search<S, R>) -> Seen {
+fn seen<L: StateListing, R>(search: &Search<L, R>) -> Seen {
     (search.store().len(), search.nodes().len(), search.bound())
 }
 
@@ -41,7 +42,7 @@ fn in_parts<T: TransitionSystem, G: Guide, S: StateStore>(
     requires empty { S.states store ≡ [] }
     requires width { S.width_of store ≡ T.width_of system.now }
 {
-    let search = begin(alloc, system, guide, store)?;
+    let search = begin(alloc, system, guide, OwnClasses(store))?;
     let Halt::Paused(search) = go_on(alloc, system, guide, search, 2, 100)? else {
         return Ok(None);
     };
@@ -51,7 +52,37 @@ fn in_parts<T: TransitionSystem, G: Guide, S: StateStore>(
     };
     let second = seen(&search);
     let outcome = finish(alloc, system, guide, search, 100)?;
-    Ok(Some((first, second, outcome)))
+    Ok(Some((first, second, in_store(outcome))))
+}
+
+/// The states in the store that was searched over.
+fn states_in_store<S>(states: FoundStates<OwnClasses<S>>) -> FoundStates<S> {
+    FoundStates {
+        store: states.store.0,
+        nodes: states.nodes,
+    }
+}
+
+/// The outcome with the store in place of its listing.
+fn in_store<S>(outcome: Outcome<OwnClasses<S>>) -> Outcome<S> {
+    match outcome {
+        Outcome::Found {
+            steps,
+            cost,
+            states,
+        } => Outcome::Found {
+            steps,
+            cost,
+            states: states_in_store(states),
+        },
+        Outcome::Exhausted { states } => Outcome::Exhausted {
+            states: states_in_store(states),
+        },
+        Outcome::States { bound, states } => Outcome::States {
+            bound,
+            states: states_in_store(states),
+        },
+    }
 }
 
 /// The same of the row's rooms, and whether the search comes to what the row says.

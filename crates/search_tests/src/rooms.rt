@@ -47,7 +47,7 @@ impl Rooms {
     }
 
     /// The room after the room's door of this number.
-    fn following(&self, door: u32, room: u32) -> Option<u32>
+    pub(crate) fn following(&self, door: u32, room: u32) -> Option<u32>
         ensures following { result ≡ following self.now.width (doors self.now.first.now self.now.second.now door) room }
         ensures within { IfSome result (λ next. next < self.now.width) }
     {

@@ -115,7 +115,7 @@ fn has_just<S: StateStore>(
 }
 
 /// Whether the rooms were reached at these costs.
-fn are_reached(nodes: &[Node], costs: &[u64]) -> bool {
+pub(crate) fn are_reached(nodes: &[Node], costs: &[u64]) -> bool {
     for (node, cost) in nodes.iter().zip(costs) {
         if node.cost != *cost {
             return false;

@@ -17,9 +17,6 @@ use Rattle.solver.specs.Guidance.{Guidance, by_potentials, by_tables, estimate_b
 use Rattle.solver.proofs.GuidanceLemmas.{limits_of, one_weight_each, weights_of_each}
 use Rattle.solver.proofs.PotentialLemmas.{value_by-value}
 use Rattle.solver.proofs.TablesLemmas.{scopes_within}
-use Rattle.listed_systems.specs.ListedSystem.{ground_in, exchanges_in, system_of, IsListed}
-use Rattle.listed_systems.specs.declared.listed_system.ListedSystem.{ListedSystem}
-use Rattle.listed_systems.specs.declared.listed_system.ListedSystem.TheVariants as listed
 
 module _ (g : Ground) (numbered : atoms_in g ≡ numbered_atoms (task_in g) []) where
   pub consistent_by : (guidance : Guidance) → CanBeWritten (length (atoms_in g)) guidance → AreFairBy (task_in g) (atoms_in g) guidance
@@ -40,9 +37,3 @@ module _ (g : Ground) (numbered : atoms_in g ≡ numbered_atoms (task_in g) []) 
         scopes = scopes_within count (length s.values + 1) s.tables limits.tables;
       } in
       (fair_ones_guide (task_in g) (atoms_in g) s (all_numbered g [] numbered) over fair).estimate
-
--- Where there are no exchanges, so it is for what is listed: a quotient has exchanges, and else it is the ground task.
-pub consistent_where_none : (system : ListedSystem) → IsListed system → (guidance : Guidance) → CanBeWritten (length (atoms_in (ground_in system))) guidance → AreFairBy (task_in (ground_in system)) (atoms_in (ground_in system)) guidance
-    → exchanges_in system ≡ [] → IsConsistent (system_of system) (estimate_by guidance)
-consistent_where_none (listed.Ground g) known guidance written fair none = consistent_by g.now known.atoms guidance written fair
-consistent_where_none (listed.Quotient r) known guidance written fair none = absurd (known.some none)

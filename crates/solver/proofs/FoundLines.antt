@@ -1,11 +1,11 @@
 -- The lines of the found states, and what they say of each.
 use Rattle.std.proofs.Common.{◌≡◌, ◌∙◌, ℕ, zero, suc, ◌+◌, ◌<◌, Bool, true, false, List, [], ◌∷◌, ◌++◌, length, map, take, Option, None, Some, inl, inr, refl, sym, ap, arith}
-use Rattle.std.specs.Prelude.{slice_get, Contains, if◌then◌else◌}
+use Rattle.std.specs.Prelude.{◌⊎◌, slice_get, Contains, if◌then◌else◌}
 use Rattle.std.proofs.lemmas.Bool.{true≢false}
 use Rattle.std.proofs.lemmas.List.{length-map, map-append}
 use Rattle.search.specs.declared.nodes.Node.{Node}
 use Rattle.search.specs.declared.nodes.NodeStatus.{NodeStatus}
-use Rattle.search.specs.declared.nodes.NodeStatus.TheVariants.{Open, Expanded, Dead}
+use Rattle.search.specs.declared.nodes.NodeStatus.TheVariants.{Open, Reopened, Expanded, Dead}
 use Rattle.search.specs.DeadEnds.{IsValueUnlessDead}
 use Rattle.search.specs.Outcome.{is_expanded, is_expanded_status, is_dead_status, is_marked_dead, line_of, lines_of, IsCut}
 use Rattle.search.specs.Outcome as search
@@ -66,9 +66,13 @@ module _ {S : Type 0} (value : S → ℕ) (is_dead : S → Bool) where
       let reported : is_dead s ≡ true = sym marked ∙ ap is_dead_status is in
       sym (λ i. line_by node (is_expanded_status (is i)) (reported i) (value s))
 
-  pub waiting_listed : (s : S) (node : Node) (mark : Mark) → node.status ≡ Open → mark ≡ (if is_dead s then dead else cut (value s)) → record { cost = node.cost; mark = mark } ≡ mark_of_line (line_of value is_dead s node)
-  waiting_listed s node mark is said =
-      ap (λ (m : Mark). record { cost = node.cost; mark = m }) said ∙ sym (ap (λ (status : NodeStatus). line_by node (is_expanded_status status) (is_dead s) (value s)) is)
+  pub waiting_listed : (s : S) (node : Node) (mark : Mark) → (node.status ≡ Open) ⊎ (node.status ≡ Reopened) → mark ≡ (if is_dead s then dead else cut (value s)) → record { cost = node.cost; mark = mark } ≡ mark_of_line (line_of value is_dead s node)
+  waiting_listed s node mark waits said =
+      let unexpanded : is_expanded node ≡ false = elim waits [
+        | inl is ↦ ap is_expanded_status is
+        | inr is ↦ ap is_expanded_status is
+      ] in
+      ap (λ (m : Mark). record { cost = node.cost; mark = m }) said ∙ sym (ap (λ (b : Bool). line_by node b (is_dead s) (value s)) unexpanded)
 
   -- a guide's answer says it of one that waits
   abbrev pub said_by : Option ℕ → Mark

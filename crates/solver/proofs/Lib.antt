@@ -4,6 +4,7 @@ pub mod GuidanceLemmas
 pub mod PotentialGuidance
 pub mod TablesLemmas
 pub mod ConsistentLemmas
+pub mod ClassLemmas
 pub mod FoundLines
 pub mod ListingLemmas
 pub mod LimitLemmas

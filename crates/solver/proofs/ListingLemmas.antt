@@ -13,29 +13,30 @@ use Rattle.packed_state.specs.Sets.{has}
 use Rattle.packed_state.specs.Store.{AreDistinct}
 use Rattle.search.specs.declared.nodes.Node.{Node}
 use Rattle.search.specs.Outcome as search
-use Rattle.search.specs.Outcome.{AreFound, AreExpandedWithin}
+use Rattle.search.specs.Outcome.{AreFound, AreExpandedWithin, AreOfOneClass, IsReachableAt}
 use Rattle.potential_functions.specs.Settled.{initial_value}
 use Rattle.solver.specs.Improved.{AreSettledOrHigh, AreDeadSettledOrHigh, HasSettledOrHigh}
 use Rattle.solver.specs.Listing.{numbers_in, state_line, found_certificate, IsShownBy, AreOpenWithin}
 use Rattle.solver.proofs.TypedLemmas.{numbered_typed}
-use Rattle.listed_systems.proofs.GroundLemmas.{distinct_states}
+use Rattle.ground_listings.proofs.GroundLemmas.{distinct_states}
 use Rattle.solver.specs.Guidance.{Guidance, by_potentials, by_tables, CanBeWritten, AreFairBy, estimate_by, reports_dead, version_by, values_by, first_value}
 use Rattle.solver.proofs.GuidanceLemmas.{AreLimits, limits_of, one_weight_each, weights_of_each, most_value, estimate-most, mark-passes, value-found, value-at-start, dead-found, fair-found}
 use Rattle.solver.proofs.FoundLines.{expanded_of_open, dead_of_reported, found_line, length-lines, node_at}
-use Rattle.model.specs.Task.{Task, Atom, Instance}
+use Rattle.model.specs.Task.{Task, Atom}
 use Rattle.model.specs.WellTyped.{is_task, is_atom}
 use Rattle.model.specs.Runs.{System}
 use Rattle.model.specs.Claims.{Claim, opened, dead, Line, IsClosed}
-use Rattle.model.specs.Meaning.{State, initial_state}
+use Rattle.model.specs.Meaning.{State, initial_state, system_of}
 use Rattle.model.specs.Fluents.{is_fluent, static_atoms}
 use Rattle.model.specs.NumberedAtoms.{occurs_in, are_distinct, numbered_atoms}
 use Rattle.model.specs.Grounding.{chosen, state_of_bits, ground_system, NamesKept}
-use Rattle.certificate_definitions.specs.Certificates.{two, three, Certificate, StateLine, is_number, is_claim, is_mark, is_dead_end_weight, is_state_line, keeps_limits, rise, state_of_line, lines_of, listed_system, are_exchanges, value_of, is_dead_end_of}
+use Rattle.certificate_definitions.specs.Certificates.{two, three, Certificate, StateLine, is_number, is_claim, is_mark, is_dead_end_weight, is_state_line, keeps_limits, rise, state_of_line, lines_of, AreAlikeFor, are_exchanges, value_of, is_dead_end_of}
 use Rattle.symmetries.specs.Exchanges.{Exchange}
 use Rattle.symmetries.specs.Symmetries.{is_symmetry}
-use Rattle.symmetries.specs.Quotients.{keeps_atoms, quotient_of}
-use Rattle.listed_systems.specs.Exchanges.{can_be_named}
-use Rattle.listed_systems.proofs.ListedLemmas.{DoesAs, length-reachable}
+use Rattle.symmetries.specs.Orbits.{AreAlike, keeps_atoms}
+use Rattle.ground_listings.specs.Exchanges.{can_be_named}
+use Rattle.solver.proofs.ClassLemmas.{AreClassesBy}
+use Rattle.ground_listings.proofs.TaskLemmas.{ground_does, length-reachable, reached_at}
 use Rattle.table_functions.specs.TableFunctions.{SeveralValues}
 use Rattle.model.proofs.ListLemmas.{map-Contains}
 use Rattle.model.proofs.LimitsLemmas.{numbered_again}
@@ -120,10 +121,10 @@ states_apart {S} lines distinct i j d before within is =
     state_at k below = slice_get-map (λ (l : Line S). l.state) lines k ∙ ap (option_map (λ (l : Line S). l.state)) (slice_get-get_or lines k d below)
 
 -- a listing closed by some values and dead ends is closed by others that say no less of its states
-closed_higher : {S A : Type 0} (t : System S A) (value value' : S → ℕ) (is_dead is_dead' : S → Bool) (claim : Claim) (lines : List (Line S))
+closed_higher : {S A : Type 0} (t : System S A) (alike : S → S → Type 0) (value value' : S → ℕ) (is_dead is_dead' : S → Bool) (claim : Claim) (lines : List (Line S))
     → ((line : Line S) → Contains lines line → (value line.state ≤ value' line.state) × (is_dead line.state ≡ true → is_dead' line.state ≡ true))
-    → IsClosed t value is_dead claim lines → IsClosed t value' is_dead' claim lines
-closed_higher t value value' is_dead is_dead' claim lines higher closed = record {
+    → IsClosed t alike value is_dead claim lines → IsClosed t alike value' is_dead' claim lines
+closed_higher t alike value value' is_dead is_dead' claim lines higher closed = record {
   initial_listed = closed.initial_listed;
   successors_listed = closed.successors_listed;
   open_goals_allowed = closed.open_goals_allowed;
@@ -154,9 +155,9 @@ each_passes task atoms (e ∷ exchanges) symmetric kept =
     let (keeps_it, keep_all) = and_parts (keeps_atoms atoms e) (list_all (keeps_atoms atoms) exchanges) kept in
     All-cons (λ (x : Exchange). IsTrue (is_symmetry task x && keeps_atoms atoms x)) e exchanges (and_from (is_symmetry task e) (keeps_atoms atoms e) is keeps_it) (each_passes task atoms exchanges all keep_all)
 
--- what is listed where the atoms are the numbered ones
-pub lists_by : (task : Task) (c : Certificate) → c.atoms ≡ numbered_atoms task [] → listed_system task c ≡ quotient_of task (numbered_atoms task []) c.exchanges
-lists_by task c numbered = ap (λ (l : List Atom). quotient_of task l c.exchanges) (ap (numbered_atoms task) numbered ∙ numbered_again task)
+-- which states are alike where the atoms are the numbered ones
+alike_by : (task : Task) (c : Certificate) → c.atoms ≡ numbered_atoms task [] → AreAlikeFor task c ≡ AreAlike (numbered_atoms task []) c.exchanges
+alike_by task c numbered = ap (λ (l : List Atom). AreAlike l c.exchanges) (ap (numbered_atoms task) numbered ∙ numbered_again task)
 
 -- ---- the certificate
 
@@ -208,12 +209,15 @@ module _ (task : Task) (claim : Claim) (most : ℕ) (exchanges : List Exchange) 
       let (k, s, n, there, here, from) = found_line (estimate_by guidance) (reports_dead guidance) states nodes line among in
       (k, s, n, there, here, sym is ∙ ap view from)
 
-  module _ (t : System (List Bool) ℕ) (known : DoesAs task exchanges t) (found : AreFound t (estimate_by guidance) (reports_dead guidance) claim most states nodes) where
+  abbrev t : System (List Bool) ℕ
+  t = ground_system task atoms
+
+  module _ (class_of : List Bool → List Bool) (found : AreFound t class_of (estimate_by guidance) (reports_dead guidance) claim most states nodes) where
     pub found_width : (k : ℕ) (bits : List Bool) → slice_get states k ≡ Some bits → length bits ≡ length atoms
     found_width k bits at =
         let (node, there) = node_at nodes k (omega (arith, slice_get_within states k bits at, found.one_for_each)) in
         let reached = found.reachable k bits node at there in
-        length-reachable task exchanges t known bits (reached.0, reached.1)
+        length-reachable task atoms refl bits (reached.0, reached.1)
 
     -- the certificate gives a listed state the value by which it was found
     pub same_value : (k : ℕ) (bits : List Bool) → slice_get states k ≡ Some bits → value_of task made (state_of_bits task atoms bits) ≡ estimate_by guidance bits
@@ -236,8 +240,13 @@ module _ (task : Task) (claim : Claim) (most : ℕ) (exchanges : List Exchange) 
         let dead_found : reports_dead guidance s ≡ true = sym (same_dead k s there) ∙ ap (λ (l : Line State). is_dead_end_of task made l.state) (sym is) ∙ reported in
         ap (λ (l : Line State). l.mark) is ∙ dead_of_reported (estimate_by guidance) (reports_dead guidance) s n (found.expanded_alive k s n there here) dead_found
 
-    pub shown_by : is_task task ≡ true → list_all (can_be_named task) exchanges ≡ true → CanBeWritten (length atoms) guidance → AreFairBy task atoms guidance → keeps_limits made ≡ true → IsShownBy task claim (length states) made
-    shown_by well named written fair kept = record {
+    reached_listed : (line : Line State) → Contains (lines_of task made) line → IsReachableAt (system_of task) line.state line.cost
+    reached_listed line among =
+        let (k, s, n, at_s, at_n, is) = line_found line among in
+        subst (λ (l : Line State). IsReachableAt (system_of task) l.state l.cost) (sym is) (reached_at task atoms refl s n.cost (found.reachable k s n at_s at_n))
+
+    pub shown_by : is_task task ≡ true → AreClassesBy task exchanges class_of → list_all (can_be_named task) exchanges ≡ true → CanBeWritten (length atoms) guidance → AreFairBy task atoms guidance → keeps_limits made ≡ true → IsShownBy task claim (length states) made
+    shown_by well classes named written fair kept = record {
       claims = refl;
       closed = record {
         as_many_values = limits.value_count;
@@ -253,16 +262,17 @@ module _ (task : Task) (claim : Claim) (most : ℕ) (exchanges : List Exchange) 
         atoms_are_distinct = pairs_apart atoms (numbered-distinct task []);
         states_are_distinct = subst (AllPairs (λ (k l : Line State). k.state ≢ l.state)) (sym listing)
             (states_apart (map view lines) (subst (λ (ss : List State). AreDistinct ss) (sym (listed_states states nodes found.one_for_each)) (distinct_states task states found_width found.distinct)));
-        exchanges_are_symmetries = subst (λ (l : List Atom). All (λ (e : Exchange). IsTrue (is_symmetry task e && keeps_atoms l e)) exchanges) (sym (numbered_again task)) (each_passes task atoms exchanges known.symmetries known.kept);
-        listing_is_closed = subst (λ (t : System State Instance). IsClosed t (value_of task made) (is_dead_end_of task made) claim (lines_of task made)) (sym (lists_by task made refl))
-            (subst (IsClosed (quotient_of task atoms exchanges) (value_of task made) (is_dead_end_of task made) claim) (sym listing)
-            (closed_forth t (quotient_of task atoms exchanges) (state_of_bits task atoms) (NamesKept task) known.both
+        exchanges_are_symmetries = subst (λ (l : List Atom). All (λ (e : Exchange). IsTrue (is_symmetry task e && keeps_atoms l e)) exchanges) (sym (numbered_again task)) (each_passes task atoms exchanges classes.symmetries classes.kept);
+        listing_is_closed = subst (λ (alike : State → State → Type 0). IsClosed (system_of task) alike (value_of task made) (is_dead_end_of task made) claim (lines_of task made)) (sym (alike_by task made refl))
+            (subst (IsClosed (system_of task) (AreAlike atoms exchanges) (value_of task made) (is_dead_end_of task made) claim) (sym listing)
+            (closed_forth t (system_of task) (state_of_bits task atoms) (NamesKept task) (ground_does task atoms refl) (AreOfOneClass class_of) (AreAlike atoms exchanges) classes.seen
             (λ bits. value_of task made (state_of_bits task atoms bits)) (value_of task made) (λ s. omega arith)
             (λ bits. is_dead_end_of task made (state_of_bits task atoms bits)) (is_dead_end_of task made) (λ s reported. reported) claim lines
-            (closed_higher t (estimate_by guidance) (λ bits. value_of task made (state_of_bits task atoms bits)) (reports_dead guidance) (λ bits. is_dead_end_of task made (state_of_bits task atoms bits)) claim lines
+            (closed_higher t (AreOfOneClass class_of) (estimate_by guidance) (λ bits. value_of task made (state_of_bits task atoms bits)) (reports_dead guidance) (λ bits. is_dead_end_of task made (state_of_bits task atoms bits)) claim lines
             same_listing found.closed)));
       };
       within_limit = omega (arith, length-made found.one_for_each);
+      reached = reached_listed;
       exchanges = named;
       atoms = refl;
       within_limits = kept;
@@ -324,6 +334,7 @@ more_allowed given le = record {
   claims = given.claims;
   closed = given.closed;
   within_limit = omega (arith, given.within_limit, le);
+  reached = given.reached;
   exchanges = given.exchanges;
   atoms = given.atoms;
   within_limits = given.within_limits;
@@ -332,20 +343,29 @@ more_allowed given le = record {
 }
 
 module _ (task : Task) (claim : Claim) (most : ℕ) (exchanges : List Exchange) (guidance : Guidance) (states : List (List Bool)) (nodes : List Node) (known : List Atom) (numbered : known ≡ numbered_atoms task [])
-    (t : System (List Bool) ℕ) (by : DoesAs task exchanges t) (found : AreFound t (estimate_by guidance) (reports_dead guidance) claim most states nodes)
+    (class_of : List Bool → List Bool) (found : AreFound (ground_system task known) class_of (estimate_by guidance) (reports_dead guidance) claim most states nodes)
     (certificate : Certificate) (is : certificate ≡ found_certificate claim exchanges known guidance states nodes) where
+  found_by_numbers : AreFound (ground_system task (numbered_atoms task [])) class_of (estimate_by guidance) (reports_dead guidance) claim most states nodes
+  found_by_numbers = subst (λ (l : List Atom). AreFound (ground_system task l) class_of (estimate_by guidance) (reports_dead guidance) claim most states nodes) numbered found
+
   pub is_made : made task claim most exchanges guidance states nodes ≡ certificate
   is_made = sym (is ∙ ap (λ (l : List Atom). found_certificate claim exchanges l guidance states nodes) numbered)
 
-  pub shown : (max_states : ℕ) → length states ≤ max_states → is_task task ≡ true → list_all (can_be_named task) exchanges ≡ true → CanBeWritten (length known) guidance → AreFairBy task known guidance → keeps_limits certificate ≡ true
-      → IsShownBy task claim max_states certificate
-  shown max_states le well named written fair kept =
+  pub shown : (max_states : ℕ) → length states ≤ max_states → is_task task ≡ true → AreClassesBy task exchanges class_of → list_all (can_be_named task) exchanges ≡ true → CanBeWritten (length known) guidance
+      → AreFairBy task known guidance → keeps_limits certificate ≡ true → IsShownBy task claim max_states certificate
+  shown max_states le well classes named written fair kept =
       more_allowed (subst (IsShownBy task claim (length states)) is_made
-      (shown_by task claim most exchanges guidance states nodes t by found well named (subst (λ (l : List Atom). CanBeWritten (length l) guidance) numbered written)
+      (shown_by task claim most exchanges guidance states nodes class_of found_by_numbers well classes named (subst (λ (l : List Atom). CanBeWritten (length l) guidance) numbered written)
       (subst (λ (l : List Atom). AreFairBy task l guidance) numbered fair) (ap keeps_limits is_made ∙ kept))) le
 
   pub opened_within : (cost : ℕ) → AreExpandedWithin (estimate_by guidance) cost states nodes → AreOpenWithin task cost certificate
-  opened_within cost within = subst (AreOpenWithin task cost) is_made (open_within task claim most exchanges guidance states nodes t by found cost within)
+  opened_within cost within = subst (AreOpenWithin task cost) is_made (open_within task claim most exchanges guidance states nodes class_of found_by_numbers cost within)
+
+  pub value_at_start : value_of task certificate (initial_state task) ≡ estimate_by guidance (ground_system task known).initial
+  value_at_start =
+      subst (λ (c : Certificate). value_of task c (initial_state task) ≡ estimate_by guidance (ground_system task known).initial) is_made
+      (subst (λ (l : List Atom). value_of task (made task claim most exchanges guidance states nodes) (initial_state task) ≡ estimate_by guidance (ground_system task l).initial) (sym numbered)
+      (value-at-start task claim exchanges states nodes guidance))
 
   pub settled_or_high : AreSettledOrHigh task known (first_value guidance) → AreDeadSettledOrHigh task known (values_by guidance).dead_ends
       → initial_value task known (first_value guidance) ≤ estimate_by guidance (ground_system task known).initial → HasSettledOrHigh task certificate
@@ -353,14 +373,10 @@ module _ (task : Task) (claim : Claim) (most : ℕ) (exchanges : List Exchange) 
       subst (HasSettledOrHigh task) (sym is) (record {
         potentials = given;
         dead_ends = dead_given;
-        no_lower = subst (λ (n : ℕ). initial_value task known (first_value guidance) ≤ n) (sym at_start) start;
+        no_lower = subst (λ (n : ℕ). initial_value task known (first_value guidance) ≤ n) (sym value_at_start ∙ ap (λ (c : Certificate). value_of task c (initial_state task)) is) start;
       })
-    where
-      at_start : value_of task (found_certificate claim exchanges known guidance states nodes) (initial_state task) ≡ estimate_by guidance (ground_system task known).initial
-      at_start = subst (λ (l : List Atom). value_of task (found_certificate claim exchanges l guidance states nodes) (initial_state task) ≡ estimate_by guidance (ground_system task l).initial) (sym numbered)
-          (value-at-start task claim exchanges states nodes guidance)
 
   pub within_limits : CanBeWritten (length known) guidance → is_claim claim ≡ true → length known ≤ 1048576 → most ≤ 16777216 → are_exchanges (version_by guidance) exchanges ≡ true → length exchanges ≤ 1048576 → keeps_limits certificate ≡ true
   within_limits written small few_atoms few exchanges_written few_exchanges =
       ap keeps_limits (sym is_made)
-      ∙ keeps task claim most exchanges guidance states nodes t by found (subst (λ (l : List Atom). CanBeWritten (length l) guidance) numbered written) (subst (λ (l : List Atom). length l ≤ 1048576) numbered few_atoms) exchanges_written few_exchanges small few
+      ∙ keeps task claim most exchanges guidance states nodes class_of found_by_numbers (subst (λ (l : List Atom). CanBeWritten (length l) guidance) numbered written) (subst (λ (l : List Atom). length l ≤ 1048576) numbered few_atoms) exchanges_written few_exchanges small few

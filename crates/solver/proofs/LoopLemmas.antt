@@ -1,12 +1,13 @@
--- The steps of the loops: one instance or one atom more.
-use Rattle.std.proofs.Common.{◌≡◌, ◌∙◌, ℕ, zero, suc, ◌+◌, ◌<◌, Bool, true, false, not, inl, inr, List, [], ◌∷◌, ◌++◌, length, map, take, get_or, Some, refl, sym, ap, subst}
+-- The steps of the loops: one state or one atom more.
+use Rattle.std.proofs.Common.{◌≡◌, ◌∙◌, ℕ, zero, suc, ◌+◌, ◌<◌, Bool, true, false, not, inl, inr, List, [], ◌∷◌, ◌++◌, length, map, take, get_or, Some, refl, sym, ap, subst, arith}
 use Rattle.std.specs.Prelude.{All, Contains, slice_get, if◌then◌else◌}
 use Rattle.std.specs.List.{list_any, take-map}
-use Rattle.std.proofs.lemmas.List.{take_more, map-append}
+use Rattle.std.proofs.lemmas.List.{get_or-take, length-take-le, take_more, map-append}
+use Rattle.packed_state.specs.Store.{AreDistinct, IsPlaced}
 use Rattle.std.proofs.lemmas.List.Elements.{All-contains}
 use Rattle.task.specs.declared.atoms.Atom as code_atom
 use Rattle.std.specs.Option.{option_map}
-use Rattle.std.proofs.lemmas.Option.{slice_get-map, slice_get-get_or}
+use Rattle.std.proofs.lemmas.Option.{get_or_from_slice_get, slice_get-map, slice_get-get_or, slice_get_within}
 use Rattle.std.proofs.lemmas.Bool.{and_parts, not-true, true≢false}
 use Rattle.std.proofs.lemmas.Map.Views.{Contains-from_any}
 use Rattle.task.specs.TaskParts.{atom_of}
@@ -20,6 +21,26 @@ use Rattle.model.proofs.ListLemmas.{Contains-got, Contains-cases, Contains-map, 
 -- each state is of this width
 pub width_at : (width : ℕ) (states : List (List Bool)) → All (λ (bits : List Bool). length bits ≡ width) states → (k : ℕ) (bits : List Bool) → slice_get states k ≡ Some bits → length bits ≡ width
 width_at width states all k bits at = All-contains (λ (b : List Bool). length b ≡ width) states bits all (Contains-got states k bits at)
+
+-- ---- the states
+
+-- a state that comes after those before it in a list without repeats is new to them
+module _ (states : List (List Bool)) (distinct : AreDistinct states) (k : ℕ) (bits : List Bool) (at : slice_get states k ≡ Some bits) where
+  inside : k < length states
+  inside = slice_get_within states k bits at
+
+  new_there : Contains (take k states) bits → ⊥
+  new_there (j, there, is) =
+      let few : length (take k states) ≡ k = length-take-le k states (omega (arith, inside)) in
+      let earlier : j < k = omega (arith, there, few) in
+      let same : slice_get states j ≡ Some bits = slice_get-get_or states j bits (omega (arith, earlier, inside)) ∙ ap (λ b. Some b) (sym (get_or-take k states j bits earlier) ∙ is) in
+      omega (arith, earlier, distinct j k bits same at)
+
+  -- so one more is copied
+  pub one_more_copied : (new : List (List Bool)) (place : ℕ) (is_new : Bool) → IsPlaced (take k states) new bits place is_new → new ≡ take (k + 1) states
+  one_more_copied new place true (absent, pushed, there) =
+      pushed ∙ sym (take_more states k bits inside ∙ ap (λ b. take k states ++ b ∷ []) (get_or_from_slice_get states k bits bits at))
+  one_more_copied new place false (there, kept) = absurd (new_there (Contains-got (take k states) place bits there))
 
 -- ---- the atoms
 

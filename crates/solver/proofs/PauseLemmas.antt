@@ -2,7 +2,7 @@
 use Rattle.std.proofs.Common.{◌≡◌, ℕ, ◌≤◌, Bool, List, Some, refl, arith}
 use Rattle.std.specs.Prelude.{slice_get, Contains}
 use Rattle.model.specs.Runs.{System, CostsAtLeast, IsReachable}
-use Rattle.model.specs.Claims.{bound, IsLowerBound, AreDeadEnds}
+use Rattle.model.specs.Claims.{bound}
 use Rattle.model.proofs.ClaimsLemmas.{claim-of_closed}
 use Rattle.model.proofs.ListLemmas.{Contains-place}
 use Rattle.packed_state.specs.Store.{AreDistinct}
@@ -10,14 +10,16 @@ use Rattle.search.specs.declared.nodes.Node.{Node}
 use Rattle.search.specs.declared.progress.Progress.{Progress}
 use Rattle.search.specs.Nodes.{Waiting, found_of, sum_of, entry, AreOpen}
 use Rattle.search.specs.OpenList.{waiting_in, IsLeastSum}
-use Rattle.search.specs.Outcome.{lines_of}
+use Rattle.search.specs.Estimates.{IsAdmissible}
+use Rattle.search.specs.DeadEnds.{ReportsDeadEnds}
+use Rattle.search.specs.Outcome.{lines_of, AreClassesOf, AreOfOneClass}
 use Rattle.search.specs.Progress.{IsSearch, nodes_in}
 use Rattle.search.proofs.Closed.{are_listed, closed, node_at}
 use Rattle.search.proofs.Lists.{get_exists}
 use Rattle.std.proofs.lemmas.Option.{slice_get_within}
 use Rattle.std.proofs.lemmas.List.Elements.{All-contains}
 
-module _ {S Store : Type 0} (t : System S ℕ) (value : S → ℕ) (is_dead : S → Bool) (states_of : Store → List S) (p : Progress Store) (search : IsSearch t value is_dead states_of p) where
+module _ {S Store : Type 0} (t : System S ℕ) (class_of : S → S) (value : S → ℕ) (is_dead : S → Bool) (states_of : Store → List S) (p : Progress Store) (search : IsSearch t class_of value is_dead states_of p) where
   abbrev states : List S
   states = states_of p.store
 
@@ -25,18 +27,19 @@ module _ {S Store : Type 0} (t : System S ℕ) (value : S → ℕ) (is_dead : S 
   all = p.nodes.items
 
   -- the least sum is a lower bound of what plans cost
-  pub bound_holds : IsLowerBound t value → AreDeadEnds t is_dead → AreOpen t (nodes_in states_of p) → (least : ℕ) → IsLeastSum p.open_list (Some least) → CostsAtLeast t least
-  bound_holds lower dead_ends are_open least is =
-      let listed = are_listed t value is_dead (found_of states all) (waiting_in p.open_list) search.nodes in
+  pub bound_holds : AreClassesOf t class_of → IsAdmissible t value → ReportsDeadEnds t is_dead → AreOpen t class_of (nodes_in states_of p) → (least : ℕ) → IsLeastSum p.open_list (Some least) → CostsAtLeast t least
+  bound_holds classes admissible reports are_open least is =
+      let listed = are_listed t class_of value is_dead (found_of states all) (waiting_in p.open_list) search.nodes in
       let each = is.1 search.heap in
-      claim-of_closed t value is_dead (bound least) (lines_of value is_dead states all) lower dead_ends
-      (closed t value is_dead states all search.one_each listed (bound least) are_open
+      claim-of_closed t (AreOfOneClass class_of) classes value is_dead (bound least) (lines_of value is_dead states all) (λ line end plan _ runs goal. admissible line.state end plan runs goal)
+      (λ line end plan _ dead runs. reports line.state end plan dead runs)
+      (closed t class_of value is_dead states all search.one_each listed (bound least) are_open
       (λ k n at waits. All-contains (λ (w : Waiting). least ≤ sum_of w) (waiting_in p.open_list) (entry n.node.cost (value n.state) k) each (search.nodes.queued k n at waits)))
 
   found_there : (k : ℕ) (s : S) → slice_get states k ≡ Some s → (node : Node) × (slice_get (found_of states all) k ≡ Some (record { state = s; node = node }))
   found_there k s at =
       let (node, there) = get_exists all k (omega (arith, slice_get_within states k s at, search.one_each)) in
-      (node, node_at t value is_dead states all search.one_each k s node at there)
+      (node, node_at t class_of value is_dead states all search.one_each k s node at there)
 
   -- the states that it lists are different ones
   pub distinct : AreDistinct states

@@ -1,4 +1,4 @@
--- Potentials as what a search of the system whose states are listed goes by: in version 2, or as values over no tables.
+-- Potentials as what a search goes by: in version 2, or, where there are exchanges, as values over no tables.
 use Rattle.std.proofs.Common.{◌≡◌, ◌∙◌, ℕ, Bool, true, List, [], length, max, refl, arith}
 use Rattle.std.specs.Prelude.{AllPairs, ◌≢◌, ◌&&◌}
 use Rattle.std.proofs.lemmas.List.Elements.{All-cons, All-nil}
@@ -16,10 +16,10 @@ use Rattle.table_functions.proofs.WithoutTables.{potentials_are_table_functions}
 use Rattle.solver.specs.Guidance.{by_potentials, by_tables, over_no_tables, estimate_by, reports_dead, CanBeWritten, AreFairBy}
 use Rattle.solver.specs.Guided.{IsGuidanceFor}
 use Rattle.solver.specs.Improved.{AreSettledOrHigh, AreDeadSettledOrHigh}
-use Rattle.listed_systems.specs.ListedSystem.{ground_in, IsListed}
+use Rattle.ground_listings.specs.SearchSpace.{ground_in, IsSearchSpace}
 use Rattle.solver.specs.Written.{by_potentials_of}
-use Rattle.listed_systems.specs.declared.listed_system.ListedSystem.{ListedSystem}
-use Rattle.listed_systems.specs.declared.listed_system.ListedSystem.TheVariants as listed
+use Rattle.ground_listings.specs.declared.search_space.SearchSpace.{SearchSpace}
+use Rattle.ground_listings.specs.declared.search_space.SearchSpace.TheVariants as space
 use Rattle.solver.proofs.GuidanceLemmas.{potentials-written}
 use Rattle.solver.proofs.PotentialLemmas.{potentials-pass}
 
@@ -45,13 +45,13 @@ module _ (task : Task) (atoms : List Atom) (p dead_ends : PotentialFunction) whe
   }
 
 -- the estimates and the dead ends are those of the potentials
-pub same_estimates : (system : ListedSystem) (p dead_ends : PotentialFunction) → estimate_by (by_potentials_of system p dead_ends) ≡ potential.value p
-same_estimates (listed.Ground g) p dead_ends = refl
-same_estimates (listed.Quotient r) p dead_ends = let k = ground_in (listed.Quotient r) in λ i bits. estimates-over_none (task_in k) (atoms_in k) p dead_ends bits i
+pub same_estimates : (s : SearchSpace) (p dead_ends : PotentialFunction) → estimate_by (by_potentials_of s p dead_ends) ≡ potential.value p
+same_estimates (space.Alone g) p dead_ends = refl
+same_estimates (space.Orbits r) p dead_ends = let k = ground_in (space.Orbits r) in λ i bits. estimates-over_none (task_in k) (atoms_in k) p dead_ends bits i
 
-pub same_reports : (system : ListedSystem) (p dead_ends : PotentialFunction) → reports_dead (by_potentials_of system p dead_ends) ≡ potential.is_dead_by dead_ends
-same_reports (listed.Ground g) p dead_ends = refl
-same_reports (listed.Quotient r) p dead_ends = let k = ground_in (listed.Quotient r) in λ i bits. reports-over_none (task_in k) (atoms_in k) p dead_ends bits i
+pub same_reports : (s : SearchSpace) (p dead_ends : PotentialFunction) → reports_dead (by_potentials_of s p dead_ends) ≡ potential.is_dead_by dead_ends
+same_reports (space.Alone g) p dead_ends = refl
+same_reports (space.Orbits r) p dead_ends = let k = ground_in (space.Orbits r) in λ i bits. reports-over_none (task_in k) (atoms_in k) p dead_ends bits i
 
 written-over_none : (count : ℕ) (p dead_ends : PotentialFunction) → AreInRange p → AreInRange dead_ends → length p.weights ≡ count → length dead_ends.weights ≡ count → CanBeWritten count (by_tables (over_no_tables p dead_ends))
 written-over_none count p dead_ends range dead_range long dead_long =
@@ -62,31 +62,30 @@ written-over_none count p dead_ends range dead_range long dead_long =
       rows_are_distinct = All-nil (λ (t : Table). AllPairs (λ (q r : Row). q.atoms ≢ r.atoms) t.rows);
     }
 
--- potentials that are fair and dead-fair, and settled or high
-pub record AreGood (system : ListedSystem) (p dead_ends : PotentialFunction) : Type 0 where
+-- potentials in range that are fair and dead-fair, and settled or high
+pub record AreGood (s : SearchSpace) (p dead_ends : PotentialFunction) : Type 0 where
   pub range : AreInRange p
   pub dead_range : AreInRange dead_ends
-  pub long : length p.weights ≡ length (atoms_in (ground_in system))
-  pub dead_long : length dead_ends.weights ≡ length (atoms_in (ground_in system))
-  pub fair : AreFairBy (task_in (ground_in system)) (atoms_in (ground_in system)) (by_potentials p dead_ends)
-  pub improved : AreSettledOrHigh (task_in (ground_in system)) (atoms_in (ground_in system)) p
-  pub dead_ends_improved : AreDeadSettledOrHigh (task_in (ground_in system)) (atoms_in (ground_in system)) dead_ends
+  pub long : length p.weights ≡ length (atoms_in (ground_in s))
+  pub dead_long : length dead_ends.weights ≡ length (atoms_in (ground_in s))
+  pub improved : AreSettledOrHigh (task_in (ground_in s)) (atoms_in (ground_in s)) p
+  pub dead_ends_improved : AreDeadSettledOrHigh (task_in (ground_in s)) (atoms_in (ground_in s)) dead_ends
 
-pub guides_by_potentials : (system : ListedSystem) → IsListed system → (p dead_ends : PotentialFunction) → AreGood system p dead_ends → IsGuidanceFor system (by_potentials_of system p dead_ends)
-guides_by_potentials (listed.Ground g) known p dead_ends good = record {
+pub guides_by_potentials : (s : SearchSpace) → IsSearchSpace s → (p dead_ends : PotentialFunction) → AreGood s p dead_ends → IsGuidanceFor s (by_potentials_of s p dead_ends)
+guides_by_potentials (space.Alone g) known p dead_ends good = record {
   written = potentials-written (length (atoms_in g.now)) p dead_ends good.range good.dead_range good.long good.dead_long;
   exchanges = refl;
-  fair = good.fair;
+  fair = (good.improved.fair, good.dead_ends_improved.fair);
   improved = good.improved;
   dead_ends_improved = good.dead_ends_improved;
   no_lower = omega arith;
 }
-guides_by_potentials (listed.Quotient r) known p dead_ends good =
-    let k = ground_in (listed.Quotient r) in
+guides_by_potentials (space.Orbits r) known p dead_ends good =
+    let k = ground_in (space.Orbits r) in
     record {
       written = written-over_none (length (atoms_in k)) p dead_ends good.range good.dead_range good.long good.dead_long;
       exchanges = known.written;
-      fair = fair-over_none (task_in k) (atoms_in k) p dead_ends good.fair;
+      fair = fair-over_none (task_in k) (atoms_in k) p dead_ends (good.improved.fair, good.dead_ends_improved.fair);
       improved = good.improved;
       dead_ends_improved = good.dead_ends_improved;
       no_lower = let same = estimates-over_none (task_in k) (atoms_in k) p dead_ends (ground_system (task_in k) (atoms_in k)).initial in omega (arith, same);

@@ -11,6 +11,7 @@ use Rattle.model.specs.NumberedAtoms.{numbered_atoms}
 use Rattle.model.specs.Grounding.{state_of_bits, bits_of_state}
 use Rattle.model.proofs.GroundTaskLemmas.{packs_states}
 use Rattle.potential_functions.specs.PotentialFunctions.{PotentialFunction, score, or_zero, value, IsInRange, AreInRange}
+use Rattle.potential_functions.specs.Fair.{AreFairAt}
 use Rattle.potential_functions.specs.Settled.{IsImprovedAt}
 use Rattle.potential_functions.proofs.Zero.{zero_potentials}
 use Rattle.search.specs.Estimates.{above_zero, value_by}
@@ -33,12 +34,15 @@ value_by-value by p is = ap (λ (s : List Bool → ℤ). value_by s) is ∙ esti
 -- ---- improving
 
 -- what improving gives in 8 rounds
-pub improved_end : (allowance : Instance → ℕ) (task : Task) (atoms : List Atom) (p q : PotentialFunction) → IsImprovedAt allowance task atoms 8 p q → AreSettledOrHighAt allowance task atoms q
-improved_end allowance task atoms p q improved =
-    elim improved.end [
-      | inl settled ↦ inl settled
-      | inr higher ↦ inr (omega (arith, higher))
-    ]
+pub improved_end : (allowance : Instance → ℕ) (task : Task) (atoms : List Atom) (p q : PotentialFunction) → AreFairAt allowance task atoms q → IsImprovedAt allowance task atoms 8 p q
+    → AreSettledOrHighAt allowance task atoms q
+improved_end allowance task atoms p q fair improved = record {
+  fair = fair;
+  settled_or_high = elim improved.end [
+    | inl settled ↦ inl settled
+    | inr higher ↦ inr (omega (arith, higher))
+  ];
+}
 
 -- there are as many weights as it is begun with
 pub zero-width : (p : PotentialFunction) (count : ℕ) → p ≡ zero_potentials count → length p.weights ≡ count

@@ -1,14 +1,15 @@
 -- What a search may go by, if its certificate is to have it, and what it came to.
 use Rattle.std.specs.Prelude.{◌≡◌, ℕ, ◌≤◌, Bool, IsTrue, List, All, length, map}
-use Rattle.packed_state.specs.PooledView.{pooled_states}
-use Rattle.packed_state.specs.declared.pooled.PooledStore.{PooledStore}
+use Rattle.ground_listings.specs.GroundListing.{listed_states}
+use Rattle.ground_listings.specs.declared.ground_listing.GroundListing.{GroundListing}
 use Rattle.grounding.specs.Ground.{task_in, atoms_in}
 use Rattle.certificate.specs.CertificateParts.{listed_of}
 use Rattle.certificate.specs.declared.states.Listed.{Listed}
 use Rattle.certificate_reader.specs.declared.line.TheConstants.{MAX_STATE_LINES}
 use Rattle.model.specs.Grounding.{ground_system}
-use Rattle.model.specs.Claims.{IsLowerBound, AreDeadEnds}
 use Rattle.potential_functions.specs.Settled.{initial_value}
+use Rattle.search.specs.Estimates.{IsAdmissible}
+use Rattle.search.specs.DeadEnds.{ReportsDeadEnds}
 use Rattle.search.specs.Outcome as search
 use Rattle.search.specs.Outcome.{AreMarked, IsTrueOutcome}
 use Rattle.search.specs.declared.best.Outcome.{Outcome}
@@ -16,43 +17,43 @@ use Rattle.search.specs.declared.best.Outcome.TheVariants.{Found, Exhausted, Sta
 use Rattle.search.specs.declared.nodes.FoundStates.{FoundStates}
 use Rattle.solver.specs.Guidance.{Guidance, CanBeWritten, AreFairBy, estimate_by, first_value, values_by, version_by}
 use Rattle.solver.specs.Improved.{AreSettledOrHigh, AreDeadSettledOrHigh}
-use Rattle.listed_systems.specs.ListedSystem.{ground_in, exchanges_in, system_of}
-use Rattle.listed_systems.specs.declared.listed_system.ListedSystem.{ListedSystem}
+use Rattle.ground_listings.specs.SearchSpace.{class_in, ground_in, exchanges_in, system_of}
+use Rattle.ground_listings.specs.declared.search_space.SearchSpace.{SearchSpace}
 use Rattle.certificate_definitions.specs.Certificates.{are_exchanges}
 use Rattle.solver.specs.Listing.{mark_of_line}
 
--- A certificate of the ground task can have the guidance beside the exchanges, its values are fair, the first and that of dead ends
--- are settled or high, and the lower bound of the task's initial state is at least its first value.
-pub record IsGuidanceFor (system : ListedSystem) (guidance : Guidance) : Type 0 where
-  pub written : CanBeWritten (length (atoms_in (ground_in system))) guidance
-  pub exchanges : IsTrue (are_exchanges (version_by guidance) (exchanges_in system))
-  pub fair : AreFairBy (task_in (ground_in system)) (atoms_in (ground_in system)) guidance
-  pub improved : AreSettledOrHigh (task_in (ground_in system)) (atoms_in (ground_in system)) (first_value guidance)
-  pub dead_ends_improved : AreDeadSettledOrHigh (task_in (ground_in system)) (atoms_in (ground_in system)) (values_by guidance).dead_ends
+-- A certificate of the ground task can have the guidance beside the exchanges, its values are fair, the potentials of the first and of
+-- dead ends are settled or high by themselves, and the lower bound of the task's initial state is at least its first value.
+pub record IsGuidanceFor (space : SearchSpace) (guidance : Guidance) : Type 0 where
+  pub written : CanBeWritten (length (atoms_in (ground_in space))) guidance
+  pub exchanges : IsTrue (are_exchanges (version_by guidance) (exchanges_in space))
+  pub fair : AreFairBy (task_in (ground_in space)) (atoms_in (ground_in space)) guidance
+  pub improved : AreSettledOrHigh (task_in (ground_in space)) (atoms_in (ground_in space)) (first_value guidance)
+  pub dead_ends_improved : AreDeadSettledOrHigh (task_in (ground_in space)) (atoms_in (ground_in space)) (values_by guidance).dead_ends
   pub no_lower :
-      initial_value (task_in (ground_in system)) (atoms_in (ground_in system)) (first_value guidance)
-      ≤ estimate_by guidance (ground_system (task_in (ground_in system)) (atoms_in (ground_in system))).initial
+      initial_value (task_in (ground_in space)) (atoms_in (ground_in space)) (first_value guidance)
+      ≤ estimate_by guidance (ground_system (task_in (ground_in space)) (atoms_in (ground_in space))).initial
 
 -- the states that a search found
-abbrev pub found_in : Outcome PooledStore → FoundStates PooledStore
+abbrev pub found_in : Outcome GroundListing → FoundStates GroundListing
 found_in (Found steps cost found) = found
 found_in (Exhausted found) = found
 found_in (States least found) = found
 
 -- these marks say of each found state, in order, what its line does
-abbrev pub AreMarksOf : (List Bool → ℕ) → (List Bool → Bool) → FoundStates PooledStore → List Listed → Type 0
-AreMarksOf estimate is_dead found marks = map listed_of marks ≡ map mark_of_line (search.lines_of estimate is_dead (pooled_states found.store) found.nodes.items)
+abbrev pub AreMarksOf : (List Bool → ℕ) → (List Bool → Bool) → FoundStates GroundListing → List Listed → Type 0
+AreMarksOf estimate is_dead found marks = map listed_of marks ≡ map mark_of_line (search.lines_of estimate is_dead (listed_states found.store) found.nodes.items)
 
 -- what is known of the found states where their marks are made
-pub record CanBeMarked (atom_count : ℕ) (is_dead : List Bool → Bool) (found : FoundStates PooledStore) : Type 0 where
-  pub one_for_each : length found.nodes.items ≡ length (pooled_states found.store)
-  pub few : length (pooled_states found.store) ≤ MAX_STATE_LINES
-  pub width : All (λ (bits : List Bool). length bits ≡ atom_count) (pooled_states found.store)
-  pub marked : AreMarked is_dead (pooled_states found.store) found.nodes.items
+pub record CanBeMarked (atom_count : ℕ) (is_dead : List Bool → Bool) (found : FoundStates GroundListing) : Type 0 where
+  pub one_for_each : length found.nodes.items ≡ length (listed_states found.store)
+  pub few : length (listed_states found.store) ≤ MAX_STATE_LINES
+  pub width : All (λ (bits : List Bool). length bits ≡ atom_count) (listed_states found.store)
+  pub marked : AreMarked is_dead (listed_states found.store) found.nodes.items
 
--- A search of the system by an estimate and a test for dead ends came to this outcome, with these marks.
-pub record IsSearched (system : ListedSystem) (estimate : List Bool → ℕ) (is_dead : List Bool → Bool) (max_states : ℕ) (outcome : Outcome PooledStore) (marks : List Listed) : Type 0 where
-  pub outcome_is : IsTrueOutcome (system_of system) estimate is_dead pooled_states max_states outcome
+-- A search of the ground task by an estimate and a test for dead ends came to this outcome, with these marks.
+pub record IsSearched (space : SearchSpace) (estimate : List Bool → ℕ) (is_dead : List Bool → Bool) (max_states : ℕ) (outcome : Outcome GroundListing) (marks : List Listed) : Type 0 where
+  pub outcome_is : IsTrueOutcome (system_of space) (class_in space) estimate is_dead listed_states max_states outcome
   pub marked : AreMarksOf estimate is_dead (found_in outcome) marks
-  pub lower_bound : IsLowerBound (system_of system) estimate
-  pub dead_ends : AreDeadEnds (system_of system) is_dead
+  pub admissible : IsAdmissible (system_of space) estimate
+  pub reports : ReportsDeadEnds (system_of space) is_dead

@@ -4,14 +4,15 @@ use Rattle.std.specs.List.{filter, list_all, range_with_len}
 use Rattle.packed_state.specs.Sets.{has}
 use Rattle.search.specs.declared.nodes.Node.{Node}
 use Rattle.search.specs.Outcome as search
+use Rattle.search.specs.Outcome.{IsReachableAt}
 use Rattle.model.specs.Task.{Task, Atom}
-use Rattle.model.specs.Meaning.{State}
+use Rattle.model.specs.Meaning.{State, system_of}
 use Rattle.model.specs.Claims.{Claim, opened, dead, Line}
 use Rattle.symmetries.specs.Exchanges.{Exchange}
 use Rattle.certificate_definitions.specs.Certificates.{two, three, Certificate, StateLine, IsClosedFor, keeps_limits, lines_of, value_of, is_dead_end_of}
 use Rattle.certificate.specs.ListedSets.{Marked}
 use Rattle.model.specs.NumberedAtoms.{numbered_atoms}
-use Rattle.listed_systems.specs.Exchanges.{can_be_named}
+use Rattle.ground_listings.specs.Exchanges.{can_be_named}
 use Rattle.solver.specs.Guidance.{Guidance, version_by, values_by, estimate_by, reports_dead}
 
 -- the numbers of the atoms that are true in the packed state, rising
@@ -26,8 +27,8 @@ state_line line = record { cost = line.cost; mark = line.mark; atoms = numbers_i
 abbrev pub mark_of_line : {S : Type 0} → Line S → Marked
 mark_of_line line = record { cost = line.cost; mark = line.mark }
 
--- the certificate that lists these states, which were found by this guidance and stand for others by these exchanges, each expanded
--- one as open, each other as a dead end where it is reported one, and else as a cut with its estimate
+-- the certificate that lists these states, which were found by this guidance, each expanded one as open, each other as a dead end
+-- where it is reported one, and else as a cut with its estimate; by these exchanges some are alike
 abbrev pub found_certificate : Claim → List Exchange → List Atom → Guidance → List (List Bool) → List Node → Certificate
 found_certificate claim exchanges atoms guidance states nodes = record {
   version = version_by guidance;
@@ -41,12 +42,14 @@ found_certificate claim exchanges atoms guidance states nodes = record {
 }
 
 -- The certificate is closed for the task, claims this, keeps the limits of a certificate's text, its exchanges can be named, and it
--- lists at most `max_states` states by the numbered atoms, each at the place that is its number. It is of version 2, or of version 3
--- where the search went by tables or exchanges, and each listed state that its values report a dead end is listed as one.
+-- lists at most `max_states` states by the numbered atoms, each at the place that is its number: different ones, as it is closed, and
+-- each at the cost of a list of instances that leads to it. It is of version 2, or of version 3 where the search went by tables or
+-- exchanges, and each listed state that its values report a dead end is listed as one.
 pub record IsShownBy (task : Task) (claim : Claim) (max_states : ℕ) (certificate : Certificate) : Type 0 where
   pub claims : certificate.claim ≡ claim
   pub closed : IsClosedFor task certificate
   pub within_limit : length certificate.lines ≤ max_states
+  pub reached : (line : Line State) → Contains (lines_of task certificate) line → IsReachableAt (system_of task) line.state line.cost
   pub exchanges : IsTrue (list_all (can_be_named task) certificate.exchanges)
   pub atoms : certificate.atoms ≡ numbered_atoms task []
   pub within_limits : IsTrue (keeps_limits certificate)

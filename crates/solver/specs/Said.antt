@@ -1,10 +1,9 @@
 -- What is said of a task while it is solved: the lines, and what makes them true.
-use Rattle.std.specs.Prelude.{◌≡◌, ℕ, ◌≤◌, Bool, true, false, List, [], ◌++◌, length, map, codes, count_by, Option, IsTrue, ⊤}
-use Rattle.std.specs.List.{list_all}
+use Rattle.std.specs.Prelude.{◌≡◌, ℕ, ◌≤◌, Bool, true, false, List, [], ◌++◌, length, map, codes, count_by, Option, ⊤}
 use Rattle.std.specs.Fmt.{decimal}
 use Rattle.devices.specs.Devices.{IsWritten}
 use Rattle.progress_lines.specs.Said.{Stream}
-use Rattle.listed_systems.specs.Reachable.{AreReachable}
+use Rattle.ground_listings.specs.Reachable.{AreReachable}
 use Rattle.solver.specs.declared.reports.Report.{Report}
 use Rattle.solver.specs.declared.reports.Report.TheVariants.{Ground, Search, Limit, End}
 use Rattle.solver.specs.declared.reports.RaisedBy.TheVariants as raised_by
@@ -13,9 +12,6 @@ use Rattle.model.specs.Runs.{CostsAtLeast}
 use Rattle.model.specs.Meaning.{system_of}
 use Rattle.model.specs.NumberedAtoms.{numbered_atoms}
 use Rattle.model.specs.StaticallyFalse.{kept_instances}
-use Rattle.symmetries.specs.Exchanges.{Exchange}
-use Rattle.symmetries.specs.Symmetries.{is_symmetry}
-use Rattle.symmetries.specs.Quotients.{quotient_of}
 use Rattle.certificate_definitions.specs.Certificates.{Certificate, IsClosedFor}
 use Rattle.model.specs.Claims.{Mark, opened, cut, dead}
 use Rattle.certificate.specs.Certificate.{certificate_of}
@@ -35,11 +31,6 @@ line_of (Limit raised_by.Instances) = codes "progress=limit raise=--instances\n"
 line_of (End listed expanded) =
     codes "progress=end listed=" ++ (decimal listed ++ (codes " expanded=" ++ (decimal expanded ++ codes "\n")))
 
--- where one state stands for all that some symmetries of the task take into one another; without any each stands for itself
-abbrev pub AreReachableBySymmetries : Task → ℕ → Type 0
-AreReachableBySymmetries task count =
-    (exchanges : List Exchange) × IsTrue (list_all (is_symmetry task) exchanges) × AreReachable (quotient_of task (numbered_atoms task []) exchanges) count
-
 -- what is said of a certificate at the end: how many states it lists, and how many of them are open
 abbrev pub is_opened : Mark → Bool
 is_opened opened = true
@@ -53,11 +44,11 @@ abbrev pub report_of : Certificate → Report
 report_of certificate = End (length certificate.lines) (count_by is_open (map marked certificate.lines))
 
 -- The report is true of the task: so many of its instances are kept, and so many of its atoms have numbers; or every list of instances that
--- solves it costs at least the bound, so many states are reachable, of which one may stand for others, and no more of them were expanded; or
--- a closed certificate of it lists so many states, so many of them as open. Of a limit nothing is claimed.
+-- solves it costs at least the bound, so many different states are reachable, and no more of them were expanded; or a closed certificate
+-- of it lists so many states, so many of them as open. Of a limit nothing is claimed.
 abbrev pub IsTrueReport : Task → Report → Type 0
 IsTrueReport task (Ground instances atoms) = (instances ≡ length (kept_instances task)) × (atoms ≡ length (numbered_atoms task []))
-IsTrueReport task (Search bound listed expanded) = CostsAtLeast (system_of task) bound × AreReachableBySymmetries task listed × (expanded ≤ listed)
+IsTrueReport task (Search bound listed expanded) = CostsAtLeast (system_of task) bound × AreReachable (system_of task) listed × (expanded ≤ listed)
 IsTrueReport task (Limit option) = ⊤
 IsTrueReport task (End listed expanded) = (certificate : Certificate) × IsClosedFor task certificate × (End listed expanded ≡ report_of certificate)
 

@@ -9,12 +9,11 @@ use Rattle.solver.specs.declared.answer.Exceeded.TheVariants.{Instances, Atoms, 
 use Rattle.solver.specs.Improved.{HasSettledOrHigh}
 use Rattle.solver.specs.Listing.{IsShownBy, AreOpenWithin}
 use Rattle.solver.specs.AtLimit.{IsAtLimit}
-use Rattle.listed_systems.specs.Reachable.{AreMoreReachable}
+use Rattle.ground_listings.specs.Reachable.{AreMoreReachable}
 use Rattle.model.specs.Task.{Task}
 use Rattle.model.specs.Runs.{cost_of_all, CostsAtLeast, IsOptimal, IsUnsolvable}
 use Rattle.model.specs.Claims.{bound, none}
 use Rattle.model.specs.Meaning.{system_of, is_instance}
-use Rattle.certificate_definitions.specs.Certificates.{listed_system}
 use Rattle.model.specs.Limits.{max_numbered_atoms}
 use Rattle.model.specs.Grounding.{of_instances, of_atoms, exceeded_limit}
 
@@ -22,9 +21,9 @@ use Rattle.model.specs.Grounding.{of_instances, of_atoms, exceeded_limit}
 -- solves costs less; or no list solves; and the certificate shows it, by at most `states` states, with potentials that are
 -- settled or high. Beside a plan no state is open that costs, with its value, more than the plan. Or a limit is exceeded:
 -- that of the instances exactly where more than `instances` of the task's are kept, that of the atoms exactly where no
--- more are kept and too many atoms have numbers, and else that of the states, where more than `states` of those that a
--- listing by the certificate's exchanges may have are reachable and may have to be found. Then each list that solves costs
--- at least the bound, and the certificate of the `states` states that were found shows it.
+-- more are kept and too many atoms have numbers, and else that of the states, where more than `states` states of the task are
+-- reachable and may have to be found. Then each list that solves costs at least the bound, and the certificate of the `states`
+-- states that were found shows it.
 abbrev pub IsTrueAnswer : Task → ℕ → ℕ → Answer → Type 0
 IsTrueAnswer task states instances (Plan steps cost cert) =
     IsOptimal (system_of task) (plan_of steps) × (cost_of_all (system_of task) (plan_of steps) ≡ cost)
@@ -39,7 +38,7 @@ IsTrueAnswer task states instances (Unsolvable cert) =
 IsTrueAnswer task states instances (Unknown Instances) = exceeded_limit instances max_numbered_atoms task [] ≡ Some of_instances
 IsTrueAnswer task states instances (Unknown Atoms) = exceeded_limit instances max_numbered_atoms task [] ≡ Some of_atoms
 IsTrueAnswer task states instances (Unknown (States least cert)) =
-    AreMoreReachable (listed_system task (certificate_of cert)) states × (exceeded_limit instances max_numbered_atoms task [] ≡ None)
+    AreMoreReachable (system_of task) states × (exceeded_limit instances max_numbered_atoms task [] ≡ None)
     × CostsAtLeast (system_of task) least
     × IsShownBy task (bound least) states (certificate_of cert)
     × HasSettledOrHigh task (certificate_of cert)

@@ -6,22 +6,23 @@ ghost use Rattle.potentials_improved.specs.FairPotentials as fair;
 ghost use Rattle.potentials_improved.specs.FairPotentials.{potentials_in};
 ghost use Rattle.solver.specs.Guidance.{estimate_by, reports_dead};
 ghost use Rattle.solver.specs.Guided.{IsGuidanceFor, IsSearched};
-ghost use Rattle.listed_systems.specs.Exchanges.{AreExchangesFor};
+ghost use Rattle.ground_listings.specs.Exchanges.{AreExchangesFor};
 ghost use Rattle.task_symmetries.specs.Exchange.{exchange_of};
 ghost use Rattle.solver.specs.Improved.{AreSettledOrHigh, AreDeadSettledOrHigh};
 ghost use Rattle.progress_lines.specs.Said.{GoesOn};
 ghost use Rattle.solver.specs.Said.{HasEnded, IsTrueLine, IsTrueReport, is_open, report_of};
 ghost use Rattle.model.specs.NumberedAtoms.{numbered_atoms};
-ghost use Rattle.listed_systems.specs.ListedSystem.{ground_in, IsListed};
+ghost use Rattle.ground_listings.specs.SearchSpace.{ground_in, IsSearchSpace};
 ghost use Rattle.solver.specs.Solver.{IsTrueAnswer};
-ghost use Rattle.solver.specs.Written.{guidance_of};
+ghost use Rattle.potentials_improved.specs.Potentials.{potentials_of};
+ghost use Rattle.solver.specs.Written.{guidance_of, by_potentials_of};
 ghost use Rattle.solver.specs.declared.answer.Answer.TheVariants.{Unknown};
 ghost use Rattle.certificate.specs.Certificate.{certificate_of};
 ghost use Rattle.certificate.specs.CertificateParts.{listed_of};
 ghost use Rattle.model.specs.Task as model;
 ghost use Rattle.model.specs.WellTyped.{is_task};
 
-use crate::guidance::{Guidance, guidance_by, potential_of};
+use crate::guidance::{Guidance, guidance_by};
 use crate::improved::improved;
 use crate::limits::Limits;
 use crate::listing::cert_of;
@@ -32,8 +33,8 @@ use certificate::{Cert, Claim, Listed, Mark};
 use devices::Sink;
 use faults::{NoMemory, Refused};
 use formulas::Plan;
+use ground_listings::{SearchSpace, exchanges_of, plan_of};
 use grounding::{Ground, GroundLimit};
-use listed_systems::{ListedGuide, ListedSystem, exchanges_of, plan_of};
 use potentials_improved::{DeadFair, Fair, Groundwork};
 use progress_lines::Unheard;
 use representatives::Representatives;
@@ -91,22 +92,25 @@ pub enum Exceeded {
 /// }
 /// ```
 ///
-/// The search goes by fair potentials of the ground task, which are made better first, in at most 8 rounds; the certificate
-/// has them too. Where they are not settled, they give the initial state a value of at least 8. Beside a plan, each state
-/// that the certificate lists as open costs, with its value, no more than the plan. By dead-fair potentials, which the
-/// certificate has beside them and which are settled or high as well, states are reported as dead ends: they are listed, and
-/// the search goes no further from them.
+/// The search goes by fair potentials of the ground task, which are made better first, in at most 8 rounds; the certificate has them
+/// too. Where they are not settled, they give the initial state a value of at least 8. On the way values over tables may be taken in
+/// their place: the potentials of the first are these, which are fair by themselves. Beside a plan, each state that the certificate
+/// lists as open costs, with its value, no more than the plan. By dead-fair potentials, which the certificate has beside them and
+/// which are settled or high as well, states are reported as dead ends: they are listed, and the search goes no further from them.
 ///
-/// Where objects are interchangeable, one state is searched and listed for all those that exchanges of them take into one another
-/// (orbit space search: Domshlak, Katz and Shleyfman, "Symmetry Breaking in Deterministic Planning as Forward Search", 2015). The
-/// certificate has the exchanges, each of which is a symmetry of the task; the plan is one of the task itself. Which exchanges are
-/// found is not said.
+/// Where objects are interchangeable, exchanges of them take states into one another, and it suffices to list one of these at no greater
+/// cost than the others (orbit space search: Domshlak, Katz and Shleyfman, "Symmetry Breaking in Deterministic Planning as Forward Search",
+/// 2015). Such states are found by their representatives, which they often have in common, but not always. The certificate has the
+/// exchanges, each of which is a symmetry of the task. Which exchanges are found is not said.
 ///
-/// A certificate then lists at most 100,000 states. Where more would have to be listed, `Unknown(Exceeded::States { .. })` has a
-/// certificate of 100,000, and in it the bound is the least sum of cost and value of a state that is still to be expanded: if it
-/// has no exchanges, no open state has a greater sum. Two limits are reported before any potentials are looked for: `Unknown(Exceeded::Instances)`
-/// exactly where the task has more than 10,000 kept instances, which are those that are statically applicable, and
-/// `Unknown(Exceeded::Atoms)` exactly where it has no more, and more than 1,048,576 atoms would have numbers.
+/// A certificate then lists at most 100,000 states: different ones of the task, each at the cost of a list of instances that leads to
+/// it. Where more are reachable and may have to be listed, `Unknown(Exceeded::States { .. })` has a certificate of 100,000, and in it the
+/// bound is the least sum of cost and value of a state that is still to be expanded. No open state has a greater sum, and the bound is
+/// at least the initial state's value. So where no more are reachable the answer is a plan or `Unsolvable`.
+///
+/// Two limits are reported before any potentials are looked for: `Unknown(Exceeded::Instances)` exactly where the task has more than
+/// 10,000 kept instances, which are those that are statically applicable, and `Unknown(Exceeded::Atoms)` exactly where it has no more,
+/// and more than 1,048,576 atoms would have numbers.
 pub fn solve(alloc: Global, task: &Task, limits: Limits) -> Result<Answer, NoMemory>
     ensures { IfOk result (IsTrueAnswer (task_of task.now) limits.states limits.instances) }
 {
@@ -238,84 +242,99 @@ fn solve_by_exchanges<E: Sink>(
     ensures said { GoesOn (IsTrueLine (task_in ground.now)) E.wants_memory (E.failures err.old) (E.taken err.old) (E.failures err.new) (E.taken err.new) }
 {
     if exchanges.is_empty() {
-        return solve_listed(alloc, ListedSystem::Ground(ground), limits, err);
+        return solve_listed(alloc, SearchSpace::Alone(ground), limits, err);
     }
     match Representatives::new(alloc, ground, exchanges)? {
         Some(representatives) => {
-            solve_listed(alloc, ListedSystem::Quotient(&representatives), limits, err)
+            solve_listed(alloc, SearchSpace::Orbits(&representatives), limits, err)
         }
         None => unreachable!(),
     }
 }
 
-/// The same where states of this system are searched and listed.
+/// The same where states are looked up in this space.
 fn solve_listed<E: Sink>(
     alloc: Global,
-    system: ListedSystem<'_, '_>,
+    space: SearchSpace<'_, '_>,
     limits: Limits,
     err: &mut E,
 ) -> Result<Answer, NoMemory>
-    requires listed { IsListed system }
-    requires ground { IsGroundOf (task_in (ground_in system)) [] limits.instances (ground_in system) }
-    ensures answer { IfOk result (IsTrueAnswer (task_in (ground_in system.entry)) limits.states limits.instances) }
-    ensures said { GoesOn (IsTrueLine (task_in (ground_in system.entry))) E.wants_memory (E.failures err.old) (E.taken err.old) (E.failures err.new) (E.taken err.new) }
+    requires space { IsSearchSpace space }
+    requires ground { IsGroundOf (task_in (ground_in space)) [] limits.instances (ground_in space) }
+    ensures answer { IfOk result (IsTrueAnswer (task_in (ground_in space.entry)) limits.states limits.instances) }
+    ensures said { GoesOn (IsTrueLine (task_in (ground_in space.entry))) E.wants_memory (E.failures err.old) (E.taken err.old) (E.failures err.new) (E.taken err.new) }
 {
-    let ground = system.ground();
+    let ground = space.ground();
     let groundwork = Groundwork::new(alloc, ground)?;
     let estimate: Fair<'_, '_> = improved(alloc, ground, &groundwork)?;
     let dead_ends: DeadFair<'_, '_> = improved(alloc, ground, &groundwork)?;
     drop(groundwork);
-    solve_by_potentials(alloc, system, &estimate, &dead_ends, limits, err)
+    solve_by_potentials(alloc, space, &estimate, &dead_ends, limits, err)
 }
 
 /// The same by these potentials, or by tables if such are found on the way that are better.
 fn solve_by_potentials<E: Sink>(
     alloc: Global,
-    system: ListedSystem<'_, '_>,
+    space: SearchSpace<'_, '_>,
     estimate: &Fair<'_, '_>,
     dead_ends: &DeadFair<'_, '_>,
     limits: Limits,
     err: &mut E,
 ) -> Result<Answer, NoMemory>
-    requires listed { IsListed system }
-    requires ground { IsGroundOf (task_in (ground_in system)) [] limits.instances (ground_in system) }
-    requires estimate { fair.ground_in estimate.now ≡ ground_in system }
-    requires improved { AreSettledOrHigh (task_in (ground_in system)) (atoms_in (ground_in system)) (potentials_in estimate.now) }
-    requires dead_ends { fair.ground_in dead_ends.now ≡ ground_in system }
-    requires dead_ends_improved { AreDeadSettledOrHigh (task_in (ground_in system)) (atoms_in (ground_in system)) (potentials_in dead_ends.now) }
-    ensures answer { IfOk result (IsTrueAnswer (task_in (ground_in system.entry)) limits.states limits.instances) }
-    ensures said { GoesOn (IsTrueLine (task_in (ground_in system.entry))) E.wants_memory (E.failures err.old) (E.taken err.old) (E.failures err.new) (E.taken err.new) }
+    requires space { IsSearchSpace space }
+    requires ground { IsGroundOf (task_in (ground_in space)) [] limits.instances (ground_in space) }
+    requires estimate { fair.ground_in estimate.now ≡ ground_in space }
+    requires improved { AreSettledOrHigh (task_in (ground_in space)) (atoms_in (ground_in space)) (potentials_in estimate.now) }
+    requires dead_ends { fair.ground_in dead_ends.now ≡ ground_in space }
+    requires dead_ends_improved { AreDeadSettledOrHigh (task_in (ground_in space)) (atoms_in (ground_in space)) (potentials_in dead_ends.now) }
+    ensures answer { IfOk result (IsTrueAnswer (task_in (ground_in space.entry)) limits.states limits.instances) }
+    ensures said { GoesOn (IsTrueLine (task_in (ground_in space.entry))) E.wants_memory (E.failures err.old) (E.taken err.old) (E.failures err.new) (E.taken err.new) }
 {
-    let fair = EstimateWithDeadEnds::new(estimate, dead_ends);
-    let guide = ListedGuide::new(&fair, system);
+    let guide = EstimateWithDeadEnds::new(estimate, dead_ends);
     let given = Given {
         potentials: estimate.potentials(),
         dead_ends: dead_ends.potentials(),
     };
-    match search_in_parts(alloc, system, &guide, given, limits, err)? {
+    match search_in_parts(alloc, space, &guide, given, limits, err)? {
         Parts::ByTables(answer) => Ok(answer),
-        Parts::ByGuide(searched) => {
-            let value = potential_of(alloc, given.potentials)?;
-            let dead_ends = potential_of(alloc, given.dead_ends)?;
-            let guidance = guidance_by(alloc, system, value, dead_ends)?;
-            answer_of(alloc, system, guidance, searched, limits)
-        }
+        Parts::ByGuide(searched) => answer_by_potentials(alloc, space, given, searched, limits),
     }
+}
+
+/// The answer that a search by these potentials came to.
+fn answer_by_potentials(
+    alloc: Global,
+    space: SearchSpace<'_, '_>,
+    given: Given<'_>,
+    searched: Searched<'_, '_>,
+    limits: Limits,
+) -> Result<Answer, NoMemory>
+    requires space { IsSearchSpace space }
+    requires ground { IsGroundOf (task_in (ground_in space)) [] limits.instances (ground_in space) }
+    requires guidance { IsGuidanceFor space (by_potentials_of space (potentials_of given.potentials.now) (potentials_of given.dead_ends.now)) }
+    requires searched { IsSearched space
+        (estimate_by (by_potentials_of space (potentials_of given.potentials.now) (potentials_of given.dead_ends.now)))
+        (reports_dead (by_potentials_of space (potentials_of given.potentials.now) (potentials_of given.dead_ends.now)))
+        limits.states searched.outcome searched.marks.items }
+    ensures { IfOk result (IsTrueAnswer (task_in (ground_in space.entry)) limits.states limits.instances) }
+{
+    let guidance = guidance_by(alloc, space, given.potentials, given.dead_ends)?;
+    answer_of(alloc, space, guidance, searched, limits)
 }
 
 /// The answer that a search by the guidance came to, with its certificate.
 pub(crate) fn answer_of(
     alloc: Global,
-    system: ListedSystem<'_, '_>,
+    space: SearchSpace<'_, '_>,
     guidance: Guidance,
-    searched: Searched,
+    searched: Searched<'_, '_>,
     limits: Limits,
 ) -> Result<Answer, NoMemory>
-    requires listed { IsListed system }
-    requires ground { IsGroundOf (task_in (ground_in system)) [] limits.instances (ground_in system) }
-    requires guidance { IsGuidanceFor system (guidance_of guidance) }
-    requires searched { IsSearched system (estimate_by (guidance_of guidance)) (reports_dead (guidance_of guidance)) limits.states searched.outcome searched.marks.items }
-    ensures { IfOk result (IsTrueAnswer (task_in (ground_in system.entry)) limits.states limits.instances) }
+    requires space { IsSearchSpace space }
+    requires ground { IsGroundOf (task_in (ground_in space)) [] limits.instances (ground_in space) }
+    requires guidance { IsGuidanceFor space (guidance_of guidance) }
+    requires searched { IsSearched space (estimate_by (guidance_of guidance)) (reports_dead (guidance_of guidance)) limits.states searched.outcome searched.marks.items }
+    ensures { IfOk result (IsTrueAnswer (task_in (ground_in space.entry)) limits.states limits.instances) }
 {
     let Searched { outcome, marks } = searched;
     match outcome {
@@ -324,19 +343,19 @@ pub(crate) fn answer_of(
             cost,
             states,
         } => {
-            let steps = plan_of(alloc, system, &steps)?;
+            let steps = plan_of(alloc, space.ground(), &steps)?;
             let claim = Claim::Bound(cost);
-            let cert = cert_of(alloc, system, guidance, claim, marks, states)?;
+            let cert = cert_of(alloc, space, guidance, claim, marks, states)?;
             Ok(Answer::Plan { steps, cost, cert })
         }
         Outcome::Exhausted { states } => {
             let claim = Claim::Unsolvable;
-            let cert = cert_of(alloc, system, guidance, claim, marks, states)?;
+            let cert = cert_of(alloc, space, guidance, claim, marks, states)?;
             Ok(Answer::Unsolvable { cert })
         }
         Outcome::States { bound, states } => {
             let claim = Claim::Bound(bound);
-            let cert = cert_of(alloc, system, guidance, claim, marks, states)?;
+            let cert = cert_of(alloc, space, guidance, claim, marks, states)?;
             Ok(Answer::Unknown(Exceeded::States { bound, cert }))
         }
     }

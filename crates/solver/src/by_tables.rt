@@ -9,14 +9,14 @@ ghost use Rattle.certificate.specs.CertificateParts.{are_bounds, bounds_of, pote
 ghost use Rattle.certificate_definitions.specs.Certificates.{three};
 ghost use Rattle.grounding.specs.Ground.{task_in, atoms_in, IsGroundOf};
 ghost use Rattle.model.specs.Grounding.{ground_system};
-ghost use Rattle.packed_state.specs.PooledView.{pooled_width};
+ghost use Rattle.ground_listings.specs.GroundListing.{listed_width};
 ghost use Rattle.potential_functions.specs.Settled.{initial_value};
 ghost use Rattle.potentials.specs.Potentials.{potentials_of};
 ghost use Rattle.solver.specs.Attempts.{IfDone};
 ghost use Rattle.solver.specs.Guidance.{by_tables, estimate_by, first_value, reports_dead};
 ghost use Rattle.solver.specs.Guided.{IsSearched};
 ghost use Rattle.solver.specs.Improved.{AreSettledOrHigh, AreDeadSettledOrHigh};
-ghost use Rattle.listed_systems.specs.ListedSystem.{ground_in, IsListed};
+ghost use Rattle.ground_listings.specs.SearchSpace.{ground_in, IsSearchSpace};
 ghost use Rattle.solver.specs.SeveralOver.{several_over};
 ghost use Rattle.progress_lines.specs.Said.{GoesOn};
 ghost use Rattle.solver.specs.Said.{IsTrueLine};
@@ -37,10 +37,9 @@ use crate::stopped::Stopped;
 use certificate::{Bounds, Potential, Version};
 use devices::Sink;
 use faults::NoMemory;
+use ground_listings::SearchSpace;
 use grounding::Ground;
-use listed_systems::{ListedGuide, ListedSystem};
 use potentials::Potentials;
-use search::TransitionSystem;
 use std::alloc::Global;
 use table_guides::FairTables;
 use table_rows::Table;
@@ -50,22 +49,22 @@ use tables_drafted::{DraftedTables, Wanted, drafted_tables};
 /// The answer by tables, if such are found that are better than the potentials of a search that pauses so.
 pub(crate) fn solve_by_tables<E: Sink>(
     alloc: Global,
-    system: ListedSystem<'_, '_>,
-    stopped: &Stopped<'_>,
+    space: SearchSpace<'_, '_>,
+    stopped: &Stopped<'_, '_, '_>,
     limits: Limits,
     err: &mut E,
 ) -> Result<Attempt<Answer>, NoMemory>
-    requires listed { IsListed system }
-    requires ground { IsGroundOf (task_in (ground_in system)) [] limits.instances (ground_in system) }
-    requires stopped { IsStopped stopped.now.store.now stopped.now.nodes.now }
-    requires store_width { pooled_width stopped.now.store.now ≡ length (atoms_in (ground_in system)) }
-    requires width { length (potentials_of stopped.now.potentials.now).weights ≡ length (atoms_in (ground_in system)) }
-    requires improved { AreSettledOrHigh (task_in (ground_in system)) (atoms_in (ground_in system)) (potentials_of stopped.now.potentials.now) }
-    requires dead_ends_improved { AreDeadSettledOrHigh (task_in (ground_in system)) (atoms_in (ground_in system)) (potentials_of stopped.now.dead_ends.now) }
-    ensures answer { IfOk result (IfDone (IsTrueAnswer (task_in (ground_in system.entry)) limits.states limits.instances)) }
-    ensures said { GoesOn (IsTrueLine (task_in (ground_in system.entry))) E.wants_memory (E.failures err.old) (E.taken err.old) (E.failures err.new) (E.taken err.new) }
+    requires space { IsSearchSpace space }
+    requires ground { IsGroundOf (task_in (ground_in space)) [] limits.instances (ground_in space) }
+    requires stopped { IsStopped stopped.now.listing.now stopped.now.nodes.now }
+    requires store_width { listed_width stopped.now.listing.now ≡ length (atoms_in (ground_in space)) }
+    requires width { length (potentials_of stopped.now.potentials.now).weights ≡ length (atoms_in (ground_in space)) }
+    requires improved { AreSettledOrHigh (task_in (ground_in space)) (atoms_in (ground_in space)) (potentials_of stopped.now.potentials.now) }
+    requires dead_ends_improved { AreDeadSettledOrHigh (task_in (ground_in space)) (atoms_in (ground_in space)) (potentials_of stopped.now.dead_ends.now) }
+    ensures answer { IfOk result (IfDone (IsTrueAnswer (task_in (ground_in space.entry)) limits.states limits.instances)) }
+    ensures said { GoesOn (IsTrueLine (task_in (ground_in space.entry))) E.wants_memory (E.failures err.old) (E.taken err.old) (E.failures err.new) (E.taken err.new) }
 {
-    let Some(draft) = drafted(alloc, system, stopped)? else {
+    let Some(draft) = drafted(alloc, space, stopped)? else {
         return Ok(Attempt::InVain);
     };
     let DraftedTables {
@@ -78,26 +77,26 @@ pub(crate) fn solve_by_tables<E: Sink>(
         dead_ends: potential_of(alloc, &dead_ends)?,
         tables,
     };
-    if !bounds.keep_limits(Version::Three, system.width() as usize) {
+    if !bounds.keep_limits(Version::Three, space.ground().width() as usize) {
         return Ok(Attempt::InVain);
     }
     answer_by_tables(
-        alloc, system, bounds, values, dead_ends, stopped, limits, err,
+        alloc, space, bounds, values, dead_ends, stopped, limits, err,
     )
 }
 
 /// Tables that may be better than the potentials of a search that pauses so.
 fn drafted(
     alloc: Global,
-    system: ListedSystem<'_, '_>,
-    stopped: &Stopped<'_>,
+    space: SearchSpace<'_, '_>,
+    stopped: &Stopped<'_, '_, '_>,
 ) -> Result<Option<DraftedTables>, NoMemory>
-    requires stopped { IsStopped stopped.now.store.now stopped.now.nodes.now }
+    requires stopped { IsStopped stopped.now.listing.now stopped.now.nodes.now }
     ensures first { IfOk result (λ o. IfSome o (λ draft. slice_get (map potentials_of draft.values.items) 0 ≡ Some (potentials_of stopped.now.potentials.now))) }
     ensures dead_ends { IfOk result (λ o. IfSome o (λ draft. potentials_of draft.dead_ends ≡ potentials_of stopped.now.dead_ends.now)) }
 {
     let states = stopped.samples(alloc)?;
-    let starts = system.other_starts(alloc, &states)?;
+    let starts = space.other_starts(alloc, &states)?;
     let wanted = Wanted {
         potentials: stopped.potentials,
         dead_ends: stopped.dead_ends,
@@ -105,7 +104,7 @@ fn drafted(
         starts: &starts,
         effort: stopped.effort,
     };
-    let draft = drafted_tables(alloc, system.ground(), &wanted)?;
+    let draft = drafted_tables(alloc, space.ground(), &wanted)?;
     Ok(draft)
 }
 
@@ -124,35 +123,35 @@ fn written(alloc: Global, values: &[Potentials]) -> Result<Vec<Potential>, NoMem
 /// search that pauses goes by.
 fn answer_by_tables<E: Sink>(
     alloc: Global,
-    system: ListedSystem<'_, '_>,
+    space: SearchSpace<'_, '_>,
     bounds: Bounds,
     values: Vec<Potentials>,
     dead_ends: Potentials,
-    stopped: &Stopped<'_>,
+    stopped: &Stopped<'_, '_, '_>,
     limits: Limits,
     err: &mut E,
 ) -> Result<Attempt<Answer>, NoMemory>
-    requires listed { IsListed system }
-    requires ground { IsGroundOf (task_in (ground_in system)) [] limits.instances (ground_in system) }
-    requires within_limits { IsTrue (are_bounds three (length (atoms_in (ground_in system))) (bounds_of bounds)) }
+    requires space { IsSearchSpace space }
+    requires ground { IsGroundOf (task_in (ground_in space)) [] limits.instances (ground_in space) }
+    requires within_limits { IsTrue (are_bounds three (length (atoms_in (ground_in space))) (bounds_of bounds)) }
     requires values { map potentials_of values.items ≡ (bounds_of bounds).values }
     requires dead_ends { potentials_of dead_ends ≡ (bounds_of bounds).dead_ends }
     requires first { first_value (by_tables (bounds_of bounds)) ≡ potentials_of stopped.now.potentials.now }
-    requires stopped { IsStopped stopped.now.store.now stopped.now.nodes.now }
-    requires store_width { pooled_width stopped.now.store.now ≡ length (atoms_in (ground_in system)) }
-    requires width { length (potentials_of stopped.now.potentials.now).weights ≡ length (atoms_in (ground_in system)) }
-    requires improved { AreSettledOrHigh (task_in (ground_in system)) (atoms_in (ground_in system)) (potentials_of stopped.now.potentials.now) }
-    requires dead_ends_improved { AreDeadSettledOrHigh (task_in (ground_in system)) (atoms_in (ground_in system)) (bounds_of bounds).dead_ends }
-    ensures answer { IfOk result (IfDone (IsTrueAnswer (task_in (ground_in system.entry)) limits.states limits.instances)) }
-    ensures said { GoesOn (IsTrueLine (task_in (ground_in system.entry))) E.wants_memory (E.failures err.old) (E.taken err.old) (E.failures err.new) (E.taken err.new) }
+    requires stopped { IsStopped stopped.now.listing.now stopped.now.nodes.now }
+    requires store_width { listed_width stopped.now.listing.now ≡ length (atoms_in (ground_in space)) }
+    requires width { length (potentials_of stopped.now.potentials.now).weights ≡ length (atoms_in (ground_in space)) }
+    requires improved { AreSettledOrHigh (task_in (ground_in space)) (atoms_in (ground_in space)) (potentials_of stopped.now.potentials.now) }
+    requires dead_ends_improved { AreDeadSettledOrHigh (task_in (ground_in space)) (atoms_in (ground_in space)) (bounds_of bounds).dead_ends }
+    ensures answer { IfOk result (IfDone (IsTrueAnswer (task_in (ground_in space.entry)) limits.states limits.instances)) }
+    ensures said { GoesOn (IsTrueLine (task_in (ground_in space.entry))) E.wants_memory (E.failures err.old) (E.taken err.old) (E.failures err.new) (E.taken err.new) }
 {
     let attempt = search_by_tables(
-        alloc, system, &bounds, values, dead_ends, stopped, limits, err,
+        alloc, space, &bounds, values, dead_ends, stopped, limits, err,
     )?;
     match attempt {
         Attempt::Done(searched) => {
             let guidance = Guidance::Tables(bounds);
-            let answer = answer_of(alloc, system, guidance, searched, limits)?;
+            let answer = answer_of(alloc, space, guidance, searched, limits)?;
             Ok(Attempt::Done(answer))
         }
         Attempt::Promising => Ok(Attempt::Promising),
@@ -162,29 +161,29 @@ fn answer_by_tables<E: Sink>(
 
 /// What a search by these values comes to, if they are fair, and better. Whether they are better is asked first, as it takes less
 /// time than the test of fairness.
-fn search_by_tables<E: Sink>(
+fn search_by_tables<'l, 't, E: Sink>(
     alloc: Global,
-    system: ListedSystem<'_, '_>,
+    space: SearchSpace<'l, 't>,
     bounds: &Bounds,
     values: Vec<Potentials>,
     dead_ends: Potentials,
-    stopped: &Stopped<'_>,
+    stopped: &Stopped<'_, '_, '_>,
     limits: Limits,
     err: &mut E,
-) -> Result<Attempt<Searched>, NoMemory>
-    requires listed { IsListed system }
-    requires within_limits { IsTrue (are_bounds three (length (atoms_in (ground_in system))) (bounds_of bounds.now)) }
+) -> Result<Attempt<Searched<'l, 't>>, NoMemory>
+    requires space { IsSearchSpace space }
+    requires within_limits { IsTrue (are_bounds three (length (atoms_in (ground_in space))) (bounds_of bounds.now)) }
     requires values { map potentials_of values.items ≡ (bounds_of bounds.now).values }
     requires dead_ends { potentials_of dead_ends ≡ (bounds_of bounds.now).dead_ends }
-    requires stopped { IsStopped stopped.now.store.now stopped.now.nodes.now }
-    requires store_width { pooled_width stopped.now.store.now ≡ length (atoms_in (ground_in system)) }
-    requires width { length (potentials_of stopped.now.potentials.now).weights ≡ length (atoms_in (ground_in system)) }
-    ensures fair { IfOk result (IfDone (λ _. AreFair (task_in (ground_in system.entry)) (atoms_in (ground_in system.entry)) (bounds_of bounds.now))) }
-    ensures no_lower { IfOk result (IfDone (λ _. initial_value (task_in (ground_in system.entry)) (atoms_in (ground_in system.entry)) (potentials_of stopped.now.potentials.now) ≤ estimate_by (by_tables (bounds_of bounds.now)) (ground_system (task_in (ground_in system.entry)) (atoms_in (ground_in system.entry))).initial)) }
-    ensures searched { IfOk result (IfDone (λ s. IsSearched system.entry (estimate_by (by_tables (bounds_of bounds.now))) (reports_dead (by_tables (bounds_of bounds.now))) limits.states s.outcome s.marks.items)) }
-    ensures said { GoesOn (IsTrueLine (task_in (ground_in system.entry))) E.wants_memory (E.failures err.old) (E.taken err.old) (E.failures err.new) (E.taken err.new) }
+    requires stopped { IsStopped stopped.now.listing.now stopped.now.nodes.now }
+    requires store_width { listed_width stopped.now.listing.now ≡ length (atoms_in (ground_in space)) }
+    requires width { length (potentials_of stopped.now.potentials.now).weights ≡ length (atoms_in (ground_in space)) }
+    ensures fair { IfOk result (IfDone (λ _. AreFair (task_in (ground_in space.entry)) (atoms_in (ground_in space.entry)) (bounds_of bounds.now))) }
+    ensures no_lower { IfOk result (IfDone (λ _. initial_value (task_in (ground_in space.entry)) (atoms_in (ground_in space.entry)) (potentials_of stopped.now.potentials.now) ≤ estimate_by (by_tables (bounds_of bounds.now)) (ground_system (task_in (ground_in space.entry)) (atoms_in (ground_in space.entry))).initial)) }
+    ensures searched { IfOk result (IfDone (λ s. IsSearched space.entry (estimate_by (by_tables (bounds_of bounds.now))) (reports_dead (by_tables (bounds_of bounds.now))) limits.states s.outcome s.marks.items)) }
+    ensures said { GoesOn (IsTrueLine (task_in (ground_in space.entry))) E.wants_memory (E.failures err.old) (E.taken err.old) (E.failures err.new) (E.taken err.new) }
 {
-    let ground = system.ground();
+    let ground = space.ground();
     let Some(functions) = functions_over(alloc, ground, &bounds.tables, values, dead_ends)? else {
         return Ok(Attempt::InVain);
     };
@@ -193,7 +192,7 @@ fn search_by_tables<E: Sink>(
     }
     let saving = stopped.saving_by(alloc, &functions)?;
     if saving.is_worth(bounds.tables.len()) {
-        return search_if_fair(alloc, system, functions, limits, err);
+        return search_if_fair(alloc, space, functions, limits, err);
     }
     if saving.is_promising() {
         return Ok(Attempt::Promising);
@@ -219,25 +218,24 @@ fn starts_no_lower(
 }
 
 /// What a search by these values comes to, if they are fair.
-fn search_if_fair<E: Sink>(
+fn search_if_fair<'l, 't, E: Sink>(
     alloc: Global,
-    system: ListedSystem<'_, '_>,
+    space: SearchSpace<'l, 't>,
     functions: TableFunctions<'_>,
     limits: Limits,
     err: &mut E,
-) -> Result<Attempt<Searched>, NoMemory>
-    requires listed { IsListed system }
-    requires width { width_of functions ≡ length (atoms_in (ground_in system)) }
-    ensures fair { IfOk result (IfDone (λ _. AreFair (task_in (ground_in system.entry)) (atoms_in (ground_in system.entry)) (several_of functions.entry))) }
-    ensures searched { IfOk result (IfDone (λ s. IsSearched system.entry (estimate_by (by_tables (several_of functions.entry))) (reports_dead (by_tables (several_of functions.entry))) limits.states s.outcome s.marks.items)) }
-    ensures said { GoesOn (IsTrueLine (task_in (ground_in system.entry))) E.wants_memory (E.failures err.old) (E.taken err.old) (E.failures err.new) (E.taken err.new) }
+) -> Result<Attempt<Searched<'l, 't>>, NoMemory>
+    requires space { IsSearchSpace space }
+    requires width { width_of functions ≡ length (atoms_in (ground_in space)) }
+    ensures fair { IfOk result (IfDone (λ _. AreFair (task_in (ground_in space.entry)) (atoms_in (ground_in space.entry)) (several_of functions.entry))) }
+    ensures searched { IfOk result (IfDone (λ s. IsSearched space.entry (estimate_by (by_tables (several_of functions.entry))) (reports_dead (by_tables (several_of functions.entry))) limits.states s.outcome s.marks.items)) }
+    ensures said { GoesOn (IsTrueLine (task_in (ground_in space.entry))) E.wants_memory (E.failures err.old) (E.taken err.old) (E.failures err.new) (E.taken err.new) }
 {
-    let ground = system.ground();
+    let ground = space.ground();
     match functions.fairness(alloc, ground)? {
         ValuesFairness::Fair => {
-            let fair = FairTables::new(alloc, functions, ground)?;
-            let guide = ListedGuide::new(&fair, system);
-            let searched = search_by(alloc, system, &guide, limits, err)?;
+            let guide = FairTables::new(alloc, functions, ground)?;
+            let searched = search_by(alloc, space, &guide, limits, err)?;
             Ok(Attempt::Done(searched))
         }
         _ => Ok(Attempt::InVain),

@@ -8,7 +8,7 @@ ghost use Rattle.solver.specs.Written.{guidance_of, by_potentials_of};
 
 use certificate::{Bounds, Potential, Version};
 use faults::NoMemory;
-use listed_systems::ListedSystem;
+use ground_listings::SearchSpace;
 use potentials_improved::Potentials;
 use std::alloc::Global;
 
@@ -51,15 +51,17 @@ impl Guidance {
 /// These potentials: where there are exchanges, as values over no tables, since version 2 has no exchanges.
 pub(crate) fn guidance_by(
     alloc: Global,
-    system: ListedSystem<'_, '_>,
-    value: Potential,
-    dead_ends: Potential,
+    space: SearchSpace<'_, '_>,
+    value: &Potentials,
+    dead_ends: &Potentials,
 ) -> Result<Guidance, NoMemory>
-    ensures { IfOk result (λ made. guidance_of made ≡ by_potentials_of system.entry (parts.potential_of value) (parts.potential_of dead_ends)) }
+    ensures { IfOk result (λ made. guidance_of made ≡ by_potentials_of space.entry (potentials_of value.now) (potentials_of dead_ends.now)) }
 {
-    match system {
-        ListedSystem::Ground(_) => Ok(Guidance::Potentials { value, dead_ends }),
-        ListedSystem::Quotient(_) => {
+    let value = potential_of(alloc, value)?;
+    let dead_ends = potential_of(alloc, dead_ends)?;
+    match space {
+        SearchSpace::Alone(_) => Ok(Guidance::Potentials { value, dead_ends }),
+        SearchSpace::Orbits(_) => {
             let bounds = bounds_of(alloc, value, dead_ends)?;
             Ok(Guidance::Tables(bounds))
         }

@@ -1,12 +1,12 @@
 //! A search by potentials that pauses to look for tables.
 ghost use Rattle.std.specs.Prelude.{◌≡◌, [], IfOk, length};
 ghost use Rattle.grounding.specs.Ground.{task_in, atoms_in, IsGroundOf};
-ghost use Rattle.packed_state.specs.PooledView.{pooled_width};
+ghost use Rattle.ground_listings.specs.GroundListing.{listed_width};
 ghost use Rattle.potentials.specs.Potentials.{potentials_of};
 ghost use Rattle.search.specs.UnderWay.{store_in, nodes_of};
 ghost use Rattle.solver.specs.Attempts.{IfDone};
 ghost use Rattle.solver.specs.Improved.{AreSettledOrHigh, AreDeadSettledOrHigh};
-ghost use Rattle.listed_systems.specs.ListedSystem.{ground_in, system_of, IsListed};
+ghost use Rattle.ground_listings.specs.SearchSpace.{ground_in, system_of, IsSearchSpace};
 ghost use Rattle.progress_lines.specs.Said.{GoesOn};
 ghost use Rattle.solver.specs.Said.{IsTrueLine};
 ghost use Rattle.solver.specs.Solver.{IsTrueAnswer};
@@ -21,8 +21,7 @@ use crate::searched::{Searched, Stretch, begin_by, finish_by, go_on_by};
 use crate::stopped::Stopped;
 use devices::Sink;
 use faults::NoMemory;
-use listed_systems::ListedSystem;
-use packed_state::PooledStore;
+use ground_listings::{GroundListing, SearchSpace};
 use potentials::Potentials;
 use search::{Guide, Search};
 use std::alloc::Global;
@@ -58,129 +57,129 @@ pub(crate) struct Given<'a> {
 
 /// What a search in parts comes to.
 #[derive(Drop)]
-pub(crate) enum Parts {
+pub(crate) enum Parts<'l, 't> {
     /// An answer by tables that were found at a pause.
     ByTables(Answer),
     /// The search's own end.
-    ByGuide(Searched),
+    ByGuide(Searched<'l, 't>),
 }
 
 /// What a part of a search comes to, and a look for tables after it.
 #[derive(Drop)]
-enum Part<R> {
+enum Part<'l, 't, R> {
     /// The end.
-    Ended(Parts),
+    Ended(Parts<'l, 't>),
     /// No tables, but with more effort some may be found.
-    Promising(Search<PooledStore, R>),
+    Promising(Search<GroundListing<'l, 't>, R>),
     /// No tables, and none are expected.
-    InVain(Search<PooledStore, R>),
+    InVain(Search<GroundListing<'l, 't>, R>),
 }
 
-/// What a search of the system by the guide comes to, which goes by these potentials; or the answer by tables, if such are
+/// What a search of the ground task by the guide comes to, which goes by these potentials; or the answer by tables, if such are
 /// found at a pause that are better.
-pub(crate) fn search_in_parts<G: Guide, E: Sink>(
+pub(crate) fn search_in_parts<'l, 't, G: Guide, E: Sink>(
     alloc: Global,
-    system: ListedSystem<'_, '_>,
+    space: SearchSpace<'l, 't>,
     guide: &G,
     given: Given<'_>,
     limits: Limits,
     err: &mut E,
-) -> Result<Parts, NoMemory>
-    requires listed { IsListed system }
-    requires ground { IsGroundOf (task_in (ground_in system)) [] limits.instances (ground_in system) }
-    requires system { G.system_of guide.now ≡ system_of system }
-    requires guide_width { G.width_of guide.now ≡ length (atoms_in (ground_in system)) }
-    requires width { length (potentials_of given.potentials.now).weights ≡ length (atoms_in (ground_in system)) }
-    requires improved { AreSettledOrHigh (task_in (ground_in system)) (atoms_in (ground_in system)) (potentials_of given.potentials.now) }
-    requires dead_ends_improved { AreDeadSettledOrHigh (task_in (ground_in system)) (atoms_in (ground_in system)) (potentials_of given.dead_ends.now) }
-    ensures end { IfOk result (IsTrueEnd system.entry (G.estimate_of guide.now) (G.is_dead guide.now) limits) }
-    ensures said { GoesOn (IsTrueLine (task_in (ground_in system.entry))) E.wants_memory (E.failures err.old) (E.taken err.old) (E.failures err.new) (E.taken err.new) }
+) -> Result<Parts<'l, 't>, NoMemory>
+    requires space { IsSearchSpace space }
+    requires ground { IsGroundOf (task_in (ground_in space)) [] limits.instances (ground_in space) }
+    requires system { G.system_of guide.now ≡ system_of space }
+    requires guide_width { G.width_of guide.now ≡ length (atoms_in (ground_in space)) }
+    requires width { length (potentials_of given.potentials.now).weights ≡ length (atoms_in (ground_in space)) }
+    requires improved { AreSettledOrHigh (task_in (ground_in space)) (atoms_in (ground_in space)) (potentials_of given.potentials.now) }
+    requires dead_ends_improved { AreDeadSettledOrHigh (task_in (ground_in space)) (atoms_in (ground_in space)) (potentials_of given.dead_ends.now) }
+    ensures end { IfOk result (IsTrueEnd space.entry (G.estimate_of guide.now) (G.is_dead guide.now) limits) }
+    ensures said { GoesOn (IsTrueLine (task_in (ground_in space.entry))) E.wants_memory (E.failures err.old) (E.taken err.old) (E.failures err.new) (E.taken err.new) }
 {
-    let search = begin_by(alloc, system, guide, limits)?;
-    match search_to_pause(alloc, system, guide, search, given, QUICK, limits, err)? {
+    let search = begin_by(alloc, space, guide, limits)?;
+    match search_to_pause(alloc, space, guide, search, given, QUICK, limits, err)? {
         Part::Ended(parts) => Ok(parts),
-        Part::Promising(search) => search_on(alloc, system, guide, search, given, limits, err),
-        Part::InVain(search) => search_to_end(alloc, system, guide, search, limits, err),
+        Part::Promising(search) => search_on(alloc, space, guide, search, given, limits, err),
+        Part::InVain(search) => search_to_end(alloc, space, guide, search, limits, err),
     }
 }
 
 /// The same after the first pause.
-fn search_on<G: Guide, E: Sink>(
+fn search_on<'l, 't, G: Guide, E: Sink>(
     alloc: Global,
-    system: ListedSystem<'_, '_>,
+    space: SearchSpace<'l, 't>,
     guide: &G,
-    search: Search<PooledStore, G::Room>,
+    search: Search<GroundListing<'l, 't>, G::Room>,
     given: Given<'_>,
     limits: Limits,
     err: &mut E,
-) -> Result<Parts, NoMemory>
-    requires listed { IsListed system }
-    requires ground { IsGroundOf (task_in (ground_in system)) [] limits.instances (ground_in system) }
-    requires system { G.system_of guide.now ≡ system_of system }
-    requires guide_width { G.width_of guide.now ≡ length (atoms_in (ground_in system)) }
-    requires under_way { IsUnderWay system (G.estimate_of guide.now) (G.is_dead guide.now) (G.fits guide.now) limits.states search }
-    requires width { length (potentials_of given.potentials.now).weights ≡ length (atoms_in (ground_in system)) }
-    requires improved { AreSettledOrHigh (task_in (ground_in system)) (atoms_in (ground_in system)) (potentials_of given.potentials.now) }
-    requires dead_ends_improved { AreDeadSettledOrHigh (task_in (ground_in system)) (atoms_in (ground_in system)) (potentials_of given.dead_ends.now) }
-    ensures end { IfOk result (IsTrueEnd system.entry (G.estimate_of guide.now) (G.is_dead guide.now) limits) }
-    ensures said { GoesOn (IsTrueLine (task_in (ground_in system.entry))) E.wants_memory (E.failures err.old) (E.taken err.old) (E.failures err.new) (E.taken err.new) }
+) -> Result<Parts<'l, 't>, NoMemory>
+    requires space { IsSearchSpace space }
+    requires ground { IsGroundOf (task_in (ground_in space)) [] limits.instances (ground_in space) }
+    requires system { G.system_of guide.now ≡ system_of space }
+    requires guide_width { G.width_of guide.now ≡ length (atoms_in (ground_in space)) }
+    requires under_way { IsUnderWay space (G.estimate_of guide.now) (G.is_dead guide.now) (G.fits guide.now) limits.states search }
+    requires width { length (potentials_of given.potentials.now).weights ≡ length (atoms_in (ground_in space)) }
+    requires improved { AreSettledOrHigh (task_in (ground_in space)) (atoms_in (ground_in space)) (potentials_of given.potentials.now) }
+    requires dead_ends_improved { AreDeadSettledOrHigh (task_in (ground_in space)) (atoms_in (ground_in space)) (potentials_of given.dead_ends.now) }
+    ensures end { IfOk result (IsTrueEnd space.entry (G.estimate_of guide.now) (G.is_dead guide.now) limits) }
+    ensures said { GoesOn (IsTrueLine (task_in (ground_in space.entry))) E.wants_memory (E.failures err.old) (E.taken err.old) (E.failures err.new) (E.taken err.new) }
 {
-    match search_to_pause(alloc, system, guide, search, given, THOROUGH, limits, err)? {
+    match search_to_pause(alloc, space, guide, search, given, THOROUGH, limits, err)? {
         Part::Ended(parts) => Ok(parts),
-        Part::Promising(search) => search_to_end(alloc, system, guide, search, limits, err),
-        Part::InVain(search) => search_to_end(alloc, system, guide, search, limits, err),
+        Part::Promising(search) => search_to_end(alloc, space, guide, search, limits, err),
+        Part::InVain(search) => search_to_end(alloc, space, guide, search, limits, err),
     }
 }
 
 /// The same after the last pause.
-fn search_to_end<G: Guide, E: Sink>(
+fn search_to_end<'l, 't, G: Guide, E: Sink>(
     alloc: Global,
-    system: ListedSystem<'_, '_>,
+    space: SearchSpace<'l, 't>,
     guide: &G,
-    search: Search<PooledStore, G::Room>,
+    search: Search<GroundListing<'l, 't>, G::Room>,
     limits: Limits,
     err: &mut E,
-) -> Result<Parts, NoMemory>
-    requires listed { IsListed system }
-    requires system { G.system_of guide.now ≡ system_of system }
-    requires guide_width { G.width_of guide.now ≡ length (atoms_in (ground_in system)) }
-    requires under_way { IsUnderWay system (G.estimate_of guide.now) (G.is_dead guide.now) (G.fits guide.now) limits.states search }
-    ensures end { IfOk result (IsTrueEnd system.entry (G.estimate_of guide.now) (G.is_dead guide.now) limits) }
-    ensures said { GoesOn (IsTrueLine (task_in (ground_in system.entry))) E.wants_memory (E.failures err.old) (E.taken err.old) (E.failures err.new) (E.taken err.new) }
+) -> Result<Parts<'l, 't>, NoMemory>
+    requires space { IsSearchSpace space }
+    requires system { G.system_of guide.now ≡ system_of space }
+    requires guide_width { G.width_of guide.now ≡ length (atoms_in (ground_in space)) }
+    requires under_way { IsUnderWay space (G.estimate_of guide.now) (G.is_dead guide.now) (G.fits guide.now) limits.states search }
+    ensures end { IfOk result (IsTrueEnd space.entry (G.estimate_of guide.now) (G.is_dead guide.now) limits) }
+    ensures said { GoesOn (IsTrueLine (task_in (ground_in space.entry))) E.wants_memory (E.failures err.old) (E.taken err.old) (E.failures err.new) (E.taken err.new) }
 {
-    let searched = finish_by(alloc, system, guide, search, limits, err)?;
+    let searched = finish_by(alloc, space, guide, search, limits, err)?;
     Ok(Parts::ByGuide(searched))
 }
 
 /// The search up to a pause, and a look for tables there. There is no pause where no more states may be listed.
-fn search_to_pause<G: Guide, E: Sink>(
+fn search_to_pause<'l, 't, G: Guide, E: Sink>(
     alloc: Global,
-    system: ListedSystem<'_, '_>,
+    space: SearchSpace<'l, 't>,
     guide: &G,
-    search: Search<PooledStore, G::Room>,
+    search: Search<GroundListing<'l, 't>, G::Room>,
     given: Given<'_>,
     pause: Pause,
     limits: Limits,
     err: &mut E,
-) -> Result<Part<G::Room>, NoMemory>
-    requires listed { IsListed system }
-    requires ground { IsGroundOf (task_in (ground_in system)) [] limits.instances (ground_in system) }
-    requires system { G.system_of guide.now ≡ system_of system }
-    requires guide_width { G.width_of guide.now ≡ length (atoms_in (ground_in system)) }
-    requires under_way { IsUnderWay system (G.estimate_of guide.now) (G.is_dead guide.now) (G.fits guide.now) limits.states search }
-    requires width { length (potentials_of given.potentials.now).weights ≡ length (atoms_in (ground_in system)) }
-    requires improved { AreSettledOrHigh (task_in (ground_in system)) (atoms_in (ground_in system)) (potentials_of given.potentials.now) }
-    requires dead_ends_improved { AreDeadSettledOrHigh (task_in (ground_in system)) (atoms_in (ground_in system)) (potentials_of given.dead_ends.now) }
-    ensures part { IfOk result (IsTruePart system.entry (G.estimate_of guide.now) (G.is_dead guide.now) (G.fits guide.now) limits) }
-    ensures said { GoesOn (IsTrueLine (task_in (ground_in system.entry))) E.wants_memory (E.failures err.old) (E.taken err.old) (E.failures err.new) (E.taken err.new) }
+) -> Result<Part<'l, 't, G::Room>, NoMemory>
+    requires space { IsSearchSpace space }
+    requires ground { IsGroundOf (task_in (ground_in space)) [] limits.instances (ground_in space) }
+    requires system { G.system_of guide.now ≡ system_of space }
+    requires guide_width { G.width_of guide.now ≡ length (atoms_in (ground_in space)) }
+    requires under_way { IsUnderWay space (G.estimate_of guide.now) (G.is_dead guide.now) (G.fits guide.now) limits.states search }
+    requires width { length (potentials_of given.potentials.now).weights ≡ length (atoms_in (ground_in space)) }
+    requires improved { AreSettledOrHigh (task_in (ground_in space)) (atoms_in (ground_in space)) (potentials_of given.potentials.now) }
+    requires dead_ends_improved { AreDeadSettledOrHigh (task_in (ground_in space)) (atoms_in (ground_in space)) (potentials_of given.dead_ends.now) }
+    ensures part { IfOk result (IsTruePart space.entry (G.estimate_of guide.now) (G.is_dead guide.now) (G.fits guide.now) limits) }
+    ensures said { GoesOn (IsTrueLine (task_in (ground_in space.entry))) E.wants_memory (E.failures err.old) (E.taken err.old) (E.failures err.new) (E.taken err.new) }
 {
     if pause.states >= limits.states() {
         return Ok(Part::InVain(search));
     }
-    match go_on_by(alloc, system, guide, search, pause.states, limits, err)? {
+    match go_on_by(alloc, space, guide, search, pause.states, limits, err)? {
         Stretch::Ended(searched) => Ok(Part::Ended(Parts::ByGuide(searched))),
         Stretch::Paused(search) => {
-            match solve_at_pause(alloc, system, &search, given, pause.effort, limits, err)? {
+            match solve_at_pause(alloc, space, &search, given, pause.effort, limits, err)? {
                 Attempt::Done(answer) => Ok(Part::Ended(Parts::ByTables(answer))),
                 Attempt::Promising => Ok(Part::Promising(search)),
                 Attempt::InVain => Ok(Part::InVain(search)),
@@ -192,33 +191,33 @@ fn search_to_pause<G: Guide, E: Sink>(
 /// The answer by tables, if such are found that are better than the potentials of this search.
 fn solve_at_pause<R, E: Sink>(
     alloc: Global,
-    system: ListedSystem<'_, '_>,
-    search: &Search<PooledStore, R>,
+    space: SearchSpace<'_, '_>,
+    search: &Search<GroundListing<'_, '_>, R>,
     given: Given<'_>,
     effort: Effort,
     limits: Limits,
     err: &mut E,
 ) -> Result<Attempt<Answer>, NoMemory>
-    requires listed { IsListed system }
-    requires ground { IsGroundOf (task_in (ground_in system)) [] limits.instances (ground_in system) }
+    requires space { IsSearchSpace space }
+    requires ground { IsGroundOf (task_in (ground_in space)) [] limits.instances (ground_in space) }
     requires stopped { IsStopped (store_in search.now) (nodes_of search.now) }
-    requires store_width { pooled_width (store_in search.now) ≡ length (atoms_in (ground_in system)) }
-    requires width { length (potentials_of given.potentials.now).weights ≡ length (atoms_in (ground_in system)) }
-    requires improved { AreSettledOrHigh (task_in (ground_in system)) (atoms_in (ground_in system)) (potentials_of given.potentials.now) }
-    requires dead_ends_improved { AreDeadSettledOrHigh (task_in (ground_in system)) (atoms_in (ground_in system)) (potentials_of given.dead_ends.now) }
-    ensures answer { IfOk result (IfDone (IsTrueAnswer (task_in (ground_in system.entry)) limits.states limits.instances)) }
-    ensures said { GoesOn (IsTrueLine (task_in (ground_in system.entry))) E.wants_memory (E.failures err.old) (E.taken err.old) (E.failures err.new) (E.taken err.new) }
+    requires store_width { listed_width (store_in search.now) ≡ length (atoms_in (ground_in space)) }
+    requires width { length (potentials_of given.potentials.now).weights ≡ length (atoms_in (ground_in space)) }
+    requires improved { AreSettledOrHigh (task_in (ground_in space)) (atoms_in (ground_in space)) (potentials_of given.potentials.now) }
+    requires dead_ends_improved { AreDeadSettledOrHigh (task_in (ground_in space)) (atoms_in (ground_in space)) (potentials_of given.dead_ends.now) }
+    ensures answer { IfOk result (IfDone (IsTrueAnswer (task_in (ground_in space.entry)) limits.states limits.instances)) }
+    ensures said { GoesOn (IsTrueLine (task_in (ground_in space.entry))) E.wants_memory (E.failures err.old) (E.taken err.old) (E.failures err.new) (E.taken err.new) }
 {
     let Some(bound) = search.bound() else {
         return Ok(Attempt::InVain);
     };
     let stopped = Stopped {
         bound,
-        store: search.store(),
+        listing: search.store(),
         nodes: search.nodes(),
         potentials: given.potentials,
         dead_ends: given.dead_ends,
         effort,
     };
-    solve_by_tables(alloc, system, &stopped, limits, err)
+    solve_by_tables(alloc, space, &stopped, limits, err)
 }

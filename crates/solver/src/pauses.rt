@@ -4,8 +4,8 @@
 //! bound is a greater one, and there are at most some dozen lines until twice as many states are listed.
 ghost use Rattle.std.specs.Prelude.{◌<◌, ◌≤◌, ◌*◌, ◌⊎◌, ◌↔◌, IsTrue};
 
-use packed_state::{PooledStore, StateStore};
-use search::Search;
+use ground_listings::GroundListing;
+use search::{Search, StateListing};
 
 /// How many states are listed where a search pauses for the first time, at least.
 const FIRST_PAUSE: u32 = 1_024;
@@ -24,7 +24,7 @@ pub(crate) struct Milestone {
 
 impl Milestone {
     /// How far a search is. `None` if none of its states waits, as it is about to end.
-    pub(crate) fn of<R>(search: &Search<PooledStore, R>) -> Option<Milestone> {
+    pub(crate) fn of<R>(search: &Search<GroundListing<'_, '_>, R>) -> Option<Milestone> {
         match search.bound() {
             Some(bound) => Some(Milestone {
                 bound,

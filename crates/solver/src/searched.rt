@@ -11,7 +11,7 @@ ghost use Rattle.packed_state.specs.Packed.{bits_of};
 ghost use Rattle.search.specs.Outcome.{is_expanded, is_marked_dead, line_of};
 ghost use Rattle.solver.specs.Guided as guided;
 ghost use Rattle.solver.specs.Guided.{AreMarksOf, CanBeMarked, IsSearched};
-ghost use Rattle.listed_systems.specs.ListedSystem.{ground_in, system_of, IsListed};
+ghost use Rattle.ground_listings.specs.SearchSpace.{ground_in, system_of, IsSearchSpace};
 ghost use Rattle.progress_lines.specs.Said.{GoesOn};
 ghost use Rattle.solver.specs.Said.{IsTrueLine};
 ghost use Rattle.solver.specs.Stretches.{AreOpenIn, IsStretch, IsUnderWay};
@@ -23,58 +23,60 @@ use crate::reports::{Report, say};
 use certificate::{Listed, Mark};
 use devices::Sink;
 use faults::NoMemory;
-use listed_systems::ListedSystem;
-use packed_state::{Packed, PooledStore, StateStore};
+use ground_listings::{GroundListing, GroundSystem, SearchSpace};
+use packed_state::Packed;
 use search::{
-    FoundStates, Guide, Halt, Node, NodeStatus, Outcome, Search, TransitionSystem, begin, go_on,
+    FoundStates, Guide, Halt, Node, NodeStatus, Outcome, Search, StateListing, begin, go_on,
 };
 use std::alloc::Global;
 
 /// What a search came to, and what its certificate says of each state that it found, in order.
 #[derive(Drop)]
-pub(crate) struct Searched {
-    pub(crate) outcome: Outcome<PooledStore>,
+pub(crate) struct Searched<'l, 't> {
+    pub(crate) outcome: Outcome<GroundListing<'l, 't>>,
     pub(crate) marks: Vec<Listed>,
 }
 
 /// How far a search came.
 #[derive(Drop)]
-pub(crate) enum Stretch<R> {
+pub(crate) enum Stretch<'l, 't, R> {
     /// To its end.
-    Ended(Searched),
+    Ended(Searched<'l, 't>),
     /// To a pause.
-    Paused(Search<PooledStore, R>),
+    Paused(Search<GroundListing<'l, 't>, R>),
 }
 
-/// A search of the system by the guide, which has found the initial state alone.
-pub(crate) fn begin_by<G: Guide>(
+/// A search of the ground task by the guide, which has found the initial state alone.
+pub(crate) fn begin_by<'l, 't, G: Guide>(
     alloc: Global,
-    system: ListedSystem<'_, '_>,
+    space: SearchSpace<'l, 't>,
     guide: &G,
     limits: Limits,
-) -> Result<Search<PooledStore, G::Room>, NoMemory>
-    requires { G.width_of guide.now ≡ length (atoms_in (ground_in system)) }
-    ensures { IfOk result (IsUnderWay system.entry (G.estimate_of guide.now) (G.is_dead guide.now) (G.fits guide.now) limits.states) }
+) -> Result<Search<GroundListing<'l, 't>, G::Room>, NoMemory>
+    requires { G.width_of guide.now ≡ length (atoms_in (ground_in space)) }
+    ensures { IfOk result (IsUnderWay space.entry (G.estimate_of guide.now) (G.is_dead guide.now) (G.fits guide.now) limits.states) }
 {
-    let store = PooledStore::new(alloc, system.width())?;
-    begin(alloc, &system, guide, store)
+    let system = GroundSystem(space.ground());
+    let listing = space.listing(alloc)?;
+    begin(alloc, &system, guide, listing)
 }
 
 /// Goes on with it until it ends, or so many states are listed.
-fn stretch_by<G: Guide>(
+fn stretch_by<'l, 't, G: Guide>(
     alloc: Global,
-    system: ListedSystem<'_, '_>,
+    space: SearchSpace<'l, 't>,
     guide: &G,
-    search: Search<PooledStore, G::Room>,
+    search: Search<GroundListing<'l, 't>, G::Room>,
     pause: u32,
     limits: Limits,
-) -> Result<Stretch<G::Room>, NoMemory>
-    requires listed { IsListed system }
-    requires system { G.system_of guide.now ≡ system_of system }
-    requires width { G.width_of guide.now ≡ length (atoms_in (ground_in system)) }
-    requires under_way { IsUnderWay system (G.estimate_of guide.now) (G.is_dead guide.now) (G.fits guide.now) limits.states search }
-    ensures { IfOk result (IsStretch system.entry (G.estimate_of guide.now) (G.is_dead guide.now) (G.fits guide.now) pause limits.states) }
+) -> Result<Stretch<'l, 't, G::Room>, NoMemory>
+    requires space { IsSearchSpace space }
+    requires system { G.system_of guide.now ≡ system_of space }
+    requires width { G.width_of guide.now ≡ length (atoms_in (ground_in space)) }
+    requires under_way { IsUnderWay space (G.estimate_of guide.now) (G.is_dead guide.now) (G.fits guide.now) limits.states search }
+    ensures { IfOk result (IsStretch space.entry (G.estimate_of guide.now) (G.is_dead guide.now) (G.fits guide.now) pause limits.states) }
 {
+    let system = GroundSystem(space.ground());
     match go_on(alloc, &system, guide, search, pause, limits.states())? {
         Halt::Ended(outcome) => {
             let marks = marks(alloc, guide, found_in(&outcome))?;
@@ -86,28 +88,28 @@ fn stretch_by<G: Guide>(
 
 /// Goes on with it until it ends, or so many states are listed. It says how far it is, and again where the bound is greater than
 /// was said, or twice as many states are listed.
-pub(crate) fn go_on_by<G: Guide, E: Sink>(
+pub(crate) fn go_on_by<'l, 't, G: Guide, E: Sink>(
     alloc: Global,
-    system: ListedSystem<'_, '_>,
+    space: SearchSpace<'l, 't>,
     guide: &G,
-    search: Search<PooledStore, G::Room>,
+    search: Search<GroundListing<'l, 't>, G::Room>,
     pause: u32,
     limits: Limits,
     err: &mut E,
-) -> Result<Stretch<G::Room>, NoMemory>
-    requires listed { IsListed system }
-    requires system { G.system_of guide.now ≡ system_of system }
-    requires width { G.width_of guide.now ≡ length (atoms_in (ground_in system)) }
-    requires under_way { IsUnderWay system (G.estimate_of guide.now) (G.is_dead guide.now) (G.fits guide.now) limits.states search }
-    ensures stretch { IfOk result (IsStretch system.entry (G.estimate_of guide.now) (G.is_dead guide.now) (G.fits guide.now) pause limits.states) }
-    ensures said { GoesOn (IsTrueLine (task_in (ground_in system.entry))) E.wants_memory (E.failures err.old) (E.taken err.old) (E.failures err.new) (E.taken err.new) }
+) -> Result<Stretch<'l, 't, G::Room>, NoMemory>
+    requires space { IsSearchSpace space }
+    requires system { G.system_of guide.now ≡ system_of space }
+    requires width { G.width_of guide.now ≡ length (atoms_in (ground_in space)) }
+    requires under_way { IsUnderWay space (G.estimate_of guide.now) (G.is_dead guide.now) (G.fits guide.now) limits.states search }
+    ensures stretch { IfOk result (IsStretch space.entry (G.estimate_of guide.now) (G.is_dead guide.now) (G.fits guide.now) pause limits.states) }
+    ensures said { GoesOn (IsTrueLine (task_in (ground_in space.entry))) E.wants_memory (E.failures err.old) (E.taken err.old) (E.failures err.new) (E.taken err.new) }
 {
     let mut search = search;
     let mut said = None;
     'stretches: while search.store().len() < pause as usize {
         let next = next_pause(search.store().len(), pause);
-        said = say_news(alloc, system, guide, &search, said, err)?;
-        match stretch_by(alloc, system, guide, search, next, limits)? {
+        said = say_news(alloc, space, guide, &search, said, err)?;
+        match stretch_by(alloc, space, guide, search, next, limits)? {
             Stretch::Ended(searched) => return Ok(Stretch::Ended(searched)),
             Stretch::Paused(paused) => search = paused,
         }
@@ -118,22 +120,22 @@ pub(crate) fn go_on_by<G: Guide, E: Sink>(
 /// Says how far a search is, if there is anything new to say after what was said last: what was said last from now on.
 fn say_news<G: Guide, E: Sink>(
     alloc: Global,
-    system: ListedSystem<'_, '_>,
+    space: SearchSpace<'_, '_>,
     guide: &G,
-    search: &Search<PooledStore, G::Room>,
+    search: &Search<GroundListing<'_, '_>, G::Room>,
     last: Option<Milestone>,
     err: &mut E,
 ) -> Result<Option<Milestone>, NoMemory>
-    requires listed { IsListed system }
-    requires system { G.system_of guide.now ≡ system_of system }
-    requires open { AreOpenIn system (G.estimate_of guide.now) (G.is_dead guide.now) search.now }
-    ensures { GoesOn (IsTrueLine (task_in (ground_in system.entry))) E.wants_memory (E.failures err.old) (E.taken err.old) (E.failures err.new) (E.taken err.new) }
+    requires space { IsSearchSpace space }
+    requires system { G.system_of guide.now ≡ system_of space }
+    requires open { AreOpenIn space (G.estimate_of guide.now) (G.is_dead guide.now) search.now }
+    ensures { GoesOn (IsTrueLine (task_in (ground_in space.entry))) E.wants_memory (E.failures err.old) (E.taken err.old) (E.failures err.new) (E.taken err.new) }
 {
     let now = Milestone::of(search);
     if !is_news(last, now) {
         return Ok(last);
     }
-    say_progress(alloc, system, guide, search, err)?;
+    say_progress(alloc, space, guide, search, err)?;
     Ok(now)
 }
 
@@ -141,15 +143,15 @@ fn say_news<G: Guide, E: Sink>(
 /// waits, nothing is said, as the search is about to end.
 fn say_progress<G: Guide, E: Sink>(
     alloc: Global,
-    system: ListedSystem<'_, '_>,
+    space: SearchSpace<'_, '_>,
     guide: &G,
-    search: &Search<PooledStore, G::Room>,
+    search: &Search<GroundListing<'_, '_>, G::Room>,
     err: &mut E,
 ) -> Result<(), NoMemory>
-    requires listed { IsListed system }
-    requires system { G.system_of guide.now ≡ system_of system }
-    requires open { AreOpenIn system (G.estimate_of guide.now) (G.is_dead guide.now) search.now }
-    ensures { GoesOn (IsTrueLine (task_in (ground_in system.entry))) E.wants_memory (E.failures err.old) (E.taken err.old) (E.failures err.new) (E.taken err.new) }
+    requires space { IsSearchSpace space }
+    requires system { G.system_of guide.now ≡ system_of space }
+    requires open { AreOpenIn space (G.estimate_of guide.now) (G.is_dead guide.now) search.now }
+    ensures { GoesOn (IsTrueLine (task_in (ground_in space.entry))) E.wants_memory (E.failures err.old) (E.taken err.old) (E.failures err.new) (E.taken err.new) }
 {
     let Some(bound) = search.bound() else {
         return Ok(());
@@ -178,47 +180,49 @@ fn expanded_in(nodes: &[Node]) -> usize
 }
 
 /// Goes on with it until it ends.
-pub(crate) fn finish_by<G: Guide, E: Sink>(
+pub(crate) fn finish_by<'l, 't, G: Guide, E: Sink>(
     alloc: Global,
-    system: ListedSystem<'_, '_>,
+    space: SearchSpace<'l, 't>,
     guide: &G,
-    search: Search<PooledStore, G::Room>,
+    search: Search<GroundListing<'l, 't>, G::Room>,
     limits: Limits,
     err: &mut E,
-) -> Result<Searched, NoMemory>
-    requires listed { IsListed system }
-    requires system { G.system_of guide.now ≡ system_of system }
-    requires width { G.width_of guide.now ≡ length (atoms_in (ground_in system)) }
-    requires under_way { IsUnderWay system (G.estimate_of guide.now) (G.is_dead guide.now) (G.fits guide.now) limits.states search }
-    ensures searched { IfOk result (λ s. IsSearched system.entry (G.estimate_of guide.now) (G.is_dead guide.now) limits.states s.outcome s.marks.items) }
-    ensures said { GoesOn (IsTrueLine (task_in (ground_in system.entry))) E.wants_memory (E.failures err.old) (E.taken err.old) (E.failures err.new) (E.taken err.new) }
+) -> Result<Searched<'l, 't>, NoMemory>
+    requires space { IsSearchSpace space }
+    requires system { G.system_of guide.now ≡ system_of space }
+    requires width { G.width_of guide.now ≡ length (atoms_in (ground_in space)) }
+    requires under_way { IsUnderWay space (G.estimate_of guide.now) (G.is_dead guide.now) (G.fits guide.now) limits.states search }
+    ensures searched { IfOk result (λ s. IsSearched space.entry (G.estimate_of guide.now) (G.is_dead guide.now) limits.states s.outcome s.marks.items) }
+    ensures said { GoesOn (IsTrueLine (task_in (ground_in space.entry))) E.wants_memory (E.failures err.old) (E.taken err.old) (E.failures err.new) (E.taken err.new) }
 {
-    match go_on_by(alloc, system, guide, search, u32::MAX, limits, err)? {
+    match go_on_by(alloc, space, guide, search, u32::MAX, limits, err)? {
         Stretch::Ended(searched) => Ok(searched),
         Stretch::Paused(_) => unreachable!(),
     }
 }
 
-/// What a search of the system by the guide comes to.
-pub(crate) fn search_by<G: Guide, E: Sink>(
+/// What a search of the ground task by the guide comes to.
+pub(crate) fn search_by<'l, 't, G: Guide, E: Sink>(
     alloc: Global,
-    system: ListedSystem<'_, '_>,
+    space: SearchSpace<'l, 't>,
     guide: &G,
     limits: Limits,
     err: &mut E,
-) -> Result<Searched, NoMemory>
-    requires listed { IsListed system }
-    requires system { G.system_of guide.now ≡ system_of system }
-    requires width { G.width_of guide.now ≡ length (atoms_in (ground_in system)) }
-    ensures searched { IfOk result (λ s. IsSearched system.entry (G.estimate_of guide.now) (G.is_dead guide.now) limits.states s.outcome s.marks.items) }
-    ensures said { GoesOn (IsTrueLine (task_in (ground_in system.entry))) E.wants_memory (E.failures err.old) (E.taken err.old) (E.failures err.new) (E.taken err.new) }
+) -> Result<Searched<'l, 't>, NoMemory>
+    requires space { IsSearchSpace space }
+    requires system { G.system_of guide.now ≡ system_of space }
+    requires width { G.width_of guide.now ≡ length (atoms_in (ground_in space)) }
+    ensures searched { IfOk result (λ s. IsSearched space.entry (G.estimate_of guide.now) (G.is_dead guide.now) limits.states s.outcome s.marks.items) }
+    ensures said { GoesOn (IsTrueLine (task_in (ground_in space.entry))) E.wants_memory (E.failures err.old) (E.taken err.old) (E.failures err.new) (E.taken err.new) }
 {
-    let search = begin_by(alloc, system, guide, limits)?;
-    finish_by(alloc, system, guide, search, limits, err)
+    let search = begin_by(alloc, space, guide, limits)?;
+    finish_by(alloc, space, guide, search, limits, err)
 }
 
 /// The states that were found.
-fn found_in(outcome: &Outcome<PooledStore>) -> &FoundStates<PooledStore>
+fn found_in<'o, 'l, 't>(
+    outcome: &'o Outcome<GroundListing<'l, 't>>,
+) -> &'o FoundStates<GroundListing<'l, 't>>
     ensures { result.now ≡ guided.found_in outcome.now }
 {
     match outcome {
@@ -232,7 +236,7 @@ fn found_in(outcome: &Outcome<PooledStore>) -> &FoundStates<PooledStore>
 fn marks<G: Guide>(
     alloc: Global,
     guide: &G,
-    found: &FoundStates<PooledStore>,
+    found: &FoundStates<GroundListing<'_, '_>>,
 ) -> Result<Vec<Listed>, NoMemory>
     requires { CanBeMarked (G.width_of guide.now) (G.is_dead guide.now) found.now }
     ensures { IfOk result (λ marks. AreMarksOf (G.estimate_of guide.now) (G.is_dead guide.now) found.now marks.items) }
@@ -265,7 +269,7 @@ fn listed<G: Guide>(guide: &G, state: &Packed, node: Node, room: &mut G::Room) -
             cost,
             mark: Mark::Dead,
         },
-        NodeStatus::Open => Listed {
+        NodeStatus::Open | NodeStatus::Reopened => Listed {
             cost,
             mark: unexpanded(guide, state, room),
         },

@@ -1,13 +1,14 @@
 //! What a search found before a pause.
 ghost use Rattle.std.specs.Prelude.{◌≡◌};
-ghost use Rattle.packed_state.specs.PooledView.{pooled_width};
+ghost use Rattle.ground_listings.specs.GroundListing.{listed_width};
 ghost use Rattle.solver.specs.Stopped.{IsStopped};
 ghost use Rattle.tables.specs.Several.{width_of};
 
 use faults::NoMemory;
-use packed_state::{Packed, PooledStore, StateStore};
+use ground_listings::GroundListing;
+use packed_state::Packed;
 use potentials::Potentials;
-use search::Node;
+use search::{Node, StateListing};
 use std::alloc::Global;
 use tables::TableFunctions;
 use tables_drafted::Effort;
@@ -20,9 +21,9 @@ const MAX_ASKED: usize = 1_000;
 
 /// A search by potentials that pauses: the states that it found, how it reached them, and the bound that it came to.
 #[derive(Clone, Copy)]
-pub(crate) struct Stopped<'a> {
+pub(crate) struct Stopped<'a, 'l, 't> {
     pub(crate) bound: u64,
-    pub(crate) store: &'a PooledStore,
+    pub(crate) listing: &'a GroundListing<'l, 't>,
     /// One for each state, in order.
     pub(crate) nodes: &'a [Node],
     /// The potentials that it goes by, and those for dead ends.
@@ -42,17 +43,17 @@ pub(crate) struct Saving {
 /// A state's value by so many tables takes about as much time again as all else that is done for a state.
 const TABLES_AT_A_TIME: usize = 12;
 
-impl Stopped<'_> {
+impl Stopped<'_, '_, '_> {
     /// The true atoms of some of the states, which are spread evenly over them all.
     pub(crate) fn samples(&self, alloc: Global) -> Result<Vec<Vec<u32>>, NoMemory>
-        requires { IsStopped self.now.store.now self.now.nodes.now }
+        requires { IsStopped self.now.listing.now self.now.nodes.now }
     {
-        let mut set = Packed::empty(alloc, self.store.width())?;
+        let mut set = Packed::empty(alloc, self.listing.width())?;
         let mut samples = Vec::new(alloc);
         let step = self.nodes.len() / MAX_SAMPLES + 1;
         for place in 0..self.nodes.len() {
             if place % step == step / 2 {
-                self.store.get(place as u32, &mut set);
+                self.listing.get(place as u32, &mut set);
                 samples.push(set.numbers(alloc)?)?;
             }
         }
@@ -66,20 +67,20 @@ impl Stopped<'_> {
         alloc: Global,
         functions: &TableFunctions<'_>,
     ) -> Result<Saving, NoMemory>
-        requires stopped { IsStopped self.now.store.now self.now.nodes.now }
-        requires width { width_of functions.now ≡ pooled_width self.now.store.now }
+        requires stopped { IsStopped self.now.listing.now self.now.nodes.now }
+        requires width { width_of functions.now ≡ listed_width self.now.listing.now }
     {
         let mut saving = Saving {
             expanded: 0,
             saved: 0,
         };
         let mut room = functions.room(alloc)?;
-        let mut set = Packed::empty(alloc, self.store.width())?;
+        let mut set = Packed::empty(alloc, self.listing.width())?;
         let step = self.nodes.len() / MAX_ASKED + 1;
         for place in 0..self.nodes.len() {
             let node = self.nodes[place];
             if place % step == 0 && node.is_expanded() {
-                self.store.get(place as u32, &mut set);
+                self.listing.get(place as u32, &mut set);
                 let estimate = functions.value_unless_dead(&set, &mut room);
                 saving.count(self.is_saved(node.cost, estimate));
             }

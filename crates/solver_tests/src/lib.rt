@@ -8,11 +8,11 @@ mod fairness;
 #[cfg(test)]
 mod laws;
 #[cfg(test)]
+mod orbits;
+#[cfg(test)]
 mod plain_certificates;
 #[cfg(test)]
 mod plain_tasks;
-#[cfg(test)]
-mod quotients;
 #[cfg(test)]
 mod scores;
 #[cfg(test)]

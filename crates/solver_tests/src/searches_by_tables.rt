@@ -13,8 +13,8 @@ ghost use Rattle.tables.specs.Several.{width_of};
 ghost use Rattle.table_guides.specs.FairTables.{ground_in};
 
 use faults::NoMemory;
+use ground_listings::GroundSystem;
 use grounding::{Ground, GroundFault};
-use listed_systems::GroundSystem;
 use packed_state::PooledStore;
 use potentials::Potentials;
 use search::{Outcome, best_first};

@@ -9,8 +9,9 @@ pub mod EffectImages
 pub mod GoalImages
 pub mod StepImages
 pub mod TestLemmas
-pub mod QuotientLemmas
+pub mod OrbitLemmas
 pub mod RepresentativeLemmas
-pub mod TaskQuotients
-pub mod PackedQuotients
+pub mod TaskOrbits
+pub mod PackedOrbits
+pub mod ImagesCompute
 pub mod SymmetryExampleProofs

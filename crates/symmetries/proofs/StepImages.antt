@@ -14,7 +14,7 @@ use Rattle.model.proofs.Tests.{passes_got}
 use Rattle.symmetries.specs.Exchanges.{image_of_state, image_of_instance, image_of_formula, image_of_effect, image_of_increase}
 use Rattle.symmetries.specs.NamedObjects.{named_in_formula, named_in_effect, named_in_increase, named_in_schema}
 use Rattle.symmetries.specs.Symmetries.{IsSymmetry}
-use Rattle.symmetries.specs.Quotients.{IsAutomorphism}
+use Rattle.symmetries.specs.Orbits.{IsAutomorphism}
 use Rattle.symmetries.specs.Laws.{SymmetriesKeepMeaning, SymmetriesAreAutomorphisms}
 use Rattle.symmetries.proofs.NamedLemmas.{Stay, first_stay, last_stay, same_formula, same_effect, same_increase}
 use Rattle.symmetries.proofs.Images.{atom-image, twice, state_twice}

@@ -1,21 +1,14 @@
 -- What the definitions say of the worked examples. The tests compute; a state is a set, which is asked for its atoms.
-use Rattle.std.proofs.Common.{◌≡◌, ◌∙◌, ℕ, Bool, true, false, ◌||◌, List, [], ◌∷◌, map, None, Some, refl, sym, ap}
-use Rattle.std.specs.Prelude.{cond}
-use Rattle.std.specs.Bool.{beq}
+use Rattle.std.proofs.Common.{◌≡◌, ◌∙◌, ℕ, Bool, true, false, ◌||◌, List, [], ◌∷◌, refl, sym}
 use Rattle.std.specs.Ordering.{eq_by_cmp}
-use Rattle.std.specs.Option.{option_map_or}
 use Rattle.std.specs.FinSet.{from_list, contains-from_list}
 use Rattle.model.specs.Task.{Atom}
 use Rattle.model.specs.Meaning.{atom_cmp}
-use Rattle.model.specs.NumberedAtoms.{occurs_in}
 use Rattle.model.proofs.Atoms.{atoms_total, same_state}
-use Rattle.symmetries.specs.Exchanges.{Exchange, image_of_object, objects_in, are_different, image_of_atom, image_of_state}
-use Rattle.symmetries.specs.Quotients.{comes_before, image_before, representative}
-use Rattle.symmetries.specs.SymmetryExamples.{swapping, ball_atoms, balls_in, AreExchangesJudged, AreTasksJudged, AreActionsJudged, AreGoalsJudged, AreRepresentativesJudged}
+use Rattle.symmetries.specs.Exchanges.{Exchange}
+use Rattle.symmetries.specs.SymmetryExamples.{swapping, ball_atoms, balls_in, from_first, from_second, mark_of, marks, AreExchangesJudged, AreTasksJudged, AreActionsJudged, AreGoalsJudged, AreRepresentativesJudged}
 use Rattle.model.specs.Examples.{ground}
-use Rattle.symmetries.proofs.ExchangeLemmas.{own_inverse}
-use Rattle.symmetries.proofs.Images.{image_of_list}
-use Rattle.symmetries.proofs.RepresentativeLemmas.{are_representatives}
+use Rattle.symmetries.proofs.ImagesCompute.{images-list}
 
 pub exchanges_are_judged : AreExchangesJudged
 exchanges_are_judged = record { gripper_typed = refl; balls = refl; grippers = refl; balls_and_grippers = refl; nothing = refl; two_types = refl; rooms = refl; twice = refl; with_itself = refl }
@@ -58,51 +51,25 @@ goals_are_judged = record { goal_typed = refl; nested = refl; one_wanted = refl;
 
 -- ---- representatives
 
--- the order of states, of lists of their atoms
-abbrev list_before : List Atom → List Atom → List Atom → Bool
-list_before [] xs ys = false
-list_before (a ∷ atoms) xs ys = cond (beq (occurs_in xs a) (occurs_in ys a)) (list_before atoms xs ys) (occurs_in xs a)
-
-before-list : (atoms xs ys : List Atom) → comes_before atoms (from_list xs) (from_list ys) ≡ list_before atoms xs ys
-before-list [] xs ys = refl
-before-list (a ∷ atoms) xs ys =
-    λ i. cond (beq (contains-from_list atoms_total xs a i) (contains-from_list atoms_total ys a i)) (before-list atoms xs ys i) (contains-from_list atoms_total xs a i)
-
-module _ (atoms : List Atom) (exchange : Exchange) (different : are_different (objects_in exchange) ≡ true) (xs : List Atom) where
-  abbrev image : List Atom
-  image = map (image_of_atom (image_of_object exchange)) xs
-
-  found : image_before atoms (exchange ∷ []) (from_list xs) ≡ cond (list_before atoms image xs) (Some (from_list image)) None
-  found =
-      (λ i. cond (comes_before atoms (is i) (from_list xs)) (Some (is i)) None)
-      ∙ ap (λ b. cond b (Some (from_list image)) None) (before-list atoms image xs)
-    where
-      is : image_of_state (image_of_object exchange) (from_list xs) ≡ from_list image
-      is = image_of_list (image_of_object exchange) (own_inverse exchange different) xs
-
-  stays : list_before atoms image xs ≡ false → representative atoms (exchange ∷ []) (from_list xs) ≡ from_list xs
-  stays none =
-      (are_representatives atoms (exchange ∷ [])).of_image (from_list xs)
-      ∙ ap (λ o. option_map_or (representative atoms (exchange ∷ [])) o (from_list xs)) (found ∙ ap (λ b. cond b (Some (from_list image)) None) none)
-
-  goes : list_before atoms image xs ≡ true → representative atoms (exchange ∷ []) (from_list xs) ≡ representative atoms (exchange ∷ []) (from_list image)
-  goes before =
-      (are_representatives atoms (exchange ∷ [])).of_image (from_list xs)
-      ∙ ap (λ o. option_map_or (representative atoms (exchange ∷ [])) o (from_list xs)) (found ∙ ap (λ b. cond b (Some (from_list image)) None) before)
-
 -- the atoms of the two balls
 abbrev in_rooms : ℕ → ℕ → List Atom
 in_rooms first second = ground 1 (2 ∷ first ∷ []) ∷ ground 1 (3 ∷ second ∷ []) ∷ []
 
 pub representatives_are_judged : AreRepresentativesJudged
 representatives_are_judged = record {
-  exchanged = goes ball_atoms (swapping 2 3) refl (in_rooms 1 0) refl ∙ ap (representative ball_atoms (swapping 2 3 ∷ [])) (turned 1 0) ∙ stays ball_atoms (swapping 2 3) refl (in_rooms 0 1) refl;
-  itself = stays ball_atoms (swapping 2 3) refl (in_rooms 0 1) refl;
-  together = stays ball_atoms (swapping 2 3) refl (in_rooms 1 1) refl;
-  other_order = goes other_atoms (swapping 2 3) refl (in_rooms 0 1) refl ∙ ap (representative other_atoms (swapping 2 3 ∷ [])) (turned 0 1) ∙ stays other_atoms (swapping 2 3) refl (in_rooms 1 0) refl;
-  alone = (are_representatives ball_atoms []).of_image (balls_in 1 0);
+  exchanged = images-list ball_atoms (swapping 2 3 ∷ []) (refl, tt) 4 (in_rooms 1 0) ∙ turned 1 0;
+  itself = images-list ball_atoms (swapping 2 3 ∷ []) (refl, tt) 4 (in_rooms 0 1);
+  together = images-list ball_atoms (swapping 2 3 ∷ []) (refl, tt) 4 (in_rooms 1 1);
+  other_order = images-list other_atoms (swapping 2 3 ∷ []) (refl, tt) 4 (in_rooms 0 1) ∙ turned 0 1;
+  alone = refl;
+  cut_short = images-list marks by_turns (refl, (refl, tt)) 9 (mark_of 0 ∷ []);
+  one_more = images-list marks by_turns (refl, (refl, tt)) 9 (mark_of 9 ∷ []);
+  whole_chain = images-list marks by_turns (refl, (refl, tt)) 9 (mark_of 1 ∷ []);
 }
   where
+    by_turns : List Exchange
+    by_turns = from_first ∷ from_second ∷ []
+
     other_atoms : List Atom
     other_atoms = ground 1 (3 ∷ 0 ∷ []) ∷ ground 1 (2 ∷ 0 ∷ []) ∷ []
 

@@ -1,20 +1,19 @@
--- What symmetries of a task keep, and what its quotient by them tells of it.
-use Rattle.std.specs.Prelude.{◌≡◌, ℕ, ◌≤◌, Bool, false, IsTrue, List, ◌++◌, length, All, None, Some}
+-- What symmetries of a task keep, and what a listing shows that is closed up to them.
+use Rattle.std.specs.Prelude.{◌≡◌, ℕ, ◌≤◌, ◌↔◌, Bool, false, IsTrue, List, [], length, All, Contains, Some}
 use Rattle.std.specs.Bool.{Decides}
 use Rattle.std.specs.List.{list_all}
-use Rattle.std.specs.Option.{option_map_or}
 use Rattle.model.specs.Task.{Union, Atom, Formula, Effect, Task, Instance}
-use Rattle.model.specs.Runs.{System, run, cost_of_all, Solves}
-use Rattle.model.specs.Claims.{Claim, ClaimHolds, Line, IsLowerBound, AreDeadEnds, IsClosed}
+use Rattle.model.specs.Runs.{System, run, cost_of_all}
+use Rattle.model.specs.Claims.{Claim, ClaimHolds, Line, IsClosed}
 use Rattle.model.specs.Meaning.{State, holds, changes_of, after_changes, meets_goal, system_of}
 use Rattle.model.specs.WellTyped.{is_formula, is_effect, is_task}
 use Rattle.model.specs.Fluents.{is_fluent, HasInitialStatics}
 use Rattle.model.specs.NumberedAtoms.{numbered_atoms}
-use Rattle.model.specs.Grounding.{StandsFor, NamesKept}
-use Rattle.model.specs.Bisimulation.{IsBisimulation}
+use Rattle.model.specs.Grounding.{state_of_bits, ground_system}
+use Rattle.model.specs.Bisimulation.{IsBisimulationEquivalence, ReachGoalsAlike}
 use Rattle.symmetries.specs.Exchanges.{Exchange, image_of_object, objects_in, are_different, image_of_binding, image_of_state, image_of_instance, image_of_formula, image_of_effect}
 use Rattle.symmetries.specs.Symmetries.{IsSymmetry, is_symmetry}
-use Rattle.symmetries.specs.Quotients.{IsAutomorphism, image_before, representative, quotient_of, undone, keeps_atoms, ground_quotient_of}
+use Rattle.symmetries.specs.Orbits.{IsAutomorphism, AreOfOneOrbit, representative, AreAlike, keeps_atoms, ArePackedAlike}
 
 -- ---- what the test says
 
@@ -40,22 +39,25 @@ abbrev pub SymmetriesAreAutomorphisms : Type 0
 SymmetriesAreAutomorphisms =
     (task : Task) (to : ℕ → ℕ) → IsTrue (is_task task) → IsSymmetry task to → IsAutomorphism (system_of task) (image_of_state to) (image_of_instance to)
 
--- ---- what representatives are
+-- ---- what orbits are
 
--- The representative is that of the first image that comes before the state, and the state itself where there is none.
-pub record AreRepresentatives (atoms : List Atom) (exchanges : List Exchange) : Type 0 where
-  pub of_image : (s : State) → representative atoms exchanges s ≡ option_map_or (representative atoms exchanges) (image_before atoms exchanges s) s
-  pub last : (s : State) → image_before atoms exchanges (representative atoms exchanges s) ≡ None
+-- Of two states of one orbit each step of the one has a step of the other, at the same cost, to states of one orbit; and the goal is
+-- met in both or in none.
+abbrev pub OrbitsKeepSteps : {S A : Type 0} → System S A → Type 0
+OrbitsKeepSteps t = IsBisimulationEquivalence t (AreOfOneOrbit t)
 
-abbrev pub RepresentativesAreLast : Type 0
-RepresentativesAreLast = (atoms : List Atom) (exchanges : List Exchange) → AreRepresentatives atoms exchanges
+-- States with the same representative by symmetries of the task are of one orbit. Nothing is asked of the representative but that
+-- it is an image of the state.
+abbrev pub AlikeStatesAreOfOneOrbit : Type 0
+AlikeStatesAreOfOneOrbit =
+    (task : Task) (atoms : List Atom) (exchanges : List Exchange) → IsTrue (is_task task) → IsTrue (list_all (is_symmetry task) exchanges)
+    → (s r : State) → AreAlike atoms exchanges s r → AreOfOneOrbit (system_of task) s r
 
--- ---- what quotients tell
+-- without exchanges each state is its own representative
+abbrev pub StatesAloneStandForThemselves : Type 0
+StatesAloneStandForThemselves = (atoms : List Atom) (s : State) → representative atoms [] s ≡ s
 
--- Of each list that solves the one system, one solves the other at the same cost.
-pub record SolveAtSameCost {S A T B : Type 0} (t : System S A) (u : System T B) : Type 0 where
-  pub forth : (plan : List A) → Solves t plan → (other : List B) × Solves u other × (cost_of_all u other ≡ cost_of_all t plan)
-  pub back : (other : List B) → Solves u other → (plan : List A) × Solves t plan × (cost_of_all t plan ≡ cost_of_all u other)
+-- ---- what listings show
 
 -- from each state with the initial static atoms, reachable or not, what is still to pay is at least its value
 abbrev pub IsLowerBoundOfAll : Task → (State → ℕ) → Type 0
@@ -68,39 +70,32 @@ abbrev pub AreDeadEndsOfAll : Task → (State → Bool) → Type 0
 AreDeadEndsOfAll task is_dead =
     (s end : State) (plan : List Instance) → HasInitialStatics task s → IsTrue (is_dead s) → run (system_of task) s plan ≡ Some end → meets_goal task end ≡ false
 
--- What holds of the quotient holds of the task.
-pub record QuotientTells (task : Task) (atoms : List Atom) (exchanges : List Exchange) : Type 0 where
-  pub solves : SolveAtSameCost (system_of task) (quotient_of task atoms exchanges)
-  -- a state is its representative, where the exchanges that were made are undone
-  pub states : (s : State) → (made : List Exchange) × IsTrue (list_all (is_symmetry task) made) × (image_of_state (undone made) (representative atoms exchanges s) ≡ s)
-  pub claims : (claim : Claim) → ClaimHolds (quotient_of task atoms exchanges) claim → ClaimHolds (system_of task) claim
-  pub claims_back : (claim : Claim) → ClaimHolds (system_of task) claim → ClaimHolds (quotient_of task atoms exchanges) claim
-  -- what is a lower bound, or a dead end, of the task is one of the quotient
-  pub bounds : (value : State → ℕ) → IsLowerBoundOfAll task value → IsLowerBound (quotient_of task atoms exchanges) value
-  pub dead_ends : (is_dead : State → Bool) → AreDeadEndsOfAll task is_dead → AreDeadEnds (quotient_of task atoms exchanges) is_dead
-  -- so what a listing claims that is closed for the quotient is true of every list of the task
-  pub closed : (value : State → ℕ) (is_dead : State → Bool) (claim : Claim) (lines : List (Line State)) → IsLowerBoundOfAll task value → AreDeadEndsOfAll task is_dead
-      → IsClosed (quotient_of task atoms exchanges) value is_dead claim lines → ClaimHolds (system_of task) claim
+-- the listed states have the initial static atoms
+abbrev pub HaveInitialStatics : Task → List (Line State) → Type 0
+HaveInitialStatics task lines = (line : Line State) → Contains lines line → HasInitialStatics task line.state
 
-abbrev pub QuotientsTell : Type 0
-QuotientsTell =
-    (task : Task) (atoms : List Atom) (exchanges : List Exchange) → IsTrue (is_task task) → IsTrue (list_all (is_symmetry task) exchanges) → QuotientTells task atoms exchanges
-
--- Where exchanges were made on the way, a list of the quotient is carried out in the task with the objects as they were: where
--- the exchanges are undone, each step is a step, at the same cost, and goals are goals; and so it is after further exchanges.
-pub record UndoingKeepsSteps (task : Task) (made : List Exchange) : Type 0 where
-  pub automorphism : IsAutomorphism (system_of task) (image_of_state (undone made)) (image_of_instance (undone made))
-  pub further : (more : List Exchange) (s : State) → image_of_state (undone (made ++ more)) s ≡ image_of_state (undone made) (image_of_state (undone more) s)
-
-abbrev pub ExchangesCanBeUndone : Type 0
-ExchangesCanBeUndone = (task : Task) (made : List Exchange) → IsTrue (is_task task) → IsTrue (list_all (is_symmetry task) made) → UndoingKeepsSteps task made
+-- What a listing claims that is closed up to symmetries of the task is true of every list of the task, of whatever length: where a
+-- list is followed from a state that is alike a listed one, the rest of it is carried over to the listed one.
+abbrev pub ListingsByExchangesClaim : Type 0
+ListingsByExchangesClaim =
+    (task : Task) (atoms : List Atom) (exchanges : List Exchange) → IsTrue (is_task task) → IsTrue (list_all (is_symmetry task) exchanges)
+    → (value : State → ℕ) (is_dead : State → Bool) (claim : Claim) (lines : List (Line State)) → HaveInitialStatics task lines
+    → IsLowerBoundOfAll task value → AreDeadEndsOfAll task is_dead
+    → IsClosed (system_of task) (AreAlike atoms exchanges) value is_dead claim lines → ClaimHolds (system_of task) claim
 
 -- ---- the ground task
 
--- The quotient of the ground task does what the quotient of the task does, where images of numbered atoms have numbers.
-abbrev pub GroundQuotientsAreBisimilar : Type 0
-GroundQuotientsAreBisimilar =
+-- Packed states are alike exactly where the states are that they stand for, where images of numbered atoms have numbers.
+abbrev pub PackedStatesAreAlike : Type 0
+PackedStatesAreAlike =
     (task : Task) (more : List Atom) (exchanges : List Exchange) → All (λ (a : Atom). IsTrue (is_fluent task a.predicate)) more
-    → IsTrue (list_all (is_symmetry task) exchanges) → IsTrue (list_all (keeps_atoms (numbered_atoms task more)) exchanges)
-    → IsBisimulation (ground_quotient_of task (numbered_atoms task more) exchanges) (quotient_of task (numbered_atoms task more) exchanges)
-    (StandsFor task (numbered_atoms task more)) (NamesKept task)
+    → IsTrue (list_all (is_symmetry task) exchanges) → IsTrue (list_all (keeps_atoms (numbered_atoms task more)) exchanges) → (bits other : List Bool)
+    → ArePackedAlike task (numbered_atoms task more) exchanges bits other
+    ↔ AreAlike (numbered_atoms task more) exchanges (state_of_bits task (numbered_atoms task more) bits) (state_of_bits task (numbered_atoms task more) other)
+
+-- So the goal is reached alike from packed states that are alike.
+abbrev pub GoalsAreReachedAlike : Type 0
+GoalsAreReachedAlike =
+    (task : Task) (more : List Atom) (exchanges : List Exchange) → IsTrue (is_task task) → All (λ (a : Atom). IsTrue (is_fluent task a.predicate)) more
+    → IsTrue (list_all (is_symmetry task) exchanges) → IsTrue (list_all (keeps_atoms (numbered_atoms task more)) exchanges) → (bits other : List Bool)
+    → ArePackedAlike task (numbered_atoms task more) exchanges bits other → ReachGoalsAlike (ground_system task (numbered_atoms task more)) bits other

@@ -1,6 +1,6 @@
 -- Worked examples of exchanges that are symmetries of small tasks, of others that are none, and of representatives. Each is
 -- chosen so that a wrong reading says otherwise.
-use Rattle.std.specs.Prelude.{◌≡◌, ℕ, Bool, true, false, List, [], ◌∷◌, ◌++◌, codes}
+use Rattle.std.specs.Prelude.{◌≡◌, ℕ, Bool, true, false, List, [], ◌∷◌, ◌++◌, map, codes}
 use Rattle.std.specs.FinSet.{from_list}
 use Rattle.model.specs.Task.{Predicate, Atom, LiftedAtom, Term, variable, object, Formula, atom, equal, and, or, not, imply, exists, forall, add, Effect, each, when, Increase, by_number, by_function, FunctionValue, Schema, Task}
 use Rattle.model.specs.Meaning.{State}
@@ -8,7 +8,7 @@ use Rattle.model.specs.WellTyped.{is_task}
 use Rattle.model.specs.Examples.{formulas, lifted, ground, root, typed, object_type, adds, deletes, all}
 use Rattle.symmetries.specs.Exchanges.{Exchange}
 use Rattle.symmetries.specs.Symmetries.{is_symmetry}
-use Rattle.symmetries.specs.Quotients.{representative}
+use Rattle.symmetries.specs.Orbits.{representative}
 
 -- these two change places
 abbrev pub swapping : ℕ → ℕ → Exchange
@@ -260,6 +260,28 @@ balls_in first second = from_list (ground 1 (2 ∷ first ∷ []) ∷ ground 1 (3
 abbrev pub ball_representative : State → State
 ball_representative = representative ball_atoms (swapping 2 3 ∷ [])
 
+-- ---- a row of eleven objects, one of which is marked
+
+-- in the one exchange neighbours change places from the first object on, in the other from the second on
+abbrev pub from_first : Exchange
+from_first = (0, 1) ∷ (2, 3) ∷ (4, 5) ∷ (6, 7) ∷ (8, 9) ∷ []
+
+abbrev pub from_second : Exchange
+from_second = (1, 2) ∷ (3, 4) ∷ (5, 6) ∷ (7, 8) ∷ (9, 10) ∷ []
+
+abbrev pub mark_of : ℕ → Atom
+mark_of o = ground 0 (o ∷ [])
+
+-- the last object's first
+abbrev pub marks : List Atom
+marks = map mark_of (10 ∷ 9 ∷ 8 ∷ 7 ∷ 6 ∷ 5 ∷ 4 ∷ 3 ∷ 2 ∷ 1 ∷ 0 ∷ [])
+
+abbrev pub marked : ℕ → State
+marked o = from_list (mark_of o ∷ [])
+
+abbrev pub row_representative : State → State
+row_representative = representative marks (from_first ∷ from_second ∷ [])
+
 pub record AreRepresentativesJudged : Type 0 where
   -- Where one ball is in each room it is the first that is in the first room, and then nothing comes before.
   pub exchanged : ball_representative (balls_in 1 0) ≡ balls_in 0 1
@@ -269,3 +291,8 @@ pub record AreRepresentativesJudged : Type 0 where
   -- In another order of atoms the other one comes before, and without an exchange each state stands for itself.
   pub other_order : representative (ground 1 (3 ∷ 0 ∷ []) ∷ ground 1 (2 ∷ 0 ∷ []) ∷ []) (swapping 2 3 ∷ []) (balls_in 0 1) ≡ balls_in 1 0
   pub alone : representative ball_atoms [] (balls_in 1 0) ≡ balls_in 1 0
+  -- The two exchanges take the mark from one object to the next, by turns. From the first to the last there are ten images, of which
+  -- nine are taken: so the representative of a state may have another one, and states of one orbit may differ in theirs.
+  pub cut_short : row_representative (marked 0) ≡ marked 9
+  pub one_more : row_representative (marked 9) ≡ marked 10
+  pub whole_chain : row_representative (marked 1) ≡ marked 10

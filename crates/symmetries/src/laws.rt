@@ -1,5 +1,8 @@
 //! Laws of symmetries, over all tasks. They are proved; the calls do nothing.
-ghost use Rattle.symmetries.specs.Laws.{TestIsExact, SymmetriesKeepMeaning, SymmetriesAreAutomorphisms, RepresentativesAreLast, QuotientsTell, ExchangesCanBeUndone, GroundQuotientsAreBisimilar};
+ghost use Rattle.model.specs.Runs.{System};
+ghost use Rattle.model.specs.Claims.{ClosedListingsClaim};
+ghost use Rattle.model.specs.Bisimulation.{ReachGoalsAlike};
+ghost use Rattle.symmetries.specs.Laws.{TestIsExact, SymmetriesKeepMeaning, SymmetriesAreAutomorphisms, OrbitsKeepSteps, AlikeStatesAreOfOneOrbit, StatesAloneStandForThemselves, ListingsByExchangesClaim, PackedStatesAreAlike, GoalsAreReachedAlike};
 ghost use Rattle.symmetries.specs.SymmetryExamples.{AreExchangesJudged, AreTasksJudged, AreActionsJudged, AreGoalsJudged, AreRepresentativesJudged};
 
 /// An exchange passes the test exactly if its objects are all different and it is a symmetry of the task.
@@ -17,27 +20,48 @@ pub fn symmetries_are_automorphisms()
     ensures { SymmetriesAreAutomorphisms }
 {}
 
-/// The representative of a state is that of the first image that comes before it, and no image comes before a representative.
-pub fn representatives_are_last()
-    ensures { RepresentativesAreLast }
+/// States that automorphisms of a system take into one another have the same steps, at the same costs, and the same goals.
+pub fn orbits_keep_steps<S, A>()
+    ensures { (t : System S A) → OrbitsKeepSteps t }
 {}
 
-/// Each list of instances that solves a task has one that solves its quotient by symmetries at the same cost, and the other way
-/// round. So what is claimed of the one is true of the other, and what a listing claims that is closed for the quotient is true
-/// of every list of instances of the task, of whatever length.
-pub fn quotients_tell()
-    ensures { QuotientsTell }
+/// States with the same representative by symmetries of a task are of one orbit.
+pub fn alike_states_are_of_one_orbit()
+    ensures { AlikeStatesAreOfOneOrbit }
 {}
 
-/// Where the exchanges are undone that were made on the way, each step of the quotient is one of the task, of the same cost: so a
-/// list that solves the quotient is carried out in the task.
-pub fn exchanges_can_be_undone()
-    ensures { ExchangesCanBeUndone }
+/// Without exchanges a state is its own representative.
+pub fn states_alone_stand_for_themselves()
+    ensures { StatesAloneStandForThemselves }
 {}
 
-/// The quotient of the ground task does what the quotient of the task does.
-pub fn ground_quotients_are_bisimilar()
-    ensures { GroundQuotientsAreBisimilar }
+/// A transition system, and a relation of states from which the goal is reached alike.
+pub trait AlikeStates<S, A> {
+    ghost system: { System S A };
+
+    ghost alike: { S → S → Type 0 };
+
+    ghost within: { (s r : S) → alike s r → ReachGoalsAlike system s r };
+}
+
+/// What a listing claims that is closed up to that relation is true.
+pub fn closed_listings_claim<S, A, C: AlikeStates<S, A>>()
+    ensures { ClosedListingsClaim C.system C.alike }
+{}
+
+/// What a listing claims that is closed up to symmetries of the task is true of every list of instances, of whatever length.
+pub fn listings_by_exchanges_claim()
+    ensures { ListingsByExchangesClaim }
+{}
+
+/// Packed states are alike exactly where the states are that they stand for.
+pub fn packed_states_are_alike()
+    ensures { PackedStatesAreAlike }
+{}
+
+/// From packed states that are alike the goal of the ground task is reached alike.
+pub fn goals_are_reached_alike()
+    ensures { GoalsAreReachedAlike }
 {}
 
 /// The worked examples of exchanges: balls, grippers and rooms, and objects that are in two pairs.

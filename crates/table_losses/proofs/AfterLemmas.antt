@@ -191,7 +191,7 @@ module _ (changes : List NumberedChange) (before : List ℕ) where
 
 -- ---- ways
 
-turned-here : (bits : List Bool) (place : ℕ) → place < length bits → has (turned bits place) place ≡ not (has bits place)
+pub turned-here : (bits : List Bool) (place : ℕ) → place < length bits → has (turned bits place) place ≡ not (has bits place)
 turned-here bits place below = get_or-set_same bits place (not (has bits place)) false below
 
 turned-other : (bits : List Bool) (place k : ℕ) → (k ≡ place → ⊥) → has (turned bits place) k ≡ has bits k
@@ -232,7 +232,7 @@ not-among place free k none = (
 )
 
 -- a way differs at free places only
-way-kept : (bits : List Bool) (free : List ℕ) (way : List Bool) (k : ℕ) → Contains (ways bits free) way → is_among free k ≡ false → has way k ≡ has bits k
+pub way-kept : (bits : List Bool) (free : List ℕ) (way : List Bool) (k : ℕ) → Contains (ways bits free) way → is_among free k ≡ false → has way k ≡ has bits k
 way-kept bits [] way k at none = elim (Contains-cases bits [] way at) [
   | inl is ↦ sym (ap (λ s. has s k) is)
   | inr absent ↦ absurd (Contains-none way absent)

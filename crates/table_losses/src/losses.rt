@@ -1,6 +1,6 @@
 //! Whether an instance leads from rows to rows, and what it may lose.
 ghost use Rattle.std.specs.Option.{option_map_or};
-ghost use Rattle.std.specs.Prelude.{◌≡◌, ℤ, pos, ◌<◌, ◌∷◌, [], All, IfOk, List, OnOk, length, map, slice_get};
+ghost use Rattle.std.specs.Prelude.{◌≡◌, ℤ, pos, ◌^◌, ◌<◌, nat_lt, ◌∷◌, [], All, IfOk, List, OnOk, length, map, slice_get};
 ghost use Rattle.std.specs.Int.{int_max};
 ghost use Rattle.packed_state.specs.Packed.{bits_of};
 ghost use Rattle.potential_functions.specs.PotentialFunctions.{IsInRange};
@@ -124,11 +124,21 @@ impl IndexedTable<'_> {
         left.copy_from(set);
         question.changes.leave(left);
         question.changes.list_free(set, left, free)?;
+        if self.is_outnumbered(free.len()) {
+            return Ok(Fate::Leaves);
+        }
         let weight = self.table.weight(row, question.place);
         match self.most_lost_to(left, free, weight, question.place) {
             Some(lost) => Ok(Fate::Loses(lost)),
             None => Ok(Fate::Leaves),
         }
+    }
+
+    /// Whether `places` places, each turned or not, give more sets than there are rows. One of the sets is then no row.
+    fn is_outnumbered(&self, places: usize) -> bool
+        ensures { result ≡ nat_lt (length (table_of self.now.table.now).rows) (2 ^ places) }
+    {
+        places >= 32 || self.table.row_count() >> places == 0
     }
 
     /// The most of this weight that is lost to the rows of this set with any of these places turned, and none where one of them

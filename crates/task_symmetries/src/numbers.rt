@@ -3,7 +3,7 @@ ghost use Rattle.std.specs.Prelude.{◌≡◌, ◌<◌, ◌++◌, ◌∷◌, [],
 ghost use Rattle.task.specs.TaskParts.{atom_of};
 ghost use Rattle.task_symmetries.specs.Exchange.{exchange_of, image};
 ghost use Rattle.task_symmetries.specs.Numbers as defined;
-ghost use Rattle.symmetries.specs.Quotients.{keeps_atoms};
+ghost use Rattle.symmetries.specs.Orbits.{keeps_atoms};
 
 use crate::exchange::Exchange;
 use crate::images::image_of_atom;

@@ -5,16 +5,16 @@ ghost use Rattle.certificate.specs.Certificate.{certificate_of, store_in};
 ghost use Rattle.cert_checker.specs.PackedLines.{IsPackedListing};
 ghost use Rattle.cert_checker.specs.Weights.{HaveTheirWeights};
 ghost use Rattle.cert_checker.specs.CheckedLines.{AreSymmetries};
-ghost use Rattle.cert_checker.specs.Represented.{Represents};
+ghost use Rattle.cert_checker.specs.Classified.{AreClassified};
 ghost use Rattle.std.specs.Prelude.{length};
 ghost use Rattle.tables.specs.Several as values_in_memory;
 ghost use Rattle.certificate_definitions.specs.Certificates as certificates;
 
+use crate::checker::classes::{Classes, cost_at};
 use certificate::Cert;
 use faults::NoMemory;
 use grounding::Ground;
 use packed_state::{Packed, StateStore};
-use representatives::Representatives;
 use std::alloc::Global;
 use tables::{Room, TableFunctions};
 
@@ -26,11 +26,11 @@ pub(super) struct PackedListing<'a, 't> {
     pub(super) grounded: &'a Ground<'t>,
     pub(super) cert: &'a Cert,
     values: TableFunctions<'a>,
-    representatives: Representatives<'a, 't, 'a>,
+    classes: Option<Classes<'a, 't>>,
     ghost listed: { IsPackedListing (task_in grounded.now) (atoms_in grounded.now) (certificate_of cert.now) (store_in cert.now) } by { Prim.hlevel props },
     ghost valued: { HaveTheirWeights (certificates.several_of (certificate_of cert.now)) (length (atoms_in grounded.now)) (values_in_memory.several_of values) } by { Prim.hlevel props },
     ghost symmetric: { AreSymmetries (task_in grounded.now) (certificate_of cert.now) } by { Prim.hlevel props },
-    ghost represented: { Represents (task_in grounded.now) (atoms_in grounded.now) (certificate_of cert.now).exchanges representatives } by { Prim.hlevel props },
+    ghost classified: { AreClassified (task_in grounded.now) (atoms_in grounded.now) (certificate_of cert.now) (store_in cert.now) classes } by { Prim.hlevel props },
 }
 
 impl<'a, 't> PackedListing<'a, 't> {
@@ -38,11 +38,10 @@ impl<'a, 't> PackedListing<'a, 't> {
     ghost use Rattle.model.specs.Claims.{Mark};
     ghost use Rattle.packed_state.specs.PooledView.{pooled_width};
     ghost use Rattle.cert_checker.specs.FluentAtoms.{AreFluent};
-    ghost use Rattle.cert_checker.specs.CheckedLines.{HasCost, IsListedAt, IsListedAs};
+    ghost use Rattle.cert_checker.specs.CheckedLines.{HasCost, IsCheapestAt, IsLeastCost, IsListedAs};
     ghost use Rattle.cert_checker.specs.PackedListing.{task_at, certificate_at, state_at, IsPacked, HasRoomIn};
-    ghost use Rattle.cert_checker.specs.Successors.{representative_in};
     ghost use Rattle.model.specs.NumberedAtoms.{numbered_atoms};
-    ghost use Rattle.certificate_definitions.specs.Certificates.{is_dead_end_of, lines_of, value_of};
+    ghost use Rattle.certificate_definitions.specs.Certificates.{is_dead_end_of, lines_of, value_of, AreAlikeFor};
     ghost use Rattle.certificate_definitions.specs.CertificateRefusals.{IsListed};
 
     /// That of the certificate.
@@ -50,21 +49,21 @@ impl<'a, 't> PackedListing<'a, 't> {
         grounded: &'a Ground<'t>,
         cert: &'a Cert,
         values: TableFunctions<'a>,
-        representatives: Representatives<'a, 't, 'a>,
+        classes: Option<Classes<'a, 't>>,
     ) -> PackedListing<'a, 't>
         requires fluent { AreFluent (task_in grounded.now) (certificate_of cert.now).atoms }
         requires numbered { atoms_in grounded.now ≡ numbered_atoms (task_in grounded.now) (certificate_of cert.now).atoms }
         requires width { pooled_width (store_in cert.now) ≡ length (atoms_in grounded.now) }
         requires weights { HaveTheirWeights (certificates.several_of (certificate_of cert.now)) (length (atoms_in grounded.now)) (values_in_memory.several_of values) }
         requires symmetric { AreSymmetries (task_in grounded.now) (certificate_of cert.now) }
-        requires represented { Represents (task_in grounded.now) (atoms_in grounded.now) (certificate_of cert.now).exchanges representatives }
+        requires classified { AreClassified (task_in grounded.now) (atoms_in grounded.now) (certificate_of cert.now) (store_in cert.now) classes }
         ensures same { (task_at result ≡ task_in grounded.now) × (certificate_at result ≡ certificate_of cert.now) }
     {
         PackedListing {
             grounded,
             cert,
             values,
-            representatives,
+            classes,
         }
     }
 
@@ -79,26 +78,32 @@ impl<'a, 't> PackedListing<'a, 't> {
         self.cert.sets().get(place as u32, into);
     }
 
-    /// The cost at which the state is listed, if it is.
-    pub(super) fn cost_of(&self, state: &Packed) -> Option<u64>
-        requires { IsPacked self.now state.now }
-        ensures { MatchOption result
-            (¬ IsListed (lines_of (task_at self.now) (certificate_at self.now)) (state_at self.now state.now))
-            (IsListedAt (lines_of (task_at self.now) (certificate_at self.now)) (state_at self.now state.now)) }
+    /// The least cost at which a state is listed that is alike, if any is. The state is left as its representative.
+    pub(super) fn least_cost(&self, state: &mut Packed) -> Option<u64>
+        requires { IsPacked self.now state.old }
+        ensures packed { IsPacked self.now state.new }
+        ensures least { MatchOption result
+            (¬ IsListed (AreAlikeFor (task_at self.now) (certificate_at self.now)) (lines_of (task_at self.now) (certificate_at self.now)) (state_at self.now state.old))
+            (IsLeastCost (AreAlikeFor (task_at self.now) (certificate_at self.now)) (lines_of (task_at self.now) (certificate_at self.now)) (state_at self.now state.old)) }
     {
-        match self.cert.sets().find(state) {
-            Some(place) => Some(self.cert.marks()[place as usize].cost),
+        match self.cheapest(state) {
+            Some(place) => Some(cost_at(self.cert, place as usize)),
             None => None,
         }
     }
 
-    /// Makes the state its representative. No memory is taken.
-    pub(super) fn represent(&self, state: &mut Packed)
+    /// The place of the line that lists a state that is alike at the least cost, if any is. The state is left as its representative.
+    fn cheapest(&self, state: &mut Packed) -> Option<u32>
         requires { IsPacked self.now state.old }
         ensures packed { IsPacked self.now state.new }
-        ensures represented { state_at self.now state.new ≡ representative_in (task_at self.now) (certificate_at self.now) (state_at self.now state.old) }
+        ensures place { MatchOption result
+            (¬ IsListed (AreAlikeFor (task_at self.now) (certificate_at self.now)) (lines_of (task_at self.now) (certificate_at self.now)) (state_at self.now state.old))
+            (IsCheapestAt (AreAlikeFor (task_at self.now) (certificate_at self.now)) (lines_of (task_at self.now) (certificate_at self.now)) (state_at self.now state.old)) }
     {
-        self.representatives.represent(state);
+        match &self.classes {
+            Some(classes) => classes.cheapest(state),
+            None => self.cert.sets().find(state),
+        }
     }
 
     /// Room to be lent to the calls that ask for the value of a state.

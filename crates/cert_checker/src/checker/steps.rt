@@ -19,13 +19,14 @@ ghost use Rattle.model.specs.Claims as claims;
 ghost use Rattle.model.specs.Claims.{opened, cut, dead, Allows, IsListedWithin};
 ghost use Rattle.model.specs.NumberedAtoms.{numbered_atoms};
 ghost use Rattle.model.specs.Grounding.{applicable_numbers};
-ghost use Rattle.certificate_definitions.specs.Certificates.{is_dead_end_of, lines_of, listed_system, AreFairFor};
+ghost use Rattle.certificate_definitions.specs.Certificates.{is_dead_end_of, lines_of, AreAlikeFor, AreFairFor};
 ghost use Rattle.cert_checker.specs.Weights.{AreCounted};
 ghost use Rattle.certificate_definitions.specs.CertificateRefusals.{state_line};
 ghost use Rattle.task_certificates.specs.declared.refusal.Refusal.TheVariants as Refusal;
 
+use crate::checker::classes::classes_by;
 use crate::checker::packed::PackedListing;
-use crate::checker::symmetry::{representatives_by, symmetric_exchanges};
+use crate::checker::symmetry::symmetric_exchanges;
 use crate::checker::values::fair_values;
 use certificate::{Cert, Claim, Mark};
 use grounding::{Ground, GroundFault};
@@ -37,7 +38,7 @@ use task_certificates::{Refusal, RefusalCode};
 use task_symmetries::Exchange;
 
 /// Grounds the task, and checks the certificate: whether its exchanges are symmetries, its values are fair and that for dead ends is
-/// dead-fair, whether the initial state is listed at cost 0, and the state lines in order.
+/// dead-fair, whether a state that is alike the initial one is listed at cost 0, and the state lines in order.
 pub(super) fn check_cert(
     alloc: Global,
     task: &Task,
@@ -110,14 +111,14 @@ fn check_symmetric(
     ensures wrong { IfErr result (IsTrueAnyway (task_in grounded.now) (certificate_of cert.now)) }
     ensures first { IfErr result (IsFirstGrounded (task_in grounded.now) (certificate_of cert.now)) }
 {
-    let representatives = representatives_by(alloc, grounded, exchanges)?;
     let values = fair_values(alloc, cert, grounded)?;
-    let packed = PackedListing::new(grounded, cert, values, representatives);
+    let classes = classes_by(alloc, grounded, cert, exchanges)?;
+    let packed = PackedListing::new(grounded, cert, values, classes);
     check_packed(alloc, &packed)
 }
 
-/// Checks the certificate's states, where its values are fair and that for dead ends is dead-fair: whether the initial
-/// state is listed at cost 0, and the state lines in order.
+/// Checks the certificate's states, where its values are fair and that for dead ends is dead-fair: whether a state that is
+/// alike the initial one is listed at cost 0, and the state lines in order.
 fn check_packed(alloc: Global, listing: &PackedListing) -> Result<(), Refusal>
     requires { AreFairFor (task_at listing.now) (certificate_at listing.now) }
     ensures right { OnOk result (IsRightGrounded (task_at listing.now) (certificate_at listing.now)) }
@@ -128,16 +129,15 @@ fn check_packed(alloc: Global, listing: &PackedListing) -> Result<(), Refusal>
     check_lines(alloc, listing)
 }
 
-/// Whether the initial state, or its representative, is listed at cost 0.
+/// Whether a state that is alike the initial one is listed at cost 0.
 fn check_initial(alloc: Global, listing: &PackedListing) -> Result<(), Refusal>
-    ensures right { OnOk result (IsListedWithin (lines_of (task_at listing.now) (certificate_at listing.now)) (listed_system (task_at listing.now) (certificate_at listing.now)).initial 0) }
+    ensures right { OnOk result (IsListedWithin (AreAlikeFor (task_at listing.now) (certificate_at listing.now)) (lines_of (task_at listing.now) (certificate_at listing.now)) (meaning.system_of (task_at listing.now)).initial 0) }
     ensures wrong { IfErr result (IsTrueAnyway (task_at listing.now) (certificate_at listing.now)) }
     ensures first { AreFairFor (task_at listing.now) (certificate_at listing.now)
         → IfErr result (IsFirstGrounded (task_at listing.now) (certificate_at listing.now)) }
 {
     let mut initial = listing.grounded.initial(alloc)?;
-    listing.represent(&mut initial);
-    if listing.cost_of(&initial) == Some(0) {
+    if listing.least_cost(&mut initial) == Some(0) {
         Ok(())
     } else {
         Err(Refusal::Plain(RefusalCode::NoInitial))
@@ -249,8 +249,8 @@ fn check_goal(
     }
 }
 
-/// Checks the successors of this open state, which is listed at this place and this cost, by their representatives. The numbers are
-/// those of the instances that are applicable in it.
+/// Checks the successors of this open state, which is listed at this place and this cost: whether states that are alike are listed. The
+/// numbers are those of the instances that are applicable in it.
 fn check_successors(
     listing: &PackedListing,
     place: usize,
@@ -274,8 +274,7 @@ fn check_successors(
 {
     for &number in numbers {
         listing.grounded.step_into(number, state, next);
-        listing.represent(next);
-        let Some(listed) = listing.cost_of(next) else {
+        let Some(listed) = listing.least_cost(next) else {
             return Err(state_line(RefusalCode::SuccessorMissing, listing.cert, place));
         };
         if listed > cost + u64::from(listing.grounded.cost(number)) {

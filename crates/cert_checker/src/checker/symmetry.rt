@@ -8,7 +8,7 @@ ghost use Rattle.task_symmetries.specs.Exchange.{exchange_of};
 ghost use Rattle.task_symmetries.specs.Pairs.{exchange_among, pairs_in};
 ghost use Rattle.task_symmetries.specs.SymmetryTest.{task_tested};
 ghost use Rattle.symmetries.specs.Exchanges.{objects_in};
-ghost use Rattle.symmetries.specs.Quotients.{keeps_atoms};
+ghost use Rattle.symmetries.specs.Orbits.{keeps_atoms};
 ghost use Rattle.certificate.specs.Certificate.{certificate_of};
 ghost use Rattle.certificate_definitions.specs.CertificateRefusals.{exchange_line};
 ghost use Rattle.cert_checker.specs.CheckedLines.{AreSymmetries, IsFirstGrounded, IsTrueAnyway};

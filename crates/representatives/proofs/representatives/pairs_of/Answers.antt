@@ -1,6 +1,6 @@
 use Rattle.std.proofs.Common.{rules, ◌≡◌, ◌∙◌, true, sym, ap}
 use Rattle.grounding.specs.Ground.{atoms_in}
-use Rattle.symmetries.specs.Quotients.{keeps_atoms}
+use Rattle.symmetries.specs.Orbits.{keeps_atoms}
 use Rattle.task_symmetries.specs.Exchange.{exchange_of}
 use Rattle.representatives.specs.Places.{are_within, swap_of}
 use Rattle.representatives.proofs.Kept.{numbers_fit}

@@ -8,9 +8,9 @@ invariant-turns g l =
     let t = g.T.TransitionSystem.means l.system in
     let value = g.G.Guide.estimate_of l.guide in
     let width = g.T.TransitionSystem.width_of l.system in
-    IsUnderWay t value (g.G.Guide.is_dead l.guide) (g.G.Guide.fits l.guide) g.S.StateStore.states g.S.StateStore.width_of width l.max_states
+    IsUnderWay t (g.L.StateListing.class_of l.initial.progress.store) value (g.G.Guide.is_dead l.guide) (g.G.Guide.fits l.guide) g.L.StateListing.states g.L.StateListing.class_of g.L.StateListing.width_of width l.max_states
     (record { progress = l.progress; buffers = l.buffers })
 
 abbrev pub decreases-turns : goal.decreases-turns
 decreases-turns g l =
-    work_left l.max_states (nodes_in g.S.StateStore.states l.progress)
+    work_left l.max_states (nodes_in g.L.StateListing.states l.progress)

@@ -1,21 +1,17 @@
 use Rattle.std.proofs.Common.{◌≡◌, ◌∙◌, ℕ, Bool, List, sym, ap, subst, length}
-use Rattle.certificate.specs.CertificateParts as parts
 use Rattle.grounding.specs.declared.ground.Ground.{Ground}
 use Rattle.grounding.specs.Ground.{task_in, atoms_in}
 use Rattle.model.specs.Runs.{System}
 use Rattle.model.specs.Grounding.{ground_system}
 use Rattle.potential_functions.specs.PotentialFunctions.{PotentialFunction, score, is_dead_by}
-use Rattle.potential_functions.specs.Fair.{AreFair, AreDeadFair}
 use Rattle.potentials_improved.specs.FairPotentials as fair
+use Rattle.potentials_improved.specs.Potentials.{potentials_of}
 use Rattle.potentials_improved.specs.FairPotentials.{potentials_in}
 use Rattle.search.specs.Estimates.{value_by}
-use Rattle.solver.specs.Guidance.{estimate_by, reports_dead}
+use Rattle.solver.specs.Guidance.{reports_dead}
 use Rattle.solver.specs.Guided.{IsGuidanceFor, IsSearched}
-use Rattle.listed_systems.specs.ListedSystem as listed_system
-use Rattle.listed_systems.specs.ListedSystem.{ground_in, system_over}
 use Rattle.solver.specs.Stretches.{IsTrueEnd}
-use Rattle.solver.specs.Written.{guidance_of, by_potentials_of}
-use Rattle.listed_systems.proofs.ListedGuides.{over_ground}
+use Rattle.solver.specs.Written.{by_potentials_of}
 use Rattle.solver.proofs.PotentialGuidance.{AreGood, guides_by_potentials, same_estimates, same_reports}
 use Rattle.solver.proofs.PotentialLemmas.{value_by-value}
 use Rattle.solver.proofs.answer.solve_by_potentials.Goals as goal
@@ -26,69 +22,48 @@ system_of g = ground_system (task_in g) (atoms_in g)
 abbrev width_of : Ground → ℕ
 width_of g = length (atoms_in g)
 
-pub new-fair-requires-clause-system : goal.new-fair-requires-clause-system
-new-fair-requires-clause-system g c = ap system_of (c.requires.dead_ends ∙ sym c.requires.estimate)
+pub new-guide-requires-clause-system : goal.new-guide-requires-clause-system
+new-guide-requires-clause-system g c = ap system_of (c.requires.dead_ends ∙ sym c.requires.estimate)
 
-pub new-fair-requires-clause-width : goal.new-fair-requires-clause-width
-new-fair-requires-clause-width g c = ap width_of (c.requires.dead_ends ∙ sym c.requires.estimate)
-
-pub new-guide-requires-clause-made_for : goal.new-guide-requires-clause-made_for
-new-guide-requires-clause-made_for g c = ap (λ f. system_of (fair.ground_in f)) c.new-fair.ensures.estimate ∙ ap system_of c.requires.estimate
+pub new-guide-requires-clause-width : goal.new-guide-requires-clause-width
+new-guide-requires-clause-width g c = ap width_of (c.requires.dead_ends ∙ sym c.requires.estimate)
 
 pub search_in_parts-requires-clause-guide_width : goal.search_in_parts-requires-clause-guide_width
-search_in_parts-requires-clause-guide_width g c =
-    ap (λ f. width_of (fair.ground_in f)) (ap (λ e. e.estimate.now) c.new-guide.ensures.guide ∙ c.new-fair.ensures.estimate) ∙ ap width_of c.requires.estimate
+search_in_parts-requires-clause-guide_width g c = ap (λ f. width_of (fair.ground_in f)) c.new-guide.ensures.estimate ∙ ap width_of c.requires.estimate
 
 pub search_in_parts-requires-clause-system : goal.search_in_parts-requires-clause-system
-search_in_parts-requires-clause-system g c =
-    let guide = c.new-guide.result in
-    over_ground guide.system (system_of (fair.ground_in guide.guide.now.estimate.now))
-    (ap (λ e. system_of (fair.ground_in e.estimate.now)) c.new-guide.ensures.guide ∙ ap (λ f. system_of (fair.ground_in f)) c.new-fair.ensures.estimate ∙ ap system_of c.requires.estimate
-    ∙ ap (λ s. system_of (ground_in s)) (sym c.new-guide.ensures.system))
-    ∙ ap listed_system.system_of c.new-guide.ensures.system
+search_in_parts-requires-clause-system g c = ap (λ f. system_of (fair.ground_in f)) c.new-guide.ensures.estimate ∙ ap system_of c.requires.estimate
 
-pub answer_of-requires-clause-guidance : goal.answer_of-requires-clause-guidance
-answer_of-requires-clause-guidance g c =
-    let system = c.args.system in
+pub answer_by_potentials-requires-clause-guidance : goal.answer_by_potentials-requires-clause-guidance
+answer_by_potentials-requires-clause-guidance g c =
+    let space = c.args.space in
     let f = c.args.estimate.now in
     let d = c.args.dead_ends.now in
     let p = potentials_in f in
     let q = potentials_in d in
-    let good : AreGood system p q = record {
+    let good : AreGood space p q = record {
       range = record { constant = f.potentials.constant_in_range; weights = f.potentials.weights_in_range };
       dead_range = record { constant = d.potentials.constant_in_range; weights = d.potentials.weights_in_range };
       long = f.width ∙ ap width_of c.requires.estimate;
       dead_long = d.width ∙ ap width_of c.requires.dead_ends;
-      fair = (
-        subst (λ (g : Ground). AreFair (task_in g) (atoms_in g) p) c.requires.estimate f.fair,
-        subst (λ (g : Ground). AreDeadFair (task_in g) (atoms_in g) q) c.requires.dead_ends d.fair,
-      );
       improved = c.requires.improved;
       dead_ends_improved = c.requires.dead_ends_improved;
     } in
-    let value = parts.potential_of c.in_ok-value-in-ByGuide.value in
-    let dead = parts.potential_of c.in_ok-dead_ends-in-ByGuide.dead_ends in
-    let values : p ≡ value = sym (c.in_ok-value-in-ByGuide.ensures ∙ c.potentials.ensures) in
-    let dead_ends : q ≡ dead = sym (c.in_ok-dead_ends-in-ByGuide.ensures ∙ c.potentials-2.ensures) in
-    subst (IsGuidanceFor system) (ap (λ (r : PotentialFunction). by_potentials_of system r q) values ∙ ap (by_potentials_of system value) dead_ends ∙ sym c.in_ok-guidance-in-ByGuide.ensures)
-    (guides_by_potentials system c.requires.listed p q good)
+    subst (λ (r : PotentialFunction). IsGuidanceFor space (by_potentials_of space r (potentials_of c.potentials-2.result.now))) (sym c.potentials.ensures)
+    (subst (λ (r : PotentialFunction). IsGuidanceFor space (by_potentials_of space p r)) (sym c.potentials-2.ensures) (guides_by_potentials space c.requires.space p q good))
 
-pub answer_of-requires-clause-searched : goal.answer_of-requires-clause-searched
-answer_of-requires-clause-searched g c =
-    let system = c.args.system in
+pub answer_by_potentials-requires-clause-searched : goal.answer_by_potentials-requires-clause-searched
+answer_by_potentials-requires-clause-searched g c =
+    let space = c.args.space in
     let guide = c.new-guide.result in
     let outcome = c.in-ByGuide.searched.outcome in
     let marks = c.in-ByGuide.searched.marks.items in
-    let made = guidance_of c.in_ok-guidance-in-ByGuide.guidance in
-    let value = parts.potential_of c.in_ok-value-in-ByGuide.value in
-    let dead = parts.potential_of c.in_ok-dead_ends-in-ByGuide.dead_ends in
-    let inner = guide.guide.now in
-    let values : potentials_in inner.estimate.now ≡ value =
-    ap (λ e. potentials_in e.estimate.now) c.new-guide.ensures.guide ∙ ap potentials_in c.new-fair.ensures.estimate ∙ sym (c.in_ok-value-in-ByGuide.ensures ∙ c.potentials.ensures) in
-    let dead_ends : potentials_in inner.dead_ends.now ≡ dead =
-    ap (λ e. potentials_in e.dead_ends.now) c.new-guide.ensures.guide ∙ ap potentials_in c.new-fair.ensures.dead_ends ∙ sym (c.in_ok-dead_ends-in-ByGuide.ensures ∙ c.potentials-2.ensures) in
-    let estimates = value_by-value (score (potentials_in inner.estimate.now)) value (ap score values) ∙ sym (same_estimates system value dead) ∙ ap estimate_by (sym c.in_ok-guidance-in-ByGuide.ensures) in
-    let reports = ap is_dead_by dead_ends ∙ sym (same_reports system value dead) ∙ ap reports_dead (sym c.in_ok-guidance-in-ByGuide.ensures) in
-    subst (λ (e : List Bool → ℕ). IsSearched system e (reports_dead made) c.args.limits.states outcome marks) estimates
-    (subst (λ (r : List Bool → Bool). IsSearched system (value_by (score (potentials_in inner.estimate.now))) r c.args.limits.states outcome marks) reports
-    (subst (IsTrueEnd system (value_by (score (potentials_in inner.estimate.now))) (is_dead_by (potentials_in inner.dead_ends.now)) c.args.limits) c.in-ByGuide.is c.in_ok-answer.ensures.end))
+    let value = potentials_of c.potentials.result.now in
+    let dead = potentials_of c.potentials-2.result.now in
+    let values : potentials_in guide.estimate.now ≡ value = ap potentials_in c.new-guide.ensures.estimate ∙ sym c.potentials.ensures in
+    let dead_ends : potentials_in guide.dead_ends.now ≡ dead = ap potentials_in c.new-guide.ensures.dead_ends ∙ sym c.potentials-2.ensures in
+    let estimates = value_by-value (score (potentials_in guide.estimate.now)) value (ap score values) ∙ sym (same_estimates space value dead) in
+    let reports = ap is_dead_by dead_ends ∙ sym (same_reports space value dead) in
+    subst (λ (e : List Bool → ℕ). IsSearched space e (reports_dead (by_potentials_of space value dead)) c.args.limits.states outcome marks) estimates
+    (subst (λ (r : List Bool → Bool). IsSearched space (value_by (score (potentials_in guide.estimate.now))) r c.args.limits.states outcome marks) reports
+    (subst (IsTrueEnd space (value_by (score (potentials_in guide.estimate.now))) (is_dead_by (potentials_in guide.dead_ends.now)) c.args.limits) c.in-ByGuide.is c.in_ok-answer.ensures.end))

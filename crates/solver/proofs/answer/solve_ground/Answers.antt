@@ -1,7 +1,7 @@
 use Rattle.std.proofs.Common.{map, sym, subst}
 use Rattle.grounding.specs.Ground.{task_in}
 use Rattle.task_symmetries.specs.Exchange.{exchange_of}
-use Rattle.listed_systems.specs.Exchanges.{AreExchangesFor}
+use Rattle.ground_listings.specs.Exchanges.{AreExchangesFor}
 use Rattle.solver.proofs.answer.solve_ground.Goals as goal
 
 pub returns-in_err-say_end-clause-said : goal.returns-in_err-say_end-clause-said

@@ -5,7 +5,7 @@ use Rattle.certificate_definitions.specs.Certificates.{three}
 use Rattle.faults.specs.declared.refused.NoMemory.{NoMemory}
 use Rattle.grounding.specs.declared.ground.Ground.{Ground}
 use Rattle.grounding.specs.Ground.{task_in, atoms_in}
-use Rattle.listed_systems.specs.ListedSystem.{ground_in}
+use Rattle.ground_listings.specs.SearchSpace.{ground_in}
 use Rattle.model.specs.Grounding.{ground_system}
 use Rattle.potential_functions.specs.Settled.{initial_value}
 use Rattle.potentials.specs.Potentials.{potentials_of}
@@ -42,8 +42,8 @@ in_memory g c =
     subst (λ (o : Option TableFunctions). IfSome o (λ (f : TableFunctions). several_of f ≡ several_over c.args.values.items c.args.dead_ends c.deref.result.now)) c.in-Some.is c.in_ok-functions.ensures
     ∙ (λ i. record { values = c.requires.values i; dead_ends = c.requires.dead_ends i; tables = map table_of (c.deref.ensures.value i) })
 
-width : (g : Over) (c : In-Some g) → width_of c.in-Some.functions ≡ length (atoms_in (ground_in c.args.system))
-width g c = ap (λ (s : SeveralValues). length s.dead_ends.weights) (in_memory g c) ∙ dead_ends_weighed (length (atoms_in (ground_in c.args.system))) (bounds_of c.args.bounds.now) c.requires.within_limits
+width : (g : Over) (c : In-Some g) → width_of c.in-Some.functions ≡ length (atoms_in (ground_in c.args.space))
+width g c = ap (λ (s : SeveralValues). length s.dead_ends.weights) (in_memory g c) ∙ dead_ends_weighed (length (atoms_in (ground_in c.args.space))) (bounds_of c.args.bounds.now) c.requires.within_limits
 
 pub starts_no_lower-requires-clause-functions : goal.starts_no_lower-requires-clause-functions
 starts_no_lower-requires-clause-functions g c = width g (goal.at.starts_no_lower-requires-clause-functions g c).In-Some ∙ ap (λ (k : Ground). length (atoms_in k)) (sym c.ground-ground.ensures)
@@ -63,7 +63,7 @@ whatever (Err e) is = tt
 
 pub returns-then-is_worth-clause-no_lower : goal.returns-then-is_worth-clause-no_lower
 returns-then-is_worth-clause-no_lower g c =
-    let known = ground_in c.args.system in
+    let known = ground_in c.args.space in
     let first = potentials_of c.args.stopped.now.potentials.now in
     let start = (ground_system (task_in known) (atoms_in known)).initial in
     whatever c.search_if_fair.result
@@ -74,10 +74,10 @@ returns-then-is_worth-clause-no_lower g c =
 
 pub returns-then-is_worth-clause-fair : goal.returns-then-is_worth-clause-fair
 returns-then-is_worth-clause-fair g c =
-    subst (λ (s : SeveralValues). IfOk c.search_if_fair.result (IfDone (λ (_ : Searched). AreFair (task_in (ground_in c.args.system)) (atoms_in (ground_in c.args.system)) s)))
+    subst (λ (s : SeveralValues). IfOk c.search_if_fair.result (IfDone (λ (_ : Searched). AreFair (task_in (ground_in c.args.space)) (atoms_in (ground_in c.args.space)) s)))
     (in_memory g (goal.at.returns-then-is_worth-clause-fair g c).In-Some) c.search_if_fair.ensures.fair
 
 pub returns-then-is_worth-clause-searched : goal.returns-then-is_worth-clause-searched
 returns-then-is_worth-clause-searched g c =
-    subst (λ (s : SeveralValues). IfOk c.search_if_fair.result (IfDone (λ (f : Searched). IsSearched c.args.system (estimate_by (by_tables s)) (reports_dead (by_tables s)) c.args.limits.states f.outcome f.marks.items)))
+    subst (λ (s : SeveralValues). IfOk c.search_if_fair.result (IfDone (λ (f : Searched). IsSearched c.args.space (estimate_by (by_tables s)) (reports_dead (by_tables s)) c.args.limits.states f.outcome f.marks.items)))
     (in_memory g (goal.at.returns-then-is_worth-clause-searched g c).In-Some) c.search_if_fair.ensures.searched

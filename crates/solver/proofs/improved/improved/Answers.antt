@@ -27,7 +27,10 @@ returns-clause-ground g c = c.in_ok-better.ensures.ground ∙ c.known-fair.ensur
 
 pub returns-clause-improved : goal.returns-clause-improved
 returns-clause-improved g c =
+    let better = c.in_ok-better.better in
     let here = ground_in c.known-fair.result in
-    let q = potentials_in c.in_ok-better.better in
-    subst (λ (h : Ground). AreSettledOrHighAt (g.A.Allowance.allowance (task_in h)) (task_in h) (atoms_in h) q) c.known-fair.ensures.ground
-    (improved_end (g.A.Allowance.allowance (task_in here)) (task_in here) (atoms_in here) (potentials_in c.known-fair.result) q c.in_ok-better.ensures.better)
+    let q = potentials_in better in
+    let allowance = λ (h : Ground). g.A.Allowance.allowance (task_in h) in
+    let fair = subst (λ (h : Ground). AreFairAt (allowance h) (task_in h) (atoms_in h) q) c.in_ok-better.ensures.ground better.fair in
+    subst (λ (h : Ground). AreSettledOrHighAt (allowance h) (task_in h) (atoms_in h) q) c.known-fair.ensures.ground
+    (improved_end (allowance here) (task_in here) (atoms_in here) (potentials_in c.known-fair.result) q fair c.in_ok-better.ensures.better)

@@ -1,9 +1,20 @@
-use Rattle.std.proofs.Common.{◌≤◌, ℕ, Result, Ok, Err}
-use Rattle.std.specs.Prelude.{IfOk}
+use Rattle.std.proofs.Common.{◌∙◌, ◌≤◌, ℕ, Bool, List, Result, Ok, Err, sym, ap, subst, length}
+use Rattle.std.specs.Prelude.{nat_le, IfOk}
 use Rattle.std.proofs.lemmas.Bool.{and_parts, leb-true}
-use Rattle.std.specs.Prelude.{nat_le}
+use Rattle.grounding.specs.declared.ground.Ground.{Ground}
+use Rattle.grounding.specs.Ground.{task_in, atoms_in}
+use Rattle.model.specs.Grounding.{ground_system}
+use Rattle.ground_listings.specs.GroundListing.{listed_class, listed_states, listed_width}
+use Rattle.ground_listings.specs.SearchSpace.{class_in}
+use Rattle.search.specs.UnderWay as under_way
 use Rattle.solver.specs.Stretches.{IsUnderWay}
 use Rattle.solver.proofs.searched.begin_by.Goals as goal
+
+pub begin-requires-clause-guide_width : goal.begin-requires-clause-guide_width
+begin-requires-clause-guide_width g c = c.requires ∙ ap (λ (k : Ground). length (atoms_in k)) (sym c.ground.ensures)
+
+pub begin-requires-clause-width : goal.begin-requires-clause-width
+begin-requires-clause-width g c = c.in_ok-listing.ensures.width ∙ ap (λ (k : Ground). length (atoms_in k)) (sym c.ground.ensures)
 
 -- what is so for each limit of at least one state is so for this one
 for_limit : {X E : Type 0} (P : ℕ → X → Type 0) (result : Result X E) (limit : ℕ) → IfOk result (λ x. (n : ℕ) → 1 ≤ n → P n x) → 1 ≤ limit → IfOk result (P limit)
@@ -12,6 +23,16 @@ for_limit P (Err e) limit each some = tt
 
 pub returns : goal.returns
 returns g c =
+    let guide = c.args.guide.now in
+    let estimate = g.G.Guide.estimate_of guide in
+    let is_dead = g.G.Guide.is_dead guide in
+    let fits = g.G.Guide.fits guide in
+    let space = c.args.space in
     let limit = c.args.limits.states in
     let some = leb-true 1 limit (and_parts (nat_le 1 limit) (nat_le limit 16777216) c.args.limits.states_within).0 in
-    for_limit (IsUnderWay c.args.system (g.G.Guide.estimate_of c.args.guide.now) (g.G.Guide.is_dead c.args.guide.now) (g.G.Guide.fits c.args.guide.now)) c.begin.result limit c.begin.ensures some
+    for_limit (IsUnderWay space estimate is_dead fits) c.begin.result limit
+    (subst (λ (k : Ground). IfOk c.begin.result (λ s. (n : ℕ) → 1 ≤ n
+    → under_way.IsUnderWay (ground_system (task_in k) (atoms_in k)) (class_in space) estimate is_dead fits listed_states listed_class listed_width (length (atoms_in k)) n s)) c.ground.ensures
+    (subst (λ (class_of : List Bool → List Bool). IfOk c.begin.result (λ s. (n : ℕ) → 1 ≤ n
+    → under_way.IsUnderWay (ground_system (task_in c.ground.result.now) (atoms_in c.ground.result.now)) class_of estimate is_dead fits listed_states listed_class listed_width (length (atoms_in c.ground.result.now)) n s))
+    c.in_ok-listing.ensures.class c.begin.ensures)) some

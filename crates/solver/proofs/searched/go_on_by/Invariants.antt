@@ -1,7 +1,7 @@
 use Rattle.std.proofs.Common.{◌-◌, length}
 use Rattle.grounding.specs.Ground.{task_in}
-use Rattle.listed_systems.specs.ListedSystem.{ground_in}
-use Rattle.packed_state.specs.PooledView.{pooled_states}
+use Rattle.ground_listings.specs.SearchSpace.{ground_in}
+use Rattle.ground_listings.specs.GroundListing.{listed_states}
 use Rattle.search.specs.UnderWay.{store_in}
 use Rattle.progress_lines.specs.Said.{GoesOn}
 use Rattle.solver.specs.Said.{IsTrueLine}
@@ -11,9 +11,9 @@ use Rattle.solver.proofs.searched.go_on_by.Given as goal
 -- the search is under way, and what was said is true
 abbrev pub invariant-stretches : goal.invariant-stretches
 invariant-stretches g l = record {
-  under_way : IsUnderWay l.system (g.G.Guide.estimate_of l.guide) (g.G.Guide.is_dead l.guide) (g.G.Guide.fits l.guide) l.limits.states l.search;
-  said : GoesOn (IsTrueLine (task_in (ground_in l.system))) g.E.Sink.wants_memory (g.E.Sink.failures l.initial.err) (g.E.Sink.taken l.initial.err) (g.E.Sink.failures l.err) (g.E.Sink.taken l.err);
+  under_way : IsUnderWay l.space (g.G.Guide.estimate_of l.guide) (g.G.Guide.is_dead l.guide) (g.G.Guide.fits l.guide) l.limits.states l.search;
+  said : GoesOn (IsTrueLine (task_in (ground_in l.space))) g.E.Sink.wants_memory (g.E.Sink.failures l.initial.err) (g.E.Sink.taken l.initial.err) (g.E.Sink.failures l.err) (g.E.Sink.taken l.err);
 }
 
 abbrev pub decreases-stretches : goal.decreases-stretches
-decreases-stretches g l = l.pause - length (pooled_states (store_in l.search))
+decreases-stretches g l = l.pause - length (listed_states (store_in l.search))

@@ -28,6 +28,13 @@ has_mark c =
 marked : (c : After-get) (mark : Mark) → (listed_at c).mark ≡ mark → HasCost (certificate_at c.args.listing.now) c.args.place (listed_at c).cost (mark_of mark)
 marked c mark is = subst (λ m. HasCost (certificate_at c.args.listing.now) c.args.place (listed_at c).cost (mark_of m)) is (has_mark c)
 
+-- the listing in memory is small
+pub offset_bounds-marks-place : goal.offset_bounds-marks-place
+offset_bounds-marks-place c =
+    let cert = certificate_at c.args.listing.now in
+    let within : c.args.place < length c.marks.result.now = omega (arith, c.requires.within, as_many_marks cert c.marks.result.now c.marks.ensures.marks) in
+    omega (arith, within, c.marks.ensures.at_most)
+
 pub check_open-requires-clause-small : goal.check_open-requires-clause-small
 check_open-requires-clause-small c =
     let here = (goal.at.check_open-requires-clause-small c).After-get in

@@ -6,12 +6,11 @@ use Rattle.grounding.specs.Ground.{task_in, atoms_in}
 use Rattle.faults.proofs.Results.{passed_on}
 use Rattle.model.specs.Task.{Task}
 use Rattle.model.specs.NumberedAtoms.{numbered_atoms}
-use Rattle.symmetries.specs.Quotients.{keeps_atoms}
+use Rattle.symmetries.specs.Orbits.{keeps_atoms}
 use Rattle.task_symmetries.specs.Exchange.{exchange_of}
 use Rattle.certificate_definitions.specs.Certificates.{Certificate, AreFairFor}
 use Rattle.cert_checker.specs.CheckedLines.{IsFirstGrounded, IsRightGrounded, IsTrueAnyway}
 use Rattle.cert_checker.specs.PackedListing.{task_at, certificate_at}
-use Rattle.cert_checker.specs.Represented.{Represents}
 use Rattle.cert_checker.proofs.SymmetriesLemmas.{all_keep_atoms}
 use Rattle.cert_checker.proofs.checker.steps.check_symmetric.Goals as goal
 
@@ -20,22 +19,17 @@ along : (P : Task → Certificate → Type 0) (t u : Task) (k c : Certificate) �
 along P t u k c same_task same_cert p = subst (P u) same_cert (subst (λ s. P s k) same_task p)
 
 -- the exchanges take numbered atoms to numbered atoms
-pub representatives_by-requires : goal.representatives_by-requires
-representatives_by-requires c =
+pub classes_by-requires-clause-kept : goal.classes_by-requires-clause-kept
+classes_by-requires-clause-kept c =
     let g = c.args.grounded.now in
     let cert = certificate_of c.args.cert.now in
     subst (λ atoms. list_all (keeps_atoms atoms) (map exchange_of c.args.exchanges.now) ≡ true) (sym c.requires.numbered)
     (subst (λ exchanges. list_all (keeps_atoms (numbered_atoms (task_in g) cert.atoms)) exchanges ≡ true) (sym c.requires.exchanges) (all_keep_atoms (task_in g) cert c.requires.symmetric))
 
-pub new-packed-requires-clause-represented : goal.new-packed-requires-clause-represented
-new-packed-requires-clause-represented c =
-    let g = c.args.grounded.now in
-    subst (λ exchanges. Represents (task_in g) (atoms_in g) exchanges c.in_ok-representatives.representatives) c.requires.exchanges c.in_ok-representatives.ensures
-
 pub returns-in_err-values-clause-first : goal.returns-in_err-values-clause-first
 returns-in_err-values-clause-first c =
-    passed_on (IsFirstGrounded (task_in c.args.grounded.now) (certificate_of c.args.cert.now)) c.from_residual-in_err-values.result c.in_err-values.field-0.0
-    c.from_residual-in_err-values.ensures.1 (c.in_err-values.ensures.first c.requires.symmetric)
+    passed_on (IsFirstGrounded (task_in c.args.grounded.now) (certificate_of c.args.cert.now)) c.from_residual.result c.in_err-values.field-0.0
+    c.from_residual.ensures.1 (c.in_err-values.ensures.first c.requires.symmetric)
 
 pub check_packed-requires : goal.check_packed-requires
 check_packed-requires c =

@@ -3,7 +3,7 @@ use Rattle.std.specs.Option.{option_map_or}
 use Rattle.packed_state.specs.Packed.{bits_of}
 use Rattle.packed_state.specs.Sets.{has}
 use Rattle.representatives.specs.Places.{is_earlier}
-use Rattle.representatives.specs.Pairs.{AreBelow}
+use Rattle.representatives.specs.Runs.{AreBelow}
 use Rattle.representatives.proofs.Kept.{at_index}
 use Rattle.representatives.proofs.representatives.Representatives.comes_before.Goals as goal
 

@@ -2,7 +2,7 @@ use Rattle.std.proofs.Common.{◌∙◌, sym, ap, subst}
 use Rattle.std.specs.Option.{option_map_or}
 use Rattle.packed_state.specs.Packed.{bits_of}
 use Rattle.representatives.specs.Places.{with_swapped}
-use Rattle.representatives.specs.Pairs.{AreBelow}
+use Rattle.representatives.specs.Runs.{AreBelow}
 use Rattle.representatives.proofs.Kept.{at_index}
 use Rattle.representatives.proofs.representatives.Representatives.exchange.Goals as goal
 

@@ -1,11 +1,13 @@
 use Rattle.std.proofs.Common.{rules, ◌≡◌, ◌∙◌, true, false, length, map, sym, ap, subst}
 use Rattle.std.specs.List.{list_all}
+use Rattle.std.proofs.lemmas.List.{length-map}
 use Rattle.grounding.specs.Ground.{atoms_in}
-use Rattle.symmetries.specs.Quotients.{keeps_atoms}
+use Rattle.symmetries.specs.Orbits.{keeps_atoms}
 use Rattle.model.proofs.Tests.{passes_not, passes_whole, passes_map}
 use Rattle.task_symmetries.specs.declared.exchange.Exchange.{Exchange}
 use Rattle.task_symmetries.specs.Exchange.{exchange_of}
-use Rattle.representatives.specs.Pairs.{swaps_in}
+use Rattle.representatives.specs.Pairs.{swap_in, swaps_in}
+use Rattle.representatives.specs.Runs.{swap_in_runs, swaps_in_runs}
 use Rattle.representatives.specs.Apart.{AreAllWithin, AreApartBelow}
 use Rattle.representatives.proofs.Kept.{made_whole, made_within}
 use Rattle.representatives.proofs.representatives.Representatives.new.Goals as goal
@@ -33,11 +35,19 @@ pub invariant_of-result : goal.invariant_of-result
 invariant_of-result c =
     let atoms = atoms_in c.args.ground.now in
     let exchanges = c.args.exchanges.now in
+    let swaps = c.loop-exchange.swaps.items in
+    let runs = c.in_ok-runs.runs.items in
+    let firsts = c.in_ok-first_neighbours.first_neighbours.items in
+    let same : swaps_in_runs runs ≡ swaps_in swaps = c.in_ok-runs.ensures ∙ ap swaps_in c.as_slice-2.ensures.value in
     record {
       kept =
           passes_map (keeps_atoms atoms) exchange_of exchanges
           ∙ sym (passes_whole (λ (x : Exchange). keeps_atoms atoms (exchange_of x)) exchanges c.loop-exchange.exchange-index c.loop-exchange-test.false c.loop-exchange.invariant.kept);
-      made = made_whole atoms exchanges c.loop-exchange.exchange-index c.loop-exchange.swaps.items c.loop-exchange-test.false c.loop-exchange.invariant.made;
-      apart = subst (λ l. AreApartBelow (swaps_in l) c.in_ok-first_neighbours.first_neighbours.items) c.as_slice.ensures.value c.in_ok-first_neighbours.ensures.apart;
-      each = c.in_ok-first_neighbours.ensures.each ∙ ap length c.as_slice.ensures.value;
+      made = same ∙ made_whole atoms exchanges c.loop-exchange.exchange-index swaps c.loop-exchange-test.false c.loop-exchange.invariant.made;
+      apart =
+          subst (λ l. AreApartBelow l firsts) (sym same)
+          (subst (λ l. AreApartBelow (swaps_in l) firsts) c.as_slice.ensures.value c.in_ok-first_neighbours.ensures.apart);
+      each =
+          c.in_ok-first_neighbours.ensures.each ∙ ap length c.as_slice.ensures.value
+          ∙ sym (length-map swaps swap_in) ∙ ap length (sym same) ∙ length-map runs swap_in_runs;
     }

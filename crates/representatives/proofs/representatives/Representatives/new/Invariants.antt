@@ -1,7 +1,7 @@
 use Rattle.std.proofs.Common.{◌≡◌, true, map, take}
 use Rattle.std.specs.List.{list_all}
 use Rattle.grounding.specs.Ground.{atoms_in}
-use Rattle.symmetries.specs.Quotients.{keeps_atoms}
+use Rattle.symmetries.specs.Orbits.{keeps_atoms}
 use Rattle.task_symmetries.specs.declared.exchange.Exchange.{Exchange}
 use Rattle.task_symmetries.specs.Exchange.{exchange_of}
 use Rattle.representatives.specs.Places.{swap_of}

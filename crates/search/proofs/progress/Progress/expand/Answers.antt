@@ -1,6 +1,6 @@
 use Rattle.std.proofs.Common.{◌≡◌, ◌≢◌, ℕ, Bool, List, ◌+◌, length, get_or, drop, set, refl, sym, ap, ◌∙◌, subst, arith, Some, true, false}
 use Rattle.std.specs.Prelude.{IsTrue, is_some, slice_get}
-use Rattle.search.specs.declared.nodes.NodeStatus.TheVariants.{Open, Expanded}
+use Rattle.search.specs.declared.nodes.NodeStatus.TheVariants.{Reopened, Expanded}
 use Rattle.search.specs.OpenList.{waiting_in}
 use Rattle.std.proofs.lemmas.List.{drop_more, drop_all, length-set}
 use Rattle.std.proofs.lemmas.Option.{same_Some}
@@ -24,7 +24,7 @@ use Rattle.search.proofs.progress.Progress.expand.Goals as goal
 is_state : (g : Over) (c : After-deref-action-items g) → bits_of c.args.buffers.now.state ≡ c.requires.turn.found.state
 is_state g c =
     let turn = c.requires.turn in
-    same_Some _ turn.found.state (sym c.requires.state ∙ (found_of-get (g.S.StateStore.states c.args.self.now.store) c.args.self.now.nodes.items c.args.turn.id.0 turn.found turn.occurs).0)
+    same_Some _ turn.found.state (sym c.requires.state ∙ (found_of-get (g.L.StateListing.states c.args.self.now.store) c.args.self.now.nodes.items c.args.turn.id.0 turn.found turn.occurs).0)
 
 -- what guides the search keeps its laws
 admissible : (g : Over) (c : After-deref-action-items g) → IsAdmissible (g.T.TransitionSystem.means c.args.system.now) (g.G.Guide.estimate_of c.args.guide.now)
@@ -35,40 +35,44 @@ reports : (g : Over) (c : After-deref-action-items g) → ReportsDeadEnds (g.T.T
 reports g c =
     subst (λ (u : System (List Bool) ℕ). ReportsDeadEnds u (g.G.Guide.is_dead c.args.guide.now)) c.requires.made_for (g.met.G.Guide.reports_dead_ends c.args.guide.now)
 
-has_begun : (g : Over) (c : After-deref-action-items g) → HasBegun (g.T.TransitionSystem.means c.args.system.now) (g.G.Guide.estimate_of c.args.guide.now) (g.G.Guide.is_dead c.args.guide.now)
-    (found_of (g.S.StateStore.states c.args.self.now.store) c.args.self.now.nodes.items) (g.S.StateStore.states c.mark.new.self.store) c.mark.new.self.nodes.items
+has_begun : (g : Over) (c : After-deref-action-items g) → HasBegun (g.T.TransitionSystem.means c.args.system.now) (g.L.StateListing.class_of c.args.self.now.store) (g.G.Guide.estimate_of c.args.guide.now) (g.G.Guide.is_dead c.args.guide.now)
+    (found_of (g.L.StateListing.states c.args.self.now.store) c.args.self.now.nodes.items) (g.L.StateListing.states c.mark.new.self.store) c.mark.new.self.nodes.items
     (waiting_in c.args.self.now.open_list) c.args.turn.id.0 c.requires.turn.found
 has_begun g c =
     let turn = c.requires.turn in
     let t = g.T.TransitionSystem.means c.args.system.now in
-    let states = g.S.StateStore.states c.args.self.now.store in
+    let states = g.L.StateListing.states c.args.self.now.store in
     let all = c.args.self.now.nodes.items in
-    turn_begins t _ _ (admissible g c) (reports g c) states all
+    turn_begins t (g.L.StateListing.class_of c.args.self.now.store) c.requires.classes _ _ (admissible g c) (reports g c) states all
     turn.open_list _ turn.one_each turn.nodes _ turn.found turn.occurs turn.waits turn.least turn.rest turn.entries
-    (subst (λ x. t.meets_goal x ≡ false) (is_state g c) c.requires.no_goal) c.requires.open _ _ (ap g.S.StateStore.states c.mark.ensures.store)
+    (subst (λ x. t.meets_goal x ≡ false) (is_state g c) c.requires.no_goal) c.requires.open _ _ (ap g.L.StateListing.states c.mark.ensures.store)
     (c.mark.ensures.nodes turn.found.node (found_of-get states all _ turn.found turn.occurs).1)
 
 pub loop-action-init : goal.loop-action-init
 loop-action-init g c =
     let turn = c.requires.turn in
     let begun = c.mark.new.self in
-    let nodes = found_of (g.S.StateStore.states begun.store) begun.nodes.items in
+    let nodes = found_of (g.L.StateListing.states begun.store) begun.nodes.items in
     let begins = has_begun g (goal.at.loop-action-init g c).After-deref-action-items in
+    let class_of = g.L.StateListing.class_of c.args.self.now.store in
+    let same : g.L.StateListing.class_of begun.store ≡ class_of = ap g.L.StateListing.class_of c.mark.ensures.store in
+    let t = g.T.TransitionSystem.means c.args.system.now in
     record {
-      expanding = record {
+      expanding = rw same (record {
         search = record { one_each = begins.one_each; nodes = rw c.mark.ensures.open_list begins.nodes; heap = rw c.mark.ensures.open_list turn.heap };
         turn = begins.turn;
         others_open = begins.others_open;
-      };
+      });
       within = rw c.mark.ensures.store c.requires.within;
-      continues = continues_same nodes c.args.turn.id.0;
+      continues = continues_same (g.L.StateListing.class_of begun.store) nodes c.args.turn.id.0;
+      class = refl;
       width = rw c.mark.ensures.store c.requires.width;
       state = c.requires.buffers.state;
       room = c.move_to.ensures;
       next = c.requires.buffers.next;
       occurs = rw c.mark.ensures.store c.requires.state;
       left = rw c.deref-action-items.ensures.value
-          (left_start (g.T.TransitionSystem.means c.args.system.now) nodes c.args.turn.id.0 (marked Expanded turn.found) begins.occurs (bits_of c.args.buffers.now.state) c.applicable.new.into.items
+          (left_start t (g.L.StateListing.class_of begun.store) nodes c.args.turn.id.0 (marked Expanded turn.found) begins.occurs (bits_of c.args.buffers.now.state) c.applicable.new.into.items
           (is_state g (goal.at.loop-action-init g c).After-deref-action-items) c.in_ok-applicable.ensures.ok);
     }
 
@@ -77,7 +81,7 @@ successor-requires-clause-applicable g c =
     let inv = c.loop-action.invariant in
     let e = inv.expanding in
     let t = g.T.TransitionSystem.means c.args.system.now in
-    let states = g.S.StateStore.states c.loop-action.self.store in
+    let states = g.L.StateListing.states c.loop-action.self.store in
     let parts = found_of-get states c.loop-action.self.nodes.items c.args.turn.id.0 e.turn.found e.turn.occurs in
     let numbers = c.deref-action-items.result.now in
     let a = get_or numbers c.loop-action.action-index 0 in
@@ -91,11 +95,11 @@ loop-action-preserved g c =
     let inv = c.loop-action.invariant in
     let e = inv.expanding in
     let t = g.T.TransitionSystem.means c.args.system.now in
-    let states = g.S.StateStore.states c.loop-action.self.store in
-    let states' = g.S.StateStore.states c.reach.new.self.store in
+    let states = g.L.StateListing.states c.loop-action.self.store in
+    let states' = g.L.StateListing.states c.reach.new.self.store in
     let nodes = found_of states c.loop-action.self.nodes.items in
     let after = found_of states' c.reach.new.self.nodes.items in
-    let begun = found_of (g.S.StateStore.states c.mark.new.self.store) c.mark.new.self.nodes.items in
+    let begun = found_of (g.L.StateListing.states c.mark.new.self.store) c.mark.new.self.nodes.items in
     let parts = found_of-get states c.loop-action.self.nodes.items c.args.turn.id.0 e.turn.found e.turn.occurs in
     let numbers = c.deref-action-items.result.now in
     let a = get_or numbers c.loop-action.action-index 0 in
@@ -104,18 +108,23 @@ loop-action-preserved g c =
     let leads = subst (λ x. t.step x a ≡ Some next) (same_Some s e.turn.found.state (sym inv.occurs ∙ parts.0)) c.successor.ensures.step in
     let left = rw (drop_more numbers c.loop-action.action-index 0 c.loop-action-test.true) at inv.left in
     let listed : c.in_ok-reach.field-0 ≡ true = c.if-not-branch.false in
-    let reaches = rw listed at c.in_ok-reach.ensures.listed in
+    let class_of = g.L.StateListing.class_of c.mark.new.self.store in
+    let reaches = rw (inv.class, listed) at c.in_ok-reach.ensures.listed in
     record {
       expanding = reaches.expanding;
       within = reaches.within;
-      continues = continues_trans begun nodes after c.args.turn.id.0 inv.continues reaches.continues;
+      continues = continues_trans class_of begun nodes after c.args.turn.id.0 inv.continues reaches.continues;
+      class = c.in_ok-reach.ensures.class ∙ inv.class;
       width = c.in_ok-reach.ensures.width ∙ inv.width;
       state = inv.state;
       room = c.in_ok-reach.ensures.room;
       next = c.successor.ensures.width;
-      occurs = occurs_still states states' c.loop-action.self.nodes.items c.reach.new.self.nodes.items c.args.turn.id.0 e.turn.found s e.turn.occurs reaches.continues inv.occurs;
-      left = left_more t nodes c.args.turn.id.0 e.turn.found e.turn.occurs after a next (drop (c.loop-action.action-index + 1) numbers) left leads reaches.continues reaches.listed;
+      occurs = occurs_still class_of states states' c.loop-action.self.nodes.items c.reach.new.self.nodes.items c.args.turn.id.0 e.turn.found s e.turn.occurs reaches.continues inv.occurs;
+      left = left_more t class_of nodes c.args.turn.id.0 e.turn.found e.turn.occurs after a next (drop (c.loop-action.action-index + 1) numbers) left leads reaches.continues reaches.listed;
     }
+
+pub reach-requires-clause-expanding : goal.reach-requires-clause-expanding
+reach-requires-clause-expanding g c = rw c.loop-action.invariant.class c.loop-action.invariant.expanding
 
 pub returns-then-not-branch-clause-listed : goal.returns-then-not-branch-clause-listed
 returns-then-not-branch-clause-listed g c =
@@ -123,10 +132,12 @@ returns-then-not-branch-clause-listed g c =
     let e = inv.expanding in
     let value = g.G.Guide.estimate_of c.args.guide.now in
     let is_dead = g.G.Guide.is_dead c.args.guide.now in
-    let states = g.S.StateStore.states c.loop-action.self.store in
+    let states = g.L.StateListing.states c.loop-action.self.store in
     let all = c.loop-action.self.nodes.items in
     let i = c.args.turn.id.0 in
     let stopped : c.in_ok-reach.field-0 ≡ false = c.if-not-branch.true in
+    let class_of = g.L.StateListing.class_of c.args.self.now.store in
+    let same_classes : g.L.StateListing.class_of c.mark.new.self.store ≡ class_of = ap g.L.StateListing.class_of c.mark.ensures.store in
     let full = rw stopped at c.in_ok-reach.ensures.listed in
     let here = (goal.at.returns-then-not-branch-clause-listed g c).After-deref-action-items in
     let one : Found (List Bool) = marked Expanded c.requires.turn.found in
@@ -135,27 +146,27 @@ returns-then-not-branch-clause-listed g c =
     let t = g.T.TransitionSystem.means c.args.system.now in
     let nodes = found_of states all in
     let back = c.mark-then-not-branch.new.self in
-    let stored : g.S.StateStore.states back.store ≡ states = ap g.S.StateStore.states c.mark-then-not-branch.ensures.store ∙ full.store in
+    let stored : g.L.StateListing.states back.store ≡ states = ap g.L.StateListing.states c.mark-then-not-branch.ensures.store ∙ full.store in
     let stood : slice_get c.reach.new.self.nodes.items i ≡ Some e.turn.found.node = ap (λ (ns : List Node). slice_get ns i) full.nodes ∙ (found_of-get states all i e.turn.found e.turn.occurs).1 in
-    let taken_back : back.nodes.items ≡ set all i (marked_as Open e.turn.found.node) =
-    c.mark-then-not-branch.ensures.nodes e.turn.found.node stood ∙ ap (λ (ns : List Node). set ns i (marked_as Open e.turn.found.node)) full.nodes in
-    let waiting : Found (List Bool) = marked Open e.turn.found in
-    let after = found_of (g.S.StateStore.states back.store) back.nodes.items in
+    let taken_back : back.nodes.items ≡ set all i (marked_as Reopened e.turn.found.node) =
+    c.mark-then-not-branch.ensures.nodes e.turn.found.node stood ∙ ap (λ (ns : List Node). set ns i (marked_as Reopened e.turn.found.node)) full.nodes in
+    let waiting : Found (List Bool) = marked Reopened e.turn.found in
+    let after = found_of (g.L.StateListing.states back.store) back.nodes.items in
     let is : after ≡ set nodes i waiting =
-    ap (λ (ss : List (List Bool)). found_of ss back.nodes.items) stored ∙ ap (found_of states) taken_back ∙ found_of-set states all i e.turn.found (marked_as Open e.turn.found.node) e.turn.occurs in
+    ap (λ (ss : List (List Bool)). found_of ss back.nodes.items) stored ∙ ap (found_of states) taken_back ∙ found_of-set states all i e.turn.found (marked_as Reopened e.turn.found.node) e.turn.occurs in
     let occurs : slice_get after i ≡ Some waiting = ap (λ (ns : List (Found (List Bool))). slice_get ns i) is ∙ get-set_here nodes i waiting e.turn.found e.turn.occurs in
     let others : (k : ℕ) → k ≢ i → slice_get after k ≡ slice_get nodes k = λ k other. ap (λ (ns : List (Found (List Bool))). slice_get ns k) is ∙ get-set_other nodes i waiting k other in
     let long : length after ≡ length nodes = ap length is ∙ length-set nodes i waiting in
     record {
       more = full.more;
       full = ap length stored ∙ full.full;
-      one_each = ap length taken_back ∙ length-set all i (marked_as Open e.turn.found.node) ∙ e.search.one_each ∙ sym (ap length stored);
+      one_each = ap length taken_back ∙ length-set all i (marked_as Reopened e.turn.found.node) ∙ e.search.one_each ∙ sym (ap length stored);
       found = waiting;
       occurs = occurs;
       waits = (refl, e.search.nodes.alive i e.turn.found e.turn.occurs e.turn.expanded);
       sum = sum;
-      nodes = rw (c.mark-then-not-branch.ensures.open_list, full.open_list) (nodes_unmarked t value is_dead nodes after i e.turn occurs others (waiting_in c.loop-action.self.open_list) e.search.nodes long);
-      are_open = open_unmarked t value is_dead nodes after i e.turn occurs others e.others_open;
+      nodes = rw (c.mark-then-not-branch.ensures.open_list, full.open_list) (nodes_unmarked t class_of value is_dead nodes after i e.turn occurs others (waiting_in c.loop-action.self.open_list) (rw same_classes at e.search.nodes) long);
+      are_open = open_unmarked t class_of value is_dead nodes after i e.turn occurs others (rw same_classes at e.others_open);
       heap = rw (c.mark-then-not-branch.ensures.open_list, full.open_list) e.search.heap;
     }
 
@@ -164,12 +175,13 @@ returns-clause-listed g c =
     let t = g.T.TransitionSystem.means c.args.system.now in
     let inv = c.loop-action.invariant in
     let e = inv.expanding in
-    let nodes = found_of (g.S.StateStore.states c.loop-action.self.store) c.loop-action.self.nodes.items in
+    let nodes = found_of (g.L.StateListing.states c.loop-action.self.store) c.loop-action.self.nodes.items in
+    let class_of = g.L.StateListing.class_of c.mark.new.self.store in
     let numbers = c.deref-action-items.result.now in
     let none = drop_all c.loop-action.action-index numbers (omega (arith, c.loop-action-test.false)) in
-    record {
+    rw (sym (ap g.L.StateListing.class_of c.mark.ensures.store)) (record {
       search = e.search;
-      are_open = open_all t nodes c.args.turn.id.0 e.turn.found e.turn.occurs (left_end t nodes c.args.turn.id.0 e.turn.found e.turn.occurs (drop c.loop-action.action-index numbers) none inv.left) e.others_open;
+      are_open = open_all t class_of nodes c.args.turn.id.0 e.turn.found e.turn.occurs (left_end t class_of nodes c.args.turn.id.0 e.turn.found e.turn.occurs (drop c.loop-action.action-index numbers) none inv.left) e.others_open;
       within = inv.within;
-      less = less_then _ _ _ (inv.continues.less c.args.max_states (omega (arith, inv.within, length-found_of (g.S.StateStore.states c.loop-action.self.store) c.loop-action.self.nodes.items e.search.one_each))) ((has_begun g (goal.at.returns-clause-listed g c).After-deref-action-items).less c.args.max_states);
-    }
+      less = less_then _ _ _ (inv.continues.less c.args.max_states (omega (arith, inv.within, length-found_of (g.L.StateListing.states c.loop-action.self.store) c.loop-action.self.nodes.items e.search.one_each))) ((has_begun g (goal.at.returns-clause-listed g c).After-deref-action-items).less c.args.max_states);
+    })

@@ -8,15 +8,17 @@ use Rattle.search.proofs.progress.Progress.expand.Given as goal
 abbrev pub invariant-loop-action : goal.invariant-loop-action
 invariant-loop-action g l =
     let t = g.T.TransitionSystem.means l.system in
-    let states_of = g.S.StateStore.states in
+    let states_of = g.L.StateListing.states in
+    let class_of = g.L.StateListing.class_of l.initial.self.store in
     record {
-      expanding : IsExpanding t (g.G.Guide.estimate_of l.guide) (g.G.Guide.is_dead l.guide) states_of l.self l.turn.id.0;
+      expanding : IsExpanding t class_of (g.G.Guide.estimate_of l.guide) (g.G.Guide.is_dead l.guide) states_of l.self l.turn.id.0;
       within : length (states_of l.self.store) ≤ l.max_states;
-      continues : Continues (nodes_in states_of l.initial.self) (nodes_in states_of l.self) l.turn.id.0;
-      width : g.S.StateStore.width_of l.self.store ≡ g.T.TransitionSystem.width_of l.system;
+      continues : Continues class_of (nodes_in states_of l.initial.self) (nodes_in states_of l.self) l.turn.id.0;
+      class : g.L.StateListing.class_of l.self.store ≡ class_of;
+      width : g.L.StateListing.width_of l.self.store ≡ g.T.TransitionSystem.width_of l.system;
       state : length (bits_of l.buffers.1.0) ≡ g.T.TransitionSystem.width_of l.system;
       next : length (bits_of l.buffers.1.1.0) ≡ g.T.TransitionSystem.width_of l.system;
       occurs : slice_get (states_of l.self.store) l.turn.id.0 ≡ Some (bits_of l.buffers.1.0);
       room : g.G.Guide.is_at l.guide l.buffers.1.1.1.1.0 (bits_of l.buffers.1.0);
-      left : AreLeft t (nodes_in states_of l.self) l.turn.id.0 (drop l.action-index l.action-items);
+      left : AreLeft t class_of (nodes_in states_of l.self) l.turn.id.0 (drop l.action-index l.action-items);
     }

@@ -1,12 +1,16 @@
-use Rattle.std.proofs.Common.{rules, ◌≡◌, ◌∙◌, length, sym, ap, subst, arith, to_z, of_z, w64}
+use Rattle.std.proofs.Common.{rules, ◌≡◌, ◌∙◌, ◌^◌, true, length, refl, sym, ap, subst, arith, to_z, of_z, w64}
 use Rattle.std.proofs.lemmas.Int.{ints}
+use Rattle.std.specs.Prelude.{nat_lt}
 use Rattle.packed_state.specs.Packed.{bits_of}
+use Rattle.packed_state.specs.PooledView.{pooled_states}
 use Rattle.table_losses.specs.Afters.{left_of, free_places, ways}
 use Rattle.table_losses.specs.Fates.{question_of, LosesTo, LosesFrom, are_rows}
 use Rattle.table_losses.specs.PlacedChanges.{changes_of}
 use Rattle.table_rows.specs.Tables.{table_of}
 use Rattle.table_losses.proofs.AfterLemmas.{length-changed}
 use Rattle.table_losses.proofs.FateLemmas.{row-range, row-there, free-below, fate-loses, fate-leaves, weight-is}
+use Rattle.table_losses.proofs.ManyWays.{free-different, one-is-no-row}
+use Rattle.table_rows.proofs.StoreLemmas.{sets-wide}
 use Rattle.table_losses.proofs.indexed.IndexedTable.fate.Goals as goal
 
 pub list_free-requires-clause-left : goal.list_free-requires-clause-left
@@ -37,6 +41,27 @@ most_lost_to-requires-clause-weight c =
     let least = range.least in
     let most = range.most in
     record { least = omega (arith, ints); most = omega (arith, ints) }
+
+pub returns-then-is_outnumbered-clause-left : goal.returns-then-is_outnumbered-clause-left
+returns-then-is_outnumbered-clause-left c =
+    let changes = changes_of c.args.question.now.changes.now in
+    ap length c.leave.ensures ∙ length-changed (bits_of c.copy_from.new.self) changes.deletes changes.adds ∙ ap length c.copy_from.ensures ∙ c.get.ensures.width
+
+pub returns-then-is_outnumbered-clause-fate : goal.returns-then-is_outnumbered-clause-fate
+returns-then-is_outnumbered-clause-fate c =
+    let t = c.args.self.now.table.now in
+    let changes = changes_of c.args.question.now.changes.now in
+    let set = bits_of c.get.new.set in
+    let left : bits_of c.leave.new.row ≡ left_of changes set = c.leave.ensures ∙ ap (left_of changes) c.copy_from.ensures in
+    let free = free_places changes.whens set (left_of changes set) in
+    let count : c.len.result ≡ length c.list_free.new.free.items = omega (arith, c.len.ensures, c.list_free.new.free.ok.0) in
+    let many : c.len.result ≡ length free = count ∙ ap length (c.in_ok-list_free.ensures ∙ ap (free_places changes.whens set) left) in
+    let fewer : nat_lt (length (table_of t).rows) (2 ^ length free) ≡ true =
+    ap (λ n. nat_lt (length (table_of t).rows) (2 ^ n)) (sym many) ∙ sym c.is_outnumbered.ensures ∙ c.if-is_outnumbered.true in
+    fate-leaves (question_of t c.args.question.now) c.args.row set c.get.ensures.set (sym c.all_are_so.ensures ∙ c.if-not-all_are_so.false)
+    (one-is-no-row t.count t.scope.items t.rising (pooled_states t.rows.sets) t.rows.weights.items (left_of changes set) free (sets-wide t.rows.sets (length t.scope.items) t.wide)
+    (length-changed set changes.deletes changes.adds ∙ c.get.ensures.width) (free-different changes.whens set (left_of changes set))
+    (free-below set (left_of changes set) (length t.scope.items) changes.whens free refl c.requires.fits.changes.whens) fewer)
 
 pub returns-in-Some-clause-left : goal.returns-in-Some-clause-left
 returns-in-Some-clause-left c =

@@ -1,11 +1,19 @@
-use Rattle.std.proofs.Common.{◌≡◌, Some, subst}
+use Rattle.std.proofs.Common.{◌≡◌, ◌≤◌, Some, length, subst, arith}
 use Rattle.std.specs.Prelude.{slice_get}
+use Rattle.std.proofs.lemmas.Bool.{leb-true}
 use Rattle.packed_state.specs.Packed.{bits_of}
 use Rattle.packed_state.specs.PooledView.{pooled_states}
 use Rattle.certificate.specs.Certificate.{store_in}
+use Rattle.task_certificates.proofs.LimitsLemmas.{limits_of}
 use Rattle.cert_checker.specs.PackedListing.{task_at, atoms_at, certificate_at}
 use Rattle.cert_checker.proofs.PackedListingLemmas.{found_there}
 use Rattle.cert_checker.proofs.checker.packed.PackedListing.get.Goals as goal
+
+pub overflow_cast-place : goal.overflow_cast-place
+overflow_cast-place c =
+    let listing = c.args.self.now in
+    let few : length (certificate_at listing).lines ≤ 16777216 = leb-true (length (certificate_at listing).lines) 16777216 (limits_of (certificate_at listing) listing.cert.now.within_limits).few_states in
+    omega (arith, few, c.requires.within)
 
 pub returns-clause-state : goal.returns-clause-state
 returns-clause-state c =

@@ -8,5 +8,5 @@ invariant_of-result c = record {
   valued = c.requires.weights;
   listed = record { fluent = c.requires.fluent; numbered = c.requires.numbered; holds = holds_lines c.args.cert.now (length (atoms_in c.args.grounded.now)) c.requires.width };
   symmetric = c.requires.symmetric;
-  represented = c.requires.represented;
+  classified = c.requires.classified;
 }

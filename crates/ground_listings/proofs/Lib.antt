@@ -1,0 +1,7 @@
+pub mod GroundLemmas
+pub mod TaskLemmas
+pub mod ExchangeLemmas
+pub mod PlanLemmas
+pub mod ByKeys
+pub mod RowLemmas
+pub mod OrbitLemmas

@@ -1,0 +1,40 @@
+use Rattle.std.proofs.Common.{◌≡◌, ◌∙◌, List, Bool, [], ◌∷◌, ◌++◌, length, ap, subst, arith}
+use Rattle.std.specs.Prelude.{Contains}
+use Rattle.packed_state.specs.Packed.{bits_of}
+use Rattle.packed_state.specs.PooledView.{pooled_states}
+use Rattle.ground_listings.specs.States.{states_of}
+use Rattle.ground_listings.specs.Orbits.{key_by, states_in}
+use Rattle.ground_listings.proofs.OrbitLemmas.{placed_by, lacks}
+use Rattle.ground_listings.proofs.orbits.Orbits.place.Goals as goal
+use Rattle.ground_listings.proofs.orbits.Orbits.place.Goals.{In-None}
+
+-- the key was not found, so the state is not listed
+not_there : (c : In-None) → Contains (states_in c.args.self.now) (bits_of c.args.state.now) → ⊥
+not_there c =
+    let old = c.args.self.now in
+    lacks old (bits_of c.args.state.now) c.requires.linked
+    (subst (λ (keys : List (List Bool)). Contains keys (key_by old.representatives.now (bits_of c.args.state.now)) → ⊥) (ap pooled_states c.represent.ensures.keys)
+    (subst (λ (key : List Bool). Contains (pooled_states c.represent.new.self.keys) key → ⊥) c.represent.ensures.key c.in-None.ensures))
+
+pub returns-in-Some-clause-placed : goal.returns-in-Some-clause-placed
+returns-in-Some-clause-placed c =
+    placed_by c.args.self.now c.represent.new.self (bits_of c.args.state.now) c.args.max_states c.place_in_class.result c.represent.ensures.representatives c.represent.ensures.states c.place_in_class.ensures
+
+pub returns-in_ok-place-in-None-clause-placed : goal.returns-in_ok-place-in-None-clause-placed
+returns-in_ok-place-in-None-clause-placed c =
+    let old = c.args.self.now in
+    let same : states_in c.represent.new.self ≡ states_in old = ap states_of c.represent.ensures.states in
+    let less = c.if-len-max_states.true in (
+      not_there (goal.at.returns-in_ok-place-in-None-clause-placed c).In-None,
+      omega (arith, less, c.len.ensures, ap length same),
+      c.in_ok-place-in-None.ensures.states ∙ ap (λ xs. xs ++ bits_of c.args.state.now ∷ []) same,
+      c.in_ok-place-in-None.ensures.place ∙ ap length same,
+    )
+
+pub returns-in-None-2-clause-placed : goal.returns-in-None-2-clause-placed
+returns-in-None-2-clause-placed c =
+    let same : states_in c.represent.new.self ≡ states_in c.args.self.now = ap states_of c.represent.ensures.states in (
+      not_there (goal.at.returns-in-None-2-clause-placed c).In-None,
+      omega (arith, c.if-len-max_states.false, c.requires.within, c.len.ensures, ap length same),
+      same,
+    )

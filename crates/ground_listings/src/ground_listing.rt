@@ -1,0 +1,70 @@
+//! The listing of a search of a ground task, with exchanges of objects or without.
+use crate::orbit_store::OrbitStore;
+use faults::NoMemory;
+use packed_state::{Packed, PooledStore};
+use search::{OwnClasses, Place, StateListing};
+
+/// The states of a ground task that a search lists, looked up by themselves or by their representatives.
+#[derive(Drop)]
+pub enum GroundListing<'l, 't> {
+    /// By themselves.
+    Alone(OwnClasses<PooledStore>),
+    /// By their representatives.
+    Orbits(OrbitStore<'l, 't>),
+}
+
+impl StateListing for GroundListing<'_, '_> {
+    ghost use Rattle.ground_listings.specs.GroundListing.{listed_width, listed_states, listed_class, is_current_in, are_listed_once};
+
+    ghost width_of = { listed_width };
+
+    ghost states = { listed_states };
+
+    ghost class_of = { listed_class };
+
+    ghost is_current = { is_current_in };
+
+    ghost distinct = { are_listed_once };
+
+    fn width(&self) -> u32 {
+        match self {
+            GroundListing::Alone(listing) => listing.width(),
+            GroundListing::Orbits(store) => store.width(),
+        }
+    }
+
+    fn len(&self) -> usize {
+        match self {
+            GroundListing::Alone(listing) => listing.len(),
+            GroundListing::Orbits(store) => store.len(),
+        }
+    }
+
+    fn get(&self, place: u32, into: &mut Packed) {
+        match self {
+            GroundListing::Alone(listing) => listing.get(place, into),
+            GroundListing::Orbits(store) => store.get(place, into),
+        }
+    }
+
+    fn place(&mut self, state: &Packed, max_states: u32) -> Result<Option<Place>, NoMemory> {
+        match self {
+            GroundListing::Alone(listing) => listing.place(state, max_states),
+            GroundListing::Orbits(store) => store.place(state, max_states),
+        }
+    }
+
+    fn append(&mut self, state: &Packed, place: u32) -> Result<(), NoMemory> {
+        match self {
+            GroundListing::Alone(listing) => listing.append(state, place),
+            GroundListing::Orbits(store) => store.append(state, place),
+        }
+    }
+
+    fn replace(&mut self, place: u32, state: &Packed) {
+        match self {
+            GroundListing::Alone(listing) => listing.replace(place, state),
+            GroundListing::Orbits(store) => store.replace(place, state),
+        }
+    }
+}

@@ -1,0 +1,82 @@
+//! The states that a search lists, looked up by their representatives.
+ghost use Rattle.std.specs.Prelude.{◌≡◌, [], IfOk};
+ghost use Rattle.std.proofs.Props.{props};
+ghost use Rattle.ground_listings.specs.Orbits.{IsLinked};
+
+use crate::orbits::Orbits;
+use faults::NoMemory;
+use packed_state::Packed;
+use representatives::Representatives;
+use search::{Place, StateListing};
+use std::alloc::Global;
+
+/// The states of a ground task that a search lists. Those with one representative are of one class.
+///
+/// A state that is listed is found by its representative if it is the current one of its class. Those that were current before, which
+/// are few, are looked up by themselves.
+#[derive(Drop)]
+pub struct OrbitStore<'l, 't> {
+    orbits: Orbits<'l, 't>,
+    ghost linked: { IsLinked orbits } by { Prim.hlevel props },
+}
+
+impl<'l, 't> OrbitStore<'l, 't> {
+    ghost use Rattle.std.specs.Prelude.{length};
+    ghost use Rattle.representatives.specs.Representatives.{atoms_of};
+    ghost use Rattle.ground_listings.specs.Orbits.{key_by};
+    ghost use Rattle.ground_listings.specs.OrbitStore.{orbit_width, orbit_states, orbit_class};
+
+    /// A store without states.
+    ///
+    /// # Errors
+    /// Memory was refused, which says nothing of the task.
+    pub fn new(
+        alloc: Global,
+        representatives: &'l Representatives<'l, 't, 'l>,
+    ) -> Result<OrbitStore<'l, 't>, NoMemory>
+        ensures width { IfOk result (λ store. orbit_width store ≡ length (atoms_of representatives.now)) }
+        ensures states { IfOk result (λ store. orbit_states store ≡ []) }
+        ensures class { IfOk result (λ store. orbit_class store ≡ key_by representatives.now) }
+    {
+        let orbits = Orbits::new(alloc, representatives)?;
+        Ok(OrbitStore { orbits })
+    }
+}
+
+impl StateListing for OrbitStore<'_, '_> {
+    ghost use Rattle.ground_listings.specs.OrbitStore.{orbit_width, orbit_states, orbit_class, is_orbit_current};
+
+    ghost width_of = { orbit_width };
+
+    ghost states = { orbit_states };
+
+    ghost class_of = { orbit_class };
+
+    ghost is_current = { is_orbit_current };
+
+    ghost distinct = { λ store. store.linked.listed.distinct };
+
+    fn width(&self) -> u32 {
+        self.orbits.representatives.ground().width()
+    }
+
+    fn len(&self) -> usize {
+        self.orbits.len()
+    }
+
+    fn get(&self, place: u32, into: &mut Packed) {
+        self.orbits.get(place, into);
+    }
+
+    fn place(&mut self, state: &Packed, max_states: u32) -> Result<Option<Place>, NoMemory> {
+        self.orbits.place(state, max_states)
+    }
+
+    fn append(&mut self, state: &Packed, place: u32) -> Result<(), NoMemory> {
+        self.orbits.append(state, place)
+    }
+
+    fn replace(&mut self, place: u32, state: &Packed) {
+        self.orbits.replace(place, state);
+    }
+}

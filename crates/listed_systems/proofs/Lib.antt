@@ -1,5 +1,0 @@
-pub mod GroundLemmas
-pub mod ListedLemmas
-pub mod ListedGuides
-pub mod ExchangeLemmas
-pub mod PlanLemmas

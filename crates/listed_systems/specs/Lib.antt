@@ -1,3 +1,0 @@
-pub mod Exchanges
-pub mod ListedSystem
-pub mod Reachable

@@ -1,4 +1,0 @@
-pub mod Guides
-pub mod Applicable
-pub mod Steps
-pub mod Walk
