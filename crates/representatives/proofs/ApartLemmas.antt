@@ -51,7 +51,7 @@ at_pairs [] bits n = refl
 at_pairs (pairs ∷ swaps) bits zero = refl
 at_pairs (pairs ∷ swaps) bits (suc n) = at_pairs swaps bits n
 
-swapped_pairs : (swaps : List (List (ℕ × ℕ))) (bits : List Bool) (n : ℕ) → swapped_at swaps bits n ≡ with_swapped (pairs_at swaps n) bits
+pub swapped_pairs : (swaps : List (List (ℕ × ℕ))) (bits : List Bool) (n : ℕ) → swapped_at swaps bits n ≡ with_swapped (pairs_at swaps n) bits
 swapped_pairs [] bits n = refl
 swapped_pairs (pairs ∷ swaps) bits zero = refl
 swapped_pairs (pairs ∷ swaps) bits (suc n) = swapped_pairs swaps bits n

@@ -27,13 +27,14 @@ use Rattle.representatives.specs.declared.pairs.Pair.{Pair}
 use Rattle.representatives.specs.declared.run.Run.{Run}
 use Rattle.representatives.specs.declared.representatives.Representatives.{Representatives}
 use Rattle.representatives.specs.Places.{swap_of, swaps_of_all, are_within, is_within, is_earlier, is_earlier_at, swapped_at, FindsFrom}
-use Rattle.representatives.specs.Apart.{is_among, AreAllWithin, AreAllBelow}
+use Rattle.representatives.specs.Apart.{is_among, pairs_at, AreAllWithin, AreAllBelow}
 use Rattle.representatives.specs.Lowest.{AreNeighbours}
 use Rattle.representatives.specs.Pairs.{swaps_in}
 use Rattle.representatives.specs.Runs.{pairs_in_all, swap_in_runs, AreBelow}
 use Rattle.representatives.specs.Representatives.{task_of, atoms_of, exchanges_of, swaps_of}
+use Rattle.representatives.proofs.SwappedBits.{length-with_swapped}
 use Rattle.representatives.proofs.ImageBits.{numbers_within}
-use Rattle.representatives.proofs.ApartLemmas.{passed_on}
+use Rattle.representatives.proofs.ApartLemmas.{swapped_pairs, passed_on}
 use Rattle.representatives.proofs.Turns.{AreKept, all_within, Stands, is_last, ends, turns}
 
 all_different : (exchanges : List code.Exchange) → list_all (λ (e : Exchange). are_different (objects_in e)) (map exchange_of exchanges) ≡ true
@@ -155,6 +156,10 @@ neighbours_inside r bits n passes =
     let each = r.each in
     let long = length-map r.swaps.items swap_in_runs in
     omega (arith, inside, each, long)
+
+-- an image has as many bits
+pub stays_wide : (r : Representatives) (bits new : List Bool) (number : ℕ) → new ≡ swapped_at (swaps_of r) bits number → length new ≡ length bits
+stays_wide r bits new number is = ap length (is ∙ swapped_pairs (swaps_of r) bits number) ∙ length-with_swapped (pairs_at (swaps_of r) number) bits
 
 -- Where an image by the first exchange has been taken whose image comes before: of those whose images come before the new one the first
 -- is looked for among these neighbours.

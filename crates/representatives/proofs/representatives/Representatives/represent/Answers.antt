@@ -13,16 +13,16 @@ rounds-init c =
 pub images-init : goal.images-init
 images-init c = c.rounds.invariant
 
-pub take_image-requires-clause-wide : goal.take_image-requires-clause-wide
-take_image-requires-clause-wide c = c.images.invariant.wide
+pub take_image-next-requires-clause-wide : goal.take_image-next-requires-clause-wide
+take_image-next-requires-clause-wide c = c.images.invariant.wide
 
-pub take_image-requires-clause-first : goal.take_image-requires-clause-first
-take_image-requires-clause-first c = subst (FindsFrom (swaps_of c.args.self.now) (bits_of c.images.state) 0) c.in-Some.is c.images.invariant.finds
+pub take_image-next-requires-clause-first : goal.take_image-next-requires-clause-first
+take_image-next-requires-clause-first c = subst (FindsFrom (swaps_of c.args.self.now) (bits_of c.images.state) 0) c.in-Some.is c.images.invariant.finds
 
 pub images-preserved : goal.images-preserved
 images-preserved c =
     image_taken c.args.self.now (bits_of c.args.state.now) _ c.rounds.counter c.images.counter (bits_of c.images.state) c.images.next c.rounds-test.true c.images-test.true c.images.invariant
-    c.in-Some.number c.in-Some.is (bits_of c.take_image.new.state) c.take_image.ensures.image c.take_image.result c.take_image.ensures.next
+    c.in-Some.number c.in-Some.is (bits_of c.take_image-next.new.state) c.take_image-next.ensures.image c.take_image-next.result c.take_image-next.ensures.next
 
 pub rounds-preserved : goal.rounds-preserved
 rounds-preserved c = next_round c.args.self.now (bits_of c.args.state.now) _ c.rounds.counter c.images.counter (bits_of c.images.state) c.images.next c.images.auto.counter-end c.images-test.false c.images.invariant
