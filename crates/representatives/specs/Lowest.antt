@@ -28,8 +28,8 @@ pub record AreLowest (noted : List Lowest) (pairs : List (ℕ × ℕ)) (number :
   pub most : bound ≤ number
   pub all : AreListed noted pairs listed bound
 
--- Of the exchanges that share an atom with the one of this number: before each that is told stand all below it, and all are told that are
--- below the number from which on none are.
+-- Of the exchanges that share an atom with the one of this number: before each that is kept stand all that are below it, and all are
+-- kept that are below the bound.
 abbrev pub AreNeighbours : List (List (ℕ × ℕ)) → ℕ → Lowest → Type 0
 AreNeighbours swaps number lowest =
     ((place : ℕ) → AreAllBelow swaps number (take place lowest.numbers.items) (slice_index lowest.numbers.items place))

@@ -7,17 +7,17 @@ use arrayvec::ArrayVec;
 /// How many numbers are kept at most.
 pub(crate) const MOST: usize = 4;
 
-/// The lowest of a set of numbers, and a number below which there are no others.
+/// The lowest of a set of numbers of exchanges.
 #[derive(Drop)]
 pub(crate) struct Lowest {
-    /// In the order in which they were noted.
+    /// At most so many, rising.
     pub(crate) numbers: ArrayVec<usize, MOST>,
-    /// All numbers of the set below this one are among them.
+    /// All of the set that are below this number are among them.
     pub(crate) from: usize,
 }
 
 impl Lowest {
-    /// Of no number.
+    /// Those of the empty set.
     pub(crate) fn new() -> Lowest {
         Lowest {
             numbers: ArrayVec::new(),
@@ -25,7 +25,7 @@ impl Lowest {
         }
     }
 
-    /// Takes one more number into the set.
+    /// Takes one more number into the set, above all others.
     pub(crate) fn note(&mut self, number: usize)
         ensures kept { (n : ℕ) → tells self.old n ≡ true → tells self.new n ≡ true }
         ensures noted { tells self.new number ≡ true }
@@ -37,7 +37,7 @@ impl Lowest {
         }
     }
 
-    /// A number, from this one on, below which the set has none from this one on.
+    /// The first number of the set from this one on; where more are in the set than are kept, one that is no higher.
     pub(crate) fn first_from(&self, start: usize) -> usize
         ensures { (n : ℕ) → tells self.now n ≡ true → start ≤ n → result ≤ n }
     {

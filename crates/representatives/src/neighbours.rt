@@ -1,5 +1,5 @@
-//! The exchanges that have an atom in common. Once an image was taken, only those are looked at again: an image by another one comes
-//! before the state exactly if it did before.
+//! The exchanges that have an atom in common. Once an image was taken, only those are tried again: an image by another one comes before
+//! the state exactly if it did before.
 ghost use Rattle.std.specs.Prelude.{◌≡◌, ◌<◌, ◌≤◌, ℕ, true, length, map, IfOk};
 ghost use Rattle.representatives.specs.Pairs.{pair_of, swaps_in, AreBelow};
 ghost use Rattle.representatives.specs.Apart.{is_in, AreAllWithin};
@@ -11,8 +11,7 @@ use arrayvec::ArrayVec;
 use faults::NoMemory;
 use std::alloc::Global;
 
-/// For each of these exchanges the lowest that share an atom with it, rising, of those of lower numbers. All numbers of atoms are
-/// below the width.
+/// For each of these exchanges the lowest of those before it that share an atom with it. All numbers of atoms are below the width.
 pub(crate) fn neighbours(
     alloc: Global,
     width: usize,
@@ -44,7 +43,7 @@ fn none_noted(alloc: Global, width: usize) -> Result<Vec<Lowest>, NoMemory>
     Ok(noted)
 }
 
-/// The lowest numbers, rising, that are noted of the numbers in the pairs, of those below this number.
+/// The lowest numbers that are noted of the atoms in the pairs, of those below this number.
 fn neighbours_of(noted: &[Lowest], pairs: &[Pair], number: usize) -> Lowest
     requires { AreBelow (length noted.now) pairs.now }
     ensures { AreLowest noted.now (map pair_of pairs.now) number result.numbers.items result.from }
@@ -61,7 +60,7 @@ fn neighbours_of(noted: &[Lowest], pairs: &[Pair], number: usize) -> Lowest
     Lowest { numbers, from }
 }
 
-/// The least of this number and what is noted of the numbers in the pairs, from the start on.
+/// The least of this number and those that are noted, from the start on, of the atoms in the pairs.
 fn least_from(noted: &[Lowest], pairs: &[Pair], start: usize, number: usize) -> usize
     requires { AreBelow (length noted.now) pairs.now }
     ensures most { result ≤ number }
@@ -76,7 +75,7 @@ fn least_from(noted: &[Lowest], pairs: &[Pair], start: usize, number: usize) -> 
     least
 }
 
-/// A number, from the start on, below which none from there on is noted at the place.
+/// The first number that is noted of the atom at this place, from the start on.
 fn first_at(noted: &[Lowest], place: usize, start: usize) -> usize
     requires { place < length noted.now }
     ensures { (n : ℕ) → tells_at noted.now place n ≡ true → start ≤ n → result ≤ n }
@@ -84,7 +83,7 @@ fn first_at(noted: &[Lowest], place: usize, start: usize) -> usize
     noted[place].first_from(start)
 }
 
-/// Notes the number of an exchange beside the numbers in its pairs.
+/// Notes the number of an exchange beside the atoms in its pairs.
 fn note(noted: &mut [Lowest], pairs: &[Pair], number: usize)
     requires { AreBelow (length noted.old) pairs.now }
     ensures wide { length noted.new ≡ length noted.old }

@@ -29,7 +29,7 @@ pub struct Representatives<'g, 't, 'e> {
     exchanges: &'e [Exchange],
     /// For each exchange the pairs of numbers of atoms that it takes to each other, by their lower numbers, in runs.
     swaps: Vec<Vec<Run>>,
-    /// For each exchange the lowest that share an atom with it, rising, of those of lower numbers.
+    /// For each exchange the lowest of those before it that share an atom with it.
     neighbours: Vec<Lowest>,
     ghost kept: { list_all (keeps_atoms (atoms_in ground.now)) (map exchange_of exchanges.now) ≡ true } by { Prim.hlevel props },
     ghost made: { swaps_in_runs swaps.items ≡ swaps_of_all (atoms_in ground.now) (map exchange_of exchanges.now) } by { Prim.hlevel props },
@@ -113,8 +113,8 @@ impl<'g, 't, 'e> Representatives<'g, 't, 'e> {
         }
     }
 
-    /// Makes the state its image by the exchange of this number, the first whose image comes before it, and finds the first whose
-    /// image comes before that one.
+    /// Makes the state its image by the exchange of this number, the first whose image comes before it. The first exchange whose
+    /// image comes before the new state: one that shares no atom with this one, and is before it, has none as before.
     fn take_image(&self, number: usize, state: &mut Packed) -> Option<usize>
         requires wide { length (bits_of state.old) ≡ length (atoms_of self.now) }
         requires first { FindsFrom (swaps_of self.now) (bits_of state.old) 0 (Some number) }
