@@ -7,6 +7,7 @@ use Rattle.packed_state.specs.Packed.{bits_of}
 use Rattle.packed_state.specs.PooledView.{pooled_width, pooled_states}
 use Rattle.ground_listings.specs.States.{states_width, states_of}
 use Rattle.representatives.specs.Representatives.{atoms_of}
+use Rattle.ground_listings.specs.RecentStates.{AreNotedByKeys}
 use Rattle.ground_listings.specs.Orbits.{key_by, states_in}
 use Rattle.ground_listings.proofs.OrbitLemmas.{put_new, linked_superseded, other_is, other_wide, class_there, other_current, has_key}
 use Rattle.ground_listings.proofs.orbits.Orbits.append.Goals as goal
@@ -51,12 +52,12 @@ unreachable-requires c =
     let old = c.args.self.now in
     has_key old c.requires.linked (bits_of c.args.state.now) c.args.place c.requires.alike
     (subst (λ (keys : List (List Bool)). Contains keys (key_by old.representatives.now (bits_of c.args.state.now)) → ⊥) (ap pooled_states c.class_of.ensures.keys)
-    (subst (λ (key : List Bool). Contains (pooled_states c.class_of.new.self.keys) key → ⊥) c.class_of.ensures.key c.in_default.ensures))
+    (subst (λ (key : List Bool). Contains (pooled_states c.class_of.new.self.keys) key → ⊥) c.in_default.ensures.class.0 c.in_default.ensures.class.1))
 
 pub index_mut-requires : goal.index_mut-requires
 index_mut-requires c =
     let now = c.class_of.new.self in
-    let inside = slice_get_within (pooled_states now.keys) c.in-Some.class (bits_of now.key) c.in-Some.ensures in
+    let inside = slice_get_within (pooled_states now.keys) c.in-Some.class (key_by c.args.self.now.representatives.now (bits_of c.args.state.now)) c.in-Some.ensures.class in
     let each = c.class_of.ensures.linked.listed.each in
     omega (arith, inside, each, now.current.ok.0)
 
@@ -70,7 +71,7 @@ returns-clause-linked c =
     let s = bits_of c.args.state.now in
     let class = c.in-Some.class in
     let at_class : slice_get (pooled_states old.keys) class ≡ Some (key_by old.representatives.now s) =
-    ap (λ (keys : PooledStore). slice_get (pooled_states keys) class) (sym c.class_of.ensures.keys) ∙ c.in-Some.ensures ∙ ap Some c.class_of.ensures.key in
+    ap (λ (keys : PooledStore). slice_get (pooled_states keys) class) (sym c.class_of.ensures.keys) ∙ c.in-Some.ensures.class in
     let at_current = class_there old c.requires.linked s c.args.place c.requires.alike c.requires.current class at_class in
     let before : states_of c.reserve_one.new.self ≡ states_in old = still_listed (goal.at.returns-clause-linked c).After-reserve_one in
     let long : c.len.result ≡ length (states_in old) = c.len.ensures ∙ ap length before in
@@ -86,6 +87,8 @@ returns-clause-linked c =
       rows_width = c.push_reserved-2.ensures.width ∙ c.reserve_one.ensures.width ∙ ap states_width c.class_of.ensures.states;
       keys_width = ap pooled_width c.class_of.ensures.keys;
       superseded_width = c.in_ok-insert_copy_if_new.ensures.width ∙ ap pooled_width c.class_of.ensures.superseded;
+      noted_width = c.class_of.ensures.linked.noted_width ∙ ap (λ r. length (atoms_of r.now)) c.class_of.ensures.representatives ∙ sym c.requires.linked.noted_width;
+      noted = subst (λ r. AreNotedByKeys (key_by r.now) (pooled_states now.keys) now.recent) c.class_of.ensures.representatives c.class_of.ensures.linked.noted;
     }) c.requires.linked old.keys.pooled.stored.distinct class c.args.place s at_current c.requires.alike c.requires.new c.requires.width at_class
     (c.push_reserved-2.ensures.states ∙ ap (λ xs. xs ++ s ∷ []) before)
     (ap pooled_states c.class_of.ensures.keys)

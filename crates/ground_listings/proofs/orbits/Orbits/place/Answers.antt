@@ -14,7 +14,7 @@ not_there c =
     let old = c.args.self.now in
     lacks old (bits_of c.args.state.now) c.requires.linked
     (subst (λ (keys : List (List Bool)). Contains keys (key_by old.representatives.now (bits_of c.args.state.now)) → ⊥) (ap pooled_states c.class_of.ensures.keys)
-    (subst (λ (key : List Bool). Contains (pooled_states c.class_of.new.self.keys) key → ⊥) c.class_of.ensures.key c.in-None.ensures))
+    (subst (λ (key : List Bool). Contains (pooled_states c.class_of.new.self.keys) key → ⊥) c.in-None.ensures.class.0 c.in-None.ensures.class.1))
 
 pub returns-in-Some-clause-placed : goal.returns-in-Some-clause-placed
 returns-in-Some-clause-placed c =
