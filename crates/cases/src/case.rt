@@ -11,7 +11,7 @@ use test_devices::Table;
 /// Why a case could not be tried.
 #[derive(Clone, Copy, Debug)]
 pub enum CaseFault {
-    /// Memory was refused.
+    /// An allocation failed.
     NoMemory,
     /// A number is none, or too large.
     Number,

@@ -13,7 +13,7 @@ fn each_section(text: &str) -> Option<Section<'_>> {
     None
 }
 
-/// The bytes that the case lists in a section `each`, and `None` where it has no such section.
+/// The bytes that the case lists in a section `each`; `None` if it has no such section.
 pub fn listed_bytes(alloc: Global, text: &str) -> Result<Option<Vec<u8>>, AllocError> {
     match each_section(text) {
         Some(section) => Ok(Some(section.bytes(alloc, Escapes::default())?)),

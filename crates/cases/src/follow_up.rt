@@ -25,7 +25,7 @@ impl<'a> FollowUp<'a> {
         })
     }
 
-    /// How what it reports differs from what is wanted, and `None` where it does not.
+    /// How what it reports differs from what is wanted; `None` if it does not.
     pub fn difference(
         &self,
         alloc: Global,
@@ -36,7 +36,7 @@ impl<'a> FollowUp<'a> {
         self.reported(alloc, status, out.as_slice())
     }
 
-    /// How these bytes differ from what is wanted, and `None` where they do not.
+    /// How these bytes differ from what is wanted; `None` if they do not.
     fn reported(&self, alloc: Global, status: u8, is: &[u8]) -> Result<Option<String>, AllocError> {
         if is == self.wanted.as_slice() {
             return Ok(None);

@@ -28,7 +28,7 @@ impl Holding<'_> {
     }
 }
 
-/// The bytes of a file as they are reported; `None` where there is none.
+/// The bytes of a file as they are reported; `None` if there is none.
 #[derive(Clone, Copy)]
 struct Shown<'a>(Option<&'a [u8]>);
 
@@ -62,7 +62,7 @@ impl<'a> Holdings<'a> {
         Ok(())
     }
 
-    /// How the first file that differs does, and `None` where none does.
+    /// How the first file that differs does; `None` if none does.
     pub fn difference(&self, alloc: Global, files: &Table) -> Result<Option<String>, AllocError> {
         for holding in &self.wanted {
             let found = files.get(holding.name);

@@ -34,7 +34,7 @@ pub struct Stream {
     part: Part,
     // the most bytes that it takes at a write
     piece: u32,
-    // how many writes succeed before the one that fails, and `None` where none fails
+    // how many writes succeed before the one that fails; `None` if none fails
     writes_before: Option<u32>,
 }
 
@@ -91,7 +91,7 @@ impl Stream {
         )
     }
 
-    /// How the bytes that it took differ from what is wanted, and `None` where they do not.
+    /// How the bytes that it took differ from what is wanted; `None` if they do not.
     pub fn difference(
         &self,
         alloc: Global,

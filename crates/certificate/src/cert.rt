@@ -40,8 +40,8 @@ impl Cert {
     ghost use Rattle.certificate.specs.Listing.{ListOnce};
     ghost use Rattle.certificate.specs.Certificate.{certificate_of, store_in, tables_in};
 
-    /// The certificate that begins so and lists the states of these lines, in their order; `None` where it would exceed a limit
-    /// of a certificate's text, or list a state twice, as none does that shows its claim.
+    /// The certificate that begins so and lists the states of these lines, in their order; `None` if it would exceed a limit of a
+    /// certificate's text, or list a state twice, as none does that shows its claim.
     ///
     /// # Errors
     /// Where memory is refused.

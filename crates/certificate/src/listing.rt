@@ -14,7 +14,7 @@ use certificate_reader::StateLine;
 use faults::NoMemory;
 use std::alloc::Global;
 
-/// The states that the lines list, in order, over so many atoms, and `None` where one is listed twice.
+/// The states that the lines list, in order, over so many atoms; `None` if one is listed twice.
 pub(crate) fn states_of(
     alloc: Global,
     atom_count: u32,

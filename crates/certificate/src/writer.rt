@@ -27,7 +27,7 @@ const PIECE: usize = 65_536;
 /// last how many states are listed.
 ///
 /// # Errors
-/// The device failed, or memory was refused. It has then taken a beginning of the text.
+/// The device failed, or an allocation failed. It has then taken a beginning of the text.
 ///
 /// # Examples
 /// ```

@@ -8,7 +8,7 @@ use crate::lower_names::{copy, names};
 use indexmap::IndexSet;
 use std::alloc::{AllocError, Global};
 
-/// The names that are there, two by two and all different, and `None` where something else is there.
+/// The names that are there, two by two and all different; `None` if something else is there.
 pub(crate) fn exchanged_names(
     alloc: Global,
     rest: &[u8],

@@ -22,7 +22,7 @@ pub(crate) enum NextFault {
     Text(TextFault),
     /// The device failed.
     Device,
-    /// Memory was refused.
+    /// An allocation failed.
     NoMemory,
 }
 

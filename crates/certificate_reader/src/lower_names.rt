@@ -12,7 +12,7 @@ use std::alloc::{AllocError, Global};
 /// The most bytes that a name may have.
 const LONGEST_NAME: usize = 255;
 
-/// The names that are there, and `None` where there are none, or something else is there.
+/// The names that are there; `None` if there are none, or something else is there.
 pub(crate) fn names(alloc: Global, rest: Option<&[u8]>) -> Result<Option<Vec<Vec<u8>>>, AllocError>
     ensures some { IfOk result (λ found. IfSome found (λ names. IsTrue (list_all writing.is_lower_name (map name_of names.items))
         × (then_words (map name_of names.items) None ≡ text_in rest.entry))) }

@@ -9,7 +9,7 @@ use crate::line::{MAX_WEIGHT, NUMBER_LIMIT};
 use itoa::Buffer;
 use std::str;
 
-/// The number that a word is, and `None` where it is none, or not spelled as it is written.
+/// The number that a word is; `None` if it is none, or not spelled as it is written.
 pub(crate) fn number(word: &[u8]) -> Option<u64>
     ensures some { IfSome result (λ n. IsTrue (is_number n) × (decimal n ≡ word.now)) }
     ensures none { IfNone result ((n : ℕ) → IsTrue (is_number n) → decimal n ≢ word.now) }
@@ -40,7 +40,7 @@ fn is_spelled(word: &[u8]) -> bool
     }
 }
 
-/// The constant or the weight that a word is, and `None` where it is none, or not spelled as it is written.
+/// The constant or the weight that a word is; `None` if it is none, or not spelled as it is written.
 pub(crate) fn weight(word: &[u8]) -> Option<i64>
     ensures some { IfSome result (λ w. IsTrue (is_weight w) × (signed_decimal w ≡ word.now)) }
     ensures none { IfNone result ((w : ℤ) → IsTrue (is_weight w) → signed_decimal w ≢ word.now) }

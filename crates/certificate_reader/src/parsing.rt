@@ -23,7 +23,7 @@ use std::alloc::{AllocError, Global};
 ///
 /// # Errors
 /// [`TextFault::Version`] for `pddl-cert N` where N is none of 1, 2 and 3; [`TextFault::Form`] for all else that is no line;
-/// [`NextFault::NoMemory`] where memory is refused.
+/// [`NextFault::NoMemory`] if an allocation failed.
 pub(crate) fn parse(alloc: Global, bytes: &[u8], format: Format) -> Result<CertLine, NextFault>
     requires some { 1 ≤ format.weights }
     requires few { format.atoms ≤ most_atoms }
@@ -258,7 +258,7 @@ fn dead_line(alloc: Global, rest: &[u8], format: Format) -> Result<CertLine, Nex
     }
 }
 
-/// The atom that comes after the weights, and `None` where none does.
+/// The atom that comes after the weights; `None` if none does.
 fn named_atom(alloc: Global, rest: &[u8]) -> Result<Option<NamedAtom>, AllocError>
     ensures some { IfOk result (λ found. IfSome found (λ a. IsTrue (are_lower (named_atom_of a)) × (atom_rest (named_atom_of a) ≡ rest.now))) }
     ensures none { IfOk result (λ found. IfNone found ((a : text.NamedAtom) → IsTrue (are_lower a) → atom_rest a ≢ rest.now)) }
@@ -279,7 +279,7 @@ fn named_atom(alloc: Global, rest: &[u8]) -> Result<Option<NamedAtom>, AllocErro
     }
 }
 
-/// What is in the parentheses, and `None` where there is something else.
+/// What is in the parentheses; `None` if there is something else.
 fn in_parentheses(rest: &[u8]) -> Option<&[u8]>
     ensures some { IfSome result (λ inner. rest.now ≡ codes "(" ++ inner.now ++ codes ")") }
     ensures none { IfNone result ((inner : List ℕ) → rest.now ≢ codes "(" ++ inner ++ codes ")") }

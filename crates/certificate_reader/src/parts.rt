@@ -12,7 +12,7 @@ use crate::line::Claim;
 use crate::number::{number, weight};
 use std::alloc::{AllocError, Global};
 
-/// The claim that the bytes are, and `None` where they are none.
+/// The claim that the bytes are; `None` if they are none.
 pub(crate) fn claim(rest: &[u8]) -> Option<Claim>
     ensures some { IfSome result (λ claim. IsTrue (is_claim (claim_of claim)) × (claim_rest (claim_of claim) ≡ rest.now)) }
     ensures none { IfNone result ((claim : model.Claim) → IsTrue (is_claim claim) → claim_rest claim ≢ rest.now) }
@@ -34,7 +34,7 @@ pub(crate) fn claim(rest: &[u8]) -> Option<Claim>
     }
 }
 
-/// The weights that the words begin with, at most so many, and what comes after them; `None` where a word among those is none.
+/// The weights that the words begin with, at most so many, and what comes after them; `None` if a word among those is none.
 pub(crate) fn leading_weights(
     alloc: Global,
     rest: Option<&[u8]>,
@@ -60,7 +60,7 @@ pub(crate) fn leading_weights(
     Ok(Some((weights, left)))
 }
 
-/// A number and, after it, numbers of atoms, rising, and `None` where something else is there.
+/// A number and, after it, numbers of atoms, rising; `None` if something else is there.
 pub(crate) fn numbered(
     alloc: Global,
     bytes: &[u8],
@@ -80,7 +80,7 @@ pub(crate) fn numbered(
     }
 }
 
-/// The numbers of atoms that the bytes are, rising, and `None` where they are none.
+/// The numbers of atoms that the bytes are, rising; `None` if they are none.
 pub(crate) fn numbers(
     alloc: Global,
     rest: Option<&[u8]>,
@@ -115,7 +115,7 @@ fn most_numbers(rest: Option<&[u8]>) -> usize {
     }
 }
 
-/// The number of an atom that a word is, from the least one that is allowed, and `None` where it is none.
+/// The number of an atom that a word is, from the least one that is allowed; `None` if it is none.
 fn next_number(word: &[u8], least: u32, atom_count: usize) -> Option<u32>
     requires few { atom_count ≤ most_atoms }
     ensures some { IfSome result (λ n. (decimal n ≡ word.now) × (least ≤ n) × (n < atom_count)) }

@@ -27,7 +27,7 @@ pub enum CertFault {
     },
     /// The device failed.
     Device,
-    /// Memory was refused.
+    /// An allocation failed.
     NoMemory,
     /// A fault was reported before.
     Failed,
@@ -81,8 +81,8 @@ impl<R: Source> CertReader<R> {
     /// has come, or, after the last line, until a byte or the end has.
     ///
     /// # Errors
-    /// [`CertFault::Line`] where the text is at fault; [`CertFault::Device`] where the device failed;
-    /// [`CertFault::NoMemory`] where memory is refused; from then on [`CertFault::Failed`].
+    /// [`CertFault::Line`] where the text is at fault; [`CertFault::Device`] where the device failed; [`CertFault::NoMemory`] if
+    /// an allocation failed; from then on [`CertFault::Failed`].
     pub fn next_line(&mut self) -> Result<Option<CertLine>, CertFault>
         // What is given out of the text, or reported for it, where these lines were given out before.
         ensures reported { (before : List TextLine) → HasRead self.old before → has_failed self.old ≡ false

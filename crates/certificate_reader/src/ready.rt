@@ -38,7 +38,7 @@ pub(crate) fn await_line<S: Source>(waiting: &mut Waiting, source: &mut S) -> Re
     }
 }
 
-/// The line that waits, or too long a one, and `None` where neither does.
+/// The line that waits, or too long a one; `None` if neither does.
 fn line_in(waiting: &mut Waiting) -> Option<Ready>
     ensures line { IsLineIn (waiting_of waiting.old) result }
     ensures kept { waiting_of waiting.new ≡ waiting_of waiting.old }

@@ -153,7 +153,7 @@ fn lines(alloc: Global, row: &Row, times: usize) -> Result<Vec<StateLine>, Alloc
     Ok(lines)
 }
 
-/// The certificate of these parts that lists the state so many times, and `None` where they exceed its limits.
+/// The certificate of these parts that lists the state so many times; `None` if they exceed its limits.
 fn cert(alloc: Global, row: &Row, times: usize) -> Result<Option<Cert>, NoMemory> {
     let lines = lines(alloc, row, times)?;
     Cert::new(alloc, header(alloc, row)?, &lines)
@@ -202,7 +202,7 @@ fn begins_so(cert: &Cert, row: &Row) -> bool {
     }
 }
 
-/// Whether the certificate of these parts has them, and `None` where there is none.
+/// Whether the certificate of these parts has them; `None` if there is none.
 fn is_made(alloc: Global, row: &Row) -> Result<Option<bool>, NoMemory> {
     match &cert(alloc, row, 1)? {
         Some(cert) => Ok(Some(begins_so(cert, row) && lists_only(alloc, cert, &row.4)?)),

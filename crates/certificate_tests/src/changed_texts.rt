@@ -35,7 +35,7 @@ static ROWS: [Row; 5] = [
 /// The bytes that are in the place of another.
 const OTHERS: &[u8] = b"0129 \n()an";
 
-/// What the checker answers where this byte is at this place of the text; `None` where it is there already.
+/// What the checker answers where this byte is at this place of the text; `None` if it is there already.
 fn answer(
     alloc: Global,
     task: &Task,

@@ -22,7 +22,7 @@ pub(crate) enum Reported {
     DeadUnfair(SchemaId),
     /// What is wrong, and not with one line.
     Plain(RefusalCode),
-    /// Memory was refused.
+    /// An allocation failed.
     NoMemory,
     /// The device failed.
     Device,

@@ -14,10 +14,10 @@ const fn at_line(code: TextFault, line: u64) -> CertFault {
     CertFault::Line { code, line }
 }
 
-/// How many lines are given out, and the fault after them; `None` where the text is a certificate.
+/// How many lines are given out, and the fault after them; `None` if the text is a certificate.
 type Reported = (u64, Option<CertFault>);
 
-/// What the reader reports, and `None` where it never ends.
+/// What the reader reports; `None` if it never ends.
 fn reported<S: Source>(reader: &mut CertReader<S>) -> Option<Reported> {
     for count in 0..17_000_000 {
         match reader.next_line() {

@@ -9,7 +9,7 @@ pub enum WordsFault {
     /// They are no command, or ask for help or the version. The error's text says so, and how the program is used.
     #[error("{0}")]
     Words(Error),
-    /// Memory was refused.
+    /// An allocation failed.
     #[error("no memory")]
     NoMemory,
 }

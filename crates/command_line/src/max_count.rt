@@ -15,7 +15,7 @@ pub struct MaxCount {
 impl MaxCount {
     ghost use Rattle.std.specs.Prelude.{is_some, IfSome};
 
-    /// This number, and `None` where it is out of range.
+    /// This number; `None` if it is out of range.
     ///
     /// ```
     /// MaxCount::new(1)             // Some

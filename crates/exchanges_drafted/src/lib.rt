@@ -1,4 +1,4 @@
-//! Finds exchanges of interchangeable objects and tests each. Nothing is claimed of those that it misses.
+//! Finds exchanges of interchangeable objects and tests each. Missed exchanges are possible; nothing is claimed about them.
 #![tactic(auto)]
 
 mod colours;

@@ -24,7 +24,7 @@ use std::alloc::Global;
 /// may be kept.
 ///
 /// # Errors
-/// Memory was refused, which says nothing of the files.
+/// An allocation failed, which says nothing about the files.
 ///
 /// # Examples
 /// ```text

@@ -54,7 +54,7 @@ impl Location {
     /// The location of a span of the file of this name, whose first byte is at this place.
     ///
     /// # Errors
-    /// Memory was refused.
+    /// An allocation failed.
     pub(crate) fn new(
         alloc: Global,
         name: &str,

@@ -100,7 +100,7 @@ impl From<NoMemory> for FileFault {
 /// The domain is scanned and read, then the problem, then both are typed together; the first fault ends the call.
 ///
 /// # Errors
-/// The first fault of the two texts, or memory was refused.
+/// The first fault of the two texts, or an allocation failed.
 pub fn task_of_files(alloc: Global, domain: &[u8], problem: &[u8]) -> Result<Task, FileFault>
     ensures task { IfOk result (λ task. IsTaskOf domain.now problem.now (task_of task)) }
     ensures refused { IfErr result (λ fault. IfSome (reported_in fault) (IsTaskFault domain.now problem.now)) }
@@ -179,7 +179,7 @@ fn trees_of_files<'a>(
 /// The plan of a plan file, for this task.
 ///
 /// # Errors
-/// The first fault of the text, which is reported for the plan file, or memory was refused.
+/// The first fault of the text, which is reported for the plan file, or an allocation failed.
 pub fn plan_of_file(alloc: Global, task: &Task, text: &[u8]) -> Result<Plan, FileFault>
     ensures plan { IfOk result (λ plan. IsPlanText (task_of task.now) text.now (plan_of plan)) }
     ensures instances { IfOk result (λ plan. IsTrue (list_all (is_instance (task_of task.now)) (plan_of plan))) }
@@ -208,8 +208,8 @@ fn read_problem(alloc: Global, text: &[u8]) -> Result<pddl_tree::Problem<'_>, Fa
     pddl_tree::problem(alloc, &words)
 }
 
-/// Says that two texts are at most one task, and that no fault is reported for two that are one. It is stated of all texts,
-/// and proved; the call does nothing.
+/// Says that two texts are at most one task, and that no fault is reported for two that are one. Proved for all texts; the
+/// function does nothing.
 pub fn one_task()
     ensures one { (domain problem : List ℕ) (task other : model.Task)
         → IsTaskOf domain problem task → IsTaskOf domain problem other → task ≡ other }

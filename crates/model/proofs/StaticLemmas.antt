@@ -1,4 +1,4 @@
--- An atom of a static predicate is true in a state that an action leads to exactly where it was true before.
+-- An atom of a static predicate is true in a state that an action leads to exactly if it was true before.
 use Rattle.std.proofs.Common.{◌≡◌, ℕ, zero, suc, Bool, true, false, ◌&&◌, ◌||◌, not, List, [], ◌∷◌, ◌++◌, Option, None, Some, refl, sym, ap, ◌∙◌}
 use Rattle.std.specs.Prelude.{◌==◌, slice_get, cond, if◌then◌else◌, filter, map}
 use Rattle.std.specs.Option.{option_and_then}

@@ -1,4 +1,4 @@
--- A pair is well-typed exactly where no fault is listed, and the fault that is reported is the least of those that are.
+-- A pair is well-typed exactly if no fault is listed, and the fault that is reported is the least of those that are.
 use Rattle.std.proofs.Common.{◌≡◌, ℕ, zero, suc, ◌<◌, ◌⊎◌, inl, inr, false, Ordering, Less, Equal, Greater, List, [], ◌∷◌, Some, refl, sym, ap, ◌∙◌, subst, arith}
 use Rattle.std.specs.Prelude.{All, Contains, slice_get, slice_index_or}
 use Rattle.std.specs.Ordering.{nat_cmp, is_lt, ordering_then}

@@ -232,7 +232,7 @@ IsReportedOn (failure.Device device.NoMemory) Says status = (status ≡ 22) × S
 abbrev pub SaysOfWords : (Says : List ℕ → Type 0) → Type 0
 SaysOfWords Says = (text : List ℕ) × Says (text ++ nothing_done_line)
 
--- Words that are no order are reported with the status 2 where they are no command, and with 22 where memory was refused.
+-- Words that are no order are reported with the status 2 where they are no command, and with 22 if an allocation failed.
 abbrev pub IsReportedOfWords : WordsFault → (Says : List ℕ → Type 0) → ℕ → Type 0
 IsReportedOfWords fault Says status =
     ((status ≡ 2) × IsOfWords fault × SaysOfWords Says) ⊎ ((status ≡ 22) × Says no_memory_line)

@@ -20,7 +20,7 @@ const WRONG_WORDS: u8 = 2;
 /// The status where a file or the standard output could not be opened, read or written.
 const DEVICE: u8 = 21;
 
-/// The status where memory was refused.
+/// The status if an allocation failed.
 const NO_MEMORY: u8 = 22;
 
 /// The last line where the words are no command.
@@ -31,7 +31,7 @@ const NOTHING_DONE: &str = "optplan: nothing was done\n";
 pub(crate) enum Failure {
     /// A file's text is refused, or memory was.
     Text(FileFault),
-    /// A device failed, or memory was refused.
+    /// A device failed, or an allocation failed.
     Device(IoFault),
 }
 

@@ -105,7 +105,7 @@ pub fn run<F: Files, O: Sink, E: Sink>(
         (O.taken out.old) (O.taken out.new) (SaysAfter (IsProgress (F.contents files.old) (texts words.now)) E.wants_memory (E.failures err.old) (E.failures err.new) (E.taken err.old) (E.taken err.new))
         ⊎ (Reports (texts words.now) F.is_known (F.contents files.old) (F.contents files.new) (O.taken out.old) (O.taken out.new) result × AreSaid (IsProgress (F.contents files.old) (texts words.now)) E.wants_memory (stream (E.failures err.old) (E.taken err.old)) (stream (E.failures err.new) (E.taken err.new))) }
 
-    // The status of a device is reported exactly where one failed. An answer may have been reported in part.
+    // The status of a device is reported exactly if one failed. An answer may have been reported in part.
     ensures unfailed { (result ≡ 21 → ⊥) → HasNotFailed (F.failures files.old) (F.failures files.new) (O.failures out.old) (O.failures out.new) }
     ensures device { result ≡ 21 → HasFailed (F.failures files.old) (F.failures files.new) (O.failures out.old) (O.failures out.new)
         × ReportsPartly (texts words.now) F.is_known (F.contents files.old) (F.contents files.new) (O.taken out.old) (O.taken out.new)

@@ -48,7 +48,7 @@ abbrev pub status_of : Result Accepted Refusal → ℕ
 status_of (Ok answer) = 0
 status_of (Err refusal) = 12
 
--- why nothing is reported for the certificate: its device failed, or memory was refused; and None where its answer is reported
+-- why nothing is reported for the certificate: its device failed, or an allocation failed; and None where its answer is reported
 abbrev pub failure_of : Result Accepted Refusal → Option IoFault
 failure_of (Ok answer) = None
 failure_of (Err (refusal.Line code line)) = None

@@ -15,7 +15,7 @@ use std::alloc::{AllocError, Global};
 use task::Task;
 use task_certificates::{Refusal, RefusalCode};
 
-/// Why nothing is reported for a certificate: its device failed, or memory was refused. `None` where the answer is reported.
+/// Why nothing is reported for a certificate: its device failed, or an allocation failed. `None` where the answer is reported.
 pub fn failure_of(answer: &Result<Accepted, Refusal>) -> Option<IoFault>
     ensures { result ≡ failure_of answer.now }
 {

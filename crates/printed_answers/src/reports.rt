@@ -56,7 +56,7 @@ pub enum Format {
 /// | `explain`: a task | `{"actions":1,"atoms":2,"command":"explain","functions":0,"instances":1,"notes":[],"objects":0,"predicates":2,"result":"task","text":"..","types":1}`, or `"unknown"` with the `reason` `"instances"` or `"atoms"` in place of both |
 ///
 /// # Errors
-/// Memory was refused.
+/// An allocation failed.
 pub fn json_line(alloc: Global, report: &Report) -> Result<String, NoMemory>
     requires { IsReported report.now }
     ensures { IfOk result (λ line. string_bytes line ≡ object_text (of_report report.now)) }
@@ -74,7 +74,7 @@ pub fn json_line(alloc: Global, report: &Report) -> Result<String, NoMemory>
 /// of memory nor a device's.
 ///
 /// # Errors
-/// Memory was refused.
+/// An allocation failed.
 pub fn report_text(alloc: Global, report: &Report) -> Result<Vec<u8>, NoMemory>
     requires { IsReported report.now }
     ensures { IfOk result (λ text. text.items ≡ text_of report.now) }
@@ -93,7 +93,7 @@ pub fn report_text(alloc: Global, report: &Report) -> Result<Vec<u8>, NoMemory>
 /// running out of memory nor a device's.
 ///
 /// # Errors
-/// Memory was refused.
+/// An allocation failed.
 pub fn json_text(alloc: Global, report: &Report, format: Format) -> Result<Option<String>, NoMemory>
     requires { IsReported report.now }
     ensures { IfOk result (λ line. option_map string_bytes line ≡ (if is_json format then Some (line_of_members (of_report report.now)) else None)) }

@@ -23,7 +23,7 @@ pub(crate) enum Failing {
 }
 
 impl Failing {
-    /// How many writes succeed before the one that fails, and `None` where none fails.
+    /// How many writes succeed before the one that fails; `None` if none fails.
     fn writes_before(self) -> Option<u64> {
         match self {
             Failing::Write(writes) => Some(writes),

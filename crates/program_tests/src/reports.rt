@@ -41,7 +41,7 @@ fn is_for_a_plan(order: &Order<'_>) -> bool {
     }
 }
 
-/// Whether these words ask for that; `None` where they ask for nothing.
+/// Whether these words ask for that; `None` if they ask for nothing.
 fn ask_for_a_plan(alloc: Global, words: &[&str]) -> Result<Option<bool>, NoMemory> {
     match read_words(alloc, words) {
         Ok(order) => Ok(Some(is_for_a_plan(&order))),

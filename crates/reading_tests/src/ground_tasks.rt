@@ -255,7 +255,7 @@ fn leads(alloc: Global, ground: &Ground<'_>, line: &Line) -> Result<bool, NoMemo
     Ok(found.len() == line.2.len())
 }
 
-/// Whether the goal holds in the state exactly where the line says so.
+/// Whether the goal holds in the state exactly if the line says so.
 fn is_goal_reported(alloc: Global, ground: &Ground<'_>, line: &Line) -> Result<bool, NoMemory> {
     let state = state(alloc, ground, line.0)?;
     Ok(ground.meets_goal(&state) == line.1)

@@ -1,4 +1,4 @@
--- The goal is met in a state exactly where it is met in its image, where its conjuncts are mapped onto its conjuncts.
+-- The goal is met in a state exactly if it is met in its image, where its conjuncts are mapped onto its conjuncts.
 use Rattle.std.proofs.Common.{◌≡◌, ◌∙◌, ℕ, Bool, true, false, ◌&&◌, List, [], ◌∷◌, map, refl, sym, ap}
 use Rattle.std.specs.List.{list_all}
 use Rattle.std.proofs.lemmas.List.Folds.{list_all-append}

@@ -1,5 +1,5 @@
--- Images under an exchange that is its own inverse: an image twice is the thing itself, and an atom is in a state exactly
--- where its image is in the image.
+-- Images under an exchange that is its own inverse: an image twice is the thing itself, and an atom is in a state exactly if its
+-- image is in the image.
 use Rattle.std.proofs.Common.{◌≡◌, ◌∙◌, ℕ, zero, suc, ◌<◌, Bool, true, List, [], ◌∷◌, map, length, refl, sym, ap, subst, get_or, arith}
 use Rattle.std.specs.Prelude.{nat_eq}
 use Rattle.std.specs.List.{list_all, list_any}
@@ -124,7 +124,7 @@ module _ (to : ℕ → ℕ) (both_ways : (o : ℕ) → to (to o) ≡ o) where
       (λ tie. atoms_tie a b (sym (atom_twice a) ∙ ap (image_of_atom to) (atoms_one (image_of_atom to a) (image_of_atom to b) tie) ∙ atom_twice b))
       (λ tie. atoms_tie (image_of_atom to a) (image_of_atom to b) (ap (image_of_atom to) (atoms_one a b tie)))
 
-  -- an atom's image is in the image of a state exactly where the atom is in the state
+  -- an atom's image is in the image of a state exactly if the atom is in the state
   pub contains-image : (s : State) (a : Atom) → contains (image_of_state to s) (image_of_atom to a) ≡ contains s a
   contains-image s a =
       contains-from_list atoms_total (map (image_of_atom to) (items s)) (image_of_atom to a)

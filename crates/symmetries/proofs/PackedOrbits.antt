@@ -1,4 +1,4 @@
--- Packed states are alike exactly where the states are that they stand for.
+-- Packed states are alike exactly if the states are that they stand for.
 use Rattle.std.proofs.Common.{◌∙◌, Bool, List, refl, sym, ap}
 use Rattle.std.specs.Prelude.{IsTrue, All, Contains}
 use Rattle.std.specs.List.{list_all}

@@ -1,4 +1,4 @@
--- An instance leads from one state to another, at a cost, exactly where its image leads from image to image at that cost.
+-- An instance leads from one state to another, at a cost, exactly if its image leads from image to image at that cost.
 use Rattle.std.proofs.Common.{◌≡◌, ◌∙◌, ℕ, Bool, true, false, ◌&&◌, List, [], ◌∷◌, ◌++◌, map, length, Option, None, Some, refl, sym, ap}
 use Rattle.std.specs.Prelude.{IsTrue, slice_get, cond, is_some, unwrap_or}
 use Rattle.std.specs.Cmp.{first_so, second_so}

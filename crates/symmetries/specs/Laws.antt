@@ -17,14 +17,14 @@ use Rattle.symmetries.specs.Orbits.{IsAutomorphism, AreOfOneOrbit, representativ
 
 -- ---- what the test says
 
--- it is passed exactly where the objects of the pairs are all different and the exchange is a symmetry
+-- it is passed exactly if the objects of the pairs are all different and the exchange is a symmetry
 abbrev pub TestIsExact : Type 0
 TestIsExact = (task : Task) (exchange : Exchange) → Decides (is_symmetry task exchange) (IsTrue (are_different (objects_in exchange)) × IsSymmetry task (image_of_object exchange))
 
 -- ---- what symmetries keep
 
--- The image of a formula holds in the image of a state exactly where the formula holds in the state; the image of an effect
--- leads from there to the image of the state that the effect leads to.
+-- The image of a formula holds in the image of a state exactly if the formula holds in the state; the image of an effect leads
+-- from there to the image of the state that the effect leads to.
 pub record ImagesMeanTheSame (task : Task) (to : ℕ → ℕ) : Type 0 where
   pub formulas : (formula : Formula) (scope : List Union) (binding : List ℕ) (s : State) → IsTrue (is_formula task scope formula) → length scope ≡ length binding
       → holds task (image_of_formula to formula) (image_of_binding to binding) (image_of_state to s) ≡ holds task formula binding s
@@ -85,7 +85,7 @@ ListingsByExchangesClaim =
 
 -- ---- the ground task
 
--- Packed states are alike exactly where the states are that they stand for, where images of numbered atoms have numbers.
+-- Packed states are alike exactly if the states are that they stand for, where images of numbered atoms have numbers.
 abbrev pub PackedStatesAreAlike : Type 0
 PackedStatesAreAlike =
     (task : Task) (more : List Atom) (exchanges : List Exchange) → All (λ (a : Atom). IsTrue (is_fluent task a.predicate)) more

@@ -47,7 +47,7 @@ module _ (before : List TextLine) (claim : Claim) (width : ℕ) (marks : List Ma
   rises_there m occurs =
       let (place, at) = Contains-place (states_given before) m occurs in passes_got (λ (l : StateLine). rise width 0 l.atoms) (states_given before) place m at have.rising
 
-  -- its set is among the sets exactly where a line lists its atoms
+  -- its set is among the sets exactly if a line lists its atoms
   pub set_was_listed : Contains sets (set_of width l.atoms) → ListsAtoms before l.atoms
   set_was_listed there =
       let (m, occurs, same) = map-Contains (λ (l : StateLine). set_of width l.atoms) (states_given before) (set_of width l.atoms) (subst (λ sets. Contains sets (set_of width l.atoms)) have.sets_are there) in

@@ -53,7 +53,7 @@ IsReportedAt remaining task first now Truncated line =
 IsReportedAt remaining task first now code line =
     (bytes : List ℕ) × Consumes (remaining (source_of first)) (remaining (source_of now)) bytes × ((more : List ℕ) → IsLineFault task (bytes ++ more) (number_of code) line)
 
--- the refusal is that of a line, and that of a limit is reported without its line; or memory was refused, or the device failed
+-- the refusal is that of a line, and that of a limit is reported without its line; or an allocation failed, or the device failed
 abbrev pub IsLineRefusal : {R : Type 0} → (remaining : R → Option (List ℕ)) → Task → (first now : CertReader R) → Refusal → Type 0
 IsLineRefusal remaining task first now (refusal.Line code line) = IsReportedAt remaining task first now code line
 IsLineRefusal remaining task first now (refusal.Plain code) = (code ≡ Limit) × ((line : ℕ) × IsReportedAt remaining task first now code line)

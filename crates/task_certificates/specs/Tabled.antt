@@ -80,7 +80,7 @@ pub record IsRowTaken (old new : SeveralValues) (r : Row) : Type 0 where
   pub added : IsAddedToLast old.tables tables r New
   pub bounds : new ≡ with_tables old tables
 
--- the refusal says, at this line, why it is not; or memory was refused
+-- the refusal says, at this line, why it is not; or an allocation failed
 abbrev pub IsRowRefused : List model.Table → Row → ℕ → Refusal → Type 0
 IsRowRefused tables r number (refusal.Line CertForm at) = (at ≡ number) × (new : List model.Table) × IsAddedToLast tables new r OutsideScope
 IsRowRefused tables r number (refusal.Line RepeatedRow at) = (at ≡ number) × (new : List model.Table) × IsAddedToLast tables new r Repeated

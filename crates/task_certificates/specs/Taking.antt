@@ -31,7 +31,7 @@ abbrev pub IsTaken : Task → (before : List TextLine) → TextLine → Header �
 IsTaken task before line header None = HasTaken task (before ++ line ∷ []) header × (state_in line ≡ None)
 IsTaken task before line header (Some back) = HasTaken task before header × (text_line_of back ≡ line) × (is_body line ≡ true)
 
--- the refusal is that of this line after those; or memory was refused
+-- the refusal is that of this line after those; or an allocation failed
 abbrev pub IsWrongNow : Task → (before : List TextLine) → TextLine → Refusal → Type 0
 IsWrongNow task before line (refusal.Line code at) = (at ≡ length before + 1) × IsWrongAfter task before line (number_of code)
 IsWrongNow task before line refusal.NoMemory = Unit {0}

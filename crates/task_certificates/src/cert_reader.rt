@@ -20,11 +20,10 @@ use task::Task;
 /// Reads a certificate, and keeps of each line what it says of the task.
 ///
 /// # Errors
-/// The first line at fault: 40 to 42, and 55 without its line, by the rules of the text; 40 too where a row has an atom outside its
-/// table's scope; 43 where its atom is none of the task's, or its predicate no action changes; 44 where its atom, its state, or a
-/// row of its table, was in a line before; 52 where it is a cut and it is
-/// claimed that no plan solves the task. [`Refusal::Device`] where the device failed; [`Refusal::NoMemory`] where memory
-/// is refused.
+/// The first line at fault: 40 to 42, and 55 without its line, by the rules of the text; 40 too where a row has an atom outside
+/// its table's scope; 43 where its atom is none of the task's, or its predicate no action changes; 44 where its atom, its state,
+/// or a row of its table, was in a line before; 52 where it is a cut and it is claimed that no plan solves the task.
+/// [`Refusal::Device`] where the device failed; [`Refusal::NoMemory`] if an allocation failed.
 ///
 /// On the way it says how many lines it read, each time that they are twice as many, from 1,024 on.
 pub fn read_cert<R: Source, E: Sink>(

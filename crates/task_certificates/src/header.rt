@@ -199,7 +199,7 @@ fn add_atom(
     Ok(())
 }
 
-/// Reads what comes before the states, and the line after it; `None` where the text has ended before it.
+/// Reads what comes before the states, and the line after it; `None` if the text has ended before it.
 pub(crate) fn read_header<R: Source>(
     alloc: Global,
     task: &Task,

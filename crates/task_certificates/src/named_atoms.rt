@@ -38,7 +38,7 @@ pub(crate) fn fluent_atom_named(
     }
 }
 
-/// The atom that has these names, and `None` where none of as many objects as an atom can have has.
+/// The atom that has these names; `None` if none of as many objects as an atom can have has.
 fn atom_named(task: &Task, name: &NamedAtom) -> Option<Atom>
     ensures some { IfSome result (λ a. Names (task_of task.now) (named_atom_of name.now) (atom_of a)) }
     ensures none { IfNone result ((a : model.Atom) → Names (task_of task.now) (named_atom_of name.now) a → length a.objects ≤ 8 → ⊥) }
@@ -48,7 +48,7 @@ fn atom_named(task: &Task, name: &NamedAtom) -> Option<Atom>
     Some(Atom { predicate, objects })
 }
 
-/// The objects of these names, in order, and `None` where there are none, or too many for an atom.
+/// The objects of these names, in order; `None` if there are none, or too many for an atom.
 fn objects_named(task: &Task, names: &[Vec<u8>]) -> Option<ArrayVec<ObjectId, MAX_ARGUMENTS>>
     ensures some { IfSome result (λ found. AreNumbersOf (object_names (task_of task.now)) (map name_of names.now) (map object_of found.items)) }
     ensures none { IfNone result ((numbers : List ℕ) → AreNumbersOf (object_names (task_of task.now)) (map name_of names.now) numbers

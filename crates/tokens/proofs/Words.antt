@@ -1,4 +1,4 @@
--- A text reads as the words that the scanner reads, and as no others, exactly where the scanner finds no fault.
+-- A text reads as the words that the scanner reads, and as no others, exactly if the scanner finds no fault.
 use Rattle.std.proofs.Common.{◌≡◌, ℕ, zero, suc, ◌+◌, ◌-◌, ◌<◌, ◌≤◌, ◌⊎◌, Bool, true, false, cond, IsTrue, List, [], ◌∷◌, ◌++◌, length, Option, Some, None, sym, refl, ap, ◌∙◌, subst, eqb, ltb, inl, inr, ⊎_elim, arith}
 use Rattle.std.specs.Option.{option_to_list}
 use Rattle.std.proofs.lemmas.Bool.{cases_eq, eq-eqb, ne_eqb, lt-ltb, le-ltb, cases_lt, cases_Bool, cond-true, cond-false}
