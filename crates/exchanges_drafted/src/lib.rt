@@ -1,4 +1,4 @@
-//! Finds exchanges of interchangeable objects and tests each. Missed exchanges are possible; nothing is claimed about them.
+//! Finds exchanges of interchangeable objects and tests each. It may miss some.
 #![tactic(auto)]
 
 mod colours;

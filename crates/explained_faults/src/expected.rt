@@ -1,5 +1,5 @@
-//! The words that may occur in the place of a refused one. The reader itself decides: it is given the words before the refused
-//! one and a candidate, and either refuses the candidate, or accepts it and reports only an unexpected end.
+//! The words that may occur in place of a refused one. The reader itself decides: it is given the words before the refused one
+//! and a candidate, and either refuses the candidate, or accepts it and reports only an unexpected end.
 ghost use Rattle.std.specs.Prelude.{◌≡◌, map, All, IfOk, IsTrue};
 ghost use Rattle.std.specs.List.{list_all};
 ghost use Rattle.std.specs.Bool.{Decides};

@@ -67,7 +67,7 @@ pub unless_reports : {table : ℕ → Placed → Type 0} (test : Bool) (code : �
 unless_reports true code w fault = none_detects
 unless_reports false code w fault = one_reports code w (fault refl)
 
--- and where it passes
+-- and if it passes
 pub when_reports : {table : ℕ → Placed → Type 0} (test : Bool) (code : ℕ) (w : Placed) → (test ≡ true → table code w)
     → AllReport table (if test then fault_at code w ∷ [] else [])
 when_reports true code w fault = one_reports code w (fault refl)

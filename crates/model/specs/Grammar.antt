@@ -196,7 +196,7 @@ with_name n (g ∷ gs) = record g { names = n ∷ g.names } ∷ gs
 abbrev pub ends_group : List Name → Group
 ends_group ts = record { names = []; types = ts }
 
--- ---- what may be wanted at a place: the nonterminals
+-- ---- what may be required at a place: the nonterminals
 
 pub data Sort : Type 0 where
   -- words
@@ -491,7 +491,7 @@ after (kind_word domain_file) (free words.domain n) = Some (gives tt)
 after (kind_word problem_file) (free words.problem n) = Some (gives tt)
 after _ _ = None
 
--- ---- what the grammar says of words
+-- ---- the meaning of the grammar for words
 
 -- What the grammar requires derives the words up to the remaining ones, with this tree: the first word has a production, and what
 -- must follow it derives the others, in sequence.

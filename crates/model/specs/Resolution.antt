@@ -127,7 +127,7 @@ pub record Variable : Type 0 where
   pub name : task.Name
   pub types : task.Union
 
--- the names visible where a formula, an effect or an atom is
+-- the names visible at the place of a formula, an effect or an atom
 pub record Known : Type 0 where
   pub type_names : List task.Name
   pub types : List task.ObjectType

@@ -76,7 +76,7 @@ pub fn task_examples_are_judged()
     ensures { AreTasksJudged }
 {}
 
-/// The worked examples of actions that name a parcel, at each place where they may.
+/// The worked examples of actions that name a parcel, at each place that may do so.
 pub fn action_examples_are_judged()
     ensures { AreActionsJudged }
 {}

@@ -119,7 +119,7 @@ IsFairAt allowance task atoms h i = IsFairAcross allowance (length atoms) h (lit
 
 -- ---- fair table functions
 
--- each kept instance that must be fair is so at its allowance, and so are the goals
+-- each kept instance that must be fair is fair at its allowance, and so are the goals
 pub record AreFairAt (asked : Instance → Bool) (allowance : Instance → ℕ) (task : Task) (atoms : List Atom) (h : TableFunction) : Type 0 where
   pub instances : All (λ (i : Instance). IsTrue (asked i) → IsFairAt (allowance i) task atoms h i) (kept_instances task)
   pub goals : IsFairAtGoals task atoms h

@@ -1,4 +1,4 @@
-//! Resolves the names in formulas to numbers, and keeps the first fault found on the way.
+//! Resolves the names in formulas to numbers, and keeps the least fault found.
 #![tactic(auto)]
 
 pub mod domain;
