@@ -12,8 +12,8 @@ pub fn add_lines(lines: &str, bytes: &mut Vec<u8>) -> Result<(), AllocError> {
     Ok(())
 }
 
-/// Adds the line. Its escapes are `
-/// `, `\r`, `\t`, `\\`, `\xHH` for a byte, `\#` for the repetition's number and `\@` for the case's byte.
+/// Adds the line. Its escapes are `\n`, `\r`, `\t`, `\\`, `\xHH` for a byte, `\#` for the repetition's number and `\@` for the
+/// case's byte.
 pub fn add_unescaped(
     alloc: Global,
     line: &str,

@@ -56,7 +56,7 @@ fn potential(alloc: Global, constant: i64, weight: i64) -> Result<Potential, All
     })
 }
 
-/// A value of 0; every state with an atom is a dead end.
+/// A value of 0; only the state without atoms counts as a dead end.
 fn bounds(alloc: Global) -> Result<Bounds, AllocError> {
     let values = vec![in alloc; potential(alloc, 0, 0)?]?;
     Ok(Bounds {

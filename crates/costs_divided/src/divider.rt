@@ -137,8 +137,8 @@ impl<'a> Divider<'a> {
         Ok(values)
     }
 
-    /// An order with a great value of the initial state, and next to it a great sum of all values: the better of two greedy
-    /// orders, improved by hill climbing within this many trials.
+    /// An order that gives the initial state a great value, and among equals one with a great sum over all states: the better of
+    /// two orders, improved by hill climbing within this many trials.
     pub fn best_order(&mut self, alloc: Global, trials: u32) -> Result<Order, NoMemory> {
         let mut order = self.greedy(alloc, 0)?;
         let mut merit = self.merit(alloc, &order, 0)?;

@@ -18,7 +18,7 @@ pub struct Part {
 /// A cost partition over tables.
 #[derive(Drop)]
 pub struct Division {
-    /// The parts, in the order of the tables. Tables that take nothing are left out.
+    /// The parts, in the order of the tables. Tables in which all distances are 0 are left out.
     pub parts: Vec<Part>,
     /// The remaining costs.
     pub left: Costs,

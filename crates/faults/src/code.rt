@@ -51,7 +51,7 @@ pub enum Code {
     DomainMismatch = 21,
     /// A `total-cost` metric where the domain declares no total cost.
     BadMetric = 22,
-    /// A total cost that is undeclared, does not start at 0, or is initialised or increased twice.
+    /// A total cost that is undeclared, does not start at 0, or is set or increased twice.
     BadCost = 23,
     /// A negated fact in the initial state.
     NegativeInit = 24,

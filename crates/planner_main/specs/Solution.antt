@@ -58,6 +58,6 @@ files_for r outputs = in_file outputs.cert (cert_text r) ++ in_file outputs.plan
 abbrev pub WritesReport : Report → Outputs → (text : List ℕ) → (status : ℕ) → List NamedText → Type 0
 WritesReport r outputs text status files = (text ≡ reported_of outputs.json r) × (status ≡ status_of r) × (files ≡ files_for r outputs)
 
--- one of these files is being written, and all files asked for before it are written
+-- there is a single file, which is being written
 abbrev pub IsBegun : (known : Bool) → (before after : List ℕ → Option (List ℕ)) → List NamedText → Type 0
 IsBegun known before after files = (next : NamedText) × (files ≡ next ∷ []) × (IsTrue known → AreWrittenPartly before after [] next)

@@ -19,7 +19,7 @@ const MAX_WORK: u64 = 524_288;
 
 const MAX_WORK_SAMPLED: u64 = 131_072;
 
-/// The maximum factor for the least weight in the search for integral multiples.
+/// The greatest integer tried for the least weight when weights are scaled to integers.
 const MAX_FACTOR: i64 = 60;
 
 /// Weights up to this size count as 0.

@@ -1,5 +1,5 @@
-//! Which tables are built: those over single variables, and over pairs and triples of related variables, close to the interesting
-//! patterns of Pommerening, Röger & Helmert 2013, "Getting the Most Out of Pattern Databases for Classical Planning".
+//! Which tables are built: those over single variables, and over pairs and triples of related variables, chosen like the
+//! interesting patterns of Pommerening, Röger & Helmert 2013, "Getting the Most Out of Pattern Databases for Classical Planning".
 use crate::draft::Effort;
 use crate::links::Links;
 use atom_groups::{Variables, place_of};

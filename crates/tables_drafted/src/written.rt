@@ -12,7 +12,8 @@ use reached_rows::RowGraph;
 use std::alloc::Global;
 use table_rows::Table;
 
-/// Finite stand-in for infinity.
+/// Finite stand-in for infinity: the weight of a row without a path to the goal, for values. It exceeds the weights of rows with
+/// a path, and the costs taken where a path ends.
 const WEIGHT_OF_DEAD: i64 = 1_073_741_824;
 
 /// What the rows of a table are written from.
