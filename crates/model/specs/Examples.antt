@@ -310,7 +310,7 @@ b_to_b = instance 0 (1 ∷ 1 ∷ [])
 -- ---- what is true of them
 
 pub record WorkedExamples : Type 0 where
-  -- An atom that one effect deletes and adds is true afterwards, in whatever order the literals are.
+  -- An atom that one effect deletes and adds is true afterwards, regardless of the order of the literals.
   pub add_wins_over_delete : IsVerdict (system_of go_task) (instance 0 [] ∷ []) (valid 1)
   -- The same if two different literals denote the same atom: (move a a) deletes (at ?x) and adds (at ?y).
   pub add_wins_over_another_literal : IsVerdict (system_of (walk_to 0)) (a_to_a ∷ []) (valid 1)
@@ -351,7 +351,7 @@ pub record WorkedExamples : Type 0 where
   pub subtype_fits : is_term fleet_task ((1 ∷ []) ∷ []) (2 ∷ []) (variable 0) ≡ true
   pub supertype_does_not : is_term fleet_task ((2 ∷ []) ∷ []) (1 ∷ []) (variable 0) ≡ false
   pub one_of_two_does_not : is_term fleet_task (place_or_truck ∷ []) (2 ∷ []) (variable 0) ≡ false
-  -- An atom that is deleted and added under one condition is true afterwards: (and (when (p) (not (p))) (when (p) (p)) (q)).
+  -- An atom that is deleted and added under the same condition is true afterwards: (and (when (p) (not (p))) (when (p) (p)) (q)).
   pub under_one_condition : Leads (p ∷ []) (all (when_p (delete p) ∷ when_p (add p) ∷ adds q ∷ [])) (atom p ∷ atom q ∷ [])
   -- Under two conditions it is true if both hold; if one of them holds, only that one counts, and if none holds, it is unchanged.
   pub under_two_conditions : Leads (p ∷ r ∷ []) (all (when_p (add q) ∷ when_r (delete q) ∷ [])) (atom q ∷ [])

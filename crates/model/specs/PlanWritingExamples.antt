@@ -52,7 +52,7 @@ pub record AreWritten : Type 0 where
   pub an_action_as_an_object : has_names (task_of_names (codes "a") [] (codes "b" ∷ codes "a" ∷ [])) ≡ true
   pub one_action_twice : has_names (task_of_names (codes "hop") (codes "a" ∷ codes "hop" ∷ []) []) ≡ false
   pub one_object_twice : has_names (task_of_names (codes "hop") [] (codes "a" ∷ codes "b" ∷ codes "a" ∷ [])) ≡ false
-  -- a name is in lower case, begins with a letter, and has 255 bytes at the most
+  -- a name is in lower case, begins with a letter, and has at most 255 bytes
   pub in_upper_case : is_lower_name (codes "hOp") ≡ false
   pub with_a_digit_first : is_lower_name (codes "2a") ≡ false
   pub no_name : is_lower_name [] ≡ false

@@ -76,7 +76,7 @@ number_at (section f k others) (keyword j) = number_in_file f j
 number_at (parts seen) (keyword k) = number_in_action k
 number_at (value seen) (keyword k) = number_at_value seen k
 number_at key (keyword k) = 11
--- `(either ..)` as the type of a name that is no variable
+-- `(either ..)` as the type of a name that is not a variable
 number_at (type names) opens = 12
 -- `when` and `forall` under a `when`; another function where only the total cost may occur; another metric; a number above the
 -- maximum
