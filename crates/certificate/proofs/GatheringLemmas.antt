@@ -119,7 +119,7 @@ weighed_at task c v atoms are i a within is =
     at_zero : (n : ℕ) → 0 + n ≡ n
     at_zero n = omega arith
 
--- there are as many as atoms
+-- the number of weighted atoms is the number of atoms
 length-weighed : (task : Task) (c : Certificate) (place : ℕ) (atoms : List Atom) → length (weighted_atoms task c place atoms) ≡ length atoms
 length-weighed task c place [] = refl
 length-weighed task c place (a ∷ atoms) = ap suc (length-weighed task c (suc place) atoms)

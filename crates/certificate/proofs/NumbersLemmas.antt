@@ -113,7 +113,7 @@ all_rise version count (mark ∷ marks) (set ∷ sets) same keep =
     All-cons (Rises count) set sets (and_parts (is_number line.cost && is_mark version line.mark) (rise count 0 line.atoms) here).1
     (all_rise version count marks sets (omega (arith, same)) more)
 
--- as many as there are of both
+-- the number of lines is the number of sets, if each set has its mark
 lines_count : (marks : List Marked) (sets : List (List Bool)) → length marks ≡ length sets → length (lines_with marks sets) ≡ length sets
 lines_count [] sets same = same
 lines_count (mark ∷ marks) [] same = absurd (omega (arith, same))

@@ -21,7 +21,7 @@ marked l = record { cost = l.cost; mark = l.mark }
 abbrev pub line_with : Marked → List Bool → StateLine
 line_with mark set = record { cost = mark.cost; mark = mark.mark; atoms = numbers_of set }
 
--- the lines of these marks and sets, as many as there are of both
+-- the state lines for these marks and sets, taken in pairs; the longer list is cut off
 abbrev pub lines_with : List Marked → List (List Bool) → List StateLine
 lines_with [] sets = []
 lines_with (mark ∷ marks) [] = []

@@ -41,7 +41,7 @@ pub record NamedCertificate : Type 0 where
 pub data TextLine : Type 0 where
   version : Version → TextLine
   claims : Claim → TextLine
-  -- constants, as many as the weights of an atom
+  -- constants; an atom has one weight for each
   constant : List ℤ → TextLine
   -- names of objects: the first is swapped with the second, the third with the fourth, and so on
   swapped : List (List ℕ) → TextLine

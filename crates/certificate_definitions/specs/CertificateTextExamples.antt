@@ -66,8 +66,8 @@ pub record AreTextsJudged : Type 0 where
   pub atom_behind_a_table : behind_atoms three 3 (table_lines_of_both ++ atom (weighs zeros (codes "r")) ∷ []) ≡ None
   pub row_behind_a_state : behind_atoms three 3 (table_lines_of_both ++ listed (open_at 0 []) ∷ row_line zeros (0 ∷ []) ∷ []) ≡ None
   pub table_behind_a_state : behind_atoms three 3 (listed (open_at 0 []) ∷ tabled (scope (0 ∷ [])) ∷ []) ≡ None
-  -- A scope has at least one atom, and its numbers ascend and are those of atoms; the same holds for a row, which has as many
-  -- weights as there are constants.
+  -- A scope has at least one atom, and its numbers ascend and are those of atoms; the same holds for a row, which has one weight
+  -- for each constant.
   pub empty_scope : behind_atoms three 3 (tabled (scope []) ∷ []) ≡ None
   pub numbers_rise : behind_atoms three 3 (tabled (scope (1 ∷ 0 ∷ [])) ∷ []) ≡ None
   pub another_number : behind_atoms three 3 (tabled (scope (2 ∷ [])) ∷ []) ≡ None

@@ -50,7 +50,7 @@ pub record AreFound (t : task.Task) (state : State) (all : List Part) (found : F
   pub fit : All (FitsPart t) found.parts.items
   pub are_false : All (IsFalseIn t state) found.parts.items
 
--- these are found after the parts that were found before
+-- if `old` was found in the parts before these, `new` is found in all of them
 abbrev pub Finds : task.Task → State → List Part → Found → Found → Type 0
 Finds t state parts old new = (before : List Part) → AreFound t state before old → AreFound t state (before ++ parts) new
 

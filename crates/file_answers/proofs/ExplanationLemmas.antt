@@ -144,7 +144,7 @@ module _ (texts : NamedTexts) (domain problem : NamedText) (same_domain : texts.
 
 -- ---- the verdict on a plan
 
--- there are as many steps in a text as instances that they name
+-- each step of a text names one instance: the two lists have the same length
 all_mean_length : (task : model.Task) (steps : List Step) (plan : List model.Instance) → AllMean task steps plan → length steps ≡ length plan
 all_mean_length task [] [] mean = refl
 all_mean_length task [] (i ∷ plan) mean = absurd mean

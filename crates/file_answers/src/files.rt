@@ -53,7 +53,7 @@ impl FileFault {
     ghost use Rattle.tokens.specs.Reported.{reported_by};
     ghost use Rattle.file_answers.specs.Files.{reported_in, in_file};
 
-    /// The fault of a text, as that of a file.
+    /// The fault of this file, given the fault of its text.
     fn of(file: File, fault: Fault) -> FileFault
         ensures { reported_in result ≡ in_file file (reported_by fault) }
     {

@@ -92,7 +92,7 @@ pub with_atoms-append : (xs ys zs : List Atom) → with_atoms xs (ys ++ zs) ≡ 
 with_atoms-append xs [] zs = refl
 with_atoms-append xs (a ∷ ys) zs = with_atoms-append (with_atom xs a) ys zs
 
--- the list is a prefix of what it becomes
+-- the list is a prefix of the list with one more atom
 pub with_atom-begins : (xs : List Atom) (a : Atom) → (rest : List Atom) × (with_atom xs a ≡ xs ++ rest)
 with_atom-begins xs a =
     elim (occurs_in xs a) as (λ b. (rest : List Atom) × ((if b then xs else xs ++ a ∷ []) ≡ xs ++ rest)) [

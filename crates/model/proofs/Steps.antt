@@ -32,7 +32,7 @@ abbrev mutual
   some_holds_where t is_true (more_formulas first rest) binding = holds_where t is_true first binding || some_holds_where t is_true rest binding
 
 mutual
-  -- it agrees with what holds in the state with these atoms
+  -- a formula holds in a state exactly if it holds where the state's atoms are true
   pub holds-where : (t : Task) (f : Formula) (binding : List ℕ) (s : State) → holds t f binding s ≡ holds_where t (contains s) f binding
   holds-where t (atom a) binding s = refl
   holds-where t (equal u v) binding s = refl

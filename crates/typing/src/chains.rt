@@ -29,7 +29,7 @@ fn parent(parents: &[TypeId], id: TypeId) -> TypeId
     }
 }
 
-/// A type and its ancestors, up to `object`; for a cyclic chain, as many types as there are in total.
+/// A type and its ancestors, up to `object`. A cyclic chain is cut off when its length is the number of types.
 fn chain(alloc: Global, parents: &[TypeId], id: TypeId) -> Result<Vec<TypeId>, NoMemory>
     ensures { IfOk result (λ v. map parts.type_of v.items ≡ typing.whole_chain (map parts.type_of parents.now) id.0) }
 {
