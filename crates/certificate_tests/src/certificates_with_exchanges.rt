@@ -1,4 +1,4 @@
-//! Certificates with exchanges, made in memory and written.
+//! Tests of certificates with exchanges, built in memory and written.
 use certificate::{Bounds, Cert, Claim, Header, Mark, Potential, StateLine, Version, write_cert};
 use devices::Memory;
 use faults::NoMemory;
@@ -9,7 +9,7 @@ use std::test::Fail;
 use task::{Atom, ObjectId};
 use test_texts::{LAMPS, atom, on_task};
 
-/// Objects that change places, two by two.
+/// Pairs of objects that are swapped.
 type Pairs = &'static [(ObjectId, ObjectId)];
 
 /// An exchange of two lamps of [`LAMPS`], and one of four.
@@ -17,7 +17,7 @@ const TWO: Pairs = &[(ObjectId(0), ObjectId(1))];
 
 const FOUR: Pairs = &[(ObjectId(2), ObjectId(3)), (ObjectId(15), ObjectId(0))];
 
-/// The potential function of this constant, in which the atom has this weight.
+/// The potential function with this constant, in which the atom has this weight.
 fn potential(alloc: Global, constant: i64, weight: i64) -> Result<Potential, AllocError> {
     Ok(Potential {
         constant,
@@ -25,7 +25,7 @@ fn potential(alloc: Global, constant: i64, weight: i64) -> Result<Potential, All
     })
 }
 
-/// One value, and no dead ends.
+/// One value, and no dead-end detection.
 fn bounds(alloc: Global) -> Result<Bounds, AllocError> {
     let values = vec![in alloc; potential(alloc, 1, -1)?]?;
     Ok(Bounds {
@@ -35,14 +35,14 @@ fn bounds(alloc: Global) -> Result<Bounds, AllocError> {
     })
 }
 
-/// The first lamp is lit.
+/// The single atom: the first lamp is lit.
 fn atoms(alloc: Global) -> Result<IndexSet<Atom>, NoMemory> {
     let mut atoms = IndexSet::new(alloc);
     atoms.insert(atom(0, &[0]))?;
     Ok(atoms)
 }
 
-/// The exchanges of these objects.
+/// The exchanges of these pairs.
 fn exchanges(alloc: Global, all: &[Pairs]) -> Result<Vec<Vec<(ObjectId, ObjectId)>>, AllocError> {
     let mut exchanges = Vec::new(alloc);
     for pairs in all {
@@ -51,7 +51,7 @@ fn exchanges(alloc: Global, all: &[Pairs]) -> Result<Vec<Vec<(ObjectId, ObjectId
     Ok(exchanges)
 }
 
-/// What comes before the state.
+/// The header of the certificate.
 fn header(alloc: Global, version: Version, all: &[Pairs]) -> Result<Header, NoMemory> {
     let exchanges = exchanges(alloc, all)?;
     let atoms = atoms(alloc)?;
@@ -73,13 +73,13 @@ fn line(alloc: Global) -> Result<StateLine, AllocError> {
     })
 }
 
-/// A certificate of an atom and these exchanges, if one of this version may have them.
+/// A certificate with one atom and these exchanges, if this version allows them.
 fn cert(alloc: Global, version: Version, all: &[Pairs]) -> Result<Option<Cert>, NoMemory> {
     let lines = vec![in alloc; line(alloc)?]?;
     Cert::new(alloc, header(alloc, version, all)?, &lines)
 }
 
-/// The text of the one with both.
+/// The text of the certificate with both exchanges.
 const TEXT: &[u8] =
     b"pddl-cert 3\nclaim bound 0\nconstant 1 0\nswap a b\nswap c d p a\natom -1 0 (on a)\nopen 0 0\nend 1\n";
 

@@ -1,4 +1,4 @@
-//! Certificates of version 3: several values, and tables.
+//! Tests of certificates of version 3: several values, and tables.
 ghost use Rattle.std.specs.Prelude.{IsTrue};
 ghost use Rattle.table_rows.specs.Rows.{are_rising};
 
@@ -17,7 +17,7 @@ use task_certificates::RefusalCode;
 use test_devices::{FailsAt, InPieces};
 use test_texts::{GO, HOP, on_task};
 
-/// The potential function of this constant and these weights.
+/// The potential function with this constant and these weights.
 fn potential(alloc: Global, constant: i64, weights: [i64; 2]) -> Result<Potential, NoMemory> {
     Ok(Potential {
         constant,
@@ -25,7 +25,7 @@ fn potential(alloc: Global, constant: i64, weights: [i64; 2]) -> Result<Potentia
     })
 }
 
-/// Puts the row of these atoms and these weights after the others, if the table's rows have three.
+/// Appends the row with these atoms and weights, if the table's rows have three weights.
 fn add(alloc: Global, table: &mut Table, atoms: &[u32], weights: [i64; 3]) -> Result<(), NoMemory>
     requires { IsTrue (are_rising atoms.now) }
 {
@@ -35,7 +35,7 @@ fn add(alloc: Global, table: &mut Table, atoms: &[u32], weights: [i64; 3]) -> Re
     Ok(())
 }
 
-/// A table of the second atom: of one that is false, and one that is true.
+/// A table over the second atom: one row where it is false, and one where it is true.
 fn table(alloc: Global) -> Result<Table, NoMemory> {
     let mut table = Table::new(alloc, vec![in alloc; 1]?, 3)?;
     add(alloc, &mut table, &[], [0, 0, 0])?;
@@ -58,7 +58,7 @@ fn tables(alloc: Global) -> Result<Vec<Table>, NoMemory> {
     Ok(tables)
 }
 
-/// Two values, what dead ends weigh, and a table.
+/// Two values, the weights of dead ends, and a table.
 fn bounds(alloc: Global) -> Result<Bounds, NoMemory> {
     let values = values(alloc)?;
     let tables = tables(alloc)?;
@@ -69,7 +69,7 @@ fn bounds(alloc: Global) -> Result<Bounds, NoMemory> {
     })
 }
 
-/// What comes before the state.
+/// The header of the certificate.
 fn header(alloc: Global, version: Version) -> Result<Header, NoMemory> {
     let atoms = both_atoms(alloc)?;
     Ok(Header {
@@ -90,7 +90,7 @@ fn line(alloc: Global) -> Result<StateLine, AllocError> {
     })
 }
 
-/// A certificate of two atoms, two values and a table, if one of this version may have them.
+/// A certificate with two atoms, two values and a table, if this version allows them.
 fn cert(alloc: Global, version: Version) -> Result<Option<Cert>, NoMemory> {
     let lines = vec![in alloc; line(alloc)?]?;
     Cert::new(alloc, header(alloc, version)?, &lines)
@@ -111,8 +111,8 @@ fn a_certificate_with_tables_is_written(rt: HostRuntime) -> Result<(), Fail> {
     })
 }
 
-/// What is answered to a certificate of version 3 that ends behind this row of a table of the second atom, which has a row of
-/// no atoms already.
+/// The answer to a certificate of version 3 that ends after this row of a table over the second atom, which already has a row
+/// without atoms.
 fn answer_to_row(alloc: Global, task: &Task, row: &[u8]) -> Result<Answer, NoMemory> {
     let mut text = Vec::from_slice(
         alloc,
@@ -158,7 +158,7 @@ fn another_row_of_its_scope_is_taken(rt: HostRuntime) -> Result<(), Fail> {
     })
 }
 
-/// Whether a certificate of this version may have them.
+/// Whether a certificate of this version may have two values and a table.
 fn is_there(alloc: Global, version: Version) -> Result<bool, NoMemory> {
     let cert = cert(alloc, version)?;
     Ok(cert.is_some())
@@ -174,21 +174,21 @@ fn tables_are_of_version_3(rt: HostRuntime) -> Result<(), Fail> {
     Ok(())
 }
 
-/// What precedes the rows: two values over the places of [`HOP`], and a table that looks at all three.
+/// The lines before the rows: two values over the places of [`HOP`], and a table over all three.
 const PLACES: &[u8] =
     b"pddl-cert 3\nclaim bound 6\nconstant 0 0 0\natom 0 0 0 (at a)\natom 0 0 0 (at b)\natom 0 0 0 (at c)\ntable 0 1 2\n";
 
-/// Rows by whose second value 6 is still to pay at the start, and a cut there.
+/// Rows by whose second value 6 is the remaining cost from the initial state, and a cut there.
 const ROWS: &[u8] = b"row 1 6 0 0\nrow 1 3 0 1\nrow 0 0 0 2\ncut 0 6 0\nend 1\n";
 
-/// The text of a certificate with these lines behind its table's.
+/// The text of a certificate with these lines after its table's.
 fn whole(alloc: Global, lines: &[u8]) -> Result<Vec<u8>, NoMemory> {
     let mut text = Vec::from_slice(alloc, PLACES)?;
     text.extend_from_slice(lines)?;
     Ok(text)
 }
 
-/// A certificate with these lines behind its table's is answered so.
+/// A certificate with these lines after its table's gets this answer.
 fn is_answered<R: Abort>(rt: &R, alloc: Global, lines: &[u8], wanted: Answer) -> Result<(), Fail> {
     on_task(rt, alloc, &HOP, |rt, alloc, task| {
         let answer = check_text(alloc, task, whole(alloc, lines)?, 3);
@@ -197,7 +197,7 @@ fn is_answered<R: Abort>(rt: &R, alloc: Global, lines: &[u8], wanted: Answer) ->
     })
 }
 
-/// The refusal of the line of a state, which is the eleventh.
+/// The refusal of a state's line, which is the eleventh.
 fn refused_state(code: RefusalCode) -> Answer {
     Err(Reported::Line { code, line: 11 })
 }
@@ -252,7 +252,7 @@ fn a_dead_end_is_none_by_its_values(rt: HostRuntime) -> Result<(), Fail> {
     is_answered(&rt, rt.alloc(), lines, refused_state(RefusalCode::NotDead))
 }
 
-/// A text that ends early, at each of its bytes, is refused at the line in which it ends.
+/// A text that ends early, at any byte, is refused at the line in which it ends.
 fn ends_are_reported(rt: &impl Abort, alloc: Global, task: &Task) -> Result<(), Fail> {
     let mut line: u64 = 8;
     for (length, byte) in ROWS.iter().enumerate() {
@@ -269,7 +269,7 @@ fn rows_that_end_early_are_refused(rt: HostRuntime) -> Result<(), Fail> {
     on_task(&rt, rt.alloc(), &HOP, ends_are_reported)
 }
 
-/// A read that fails is reported, at whichever byte.
+/// A failing read is reported, at any byte.
 fn failures_are_reported(rt: &impl Abort, alloc: Global, task: &Task) -> Result<(), Fail> {
     let text = whole(alloc, ROWS)?;
     for reads in 0..=text.len() as u64 {

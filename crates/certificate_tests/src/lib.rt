@@ -1,4 +1,4 @@
-//! Tests of certificates: made in memory, written, read and checked, over failing devices, and damaged.
+//! Tests of certificates: built in memory, written, read and checked, over failing devices, and damaged.
 #![tactic(auto)]
 
 #[cfg(test)]

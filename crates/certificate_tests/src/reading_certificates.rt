@@ -1,23 +1,23 @@
-//! The lines of certificates' texts, over devices that give bytes one by one, that fail, and that never end.
+//! Tests of reading certificate texts from devices that give single bytes, that fail, and that never end.
 use certificate::{CertFault, CertLine, CertReader, Claim, Mark, StateLine, TextFault, Version};
 use devices::{Memory, Source};
 use std::alloc::{AllocError, Global};
 use std::test::Fail;
 use test_devices::{Endless, FailsAt, InPieces};
 
-/// A certificate of ten lines, in version 1.
+/// A certificate with ten lines, in version 1.
 const HOP: &[u8] =
     b"pddl-cert 1\nclaim bound 6\nconstant 6\natom 0 (at a)\natom -3 (at b)\natom -6 (at c)\nopen 0 0\nopen 3 1\ncut 6 0 2\nend 3\n";
 
-/// What is reported at a line.
+/// The fault with this code at this line.
 const fn at_line(code: TextFault, line: u64) -> CertFault {
     CertFault::Line { code, line }
 }
 
-/// How many lines are given out, and the fault after them; `None` where the text is a certificate.
+/// The number of lines returned, and the fault after them; `None` if the text is a certificate.
 type Reported = (u64, Option<CertFault>);
 
-/// What the reader reports, and `None` where it never ends.
+/// What the reader reports; `None` if it never ends.
 fn reported<S: Source>(reader: &mut CertReader<S>) -> Option<Reported> {
     for count in 0..17_000_000 {
         match reader.next_line() {
@@ -32,7 +32,7 @@ fn reported<S: Source>(reader: &mut CertReader<S>) -> Option<Reported> {
     None
 }
 
-/// What is reported for the text that the source gives.
+/// The reader's report for the text that the source gives.
 fn reads<S: Source + Drop>(alloc: Global, source: S) -> Option<Reported> {
     reported(&mut CertReader::new(alloc, source))
 }
@@ -42,11 +42,11 @@ fn one_by_one(alloc: Global, bytes: &[u8]) -> Result<InPieces<Memory>, AllocErro
     Ok(InPieces::new(Memory::new(bytes.to_vec(alloc)?), 1))
 }
 
-/// The same in version 2, where the last state is a dead end.
+/// The same in version 2, with a dead end as the last state.
 const DEAD: &[u8] =
     b"pddl-cert 2\nclaim bound 6\nconstant 6 -1\natom 0 0 (at a)\natom -3 0 (at b)\natom -6 2 (at c)\nopen 0 0\nopen 3 1\ndead 6 2\nend 3\n";
 
-/// One number in version 1, and else two.
+/// One weight in version 1, otherwise two.
 fn weights(
     alloc: Global,
     version: Version,
@@ -61,7 +61,7 @@ fn weights(
     Ok(weights)
 }
 
-/// An atom of one object, with these weights.
+/// An atom with one object and these weights.
 fn atom_at(alloc: Global, weights: Vec<i64>, object: &[u8]) -> Result<CertLine, AllocError> {
     Ok(CertLine::Weight {
         weights,
@@ -70,13 +70,13 @@ fn atom_at(alloc: Global, weights: Vec<i64>, object: &[u8]) -> Result<CertLine, 
     })
 }
 
-/// A state of one atom.
+/// A state with one atom.
 fn state(alloc: Global, cost: u64, mark: Mark, atom: u32) -> Result<CertLine, AllocError> {
     let atoms = vec![in alloc; atom]?;
     Ok(CertLine::Listed(StateLine { cost, mark, atoms }))
 }
 
-/// What is said of the last state.
+/// The role of the last state.
 fn last_mark(version: Version) -> Mark {
     match version {
         Version::One => Mark::Cut { rest: 0 },
@@ -84,7 +84,7 @@ fn last_mark(version: Version) -> Mark {
     }
 }
 
-/// The line of this number of `HOP`, or of `DEAD`, from 0 on.
+/// The line of `HOP` or `DEAD` with this number, from 0.
 fn line_of(alloc: Global, version: Version, number: u32) -> Result<CertLine, AllocError> {
     match number {
         0 => Ok(CertLine::Head(version)),
@@ -100,7 +100,7 @@ fn line_of(alloc: Global, version: Version, number: u32) -> Result<CertLine, All
     }
 }
 
-/// Whether the reader's next line is the one of this number.
+/// Whether the reader's next line is the one with this number.
 fn is_next<S: Source>(
     alloc: Global,
     reader: &mut CertReader<S>,
@@ -111,7 +111,7 @@ fn is_next<S: Source>(
     Ok(reader.next_line()? == Some(wanted))
 }
 
-/// Whether the reader gives out these lines, and no more.
+/// Whether the reader returns these lines and no more.
 fn hands_out<S: Source>(
     alloc: Global,
     reader: &mut CertReader<S>,
@@ -134,7 +134,7 @@ fn lines_are_what_they_say(rt: HostRuntime) -> Result<(), Fail> {
     Ok(())
 }
 
-/// What is reported for a device that gives these bytes, and then fails.
+/// The report for a device that gives these bytes and then fails.
 fn before_failure(alloc: Global, bytes: &[u8]) -> Result<Option<Reported>, Fail> {
     let reads_before = Some(bytes.len() as u64);
     Ok(reads(

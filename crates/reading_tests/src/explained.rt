@@ -1,4 +1,4 @@
-//! What is said of a plan in memory, of where its steps are, of a task, and of a fault.
+//! Tests of explanations: of a plan in memory, of the places of its steps, of a task, and of a fault.
 use explained_faults::{File, FileRefusal, NamedText, NamedTexts, explain_fault};
 use explained_plans::{
     Summary, VariableNames, explain_plan, false_parts_report, report_details, report_verdict,
@@ -12,7 +12,7 @@ use std::test::Fail;
 use task::Task;
 use test_texts::{Texts, on_task};
 
-/// Three places, of which the last is closed, and ways between the first two.
+/// Three places, the last one closed, and ways between the first two.
 const ROAD: Texts = [
     "(define (domain road) (:predicates (at ?x) (closed ?x) (seen ?x))
  (:functions (total-cost) (distance ?x ?y))
@@ -25,7 +25,7 @@ const ROAD: Texts = [
  (:metric minimize (total-cost)))",
 ];
 
-/// Plans, and what is said of them.
+/// Plans and their explanations.
 #[rattlefmt::skip]
 static REPORTED: [(&str, &str); 3] = [
     ("(hop a b)(hop b a)(hop a b)",
@@ -42,7 +42,7 @@ struct Nameless<'a> {
     names: VariableNames<'a>,
 }
 
-/// What is said of the plan of this text: what is true of it, and then why.
+/// The explanation of the plan in this text: the verdict, then the reasons.
 fn reported(alloc: Global, nameless: &Nameless<'_>, text: &str) -> Result<String, Fail> {
     let task = nameless.task;
     let plan = read_plan(alloc, task, text.as_bytes())?;
@@ -74,7 +74,7 @@ fn plans_are_explained(rt: HostRuntime) -> Result<(), Fail> {
     on_task(&rt, rt.alloc(), &ROAD, are_reported)
 }
 
-/// What the task of the places holds.
+/// The summary of the task with three places.
 const HOLDS: &str = "types 1, objects 3, predicates 3, functions 2, actions 2\n\
 costs yes, conditional effects no, quantifiers yes, negations yes, disjunctions yes\n";
 
@@ -100,7 +100,7 @@ fn steps_are_placed(rt: HostRuntime) {
     assert_eq!(rt; places, [Some(first), Some(second), None]);
 }
 
-/// A predicate is in the goal that the domain has not.
+/// The goal has a predicate that the domain does not declare.
 #[rattlefmt::skip]
 const FASTER: [&[u8]; 2] = [
     b"(define (domain d) (:predicates (fast ?c) (at ?c)))",
@@ -108,7 +108,7 @@ const FASTER: [&[u8]; 2] = [
  (:init) (:goal (fats herbie)))",
 ];
 
-/// What is said of the fault.
+/// The explanation of the fault.
 fn fault_reported(alloc: Global) -> Result<String, NoMemory> {
     let texts = NamedTexts {
         domain: NamedText {

@@ -1,4 +1,4 @@
-//! Tests of words, trees, tasks, plan texts and explanations that no run of the program can show.
+//! Tests of words, trees, tasks, plan texts and explanations, as far as runs of the program cannot show them.
 #![tactic(auto)]
 
 #[cfg(test)]

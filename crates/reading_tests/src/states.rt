@@ -1,4 +1,4 @@
-//! States, plans, instances and atoms in memory.
+//! Tests of states, plans, instances and atoms in memory.
 use faults::NoMemory;
 use formulas::{
     Atom, Binding, Instance, Plan, State, Valuation, apply, changes, copied, cost, holds, is_atom,
@@ -10,7 +10,7 @@ use std::test::Fail;
 use task::{ObjectId, PredicateId, Task};
 use test_texts::{Application, Texts, atom, atoms, instance, is_of, on_task};
 
-/// Three places, and roads that lead from the first to itself and to the second, and from there to the third.
+/// Three places, with roads from the first to itself and to the second, and from the second to the third.
 const WALK: Texts = [
     "(define (domain walk) (:predicates (at ?x) (road ?x ?y))
  (:action move :parameters (?x ?y) :precondition (and (at ?x) (road ?x ?y)) :effect (and (not (at ?x)) (at ?y))))",
@@ -18,7 +18,7 @@ const WALK: Texts = [
  (:init (at a) (road a a) (road a b) (road b c)) (:goal (at b)))",
 ];
 
-/// Whether the walker is at this place alone, and the goal, which is the second place, holds exactly there.
+/// Whether the walker is at this place only, and the goal (the second place) holds exactly there.
 fn is_at(task: &Task, state: &State, place: u32) -> bool {
     let is_there = [
         state.contains(&atom(0, &[0])),
@@ -46,40 +46,40 @@ fn walks(rt: &impl Abort, alloc: Global, task: &Task, start: &State) -> Result<(
     Ok(())
 }
 
-/// Whether the walker is at the second place, as any valuation reports it.
+/// Whether the walker is at the second place, queried through any valuation.
 fn is_valued<V: Valuation>(state: &V) -> bool {
     state.contains(&atom(0, &[1])) && !state.contains(&atom(0, &[0]))
 }
 
-/// Schemas and objects, and whether they are an instance.
+/// Schemas with objects, and whether they form an instance.
 #[rattlefmt::skip]
 static INSTANCES: [(Application, bool); 6] = [
     ((0, &[0, 1]), true), ((0, &[2, 2]), true),
     ((0, &[2]), false), ((0, &[2, 1, 0]), false), ((0, &[2, 3]), false), ((1, &[0, 1]), false),
 ];
 
-/// Predicates and objects, and whether they are an atom.
+/// Predicates with objects, and whether they form an atom.
 #[rattlefmt::skip]
 static ATOMS: [(Application, bool); 7] = [
     ((0, &[2]), true), ((1, &[2, 2]), true),
     ((0, &[]), false), ((0, &[0, 1]), false), ((0, &[3]), false), ((1, &[0, 3]), false), ((2, &[0]), false),
 ];
 
-/// What is one of the walk's instances, and what is not.
+/// Which instances belong to the task and which do not.
 fn knows_instances(rt: &impl Abort, task: &Task) {
     for ((schema, objects), is_one) in &INSTANCES {
         assert_eq!(rt; is_instance(task, &instance(*schema, *objects)), *is_one);
     }
 }
 
-/// What is one of the walk's atoms, and what is not.
+/// Which atoms belong to the task and which do not.
 fn knows_atoms(rt: &impl Abort, task: &Task) {
     for ((predicate, objects), is_one) in &ATOMS {
         assert_eq!(rt; is_atom(task, &atom(*predicate, *objects)), *is_one);
     }
 }
 
-/// The predicate of places alone is fluent, and its atoms are.
+/// Only the predicate of places is fluent, and so are its atoms.
 fn knows_what_is_fluent(rt: &impl Abort, task: &Task) {
     let are_fluent = [
         is_fluent_predicate(task, PredicateId(0)),
@@ -105,14 +105,14 @@ fn states_of_a_walk(rt: HostRuntime) -> Result<(), Fail> {
     on_task(&rt, rt.alloc(), &WALK, is_a_walk)
 }
 
-/// What holds is deleted and added under one condition, and something else is added.
+/// A true atom is deleted and added under the same condition, and another one is added.
 const KEEP: Texts = [
     "(define (domain keep) (:predicates (p) (q) (r))
  (:action act :parameters () :effect (and (when (p) (not (p))) (when (p) (p)) (q))))",
     "(define (problem k) (:domain keep) (:init (p)) (:goal (and)))",
 ];
 
-/// The action leaves exactly what it adds.
+/// The action adds exactly what it should.
 fn keeps(rt: &impl Abort, alloc: Global, task: &Task) -> Result<(), Fail> {
     let start = State::initial(alloc, task)?;
     let step = instance(0, &[]);
@@ -128,14 +128,14 @@ fn adds_win_over_deletes(rt: HostRuntime) -> Result<(), Fail> {
     on_task(&rt, rt.alloc(), &KEEP, keeps)
 }
 
-/// An action that changes one atom in any case, and another for each object of which a condition holds.
+/// An action that changes one atom unconditionally, and another one for each object that satisfies a condition.
 const TURN: Texts = [
     "(define (domain turn) (:predicates (on ?x) (seen ?x))
  (:action act :parameters (?x) :effect (and (seen ?x) (forall (?y) (when (on ?y) (not (on ?x)))))))",
     "(define (problem t) (:domain turn) (:objects a b) (:init) (:goal (and)))",
 ];
 
-/// What it changes with the second object: a condition's variables are those of the action and of the `forall`.
+/// Its changes for the second object: the variables of a condition are those of the action and of the `forall`.
 const CHANGED: &str =
     "[ObjectId(1)] Adds(Atom { predicate: PredicateId(1), objects: [ObjectId(1)] }), \
 [ObjectId(1), ObjectId(0)] Deletes(Atom { predicate: PredicateId(0), objects: [ObjectId(1)] }), \
@@ -164,7 +164,7 @@ fn changes_have_their_conditions(rt: HostRuntime) -> Result<(), Fail> {
     on_task(&rt, rt.alloc(), &TURN, lists_changes)
 }
 
-/// A goal with each form, of which five say something outright.
+/// A goal with each kind of formula, five of which are sure literals.
 const OUTRIGHT: Texts = [
     "(define (domain say) (:predicates (p ?x) (q)))",
     "(define (problem s) (:domain say) (:objects a b) (:init)
@@ -172,7 +172,7 @@ const OUTRIGHT: Texts = [
   (exists (?x) (p ?x)) (not (or (p a))) (not (not (p a))))))",
 ];
 
-/// What the goal says outright.
+/// The sure literals of the goal.
 const SAID: &str = "[IsTrue(Atom { predicate: PredicateId(0), objects: [ObjectId(1)] }), \
 IsFalse(Atom { predicate: PredicateId(1), objects: [] }), \
 AreSame(ObjectId(0), ObjectId(1)), AreDifferent(ObjectId(1), ObjectId(0)), \
@@ -190,7 +190,7 @@ fn some_is_said_outright(rt: HostRuntime) -> Result<(), Fail> {
     on_task(&rt, rt.alloc(), &OUTRIGHT, says_outright)
 }
 
-/// The state of these atoms, which are put in one after another.
+/// The state with these atoms, inserted one after another.
 fn state(alloc: Global, rows: &[Application]) -> Result<State, NoMemory> {
     let mut state = State::new(alloc);
     for row in rows {
@@ -199,27 +199,27 @@ fn state(alloc: Global, rows: &[Application]) -> Result<State, NoMemory> {
     Ok(state)
 }
 
-/// Atoms in the order of their predicates, and then of their objects from the left.
+/// Atoms ordered by predicate and then lexicographically by objects.
 #[rattlefmt::skip]
 static IN_ORDER: [Application; 5] = [(0, &[1]), (0, &[2]), (1, &[0, 1]), (1, &[0, 2]), (1, &[1, 0])];
 
-/// The same atoms in another order, and some of them twice.
+/// The same atoms in another order, some of them twice.
 #[rattlefmt::skip]
 static MIXED: [Application; 7] = [(1, &[1, 0]), (0, &[2]), (1, &[0, 1]), (0, &[2]), (0, &[1]), (1, &[0, 2]), (1, &[1, 0])];
 
-/// Whether the state lists these atoms, in this order, and its copy is the same.
+/// Whether the state lists exactly these atoms in this order, and so does its copy.
 fn is_listed(state: &State, atoms: &[Atom]) -> Result<bool, NoMemory> {
     let copy = state.try_clone()?;
     Ok(state.atoms().iter().eq(atoms) & (copy == *state))
 }
 
-/// Whether the state into which the first atoms were put has the second ones, in this order, and so has its copy.
+/// Whether the state into which the first atoms were inserted lists the second ones in this order, and so does its copy.
 fn lists(alloc: Global, put: &[Application], wanted: &[Application]) -> Result<bool, NoMemory> {
     let state = state(alloc, put)?;
     is_listed(&state, &atoms(alloc, wanted)?)
 }
 
-/// Whether the states of these atoms are one.
+/// Whether the states with these atoms are equal.
 fn is_one(alloc: Global, some: &[Application], other: &[Application]) -> Result<bool, NoMemory> {
     let some = state(alloc, some)?;
     Ok(some == state(alloc, other)?)
@@ -239,7 +239,7 @@ fn states_are_sets(rt: HostRuntime) -> Result<(), Fail> {
     Ok(())
 }
 
-/// Whether these are the two steps of the plan that is made below.
+/// Whether these are the two steps of the plan built below.
 fn are_steps(steps: &[Instance]) -> bool {
     match steps {
         [first, second] => is_of(first, &(0, &[0, 1])) && is_of(second, &(3, &[2])),

@@ -1,4 +1,4 @@
-//! Trees of domains and problems in memory, and what is reported for words that stop too early.
+//! Tests of trees of domains and problems in memory, and of the faults for words that end too early.
 use faults::{Code, Fault, Span, TextRefusal};
 use pddl_tree::{
     Action, Amount, Domain, Effect, EffectLiteral, Fact, Formula, Group, Increase, Name, Predicate,
@@ -18,7 +18,7 @@ const TRIP: &[u8] =
  (:init (p) (= (total-cost) 07) (q a) (= (LEN B) 3)) (:goal (and (p) (or) (not (q B))
  (imply (p) (q a)) (= ?x B) (exists (?x ?y - (either place truck) ?z) (q ?y)) (forall () (p)))))";
 
-/// The words that come before this place are refused there, since more is wanted.
+/// The fault of the words before this index, which are incomplete.
 fn refused_at(end: usize) -> Option<Fault> {
     Some(Fault::At(TextRefusal {
         code: Code::BadForm,
@@ -46,7 +46,7 @@ fn each_beginning_of_a_problem_is_refused_at_its_end(rt: HostRuntime) -> Result<
     Ok(())
 }
 
-/// Whether it is the tree of `GO`.
+/// Whether the domain is that of `GO`.
 fn is_go(domain: &Domain) -> bool {
     match (domain.predicates.as_slice(), domain.actions.as_slice()) {
         ([_, q], [action]) => {
@@ -61,7 +61,7 @@ fn is_go(domain: &Domain) -> bool {
     }
 }
 
-/// Whether they are the functions of `GO`: one of an object, and the total cost.
+/// Whether the functions are those of `GO`: one of an object, and the total cost.
 fn are_functions(functions: &[Predicate]) -> bool {
     match functions {
         [len, total] => {
@@ -74,7 +74,7 @@ fn are_functions(functions: &[Predicate]) -> bool {
     }
 }
 
-/// Whether they are the increases of the action: one by a number, and one by the function of its variable.
+/// Whether the increases are those of the action: one by a number, and one by the function of its variable.
 fn are_increases(increases: &[Increase]) -> bool {
     match increases {
         [first, second] => {
@@ -88,7 +88,7 @@ fn are_increases(increases: &[Increase]) -> bool {
     }
 }
 
-/// Whether it is the action of `GO`. No precondition is an empty `and`.
+/// Whether the action is that of `GO`. A missing precondition is an empty `and`.
 fn is_going(action: &Action) -> bool {
     match (&action.precondition, &action.effect) {
         (Formula::And(conditions), Effect::And(changes)) => {
@@ -102,7 +102,7 @@ fn is_going(action: &Action) -> bool {
     }
 }
 
-/// Whether they are the effects of the action: one of each form.
+/// Whether the effects are those of the action: one of each kind.
 fn are_changes(parts: &[Effect]) -> bool {
     match parts {
         [not, forall, when] => {
@@ -116,12 +116,12 @@ fn are_changes(parts: &[Effect]) -> bool {
     }
 }
 
-/// Whether the effect adds the variable of the action to `q`.
+/// Whether the effect adds `q` of the action's variable.
 fn is_adding(effect: &Effect) -> bool {
     matches!(effect, Effect::Literal(literal) if is_added(literal, b"q", true, b"?a"))
 }
 
-/// Whether they are the literals under the condition.
+/// Whether the literals are those under the condition.
 fn are_literals(literals: &[EffectLiteral]) -> bool {
     match literals {
         [first, second] => is_deleted(first, b"p") && is_added(second, b"Q", false, b"b"),
@@ -129,12 +129,12 @@ fn are_literals(literals: &[EffectLiteral]) -> bool {
     }
 }
 
-/// Whether an atom of this predicate is deleted.
+/// Whether an atom with this predicate is deleted.
 fn is_deleted(literal: &EffectLiteral, predicate: &[u8]) -> bool {
     matches!(literal, EffectLiteral::Delete(atom) if atom.predicate.text == predicate)
 }
 
-/// Whether an atom of this predicate and one term is added.
+/// Whether an atom with this predicate and one term is added.
 fn is_added(literal: &EffectLiteral, predicate: &[u8], is_variable: bool, term: &[u8]) -> bool {
     match literal {
         EffectLiteral::Add(atom) => {
@@ -144,7 +144,7 @@ fn is_added(literal: &EffectLiteral, predicate: &[u8], is_variable: bool, term: 
     }
 }
 
-/// Whether the only term is a variable, or an object, of this name.
+/// Whether the only term is a variable, or an object, with this name.
 fn is_only(terms: &[Term], is_variable: bool, text: &[u8]) -> bool {
     if terms.len() != 1 {
         return false;
@@ -155,7 +155,7 @@ fn is_only(terms: &[Term], is_variable: bool, text: &[u8]) -> bool {
     }
 }
 
-/// Whether it is a list of these names without types.
+/// Whether the list has these names without types.
 fn is_untyped(groups: &[Group], names: &[&[u8]]) -> bool {
     match groups {
         [group] => group.types.is_empty() && are(&group.names, names),
@@ -163,7 +163,7 @@ fn is_untyped(groups: &[Group], names: &[&[u8]]) -> bool {
     }
 }
 
-/// Whether they are these names.
+/// Whether the names are these.
 fn are(names: &[Name], texts: &[&[u8]]) -> bool {
     names.len() == texts.len()
         && names
@@ -172,7 +172,7 @@ fn are(names: &[Name], texts: &[&[u8]]) -> bool {
             .all(|(name, text)| name.text == *text)
 }
 
-/// Whether it is an atom of this predicate and one object.
+/// Whether the fact is an atom with this predicate and one object.
 fn is_unary(fact: &Fact, predicate: &[u8]) -> bool {
     match fact {
         Fact::Atom(atom) => atom.predicate.text == predicate && atom.objects.len() == 1,
@@ -180,20 +180,20 @@ fn is_unary(fact: &Fact, predicate: &[u8]) -> bool {
     }
 }
 
-/// Whether it is the total cost at the start.
+/// Whether the fact is the initial total cost.
 fn is_start(fact: &Fact) -> bool {
     matches!(fact, Fact::InitialCost(start)
         if (start.function.text, start.amount) == (b"total-cost".as_slice(), 7))
 }
 
-/// Whether it is the value of the function of one object.
+/// Whether the fact is the value of a function of one object.
 fn is_value(fact: &Fact) -> bool {
     matches!(fact, Fact::InitialValue(it)
         if (it.function.predicate.text, it.value) == (b"LEN".as_slice(), 3)
             && are(&it.function.objects, &[b"B"]))
 }
 
-/// Whether it is the tree of `TRIP`.
+/// Whether the problem is that of `TRIP`.
 fn is_trip(problem: &Problem) -> bool {
     match problem.init.as_slice() {
         [_, start, fact, value] => {
@@ -209,7 +209,7 @@ fn is_trip(problem: &Problem) -> bool {
     }
 }
 
-/// Whether they are the formulas of the goal: one of each form.
+/// Whether the formulas are those of the goal: one of each kind.
 fn are_of_each_form(parts: &[Formula]) -> bool {
     match parts {
         [_, or, not, imply, equal, exists, forall] => {
@@ -228,7 +228,7 @@ fn are_of_each_form(parts: &[Formula]) -> bool {
     }
 }
 
-/// Whether it is an atom of this predicate, and of so many terms.
+/// Whether the formula is an atom with this predicate and this many terms.
 fn is_atom(formula: &Formula, predicate: &[u8], count: usize) -> bool {
     matches!(formula, Formula::Atom(atom)
         if atom.predicate.text == predicate && atom.terms.len() == count)
@@ -238,7 +238,7 @@ const FLEET: &[u8] =
     b"(define (domain fleet) (:types truck van - vehicle vehicle) (:constants hub - place)
  (:predicates (seen ?x ?y - (either place truck) ?z)))";
 
-/// Whether it is the tree of `FLEET`.
+/// Whether the domain is that of `FLEET`.
 fn is_fleet(domain: &Domain) -> bool {
     match (
         domain.types.as_slice(),
@@ -257,7 +257,7 @@ fn is_fleet(domain: &Domain) -> bool {
     }
 }
 
-/// Whether they are the variables of `seen`, which are those of the `exists` of `TRIP` too.
+/// Whether the variables are those of `seen`, which are also those of the `exists` in `TRIP`.
 fn are_seen(groups: &[Group]) -> bool {
     match groups {
         [first, second] => {

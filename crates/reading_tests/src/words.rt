@@ -1,11 +1,11 @@
-//! Words of texts, with their kinds and places, and parts of texts.
+//! Tests of words, with their kinds and places, and of the parts of texts.
 use names::is_name;
 use std::alloc::Global;
 use std::process::Abort;
 use std::test::Fail;
 use tokens::{Form, part_end, scan};
 
-/// The words of a text, each with its kind and its span, which is where its bytes are.
+/// The words of a text, each with its kind and its span, after checking that its bytes are at the span.
 fn reported(rt: &impl Abort, alloc: Global, text: &[u8]) -> Result<String, Fail> {
     let words = scan(alloc, text)?;
     let mut out = String::new(alloc);
@@ -18,7 +18,7 @@ fn reported(rt: &impl Abort, alloc: Global, text: &[u8]) -> Result<String, Fail>
     Ok(out)
 }
 
-/// Texts, and their words.
+/// Texts and their words.
 static TEXTS: [(&[u8], &str); 9] = [
     (b"", ""),
     (b"; \x00\x80)\r$", ""),
