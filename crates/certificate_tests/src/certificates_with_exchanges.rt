@@ -1,4 +1,4 @@
-//! Certificates with exchanges, made in memory and written.
+//! Tests of certificates with exchanges, built in memory and written.
 use crate::certificates::{START, Weights, atoms, bounds, line};
 use certificate::{Cert, Claim, Header, Version, write_cert};
 use devices::Memory;
@@ -9,7 +9,7 @@ use std::test::Fail;
 use task::ObjectId;
 use test_texts::{Application, LAMPS, on_task};
 
-/// Objects that change places, two by two.
+/// Pairs of objects that are swapped.
 type Pairs = &'static [(ObjectId, ObjectId)];
 
 /// An exchange of two lamps of [`LAMPS`], and one of four.
@@ -17,15 +17,15 @@ const TWO: Pairs = &[(ObjectId(0), ObjectId(1))];
 
 const FOUR: Pairs = &[(ObjectId(2), ObjectId(3)), (ObjectId(15), ObjectId(0))];
 
-/// The first lamp is lit.
+/// The single atom: the first lamp is lit.
 static LIT: [Application; 1] = [(0, &[0])];
 
-/// What its atom weighs: in the value, and in dead ends, which are none.
+/// The weights of one value, and no dead-end detection.
 const VALUE: Weights = (1, &[-1]);
 
 const NO_DEAD_END: Weights = (0, &[0]);
 
-/// The exchanges of these objects.
+/// The exchanges of these pairs.
 fn exchanges(alloc: Global, all: &[Pairs]) -> Result<Vec<Vec<(ObjectId, ObjectId)>>, AllocError> {
     let mut exchanges = Vec::new(alloc);
     for pairs in all {
@@ -34,7 +34,7 @@ fn exchanges(alloc: Global, all: &[Pairs]) -> Result<Vec<Vec<(ObjectId, ObjectId
     Ok(exchanges)
 }
 
-/// What comes before the state.
+/// The header of the certificate.
 fn header(alloc: Global, version: Version, all: &[Pairs]) -> Result<Header, NoMemory> {
     let exchanges = exchanges(alloc, all)?;
     let atoms = atoms(alloc, &LIT)?;
@@ -47,13 +47,13 @@ fn header(alloc: Global, version: Version, all: &[Pairs]) -> Result<Header, NoMe
     })
 }
 
-/// A certificate of an atom and these exchanges, if one of this version may have them.
+/// A certificate with one atom and these exchanges, if this version allows them.
 fn cert(alloc: Global, version: Version, all: &[Pairs]) -> Result<Option<Cert>, NoMemory> {
     let lines = vec![in alloc; line(alloc, &START)?]?;
     Cert::new(alloc, header(alloc, version, all)?, &lines)
 }
 
-/// The text of the one with both.
+/// The text of the certificate with both exchanges.
 const TEXT: &[u8] =
     b"pddl-cert 3\nclaim bound 0\nconstant 1 0\nswap a b\nswap c d p a\natom -1 0 (on a)\nopen 0 0\nend 1\n";
 

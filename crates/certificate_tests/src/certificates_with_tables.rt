@@ -1,4 +1,4 @@
-//! Certificates of version 3: several values, and tables.
+//! Tests of certificates of version 3: several values, and tables.
 ghost use Rattle.std.specs.Prelude.{IsTrue};
 ghost use Rattle.table_rows.specs.Rows.{are_rising};
 
@@ -12,14 +12,14 @@ use std::test::Fail;
 use table_rows::Table;
 use test_texts::{GO, on_task};
 
-/// What two values and dead ends weigh.
+/// The weights of two values and of dead ends.
 const FIRST: Weights = (1, &[0, 3]);
 
 const SECOND: Weights = (2, &[-1, 0]);
 
 const DEAD_ENDS: Weights = (0, &[0, 4]);
 
-/// Puts the row of these atoms and these weights after the others, if the table's rows have three.
+/// Appends the row with these atoms and weights, if the table's rows have three weights.
 fn add(alloc: Global, table: &mut Table, atoms: &[u32], weights: [i64; 3]) -> Result<(), NoMemory>
     requires { IsTrue (are_rising atoms.now) }
 {
@@ -29,7 +29,7 @@ fn add(alloc: Global, table: &mut Table, atoms: &[u32], weights: [i64; 3]) -> Re
     Ok(())
 }
 
-/// A table of the second atom: of one that is false, and one that is true.
+/// A table over the second atom: one row where it is false, and one where it is true.
 fn table(alloc: Global) -> Result<Table, NoMemory> {
     let mut table = Table::new(alloc, vec![in alloc; 1]?, 3)?;
     add(alloc, &mut table, &[], [0, 0, 0])?;
@@ -52,7 +52,7 @@ fn tables(alloc: Global) -> Result<Vec<Table>, NoMemory> {
     Ok(tables)
 }
 
-/// Two values, what dead ends weigh, and a table.
+/// Two values, the weights of dead ends, and a table.
 fn bounds(alloc: Global) -> Result<Bounds, NoMemory> {
     let values = values(alloc)?;
     let tables = tables(alloc)?;
@@ -63,7 +63,7 @@ fn bounds(alloc: Global) -> Result<Bounds, NoMemory> {
     })
 }
 
-/// What comes before the state.
+/// The header of the certificate.
 fn header(alloc: Global, version: Version) -> Result<Header, NoMemory> {
     let atoms = atoms(alloc, &BOTH)?;
     Ok(Header {
@@ -75,7 +75,7 @@ fn header(alloc: Global, version: Version) -> Result<Header, NoMemory> {
     })
 }
 
-/// A certificate of two atoms, two values and a table, if one of this version may have them.
+/// A certificate with two atoms, two values and a table, if this version allows them.
 fn cert(alloc: Global, version: Version) -> Result<Option<Cert>, NoMemory> {
     let lines = vec![in alloc; line(alloc, &START)?]?;
     Cert::new(alloc, header(alloc, version)?, &lines)
@@ -96,7 +96,7 @@ fn a_certificate_with_tables_is_written(rt: HostRuntime) -> Result<(), Fail> {
     })
 }
 
-/// Whether a certificate of this version may have them.
+/// Whether a certificate of this version may have two values and a table.
 fn is_there(alloc: Global, version: Version) -> Result<bool, NoMemory> {
     let cert = cert(alloc, version)?;
     Ok(cert.is_some())

@@ -1,4 +1,4 @@
-//! The checker over sources that never end.
+//! Tests of the checker with endless sources.
 use crate::helpers::Reported::Line as At;
 use crate::helpers::{Answer, check_source};
 use devices::Memory;
@@ -11,11 +11,11 @@ use task_certificates::RefusalCode::{CertForm, NotFluent, Repeated};
 use test_devices::Endless;
 use test_texts::{PAIRS, on_task};
 
-/// There is no plan.
+/// A certificate that there is no plan.
 const NO_PLAN: &[u8] =
     b"pddl-cert 1\nclaim none\nconstant 0\natom 0 (on s1)\natom 0 (on s2)\natom 0 (on s3)\nopen 0\nopen 1 0 1\nopen 1 0 2\nopen 1 1 2\nend 4\n";
 
-/// An atom is repeated.
+/// A certificate that repeats an atom.
 const AGAIN: &[u8] = b"pddl-cert 1\nclaim none\nconstant 0\natom 0 (on s1)\natom 0 (on s1)\n";
 
 /// The bytes as a device.
@@ -28,10 +28,10 @@ fn at_line(code: RefusalCode, line: u64) -> Answer {
     Err(At { code, line })
 }
 
-/// What comes before the first atom.
+/// The lines before the first atom.
 const HEAD: &[u8] = b"pddl-cert 1\nclaim none\nconstant 0\n";
 
-/// What the checker answers to a text that these bytes follow for ever.
+/// The checker's answer to a text followed by these bytes forever.
 fn endless(alloc: Global, task: &Task, text: &[u8], again: &[u8]) -> Result<Answer, AllocError> {
     let again = again.repeat(alloc, 4_096)?;
     if again.is_empty() {
@@ -41,7 +41,7 @@ fn endless(alloc: Global, task: &Task, text: &[u8], again: &[u8]) -> Result<Answ
     Ok(check_source(alloc, task, source, 6))
 }
 
-/// Texts, what follows them for ever, and the first line at fault.
+/// Texts, the bytes that follow them forever, and the first faulty line.
 #[rattlefmt::skip]
 static ENDLESS: [(&[u8], &[u8], RefusalCode, u64); 6] = [
     (AGAIN, b" ", Repeated, 5),
@@ -52,7 +52,7 @@ static ENDLESS: [(&[u8], &[u8], RefusalCode, u64); 6] = [
     (HEAD, b"atom 0 (on s9)\n", NotFluent, 4),
 ];
 
-/// The first line at fault is reported, whatever follows.
+/// The first faulty line is reported, whatever follows.
 fn ends_are_reported(rt: &impl Abort, alloc: Global, task: &Task) -> Result<(), Fail> {
     for (number, (text, again, code, line)) in ENDLESS.iter().enumerate() {
         let answer = endless(alloc, task, *text, *again)?;

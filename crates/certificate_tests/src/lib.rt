@@ -1,4 +1,4 @@
-//! Tests of certificates: made in memory, written to failing devices, read without an end, and damaged.
+//! Tests of certificates: built in memory, written to failing devices, read from endless ones, and damaged.
 #![tactic(auto)]
 
 #[cfg(test)]

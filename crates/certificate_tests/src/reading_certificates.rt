@@ -1,19 +1,19 @@
-//! Certificates' texts that never end: the first line beyond a limit is reported, and nothing of what follows it.
+//! Tests of reading endless certificate texts: the first line beyond a limit is reported, and then nothing else.
 use certificate::{CertFault, CertReader, TextFault};
 use devices::Source;
 use std::alloc::Global;
 use std::test::Fail;
 use test_devices::Endless;
 
-/// What is reported at a line.
+/// The fault with this code at this line.
 const fn at_line(code: TextFault, line: u64) -> CertFault {
     CertFault::Line { code, line }
 }
 
-/// How many lines are given out, and the fault after them; `None` where the text is a certificate.
+/// The number of lines returned, and the fault after them; `None` if the text is a certificate.
 type Reported = (u64, Option<CertFault>);
 
-/// What the reader reports, and `None` where it never ends.
+/// What the reader reports; `None` if it never ends.
 fn reported<S: Source>(reader: &mut CertReader<S>) -> Option<Reported> {
     for count in 0..17_000_000 {
         match reader.next_line() {
@@ -28,7 +28,7 @@ fn reported<S: Source>(reader: &mut CertReader<S>) -> Option<Reported> {
     None
 }
 
-/// What is reported for the text that the source gives.
+/// The reader's report for the text that the source gives.
 fn reads<S: Source + Drop>(alloc: Global, source: S) -> Option<Reported> {
     reported(&mut CertReader::new(alloc, source))
 }

@@ -1,4 +1,4 @@
-//! What is said where a plan's variables have no names, and where steps are in a text.
+//! Tests of explanations: of a plan whose task's quantified variables have no names, and of the places of steps.
 use explained_plans::{VariableNames, explain_plan, report_details, step_place};
 use faults::Span;
 use plan_file::read_plan;
@@ -8,14 +8,14 @@ use std::test::Fail;
 use task::Task;
 use test_texts::{Texts, on_task};
 
-/// Nothing was seen.
+/// A task in which nothing has been seen.
 const UNSEEN: Texts = [
     "(define (domain road) (:predicates (closed ?x) (seen ?x))
  (:action close :parameters (?x) :precondition (exists (?y) (seen ?y)) :effect (closed ?x)))",
     "(define (problem r) (:domain road) (:objects a) (:init) (:goal (closed a)))",
 ];
 
-/// Why the plan is none, where its task's variables have these names.
+/// The reasons why the step is not applicable, with these names of variables.
 fn details(alloc: Global, task: &Task, names: &VariableNames<'_>) -> Result<String, Fail> {
     let plan = read_plan(alloc, task, b"(close a)")?;
     let explanation = explain_plan(alloc, task, names, &plan)?;

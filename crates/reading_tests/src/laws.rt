@@ -1,5 +1,5 @@
-//! The laws of reading, of meaning and of ground tasks that are stated of all values, and proved, each called once; and the
-//! numbers that the contracts name.
+//! The laws of reading, meaning and ground tasks that are proved for all values, each called once; and the numbers that the
+//! contracts mention.
 use explained_plans::false_parts_report;
 use formulas::{MAX_STEPS, formula_examples_are_judged, one_state, sure_literals_hold};
 use grounding::{

@@ -1,4 +1,4 @@
-//! Tests of trees, tasks, states, plan texts, ground tasks and exchanges that no run of the program can show.
+//! Tests of trees, tasks, states, plan texts, ground tasks and exchanges, as far as runs of the program cannot show them.
 #![tactic(auto)]
 
 #[cfg(test)]

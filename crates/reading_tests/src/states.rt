@@ -1,4 +1,4 @@
-//! States, instances and atoms in memory, and what a formula says outright.
+//! Tests of states, instances and atoms in memory, and of sure literals.
 use faults::NoMemory;
 use formulas::{Atom, Binding, State, is_atom, is_fluent, is_fluent_predicate, is_instance, sure};
 use std::alloc::Global;
@@ -7,7 +7,7 @@ use std::test::Fail;
 use task::{PredicateId, Task};
 use test_texts::{Application, Texts, atom, atoms, instance, on_task};
 
-/// Three places, and roads that lead from the first to itself and to the second, and from there to the third.
+/// Three places, with roads from the first to itself and to the second, and from the second to the third.
 const WALK: Texts = [
     "(define (domain walk) (:predicates (at ?x) (road ?x ?y))
  (:action move :parameters (?x ?y) :precondition (and (at ?x) (road ?x ?y)) :effect (and (not (at ?x)) (at ?y))))",
@@ -15,35 +15,35 @@ const WALK: Texts = [
  (:init (at a) (road a a) (road a b) (road b c)) (:goal (at b)))",
 ];
 
-/// Schemas and objects, and whether they are an instance.
+/// Schemas with objects, and whether they form an instance.
 #[rattlefmt::skip]
 static INSTANCES: [(Application, bool); 6] = [
     ((0, &[0, 1]), true), ((0, &[2, 2]), true),
     ((0, &[2]), false), ((0, &[2, 1, 0]), false), ((0, &[2, 3]), false), ((1, &[0, 1]), false),
 ];
 
-/// Predicates and objects, and whether they are an atom.
+/// Predicates with objects, and whether they form an atom.
 #[rattlefmt::skip]
 static ATOMS: [(Application, bool); 7] = [
     ((0, &[2]), true), ((1, &[2, 2]), true),
     ((0, &[]), false), ((0, &[0, 1]), false), ((0, &[3]), false), ((1, &[0, 3]), false), ((2, &[0]), false),
 ];
 
-/// What is one of the walk's instances, and what is not.
+/// Which instances belong to the task and which do not.
 fn knows_instances(rt: &impl Abort, task: &Task) {
     for ((schema, objects), is_one) in &INSTANCES {
         assert_eq!(rt; is_instance(task, &instance(*schema, *objects)), *is_one);
     }
 }
 
-/// What is one of the walk's atoms, and what is not.
+/// Which atoms belong to the task and which do not.
 fn knows_atoms(rt: &impl Abort, task: &Task) {
     for ((predicate, objects), is_one) in &ATOMS {
         assert_eq!(rt; is_atom(task, &atom(*predicate, *objects)), *is_one);
     }
 }
 
-/// The predicate of places alone is fluent, and its atoms are.
+/// Only the predicate of places is fluent, and so are its atoms.
 fn knows_what_is_fluent(rt: &impl Abort, task: &Task) {
     let are_fluent = [
         is_fluent_predicate(task, PredicateId(0)),
@@ -66,7 +66,7 @@ fn instances_and_atoms_of_a_walk(rt: HostRuntime) -> Result<(), Fail> {
     })
 }
 
-/// A goal with each form, of which five say something outright.
+/// A goal with each kind of formula, five of which are sure literals.
 const OUTRIGHT: Texts = [
     "(define (domain say) (:predicates (p ?x) (q)))",
     "(define (problem s) (:domain say) (:objects a b) (:init)
@@ -74,7 +74,7 @@ const OUTRIGHT: Texts = [
   (exists (?x) (p ?x)) (not (or (p a))) (not (not (p a))))))",
 ];
 
-/// What the goal says outright.
+/// The sure literals of the goal.
 const SAID: &str = "[IsTrue(Atom { predicate: PredicateId(0), objects: [ObjectId(1)] }), \
 IsFalse(Atom { predicate: PredicateId(1), objects: [] }), \
 AreSame(ObjectId(0), ObjectId(1)), AreDifferent(ObjectId(1), ObjectId(0)), \
@@ -92,7 +92,7 @@ fn some_is_said_outright(rt: HostRuntime) -> Result<(), Fail> {
     on_task(&rt, rt.alloc(), &OUTRIGHT, says_outright)
 }
 
-/// The state of these atoms, which are put in one after another.
+/// The state with these atoms, inserted one after another.
 fn state(alloc: Global, rows: &[Application]) -> Result<State, NoMemory> {
     let mut state = State::new(alloc);
     for row in rows {
@@ -101,27 +101,27 @@ fn state(alloc: Global, rows: &[Application]) -> Result<State, NoMemory> {
     Ok(state)
 }
 
-/// Atoms in the order of their predicates, and then of their objects from the left.
+/// Atoms ordered by predicate and then lexicographically by objects.
 #[rattlefmt::skip]
 static IN_ORDER: [Application; 5] = [(0, &[1]), (0, &[2]), (1, &[0, 1]), (1, &[0, 2]), (1, &[1, 0])];
 
-/// The same atoms in another order, and some of them twice.
+/// The same atoms in another order, some of them twice.
 #[rattlefmt::skip]
 static MIXED: [Application; 7] = [(1, &[1, 0]), (0, &[2]), (1, &[0, 1]), (0, &[2]), (0, &[1]), (1, &[0, 2]), (1, &[1, 0])];
 
-/// Whether the state lists these atoms, in this order, and its copy is the same.
+/// Whether the state lists exactly these atoms in this order, and so does its copy.
 fn is_listed(state: &State, atoms: &[Atom]) -> Result<bool, NoMemory> {
     let copy = state.try_clone()?;
     Ok(state.atoms().iter().eq(atoms) & (copy == *state))
 }
 
-/// Whether the state into which the first atoms were put has the second ones, in this order, and so has its copy.
+/// Whether the state into which the first atoms were inserted lists the second ones in this order, and so does its copy.
 fn lists(alloc: Global, put: &[Application], wanted: &[Application]) -> Result<bool, NoMemory> {
     let state = state(alloc, put)?;
     is_listed(&state, &atoms(alloc, wanted)?)
 }
 
-/// Whether the states of these atoms are one.
+/// Whether the states with these atoms are equal.
 fn is_one(alloc: Global, some: &[Application], other: &[Application]) -> Result<bool, NoMemory> {
     let some = state(alloc, some)?;
     Ok(some == state(alloc, other)?)

@@ -1,16 +1,16 @@
-//! Tasks in memory: what names and numbers lead to.
+//! Tests of tasks in memory: their names and numbers.
 use std::process::Abort;
 use std::test::Fail;
 use task::{ObjectId, PredicateId, SchemaId, Task, TypeId};
 use test_texts::{Application, Texts, atom, on_task};
 
-/// Names with letters of either case.
+/// Names in mixed case.
 const MIXED: Texts = [
     "(define (domain Go) (:predicates (p)) (:action GO :parameters () :effect (P)))",
     "(define (problem g) (:domain gO) (:objects one Two) (:init) (:goal (p)))",
 ];
 
-/// How many there are of each kind, and what names lead to, all in lower case.
+/// The number of entities of each kind, and the numbers of names, all in lower case.
 fn names_lead_to_numbers(rt: &impl Abort, task: &Task) {
     let objects = (task.object_named(b"two"), task.object_named(b"three"));
     let schemas = (task.schema_named(b"go"), task.schema_named(b"p"));
@@ -19,7 +19,7 @@ fn names_lead_to_numbers(rt: &impl Abort, task: &Task) {
     assert_eq!(rt; found, wanted);
 }
 
-/// What numbers lead to.
+/// The names of numbers.
 fn numbers_lead_to_names(rt: &impl Abort, task: &Task) {
     let objects = (task.object_name(ObjectId(1)), task.object_name(ObjectId(2)));
     let schemas = (task.schema_name(SchemaId(0)), task.schema_name(SchemaId(1)));
@@ -27,7 +27,7 @@ fn numbers_lead_to_names(rt: &impl Abort, task: &Task) {
     assert_eq!(rt; (objects, schemas), ((two, None), (go, None)));
 }
 
-/// Without types of its own a task has the one type `object`.
+/// A task without declared types has the single type `object`.
 fn has_one_type(rt: &impl Abort, task: &Task) {
     let names = (task.type_name(TypeId(0)), task.type_name(TypeId(1)));
     let found = (task.type_count(), task.type_named(b"object"), names);
@@ -52,7 +52,7 @@ const ROADS: Texts = [
  (:init (= (LEN a B) 12) (= (toll) 0) (= (total-cost) 0) (= (len A b) 12)) (:goal (and)))",
 ];
 
-/// What names of functions and their numbers lead to: they have numbers of their own.
+/// The names of functions and their numbers, which are separate from those of predicates.
 fn functions_have_names(rt: &impl Abort, task: &Task) {
     let named = (task.function_named(b"len"), task.function_named(b"at"));
     let names = (
@@ -66,14 +66,14 @@ fn functions_have_names(rt: &impl Abort, task: &Task) {
     assert_eq!(rt; (named, names), wanted);
 }
 
-/// Functions and objects, and their values.
+/// Functions applied to objects, and their values.
 #[rattlefmt::skip]
 static VALUES: [(Application, Option<u32>); 5] = [
     ((1, &[0, 1]), Some(12)), ((2, &[]), Some(0)),
     ((1, &[1, 0]), None), ((0, &[]), None), ((3, &[]), None),
 ];
 
-/// What values the functions have.
+/// The values of the functions.
 fn functions_have_values(rt: &impl Abort, task: &Task) {
     for ((function, objects), value) in &VALUES {
         assert_eq!(rt; task.value(&atom(*function, *objects)), *value);

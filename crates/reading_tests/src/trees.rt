@@ -1,4 +1,4 @@
-//! What is reported for words that stop too early. The program refuses such texts before, since a list is left open.
+//! Tests of the faults for words that end too early. The program never gets there, since it first reports the open list.
 use faults::{Code, Fault, Span, TextRefusal};
 use pddl_tree::{domain, problem};
 use std::test::Fail;
@@ -14,7 +14,7 @@ const TRIP: &[u8] =
  (:init (p) (= (total-cost) 07) (q a) (= (LEN B) 3)) (:goal (and (p) (or) (not (q B))
  (imply (p) (q a)) (= ?x B) (exists (?x ?y - (either place truck) ?z) (q ?y)) (forall () (p)))))";
 
-/// The words that come before this place are refused there, since more is wanted.
+/// The fault of the words before this index, which are incomplete.
 fn refused_at(end: usize) -> Option<Fault> {
     Some(Fault::At(TextRefusal {
         code: Code::BadForm,
