@@ -192,26 +192,6 @@ fn places_of(
     ])
 }
 
-/// The same in a new listing.
-fn places_in_turn(
-    alloc: Global,
-    representatives: &Representatives<'_, '_, '_>,
-    one: &Packed,
-    other: &Packed,
-) -> Result<[Option<Place>; 5], NoMemory> {
-    let mut listing = OrbitStore::new(alloc, representatives)?;
-    places_of(&mut listing, one, other)
-}
-
-/// The expected places.
-const PLACES: [Option<Place>; 5] = [
-    Some(Place::New(0)),
-    Some(Place::Alike(0)),
-    Some(Place::Alike(0)),
-    Some(Place::Listed(0)),
-    Some(Place::Listed(1)),
-];
-
 fn are_listed(
     rt: &impl Abort,
     alloc: Global,
@@ -219,8 +199,15 @@ fn are_listed(
 ) -> Result<(), Fail> {
     let one = balls_in(alloc, representatives.ground(), &[0, 0, 0, 1])?;
     let other = balls_in(alloc, representatives.ground(), &[1, 0, 0, 0])?;
-    let places = places_in_turn(alloc, representatives, &one, &other)?;
-    assert_eq!(rt; places, PLACES);
+    let mut listing = OrbitStore::new(alloc, representatives)?;
+    let wanted = [
+        Some(Place::New(0)),
+        Some(Place::Alike(0)),
+        Some(Place::Alike(0)),
+        Some(Place::Listed(0)),
+        Some(Place::Listed(1)),
+    ];
+    assert_eq!(rt; places_of(&mut listing, &one, &other)?, wanted);
     Ok(())
 }
 
