@@ -145,7 +145,7 @@ turns-preserved g c =
     let listed : c.in_ok-expand.field-0 ≡ true = c.if-not-branch.false in
     let same = same_classes g (goal.at.turns-preserved g c).In-Some in
     let expands = rw (same, listed) at c.in_ok-expand.ensures.listed in
-    record { search = expands.search; are_open = expands.are_open; within = expands.within; store_classes = c.in_ok-expand.ensures.class ∙ same; store_width = c.in_ok-expand.ensures.width; buffers = c.in_ok-expand.ensures.buffers; room = c.in_ok-expand.ensures.room }
+    record { search = expands.search; are_open = expands.are_open; within = expands.within; store_classes = c.in_ok-expand.ensures.class ∙ same; store_width = c.in_ok-expand.ensures.width; buffers = c.in_ok-expand.ensures.buffers; scratch = c.in_ok-expand.ensures.scratch }
 
 pub returns-then-not-branch : goal.returns-then-not-branch
 returns-then-not-branch g c =
