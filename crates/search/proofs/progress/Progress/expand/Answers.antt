@@ -126,6 +126,12 @@ loop-action-preserved g c =
 pub reach-requires-clause-expanding : goal.reach-requires-clause-expanding
 reach-requires-clause-expanding g c = rw c.loop-action.invariant.class c.loop-action.invariant.expanding
 
+pub reach-requires-clause-leads : goal.reach-requires-clause-leads
+reach-requires-clause-leads g c =
+    let t = g.T.TransitionSystem.means c.args.system.now in
+    let a = get_or c.deref-action-items.result.now c.loop-action.action-index 0 in
+    λ s at. subst (λ x. t.step x a ≡ Some (bits_of c.successor.new.into)) (same_Some (bits_of c.loop-action.buffers.1.0) s (sym c.loop-action.invariant.occurs ∙ at)) c.successor.ensures.step
+
 pub returns-then-not-branch-clause-listed : goal.returns-then-not-branch-clause-listed
 returns-then-not-branch-clause-listed g c =
     let inv = c.loop-action.invariant in

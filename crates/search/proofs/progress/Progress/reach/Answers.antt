@@ -15,9 +15,9 @@ use Rattle.search.specs.Progress.{IsReachedWithin, IsReachedCheaper, IsListed, I
 use Rattle.search.proofs.Limit.{more_reachable}
 use Rattle.search.proofs.Linked.{found_of-get, length-found_of}
 use Rattle.search.proofs.Reached.{IsChild, place_among, placed_within, placed_nowhere, free_for, match_each, reached_before, taken}
-use Rattle.search.proofs.Steps.{turn_limits, value_fits, marked_by, leads_from}
+use Rattle.search.proofs.Steps.{turn_limits, value_fits, marked_by}
 use Rattle.search.proofs.progress.Progress.reach.Given.{Over}
-use Rattle.search.proofs.progress.Progress.reach.Goals.{After-from, In-Some, After-to-node}
+use Rattle.search.proofs.progress.Progress.reach.Goals.{After-from, In-Some, After-node-node}
 use Rattle.search.proofs.progress.Progress.reach.Goals as goal
 
 -- the node of the parent was read
@@ -45,8 +45,7 @@ leads : (g : Over) (c : After-from g) → (g.T.TransitionSystem.means c.args.sys
 leads g c =
     let turn = c.requires.expanding.turn in
     let states = g.L.StateListing.states c.args.self.now.store in
-    leads_from (g.T.TransitionSystem.means c.args.system.now) states _ turn.found.state _ c.args.to.parent.0 c.args.to.action c.requires.parent
-    (found_of-get states c.args.self.now.nodes.items c.args.to.parent.0 turn.found turn.occurs).0 c.requires.leads
+    c.requires.leads turn.found.state (found_of-get states c.args.self.now.nodes.items c.args.to.parent.0 turn.found turn.occurs).0
 
 -- and a consistent estimate falls there by no more than what it costs
 falls : (g : Over) (c : After-from g) → (action : ℕ) → action ≡ c.args.to.action → IsConsistent (g.T.TransitionSystem.means c.args.system.now) (g.G.Guide.estimate_of c.args.guide.now)
@@ -70,24 +69,24 @@ placed : (g : Over) (c : In-Some g) → IsPlacedBy (g.L.StateListing.class_of c.
 placed g c = rw c.in-Some.is at c.in_ok-place.ensures.placed
 
 -- the node is that of the successor
-child : (g : Over) (c : After-to-node g) → IsChild (g.T.TransitionSystem.means c.args.system.now) (g.G.Guide.estimate_of c.args.guide.now) (g.G.Guide.is_dead c.args.guide.now) c.requires.expanding.turn.found
-    c.args.to.parent.0 (bits_of c.args.to.state.now) c.to-node.result
+child : (g : Over) (c : After-node-node g) → IsChild (g.T.TransitionSystem.means c.args.system.now) (g.G.Guide.estimate_of c.args.guide.now) (g.G.Guide.is_dead c.args.guide.now) c.requires.expanding.turn.found
+    c.args.to.parent.0 (bits_of c.args.to.state.now) c.node-node.result
 child g c =
     let t = g.T.TransitionSystem.means c.args.system.now in
     let one = c.requires.expanding.turn.found in
-    let node = c.to-node.result in
-    let here = (goal.at.After-to-node g c).After-from in
+    let node = c.node-node.result in
+    let here = (goal.at.After-node-node g c).After-from in
     let same : c.index-before.result.now.cost ≡ one.node.cost = ap (λ (n : Node). n.cost) (read_parent g here) in
     let marks = marked_by (g.G.Guide.estimate_of c.args.guide.now) (g.G.Guide.is_dead c.args.guide.now) (bits_of c.args.to.state.now) c.value-estimate.result c.value-estimate.ensures.value in
-    let status = c.to-node.ensures.status ∙ c.of_reached.ensures in
-    let paid = ap t.cost c.to-node.ensures.action in
+    let status = c.node-node.ensures.status ∙ c.of_reached.ensures in
+    let paid = ap t.cost c.node-node.ensures.action in
     record {
       waits = ap is_expanded_status status ∙ marks.0;
-      parent = c.to-node.ensures.parent;
-      cost = omega (arith, c.to-node.ensures.cost, same, c.from.ensures, c.cost.ensures, paid);
+      parent = c.node-node.ensures.parent;
+      cost = omega (arith, c.node-node.ensures.cost, same, c.from.ensures, c.cost.ensures, paid);
       affordable = omega (arith, c.cost.ensures, paid);
-      step = ap (t.step one.state) c.to-node.ensures.action ∙ leads g here;
-      falls = falls g here node.action c.to-node.ensures.action;
+      step = ap (t.step one.state) c.node-node.ensures.action ∙ leads g here;
+      falls = falls g here node.action c.node-node.ensures.action;
       reported = ap is_dead_status status ∙ marks.1;
     }
 
@@ -106,8 +105,8 @@ pub is_reached_within-requires : goal.is_reached_within-requires
 is_reached_within-requires g c =
     place_among _ _ _ _ _ _ (length c.args.self.now.nodes.items) c.requires.expanding.search.one_each c.requires.within c.requires.limit c.in-Some.place (placed g (goal.at.is_reached_within-requires g c).In-Some)
 
-pub to-node-requires : goal.to-node-requires
-to-node-requires g c = parent_within g (goal.at.to-node-requires g c).After-from
+pub node-node-requires : goal.node-node-requires
+node-node-requires g c = parent_within g (goal.at.node-node-requires g c).After-from
 
 pub take_place-requires-clause-place : goal.take_place-requires-clause-place
 take_place-requires-clause-place g c =
@@ -125,8 +124,8 @@ take_place-requires-clause-within g c =
 pub take_place-requires-clause-sum : goal.take_place-requires-clause-sum
 take_place-requires-clause-sum g c =
     value_fits (g.G.Guide.estimate_of c.args.guide.now) (g.G.Guide.is_dead c.args.guide.now) (bits_of c.args.to.state.now)
-    c.value-estimate.result c.to-node.result.cost c.value-estimate.ensures.value
-    (omega (arith, c.to-node.ensures.cost, limits g (goal.at.take_place-requires-clause-sum g c).After-from, c.from.ensures, c.cost.ensures))
+    c.value-estimate.result c.node-node.result.cost c.value-estimate.ensures.value
+    (omega (arith, c.node-node.ensures.cost, limits g (goal.at.take_place-requires-clause-sum g c).After-from, c.from.ensures, c.cost.ensures))
 
 pub returns-in_default-clause-listed : goal.returns-in_default-clause-listed
 returns-in_default-clause-listed g c =
@@ -189,17 +188,17 @@ returns-clause-listed g c =
     let max_states = c.args.max_states in
     let place = c.in-Some.place in
     let at = goal.at.returns-clause-listed g c in
-    let node = c.to-node.result in
+    let node = c.node-node.result in
     let old : Progress _ = record { store = c.place.new.self; nodes = c.args.self.now.nodes; open_list = c.args.self.now.open_list } in
     let new = c.take_place.new.self in
     let placed_at = placed g at.In-Some in
-    let cheaper : IsReachedCheaper all node.cost place = rw (← c.to-node.ensures.cost, c.if-is_reached_within.false) at c.is_reached_within.ensures in
+    let cheaper : IsReachedCheaper all node.cost place = rw (← c.node-node.ensures.cost, c.if-is_reached_within.false) at c.is_reached_within.ensures in
     if_ok {Q = λ is_listed. MatchBool is_listed (Reaches t class_of value is_dead states_of c.args.self.now new i max_states c.args.to.action s) (IsFull t value is_dead states_of c.args.self.now new max_states)}
     c.take_place.result
     (λ is_taken. match_each {B = IsLeftOut states_of old new s max_states} is_taken
     (λ takes.
     let is = taken t class_of value is_dead states_of states old new i max_states
-    e.search.one_each e.search.nodes e.turn e.others_open is_current s node (child g at.After-to-node) c.value-estimate.result c.value-estimate.ensures.value
+    e.search.one_each e.search.nodes e.turn e.others_open is_current s node (child g at.After-node-node) c.value-estimate.result c.value-estimate.ensures.value
     c.requires.within place placed_at cheaper takes in
     record {
       expanding = record {
@@ -209,7 +208,7 @@ returns-clause-listed g c =
       };
       within = is.within;
       continues = is.stepped.continues;
-      listed = subst (λ a. IsListed t class_of (found_of (states_of new.store) new.nodes.items) i a s) c.to-node.ensures.action is.stepped.listed;
+      listed = subst (λ a. IsListed t class_of (found_of (states_of new.store) new.nodes.items) i a s) c.node-node.ensures.action is.stepped.listed;
     })
     (λ left.
     let stored : states_of c.place.new.self ≡ states = placed_nowhere _ _ _ _ _ _ left.not_listed place placed_at in
