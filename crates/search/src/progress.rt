@@ -4,7 +4,7 @@ ghost use Rattle.packed_state.specs.Packed.{bits_of};
 ghost use Rattle.search.specs.Outcome.{AreClassesOf};
 ghost use Rattle.search.specs.Nodes.{Waiting, IsEntry, IsCurrent, AreOpen, IsPath, IsReachedIn};
 ghost use Rattle.search.specs.OpenList.{waiting_in, IsOpenList, JoinsBy};
-ghost use Rattle.search.specs.Progress.{TakesNext, IsLeastWith, nodes_in, IsSearch, IsAtTurn, IsStopped, IsExpanding, IsPlaceAmong, IsReachedWithin, IsReachedCheaper, IsFreeFor, TakesPlace, IsLeftOut, Reaches, IsFull, Expands, AreWide};
+ghost use Rattle.search.specs.Progress.{AreNotedWith, TakesNext, IsLeastWith, nodes_in, IsSearch, IsAtTurn, IsStopped, IsExpanding, IsPlaceAmong, IsReachedWithin, IsReachedCheaper, IsFreeFor, TakesPlace, IsLeftOut, Reaches, IsFull, Expands, AreWide};
 
 use crate::best::MAX_STATES;
 use crate::guide::Guide;
@@ -197,7 +197,6 @@ impl<L: StateListing> Progress<L> {
         to: Successor<'_>,
         max_states: u32,
     ) -> Result<bool, NoMemory>
-        requires made_for { G.system_of guide.now ≡ T.means system.now }
         requires guide_width { G.width_of guide.now ≡ L.width_of self.old.store }
         requires expanding { IsExpanding (T.means system.now) (L.class_of self.old.store) (G.estimate_of guide.now) (G.is_dead guide.now) L.states self.old to.parent.0 }
         requires scratch { G.fits guide.now scratch.old }
@@ -335,31 +334,83 @@ impl<L: StateListing> Progress<L> {
         Ok(true)
     }
 
-    /// The actions that lead to the goal state, and the found states.
+    /// The estimates of the states that wait, each at its state's place: the state whose turn it is, and those in the open list.
+    fn noted_estimates(&self, alloc: Global, turn: Turn) -> Result<Vec<u64>, NoMemory>
+        requires turn { turn.id.0 < length self.now.nodes.items }
+        requires entries { All (IsEntry (length self.now.nodes.items)) (waiting_in self.now.open_list) }
+        ensures { IfOk result (λ estimates. AreNotedWith self.now.nodes.items turn (waiting_in self.now.open_list) estimates.items) }
+    {
+        let mut estimates = vec![in alloc; 0; self.nodes.len()]?;
+        estimates[turn.id.0 as usize] = turn.estimate;
+        self.open_list.note_estimates(&self.nodes, &mut estimates);
+        Ok(estimates)
+    }
+
+    /// The actions that lead to the goal state, whose turn it is, and the found states.
     pub(crate) fn into_plan(
         self,
         alloc: Global,
-        goal: StateId,
+        goal: Turn,
     ) -> Result<(Vec<u32>, FoundStates<L>), NoMemory>
-        requires { IsReachedIn self.nodes.items goal.0 (length self.nodes.items) }
-        ensures path { IfOk result (λ r. IsPath self.nodes.items goal.0 r.0.items) }
+        requires reached { IsReachedIn self.nodes.items goal.id.0 (length self.nodes.items) }
+        requires turn { goal.id.0 < length self.nodes.items }
+        requires entries { All (IsEntry (length self.nodes.items)) (waiting_in self.open_list) }
+        ensures path { IfOk result (λ r. IsPath self.nodes.items goal.id.0 r.0.items) }
         ensures short { IfOk result (λ r. length r.0.items ≤ length self.nodes.items) }
         ensures store { IfOk result (λ r. r.1.store ≡ self.store) }
         ensures nodes { IfOk result (λ r. r.1.nodes.items ≡ self.nodes.items) }
+        ensures estimates { IfOk result (λ r. AreNotedWith self.nodes.items goal (waiting_in self.open_list) r.1.estimates.items) }
     {
-        let steps = steps_to(alloc, &self.nodes, goal)?;
-        Ok((steps, self.into_states()))
+        let steps = steps_to(alloc, &self.nodes, goal.id)?;
+        let estimates = self.noted_estimates(alloc, goal)?;
+        Ok((steps, self.into_found(estimates)))
     }
 
-    pub(crate) fn into_states(self) -> FoundStates<L>
+    /// The least sum of cost and estimate of the states that wait, and the found states. The one whose turn it was waits again, but is
+    /// not in the open list.
+    pub(crate) fn into_bound(
+        mut self,
+        alloc: Global,
+        turn: Turn,
+    ) -> Result<(u64, FoundStates<L>), NoMemory>
+        requires turn { turn.id.0 < length self.nodes.items }
+        requires heap { IsOpenList self.open_list }
+        requires entries { All (IsEntry (length self.nodes.items)) (waiting_in self.open_list) }
+        ensures least { IfOk result (λ r. IsLeastWith turn.sum (waiting_in self.open_list) self.nodes.items r.0) }
+        ensures store { IfOk result (λ r. r.1.store ≡ self.store) }
+        ensures nodes { IfOk result (λ r. r.1.nodes.items ≡ self.nodes.items) }
+        ensures estimates { IfOk result (λ r. AreNotedWith self.nodes.items turn (waiting_in self.open_list) r.1.estimates.items) }
+    {
+        let estimates = self.noted_estimates(alloc, turn)?;
+        let bound = self.least_with(turn.sum);
+        Ok((bound, self.into_found(estimates)))
+    }
+
+    /// The found states, of which none waits.
+    pub(crate) fn into_states(self, alloc: Global) -> Result<FoundStates<L>, NoMemory>
+        ensures store { IfOk result (λ found. found.store ≡ self.store) }
+        ensures nodes { IfOk result (λ found. found.nodes.items ≡ self.nodes.items) }
+        ensures estimates { IfOk result (λ found. length found.estimates.items ≡ length self.nodes.items) }
+    {
+        let estimates = vec![in alloc; 0; self.nodes.len()]?;
+        Ok(self.into_found(estimates))
+    }
+
+    /// The found states, with these estimates.
+    fn into_found(self, estimates: Vec<u64>) -> FoundStates<L>
         ensures store { result.store ≡ self.store }
         ensures nodes { result.nodes.items ≡ self.nodes.items }
+        ensures estimates { result.estimates.items ≡ estimates.items }
     {
         let Progress {
             store,
             nodes,
             open_list: _,
         } = self;
-        FoundStates { store, nodes }
+        FoundStates {
+            store,
+            nodes,
+            estimates,
+        }
     }
 }

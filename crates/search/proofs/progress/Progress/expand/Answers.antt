@@ -171,6 +171,7 @@ returns-then-not-branch-clause-listed g c =
       occurs = occurs;
       waits = (refl, e.search.nodes.alive i e.turn.found e.turn.occurs e.turn.expanded);
       sum = sum;
+      estimate = c.requires.turn.estimate ∙ ap (λ (x : Found (List Bool)). value x.state) same;
       nodes = rw (c.mark-then-not-branch.ensures.open_list, full.open_list) (nodes_unmarked t class_of value is_dead nodes after i e.turn occurs others (waiting_in c.loop-action.self.open_list) (rw same_classes at e.search.nodes) long);
       are_open = open_unmarked t class_of value is_dead nodes after i e.turn occurs others (rw same_classes at e.others_open);
       heap = rw (c.mark-then-not-branch.ensures.open_list, full.open_list) e.search.heap;
