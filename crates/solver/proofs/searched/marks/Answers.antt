@@ -22,9 +22,9 @@ loop-place-preserved c = λ estimate is_dead can.
     let node = c.index.result.now in
     let at_s : slice_get states place ≡ Some s = slice_get-get_or states place [] (omega (arith, below, can.one_for_each)) in
     let at_node : slice_get found.nodes.items place ≡ Some node = slice_get_read found.nodes.items _ place node refl below c.index.ensures in
-    let read : slice_get found.estimates.items place ≡ Some c.index-2.result.now = slice_get_read found.estimates.items _ place c.index-2.result.now refl (omega (arith, below, c.requires)) c.index-2.ensures in
+    let read : slice_get found.estimates.items place ≡ Some c.index-in-loop-place.result.now = slice_get_read found.estimates.items _ place c.index-in-loop-place.result.now refl (omega (arith, below, c.requires)) c.index-in-loop-place.ensures in
     let is = c.listed.ensures estimate is_dead s (can.marked place s node at_s at_node)
-    (λ cut. same_Some c.index-2.result.now (estimate s) (sym read ∙ can.estimates.1 place s node at_s at_node cut)) in
+    (λ cut. same_Some c.index-in-loop-place.result.now (estimate s) (sym read ∙ can.estimates.1 place s node at_s at_node cut)) in
     marks_next estimate is_dead c.loop-place.marks.items c.push.new.self.items c.listed.result states found.nodes.items place s node (c.loop-place.invariant estimate is_dead can) c.in_ok-push.ensures.items is at_s at_node
 
 pub returns : goal.returns
