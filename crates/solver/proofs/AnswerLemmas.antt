@@ -1,13 +1,12 @@
 -- What the answer says of the task, and what a list of instances that solves says of them.
-use Rattle.std.proofs.Common.{◌≡◌, ℕ, ◌+◌, ◌<◌, ◌≤◌, ◌*◌, Bool, true, false, List, [], ◌∷◌, length, get_or, None, Some, refl, sym, ap, subst, arith}
+use Rattle.std.proofs.Common.{◌≡◌, ℕ, ◌+◌, ◌<◌, ◌≤◌, ◌*◌, Bool, true, false, List, [], ◌∷◌, length, None, Some, refl, sym, ap, subst, arith}
 use Rattle.std.specs.Prelude.{nat_le, slice_get, Contains}
 use Rattle.std.specs.Option.{option_and_then}
 use Rattle.std.specs.List.{list_all}
 use Rattle.std.proofs.lemmas.Bool.{and_parts, and_from, lt-ltb, leb-true}
 use Rattle.std.proofs.lemmas.Bool.Decides.{nat_tests}
-use Rattle.std.proofs.lemmas.Option.{slice_get-get_or, slice_get_within}
+use Rattle.std.proofs.lemmas.Option.{slice_get_within}
 use Rattle.certificate.specs.declared.states.Listed.{Listed}
-use Rattle.grounding.specs.Ground.{task_in, atoms_in}
 use Rattle.search.specs.Estimates.{IsAdmissible}
 use Rattle.search.specs.DeadEnds.{ReportsDeadEnds}
 use Rattle.search.specs.declared.nodes.Node.{Node}
@@ -19,7 +18,7 @@ use Rattle.ground_listings.specs.GroundListing.{listed_states}
 use Rattle.ground_listings.specs.Plans.{IsCarriedOut}
 use Rattle.ground_listings.specs.Reachable.{AreMoreReachable}
 use Rattle.ground_listings.specs.SearchSpace as search_space
-use Rattle.ground_listings.specs.SearchSpace.{class_in, ground_in, IsSearchSpace}
+use Rattle.ground_listings.specs.SearchSpace.{class_in}
 use Rattle.ground_listings.specs.declared.ground_listing.GroundListing.{GroundListing}
 use Rattle.ground_listings.specs.declared.search_space.SearchSpace.{SearchSpace}
 use Rattle.solver.specs.Limit.{is_limit}
