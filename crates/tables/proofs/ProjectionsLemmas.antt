@@ -30,9 +30,12 @@ use Rattle.tables.proofs.TablesLemmas.{mapped-at}
 
 -- ---- one atom
 
--- the atom has become this, and so have these of its places
+abbrev pub with-state : Projections → Packed → Projections
+with-state p state = record { state = state; sets = p.sets; touched = p.touched }
+
+-- these places of the atom have become this
 pub record AreFollowed (tables : List Table) (number : ℕ) (is : Bool) (done : List ScopePlace) (old new : Projections) : Type 0 where
-  pub state : bits_of new.state ≡ slice_set (bits_of old.state) number is
+  pub state : bits_of new.state ≡ bits_of old.state
   pub long : length new.sets.items ≡ length old.sets.items
   pub touched : length (bits_of new.touched) ≡ length (bits_of old.touched)
   pub wide : (k : ℕ) → length (set_at new k) ≡ length (set_at old k)
@@ -129,10 +132,10 @@ among-place (m ∷ scope) n at = elim (cases_eq m n) [
       (suc later.0, later.1)
 ]
 
-module _ (tables : List Table) (number : ℕ) (is : Bool) (l : ScopePlaces) (old new : Projections) (are : AreScopePlaces (scopes_of tables) l) (within : number < length (bits_of old.state))
-    (before : AreProjections tables old) (followed : AreFollowed tables number is (places_of l number) old new) where
+module _ (tables : List Table) (number : ℕ) (is : Bool) (l : ScopePlaces) (old : Projections) (state : Packed) (new : Projections) (are : AreScopePlaces (scopes_of tables) l) (within : number < length (bits_of old.state))
+    (before : AreProjections tables old) (set : bits_of state ≡ slice_set (bits_of old.state) number is) (followed : AreFollowed tables number is (places_of l number) (with-state old state) new) where
   other-bit : (n : ℕ) → n ≢ number → has (bits_of new.state) n ≡ has (bits_of old.state) n
-  other-bit n other = ap (λ s. has s n) followed.state ∙ get_or-set_other (bits_of old.state) number n is false other
+  other-bit n other = ap (λ s. has s n) (followed.state ∙ set) ∙ get_or-set_other (bits_of old.state) number n is false other
 
   pub followed-all : AreProjections tables new
   followed-all = record {
@@ -144,7 +147,7 @@ module _ (tables : List Table) (number : ℕ) (is : Bool) (l : ScopePlaces) (old
         elim (cases_eq n number) [
           | inl same ↦
               followed.put k place (are.are number k place ∙ placed ∙ eq-eqb n number same)
-              ∙ sym (ap (λ s. has s n) followed.state ∙ ap (has (slice_set (bits_of old.state) number is)) same ∙ get_or-set_same (bits_of old.state) number is false within)
+              ∙ sym (ap (λ s. has s n) (followed.state ∙ set) ∙ ap (has (slice_set (bits_of old.state) number is)) same ∙ get_or-set_same (bits_of old.state) number is false within)
           | inr other ↦ followed.others k place (placed ∙ ne_eqb n number other) ∙ before.each k place n t at there ∙ sym (other-bit n other)
         ];
   }
@@ -305,10 +308,10 @@ listed-at (p ∷ list) zero d below = or_left (p.table == p.table && p.place == 
 listed-at (p ∷ list) (suc i) d below =
     or_right (p.table == (get_or list i d).table && p.place == (get_or list i d).place) (is_listed list (get_or list i d).table (get_or list i d).place) (listed-at list i d (omega (arith, below)))
 
-pub place-fits : (tables : List Table) (number : ℕ) (is : Bool) (done : List ScopePlace) (at : ScopePlace) (l : ScopePlaces) (old mid : Projections) → AreScopePlaces (scopes_of tables) l
-    → is_listed (places_of l number) at.table at.place ≡ true → AreProjections tables old → AreFollowed tables number is done old mid
+pub place-fits : (tables : List Table) (number : ℕ) (is : Bool) (done : List ScopePlace) (at : ScopePlace) (l : ScopePlaces) (old : Projections) (state : Packed) (mid : Projections) → AreScopePlaces (scopes_of tables) l
+    → is_listed (places_of l number) at.table at.place ≡ true → AreProjections tables old → AreFollowed tables number is done (with-state old state) mid
     → (at.table < length mid.sets.items) × (at.place < length (set_at mid at.table)) × (at.table < length (bits_of mid.touched)) × (is_placed (scopes_of tables) number at.table at.place ≡ true)
-place-fits tables number is done at l old mid are listed before followed =
+place-fits tables number is done at l old state mid are listed before followed =
     let it = listed-there tables l number at.table at.place are listed in
     let table = slice_get_within tables at.table it.0 it.1.0 in
     let place = slice_get_within it.0.scope at.place number it.1.1 in

@@ -3,7 +3,7 @@ use Rattle.std.proofs.Common.{◌≡◌, ◌∙◌, ◌≢◌, ℕ, zero, suc, �
 use Rattle.std.specs.Prelude.{IfSome, All, Contains, replicate, slice_get, slice_set}
 use Rattle.std.proofs.lemmas.Int.{ints}
 use Rattle.std.proofs.lemmas.Bool.{cases_eq, cases_lt}
-use Rattle.std.proofs.lemmas.List.{get_or-set_same, get_or-set_other, get_or_past, get_or_default, length-map, length-set}
+use Rattle.std.proofs.lemmas.List.{get_or-set_same, get_or-set_other, get_or_past, get_or_default, get_or-replicate, length-map, length-replicate, length-set}
 use Rattle.std.proofs.lemmas.Option.{slice_get_within}
 use Rattle.model.proofs.ListLemmas.{Contains-here, Contains-there, map-Contains}
 use Rattle.potential_functions.specs.PotentialFunctions.{IsInRange}
@@ -250,4 +250,21 @@ taken-all old weights new count as_long all before = record {
         let past : length old ≤ place = omega (arith, above, all, as_long) in
         get_or_past old place (pos 0) past ∙ sym (λ i. get_or_past new place (pos 0) (omega (arith, past, before.long)) i +ℤ get_or_past weights place (pos 0) (omega (arith, past, as_long)) i)
   ];
+}
+
+-- ---- a row of none
+
+get-same : {X : Type 0} (n k : ℕ) (x : X) → get_or (replicate n x) k x ≡ x
+get-same n k x = elim (cases_lt k n) [
+  | inl within ↦ get_or-replicate n k x x within
+  | inr past ↦ get_or_past (replicate n x) k x (omega (arith, past, length-replicate n x))
+]
+
+pub no-sums : (tables : List Table) (count n : ℕ) (s : RowSums) → s.rows.items ≡ replicate n None → s.missing ≡ n → n ≡ length tables → s.totals.items ≡ replicate count (pos 0) → AreSums tables count s
+no-sums tables count n s rows missing many totals = record {
+  rows = ap length rows ∙ length-replicate n None ∙ many;
+  within = λ k t at. subst (λ o. IfSome o (λ row. row < length t.rows)) (sym (ap (λ l. get_or l k None) rows ∙ get-same n k None)) tt;
+  missing = missing ∙ sym (ap lacking rows ∙ lacking-all n);
+  long = ap length totals ∙ length-replicate count (pos 0);
+  totals = λ place below. ap (λ l. get_or l place (pos 0)) totals ∙ get-same count place (pos 0) ∙ sym (ap (given_rows place tables) rows ∙ given-none place tables n);
 }

@@ -113,14 +113,16 @@ scores-moved values bits count p old mid new z at within is set before = record 
   left = λ k above. ap (λ l. get_or l k (pos 0)) set ∙ get_or-set_other mid count k z (pos 0) (λ same. absurd (omega (arith, same, above))) ∙ before.left k (omega (arith, above));
 }
 
-pub scores-all-moved : (values : List Potentials) (dead_ends : Potentials) (bits : List Bool) (count : ℕ) (old mid new : List ℤ) (z : ℤ) → length values ≡ count → length mid ≡ length values + 1 → z ≡ score (potentials_of dead_ends) bits
-    → new ≡ slice_set mid count z → AreMovedBelow values bits count old mid → AreScores values dead_ends bits new
-scores-all-moved values dead_ends bits count old mid new z all long is set before = record {
-  long = ap length set ∙ length-set mid count z ∙ long;
+pub scores-all-moved : (values : List Potentials) (dead_ends : Potentials) (bits : List Bool) (count last : ℕ) (old mid new : List ℤ) → length values ≤ count → last ≡ length values → length mid ≡ length values + 1
+    → new ≡ slice_set mid last (score (potentials_of dead_ends) bits) → AreMovedBelow values bits count old mid → AreScores values dead_ends bits new
+scores-all-moved values dead_ends bits count last old mid new all at_last long set before = record {
+  long = ap length set ∙ length-set mid last (score (potentials_of dead_ends) bits) ∙ long;
   values = λ k p there.
       let within = slice_get_within values k p there in
-      ap (λ l. get_or l k (pos 0)) set ∙ get_or-set_other mid count k z (pos 0) (λ same. absurd (omega (arith, same, within, all))) ∙ before.done k p (omega (arith, within, all)) there;
-  dead_ends = ap (λ l. get_or l (length values) (pos 0)) set ∙ ap (λ n. get_or (slice_set mid count z) n (pos 0)) all ∙ get_or-set_same mid count z (pos 0) (omega (arith, all, long)) ∙ is;
+      ap (λ l. get_or l k (pos 0)) set ∙ get_or-set_other mid last k (score (potentials_of dead_ends) bits) (pos 0) (λ same. absurd (omega (arith, same, within, at_last))) ∙ before.done k p (omega (arith, within, all)) there;
+  dead_ends =
+      ap (λ l. get_or l (length values) (pos 0)) set ∙ ap (λ n. get_or (slice_set mid last (score (potentials_of dead_ends) bits)) n (pos 0)) (sym at_last)
+      ∙ get_or-set_same mid last (score (potentials_of dead_ends) bits) (pos 0) (omega (arith, at_last, long));
 }
 
 -- each score is small

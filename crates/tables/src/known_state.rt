@@ -1,12 +1,17 @@
 //! What is known of one state.
-ghost use Rattle.std.specs.Prelude.{◌≡◌, IfOk, length};
+ghost use Rattle.std.specs.Prelude.{◌≡◌, ℕ, ◌<◌, List, IfOk, pos, length, slice_index_or, slice_set};
 ghost use Rattle.packed_state.specs.Packed.{bits_of};
+ghost use Rattle.potential_functions.specs.PotentialFunctions.{score};
+ghost use Rattle.potentials.specs.Potentials.{potentials_of};
+ghost use Rattle.table_functions.specs.TableFunctions.{Table};
+ghost use Rattle.tables.specs.KnownRows.{IsKnown};
 ghost use Rattle.tables.specs.Several.{state_of, width_of, AreScores, Knows};
 
 use crate::known_rows::KnownRows;
 use crate::several::TableFunctions;
 use faults::NoMemory;
 use packed_state::Packed;
+use potentials::Potentials;
 use std::alloc::Global;
 
 /// What is known of one state, from which that of another is found by what differs: its row of each table, what the rows give,
@@ -56,12 +61,25 @@ impl TableFunctions<'_> {
         ensures state { state_of known.new ≡ bits_of state.now }
     {
         for place in 0..self.values.len() {
-            let score = known.scores[place];
-            known.scores[place] = self.values[place].score_after(score, known.rows.state(), state);
+            known.score_after(place, &self.values[place], state);
         }
-        let last = self.values.len();
-        let score = known.scores[last];
-        known.scores[last] = self.dead_ends.score_after(score, known.rows.state(), state);
+        known.score_after(self.values.len(), &self.dead_ends, state);
         known.rows.move_to(&self.tables, state);
+    }
+}
+
+impl KnownState {
+    /// Makes the score at this place, which is that by these potentials, the one that the next state has.
+    fn score_after(&mut self, place: usize, by: &Potentials, next: &Packed)
+        requires there { place < length self.old.scores.items }
+        requires before { length (state_of self.old) ≡ length (potentials_of by.now).weights }
+        requires next { length (bits_of next.now) ≡ length (potentials_of by.now).weights }
+        requires score { slice_index_or self.old.scores.items place (pos 0) ≡ score (potentials_of by.now) (state_of self.old) }
+        ensures scores { self.new.scores.items ≡ slice_set self.old.scores.items place (score (potentials_of by.now) (bits_of next.now)) }
+        ensures state { state_of self.new ≡ state_of self.old }
+        ensures rows { (tables : List Table) (count : ℕ) → IsKnown tables count self.old.rows → IsKnown tables count self.new.rows }
+    {
+        let score = self.scores[place];
+        self.scores[place] = by.score_after(score, self.rows.state(), next);
     }
 }

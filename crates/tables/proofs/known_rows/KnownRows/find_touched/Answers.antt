@@ -7,10 +7,10 @@ use Rattle.tables.specs.AllTables.{tables_of}
 use Rattle.tables.specs.KnownRows.{AreKnown}
 use Rattle.tables.proofs.KnownRowsLemmas.{place-within, known-more, left-more, left-later, none-left}
 use Rattle.tables.proofs.known_rows.KnownRows.find_touched.Goals as goal
-use Rattle.tables.proofs.known_rows.KnownRows.find_touched.Goals.{After-touched-test-true}
+use Rattle.tables.proofs.known_rows.KnownRows.find_touched.Goals.{In-touched}
 
 -- the place is that of a table
-inside : (c : After-touched-test-true) → c.touched.place < length (tables_of c.args.tables.now)
+inside : (c : In-touched) → c.touched.place < length (tables_of c.args.tables.now)
 inside c = omega (arith, c.touched-test.true, c.width.ensures, c.touched.invariant.projections.touched)
 
 pub touched-init : goal.touched-init
@@ -22,11 +22,11 @@ touched-init c = record {
   left = record { long = refl; next = c.next-place.ensures };
 }
 
-pub find-requires-clause-there : goal.find-requires-clause-there
-find-requires-clause-there c = inside (goal.at.find-requires-clause-there c).After-touched-test-true
+pub find-row-requires-clause-there : goal.find-row-requires-clause-there
+find-row-requires-clause-there c = inside (goal.at.find-row-requires-clause-there c).In-touched
 
-pub find-requires-clause-projections : goal.find-requires-clause-projections
-find-requires-clause-projections c = record {
+pub find-row-requires-clause-projections : goal.find-row-requires-clause-projections
+find-row-requires-clause-projections c = record {
   long = c.touched.invariant.projections.long;
   touched = ap length c.remove.ensures ∙ length-set (bits_of c.touched.self.projections.touched) c.touched.place false ∙ c.touched.invariant.projections.touched;
   wide = c.touched.invariant.projections.wide;
@@ -37,7 +37,7 @@ pub set_row-requires-clause-row : goal.set_row-requires-clause-row
 set_row-requires-clause-row c = λ t at. place-within t (bits_of c.touched.self.projections.state) c.find-row.result (c.find-row.ensures t at)
 
 pub set_row-requires-clause-there : goal.set_row-requires-clause-there
-set_row-requires-clause-there c = inside (goal.at.set_row-requires-clause-there c).After-touched-test-true
+set_row-requires-clause-there c = inside (goal.at.set_row-requires-clause-there c).In-touched
 
 pub touched-preserved : goal.touched-preserved
 touched-preserved c =
@@ -58,7 +58,7 @@ touched-preserved c =
           (subst (λ set. AreKnown (tables_of c.args.tables.now) set (bits_of c.touched.self.projections.state) (slice_set c.touched.self.sums.rows.items c.touched.place c.find-row.result)) (sym c.remove.ensures)
           (known-more (tables_of c.args.tables.now) (bits_of c.touched.self.projections.touched) (bits_of c.touched.self.projections.state) c.touched.self.sums.rows.items c.touched.place c.find-row.result inv.sums.rows
           c.find-row.ensures inv.known)) k t at untouched);
-      left = left-more (bits_of c.args.self.now.projections.touched) (bits_of c.touched.self.projections.touched) (bits_of c.remove.new.self) c.touched.place c.next-place-2.result within inv.left c.remove.ensures c.next-place-2.ensures;
+      left = left-more (bits_of c.args.self.now.projections.touched) (bits_of c.touched.self.projections.touched) (bits_of c.remove.new.self) c.touched.place c.next-place-in-touched.result within inv.left c.remove.ensures c.next-place-in-touched.ensures;
     }
 
 pub returns-clause-known : goal.returns-clause-known

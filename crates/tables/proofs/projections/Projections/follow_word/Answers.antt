@@ -8,12 +8,12 @@ use Rattle.packed_state.proofs.NumberLemmas.{without_lowest_smaller}
 use Rattle.tables.specs.AllTables.{tables_of}
 use Rattle.tables.proofs.ProjectionsLemmas.{moved-none, moved-more, left-begun, left-more, left-none, number-within}
 use Rattle.tables.proofs.projections.Projections.follow_word.Goals as goal
-use Rattle.tables.proofs.projections.Projections.follow_word.Goals.{After-rest-test-true}
+use Rattle.tables.proofs.projections.Projections.follow_word.Goals.{In-rest}
 
-some : (c : After-rest-test-true) → 0 < c.rest.rest
+some : (c : In-rest) → 0 < c.rest.rest
 some c = omega (arith, c.rest-test.true)
 
-inside : (c : After-rest-test-true) → c.args.place * 64 + trailing_zeros w64 c.rest.rest < length (bits_of c.args.state.now)
+inside : (c : In-rest) → c.args.place * 64 + trailing_zeros w64 c.rest.rest < length (bits_of c.args.state.now)
 inside c =
     let state = bits_of c.args.state.now in
     let bits = bits_of c.rest.self.state in
@@ -34,17 +34,17 @@ pub overflow_mul-place : goal.overflow_mul-place
 overflow_mul-place c = omega (arith, c.requires.place, c.width.ensures, c.width.type_inv)
 
 pub overflow_add-place : goal.overflow_add-place
-overflow_add-place c = let there = inside (goal.at.overflow_add-place c).After-rest-test-true in omega (arith, there, c.width.ensures, c.width.type_inv)
+overflow_add-place c = let there = inside (goal.at.overflow_add-place c).In-rest in omega (arith, there, c.width.ensures, c.width.type_inv)
 
 pub follow-requires-clause-number : goal.follow-requires-clause-number
-follow-requires-clause-number c = inside (goal.at.follow-requires-clause-number c).After-rest-test-true
+follow-requires-clause-number c = inside (goal.at.follow-requires-clause-number c).In-rest
 
 pub rest-smaller : goal.rest-smaller
 rest-smaller c = without_lowest_smaller c.rest.rest (omega (arith, c.rest-test.true)) (Fits-lt-pow c.rest.auto.rest-fits)
 
 pub rest-preserved : goal.rest-preserved
 rest-preserved c =
-    let here = (goal.at.rest-preserved c).After-rest-test-true in
+    let here = (goal.at.rest-preserved c).In-rest in
     record {
       projections = c.follow.ensures.projections;
       moved = moved-more (tables_of c.args.tables.now) c.args.self.now c.rest.self c.follow.new.self c.rest.invariant.moved c.follow.ensures.moved;

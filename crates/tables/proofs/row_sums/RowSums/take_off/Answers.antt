@@ -11,17 +11,17 @@ use Rattle.tables.specs.RowSums.{AreAdded}
 use Rattle.tables.proofs.RowSumsLemmas.{all-small, all-ranged, few-tables, sums-off, lacking-most}
 use Rattle.tables.proofs.TablesLemmas.{each-at}
 use Rattle.tables.proofs.row_sums.RowSums.take_off.Goals as goal
-use Rattle.tables.proofs.row_sums.RowSums.take_off.Goals.{In-Some, After-table}
+use Rattle.tables.proofs.row_sums.RowSums.take_off.Goals.{After-table}
 
 -- the row that the table has
-had : (c : In-Some) → get_or c.args.self.now.rows.items c.args.place None ≡ Some c.in-Some.row
+had : (c : After-table) → get_or c.args.self.now.rows.items c.args.place None ≡ Some c.in-Some.row
 had c =
     let rows = c.args.self.now.rows.items in
     let within : c.args.place < length rows = omega (arith, c.requires.there, c.requires.sums.rows) in
     get_or_from_slice_get rows c.args.place c.index.result.now None (slice_get_read rows (length rows) c.args.place c.index.result.now refl within c.index.ensures) ∙ c.in-Some.is
 
 below : (c : After-table) → c.in-Some.row < length (table_of c.table.result.now).rows
-below c = subst (λ o. IfSome o (λ row. row < length (table_of c.table.result.now).rows)) (had c.In-Some) (c.requires.sums.within c.args.place (table_of c.table.result.now) c.table.ensures.table)
+below c = subst (λ o. IfSome o (λ row. row < length (table_of c.table.result.now).rows)) (had c) (c.requires.sums.within c.args.place (table_of c.table.result.now) c.table.ensures.table)
 
 pub weights-requires : goal.weights-requires
 weights-requires c = below (goal.at.weights-requires c).After-table
@@ -53,5 +53,5 @@ returns-in-Some-clause-sums c =
     let here = (goal.at.returns-in-Some-clause-sums c).After-table in
     let t = table_of c.table.result.now in
     let it = row-there t.rows c.in-Some.row (below here) in
-    sums-off (tables_of c.args.tables.now) (count_of c.args.tables.now) c.args.self.now _ c.args.place t it.0 c.in-Some.row c.table.ensures.table it.1 c.requires.sums (had here.In-Some)
+    sums-off (tables_of c.args.tables.now) (count_of c.args.tables.now) c.args.self.now _ c.args.place t it.0 c.in-Some.row c.table.ensures.table it.1 c.requires.sums (had here)
     (subst (λ (w : List ℤ). AreAdded c.take_each.new.totals.items w c.args.self.now.totals.items) (c.weights.ensures it.0 it.1) c.take_each.ensures) refl refl
