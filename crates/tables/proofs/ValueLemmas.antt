@@ -83,12 +83,12 @@ pub scores-all : (values : List Potentials) (dead_ends : Potentials) (bits : Lis
     → AreScoresBelow values bits count old → AreScores values dead_ends bits new
 scores-all values dead_ends bits count old new z all is more before = record {
   long = omega (arith, ap length more, length-append old (z ∷ []), before.long, all);
-  values = λ k p there.
+  each = λ k p there.
       let within = slice_get_within values k p there in
       ap (λ l. get_or l k (pos 0)) more ∙ get_or_append_left old (z ∷ []) (pos 0) k (omega (arith, within, before.long, all)) ∙ before.each k p (omega (arith, within, all)) there;
-  dead_ends =
-      let last : length values ≡ length old = omega (arith, all, before.long) in
-      ap (λ l. get_or l (length values) (pos 0)) more ∙ ap (λ n. get_or (old ++ z ∷ []) n (pos 0)) last ∙ get_or-append_seam old z [] (pos 0) ∙ is;
+  last =
+      let end : length values ≡ length old = omega (arith, all, before.long) in
+      ap (λ l. get_or l (length values) (pos 0)) more ∙ ap (λ n. get_or (old ++ z ∷ []) n (pos 0)) end ∙ get_or-append_seam old z [] (pos 0) ∙ is;
 }
 
 -- so many have become those of another state
@@ -113,16 +113,16 @@ scores-moved values bits count p old mid new z at within is set before = record 
   left = λ k above. ap (λ l. get_or l k (pos 0)) set ∙ get_or-set_other mid count k z (pos 0) (λ same. absurd (omega (arith, same, above))) ∙ before.left k (omega (arith, above));
 }
 
-pub scores-all-moved : (values : List Potentials) (dead_ends : Potentials) (bits : List Bool) (count last : ℕ) (old mid new : List ℤ) → length values ≤ count → last ≡ length values → length mid ≡ length values + 1
-    → new ≡ slice_set mid last (score (potentials_of dead_ends) bits) → AreMovedBelow values bits count old mid → AreScores values dead_ends bits new
-scores-all-moved values dead_ends bits count last old mid new all at_last long set before = record {
-  long = ap length set ∙ length-set mid last (score (potentials_of dead_ends) bits) ∙ long;
-  values = λ k p there.
+pub scores-all-moved : (values : List Potentials) (dead_ends : Potentials) (bits : List Bool) (count end : ℕ) (old mid new : List ℤ) → length values ≤ count → end ≡ length values → length mid ≡ length values + 1
+    → new ≡ slice_set mid end (score (potentials_of dead_ends) bits) → AreMovedBelow values bits count old mid → AreScores values dead_ends bits new
+scores-all-moved values dead_ends bits count end old mid new all at_last long set before = record {
+  long = ap length set ∙ length-set mid end (score (potentials_of dead_ends) bits) ∙ long;
+  each = λ k p there.
       let within = slice_get_within values k p there in
-      ap (λ l. get_or l k (pos 0)) set ∙ get_or-set_other mid last k (score (potentials_of dead_ends) bits) (pos 0) (λ same. absurd (omega (arith, same, within, at_last))) ∙ before.done k p (omega (arith, within, all)) there;
-  dead_ends =
-      ap (λ l. get_or l (length values) (pos 0)) set ∙ ap (λ n. get_or (slice_set mid last (score (potentials_of dead_ends) bits)) n (pos 0)) (sym at_last)
-      ∙ get_or-set_same mid last (score (potentials_of dead_ends) bits) (pos 0) (omega (arith, at_last, long));
+      ap (λ l. get_or l k (pos 0)) set ∙ get_or-set_other mid end k (score (potentials_of dead_ends) bits) (pos 0) (λ same. absurd (omega (arith, same, within, at_last))) ∙ before.done k p (omega (arith, within, all)) there;
+  last =
+      ap (λ l. get_or l (length values) (pos 0)) set ∙ ap (λ n. get_or (slice_set mid end (score (potentials_of dead_ends) bits)) n (pos 0)) (sym at_last)
+      ∙ get_or-set_same mid end (score (potentials_of dead_ends) bits) (pos 0) (omega (arith, at_last, long));
 }
 
 -- each score is small
@@ -131,11 +131,11 @@ pub scores-small : (f : TableFunctions) (bits : List Bool) (scores : List ℤ) (
 scores-small f bits scores place few below are = elim (cases_lt place (length f.values.items)) [
   | inl within ↦
       let it = row-there f.values.items place within in
-      let is = are.values place it.0 it.1 in
+      let is = are.each place it.0 it.1 in
       subst (λ z. (neg_ℤ (pos 36028797018963968) ≤ℤ z) × (z ≤ℤ pos 36028797018963968)) (sym is) (score-small it.0 bits few)
   | inr past ↦
       let last : place ≡ length f.values.items = omega (arith, past, below, f.together.counts) in
-      let is = ap (λ k. get_or scores k (pos 0)) last ∙ are.dead_ends in
+      let is = ap (λ k. get_or scores k (pos 0)) last ∙ are.last in
       subst (λ z. (neg_ℤ (pos 36028797018963968) ≤ℤ z) × (z ≤ℤ pos 36028797018963968)) (sym is) (score-small f.dead_ends bits few)
 ]
 

@@ -27,8 +27,8 @@ width_of f = length (potentials_of f.dead_ends).weights
 -- by each value the score of the packed state's atoms, and last by that for dead ends
 pub record AreScores (values : List Potentials) (dead_ends : Potentials) (bits : List Bool) (scores : List ℤ) : Type 0 where
   pub long : length scores ≡ length values + 1
-  pub values : (k : ℕ) (p : Potentials) → slice_get values k ≡ Some p → slice_index_or scores k (pos 0) ≡ score (potentials_of p) bits
-  pub dead_ends : slice_index_or scores (length values) (pos 0) ≡ score (potentials_of dead_ends) bits
+  pub each : (k : ℕ) (p : Potentials) → slice_get values k ≡ Some p → slice_index_or scores k (pos 0) ≡ score (potentials_of p) bits
+  pub last : slice_index_or scores (length values) (pos 0) ≡ score (potentials_of dead_ends) bits
 
 -- the packed state of which it is known
 abbrev pub state_of : KnownState → List Bool

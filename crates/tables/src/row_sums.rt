@@ -29,7 +29,10 @@ impl IndexedTables<'_> {
         ensures { IfOk result (AreSums (tables_of self.now) (count_of self.now)) }
     {
         let missing = self.tables().len();
-        let rows = vec![in alloc; None; missing]?;
+        let mut rows = Vec::new(alloc);
+        for _ in 0..missing {
+            rows.push(None)?;
+        }
         let totals = vec![in alloc; 0; self.weight_count() as usize]?;
         Ok(RowSums {
             rows,

@@ -33,7 +33,7 @@ loop-place-preserved c =
     let most = c.total.ensures.most in
     let sum = to_z w64 (of_z w64 c.total.result) in
     let value = value-is (function_at tables p k) bits c.or_zero.result sum (get_or known.scores.items k (pos 0)) (get_or known.rows.sums.totals.items k (pos 0)) c.or_zero.ensures c.requires.rows
-    (c.requires.known.scores.values k it.0 it.1) (rows-give tables (count_of self.tables) k known.rows below c.requires.known.rows) (omega (arith, ints)) in
+    (c.requires.known.scores.each k it.0 it.1) (rows-give tables (count_of self.tables) k known.rows below c.requires.known.rows) (omega (arith, ints)) in
     let small = or_zero-most sum 9223372036854775807 (omega (arith, ints)) in (
       greatest-more (functions_of (several_of self)) k (function_at tables p k) bits c.loop-place.greatest c.greater-greatest.result c.or_zero.result named c.loop-place.invariant.0 value c.greater-greatest.ensures,
       omega (arith, small, c.or_zero.ensures, c.greater-greatest.ensures, c.loop-place.invariant.1),

@@ -40,7 +40,7 @@ score_after-requires-clause-next c = c.requires.width ∙ sym (wide (goal.at.sco
 
 pub score_after-requires-clause-score : goal.score_after-requires-clause-score
 score_after-requires-clause-score c =
-    c.loop-place.invariant.scores.left c.loop-place.place (omega arith) ∙ c.requires.known.scores.values c.loop-place.place c.index.result.now (read (goal.at.score_after-requires-clause-score c).After-index)
+    c.loop-place.invariant.scores.left c.loop-place.place (omega arith) ∙ c.requires.known.scores.each c.loop-place.place c.index.result.now (read (goal.at.score_after-requires-clause-score c).After-index)
     ∙ ap (score (potentials_of c.index.result.now)) (sym c.loop-place.invariant.state)
 
 pub loop-place-preserved : goal.loop-place-preserved
@@ -53,16 +53,16 @@ loop-place-preserved c =
           (read (goal.at.loop-place-preserved c).After-index) (omega (arith, c.loop-place-test.true, c.len-place-end.ensures, inv.scores.long, c.requires.known.scores.long)) refl c.score_after.ensures.scores inv.scores;
     }
 
-pub score_after-2-requires-clause-there : goal.score_after-2-requires-clause-there
-score_after-2-requires-clause-there c = omega (arith, c.len.ensures, c.loop-place.invariant.scores.long, c.requires.known.scores.long)
+pub score_after-requires-2-clause-there : goal.score_after-requires-2-clause-there
+score_after-requires-2-clause-there c = omega (arith, c.len.ensures, c.loop-place.invariant.scores.long, c.requires.known.scores.long)
 
-pub score_after-2-requires-clause-before : goal.score_after-2-requires-clause-before
-score_after-2-requires-clause-before c = ap length c.loop-place.invariant.state ∙ c.requires.known.width
+pub score_after-requires-2-clause-before : goal.score_after-requires-2-clause-before
+score_after-requires-2-clause-before c = ap length c.loop-place.invariant.state ∙ c.requires.known.width
 
-pub score_after-2-requires-clause-score : goal.score_after-2-requires-clause-score
-score_after-2-requires-clause-score c =
+pub score_after-requires-2-clause-score : goal.score_after-requires-2-clause-score
+score_after-requires-2-clause-score c =
     c.loop-place.invariant.scores.left c.len.result (omega (arith, c.loop-place.auto.place-end, c.len.ensures, c.len-place-end.ensures))
-    ∙ ap (λ n. get_or c.args.known.now.scores.items n (pos 0)) c.len.ensures ∙ c.requires.known.scores.dead_ends ∙ ap (score (potentials_of c.args.self.now.dead_ends)) (sym c.loop-place.invariant.state)
+    ∙ ap (λ n. get_or c.args.known.now.scores.items n (pos 0)) (let at : c.len.result ≡ length c.args.self.now.values.items = omega (arith, c.len.ensures) in at) ∙ c.requires.known.scores.last ∙ ap (score (potentials_of c.args.self.now.dead_ends)) (sym c.loop-place.invariant.state)
 
 pub move_to-requires-clause-known : goal.move_to-requires-clause-known
 move_to-requires-clause-known c = c.score_after-2.ensures.rows (tables_of c.args.self.now.tables) (count_of c.args.self.now.tables) c.loop-place.invariant.rows
@@ -78,5 +78,5 @@ returns-clause-known c =
       rows = c.move_to.ensures.known;
       scores = subst (λ bits. AreScores self.values.items self.dead_ends bits c.score_after-2.new.self.scores.items) (sym c.move_to.ensures.state)
           (scores-all-moved self.values.items self.dead_ends (bits_of c.args.state.now) c.loop-place.place c.len.result c.args.known.now.scores.items c.loop-place.known.scores.items c.score_after-2.new.self.scores.items
-          (omega (arith, c.loop-place-test.false, c.len-place-end.ensures)) c.len.ensures (c.loop-place.invariant.scores.long ∙ c.requires.known.scores.long) c.score_after-2.ensures.scores c.loop-place.invariant.scores);
+          (omega (arith, c.loop-place-test.false, c.len-place-end.ensures)) (omega (arith, c.len.ensures)) (c.loop-place.invariant.scores.long ∙ c.requires.known.scores.long) c.score_after-2.ensures.scores c.loop-place.invariant.scores);
     }

@@ -1,4 +1,4 @@
-use Rattle.std.proofs.Common.{◌≡◌, ◌<◌, ◌≤◌, length, refl, arith, to_z, of_z, w64}
+use Rattle.std.proofs.Common.{◌≡◌, ◌<◌, ◌≤◌, length, refl, ap, arith, to_z, of_z, w64}
 use Rattle.std.proofs.lemmas.Int.{ints}
 use Rattle.std.proofs.lemmas.Option.{slice_get_read}
 use Rattle.packed_state.specs.Packed.{bits_of}
@@ -6,7 +6,7 @@ use Rattle.tables.proofs.ValueLemmas.{scores-more, scores-all}
 use Rattle.tables.proofs.several.TableFunctions.scores.Goals as goal
 
 pub loop-place-init : goal.loop-place-init
-loop-place-init c = record { long = refl; each = λ k p below. absurd (omega (arith, below)) }
+loop-place-init c = record { long = ap length c.new-scores.ensures.items; each = λ k p below. absurd (omega (arith, below)) }
 
 pub loop-place-preserved : goal.loop-place-preserved
 loop-place-preserved c =
@@ -19,5 +19,5 @@ loop-place-preserved c =
 pub returns : goal.returns
 returns c =
     let items = c.args.self.now.values.items in
-    let is = c.score.ensures in
-    scores-all items c.args.self.now.dead_ends (bits_of c.args.state.now) c.loop-place.place c.loop-place.scores.items _ _ (omega (arith, c.loop-place-test.false, c.len-place-end.ensures)) (omega (arith, ints)) c.in_ok-push.ensures.items c.loop-place.invariant
+    let is = c.score-2.ensures in
+    scores-all items c.args.self.now.dead_ends (bits_of c.args.state.now) c.loop-place.place c.loop-place.scores.items _ _ (omega (arith, c.loop-place-test.false, c.len-place-end.ensures)) (omega (arith, ints)) c.in_ok-push-2.ensures.items c.loop-place.invariant
