@@ -1,4 +1,4 @@
-use Rattle.std.proofs.Common.{◌≡◌, ◌∙◌, ◌≤◌, length, map, ap, arith}
+use Rattle.std.proofs.Common.{◌∙◌, ◌≤◌, length, map, ap, arith}
 use Rattle.std.proofs.lemmas.List.{length-map, take_all}
 use Rattle.potentials.specs.Potentials.{potentials_of}
 use Rattle.table_functions.specs.TableFunctions.{functions_of, greatest_value}
