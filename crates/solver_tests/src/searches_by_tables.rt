@@ -119,7 +119,7 @@ fn found_by_tables(
     let ValuesFairness::Fair = functions.fairness(alloc, ground)? else {
         return Ok(None);
     };
-    let guide = FairTables::new(alloc, functions, ground)?;
+    let guide = FairTables::new(functions, ground);
     found_by(alloc, ground, &guide)
 }
 

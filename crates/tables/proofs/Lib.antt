@@ -1,6 +1,8 @@
 pub mod TablesLemmas
 pub mod FairnessLemmas
 pub mod SeveralLemmas
-pub mod StateRowsLemmas
-pub mod RoomLemmas
+pub mod ScopePlacesLemmas
+pub mod ProjectionsLemmas
+pub mod RowSumsLemmas
+pub mod KnownRowsLemmas
 pub mod ValueLemmas

@@ -2,6 +2,8 @@ pub mod ByAtom
 pub mod AllTables
 pub mod Fairness
 pub mod Together
-pub mod Rooms
-pub mod StateRows
+pub mod ScopePlaces
+pub mod Projections
+pub mod RowSums
+pub mod KnownRows
 pub mod Several

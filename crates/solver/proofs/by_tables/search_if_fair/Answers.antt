@@ -23,22 +23,22 @@ new-requires-clause-fair g c = subst (ReportsValues (task_in c.ground-ground.res
 
 pub returns-in-Fair-clause-fair : goal.returns-in-Fair-clause-fair
 returns-in-Fair-clause-fair g c =
-    let guide = c.in_ok-guide-in-Fair.guide in
+    let guide = c.new-guide-in-Fair.result in
     let known = ground_in c.args.space in
-    subst (AreFair (task_in known) (atoms_in known)) c.in_ok-guide-in-Fair.ensures.functions
-    (subst (λ (g : Ground). AreFair (task_in g) (atoms_in g) (functions_in guide)) (c.in_ok-guide-in-Fair.ensures.ground ∙ c.ground-ground.ensures) guide.fair)
+    subst (AreFair (task_in known) (atoms_in known)) c.new-guide-in-Fair.ensures.functions
+    (subst (λ (g : Ground). AreFair (task_in g) (atoms_in g) (functions_in guide)) (c.new-guide-in-Fair.ensures.ground ∙ c.ground-ground.ensures) guide.fair)
 
 pub returns-in-Fair-clause-searched : goal.returns-in-Fair-clause-searched
 returns-in-Fair-clause-searched g c =
     let searched = c.in_ok-searched-in-Fair.searched in
     subst (λ (s : SeveralValues). IsSearched c.args.space (estimate_by (by_tables s)) (reports_dead (by_tables s)) c.args.limits.states searched.outcome searched.marks.items)
-    c.in_ok-guide-in-Fair.ensures.functions c.in_ok-searched-in-Fair.ensures.searched
+    c.new-guide-in-Fair.ensures.functions c.in_ok-searched-in-Fair.ensures.searched
 
 abbrev means : Ground → System (List Bool) ℕ
 means k = ground_system (task_in k) (atoms_in k)
 
 pub search_by-requires-clause-system : goal.search_by-requires-clause-system
-search_by-requires-clause-system g c = ap means (c.in_ok-guide-in-Fair.ensures.ground ∙ c.ground-ground.ensures)
+search_by-requires-clause-system g c = ap means (c.new-guide-in-Fair.ensures.ground ∙ c.ground-ground.ensures)
 
 pub search_by-requires-clause-width : goal.search_by-requires-clause-width
-search_by-requires-clause-width g c = ap (λ k. length (atoms_in k)) (c.in_ok-guide-in-Fair.ensures.ground ∙ c.ground-ground.ensures)
+search_by-requires-clause-width g c = ap (λ k. length (atoms_in k)) (c.new-guide-in-Fair.ensures.ground ∙ c.ground-ground.ensures)

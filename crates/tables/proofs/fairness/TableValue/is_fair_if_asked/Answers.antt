@@ -1,4 +1,4 @@
-use Rattle.std.proofs.Common.{◌≡◌, ◌∙◌, sym}
+use Rattle.std.proofs.Common.{◌∙◌, sym}
 use Rattle.faults.proofs.Results.{if_ok}
 use Rattle.grounding.specs.Ground.{task_in, atoms_in}
 use Rattle.table_functions.specs.FairTables.{is_instance_shut_out, IsFairAt}
