@@ -2,15 +2,17 @@
 #![tactic(auto)]
 
 mod fairness;
+mod losses;
 mod rooms;
 mod several;
 mod state_rows;
 mod tables;
 #[cfg(test)]
 mod tests;
+mod unfair;
 mod values;
 
-pub use fairness::{TableValue, is_instance_shut_out};
+pub use fairness::is_instance_shut_out;
 pub use rooms::Room;
 pub use several::{TableFunctions, ValuesFairness};
 pub use state_rows::StateRows;
