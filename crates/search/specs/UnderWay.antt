@@ -27,7 +27,7 @@ module _ {S Store R : Type 0} (t : System S ℕ) (class_of : S → S) (value : S
     pub store_classes : classes_of (store_in s) ≡ class_of
     pub store_width : width_of (store_in s) ≡ width
     pub buffers : AreWide width s.buffers
-    pub room : fits s.buffers.room
+    pub scratch : fits s.buffers.scratch
 
   -- The search ended with a true outcome, or goes on once as many states are listed as it is to pause at.
   abbrev pub IsTrueHalt : ℕ → ℕ → Halt Store R → Type 0

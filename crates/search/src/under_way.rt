@@ -36,7 +36,7 @@ use crate::transitions::TransitionSystem;
 use faults::NoMemory;
 use std::alloc::Global;
 
-/// A search that is under way: the states that it found so far, and which of them wait. Its guide's room is an `R`.
+/// A search that is under way: the states that it found so far, and which of them wait. Its guide's scratch is an `R`.
 #[derive(Drop)]
 pub struct Search<L, R> {
     progress: Progress<L>,
@@ -82,16 +82,16 @@ pub fn begin<T: TransitionSystem, G: Guide, L: StateListing>(
     system: &T,
     guide: &G,
     store: L,
-) -> Result<Search<L, G::Room>, NoMemory>
+) -> Result<Search<L, G::Scratch>, NoMemory>
     requires guide_width { G.width_of guide.now ≡ T.width_of system.now }
     requires empty { L.states store ≡ [] }
     requires width { L.width_of store ≡ T.width_of system.now }
     ensures { IfOk result (λ search. (max_states : ℕ) → 1 ≤ max_states
         → IsUnderWay (T.means system.now) (L.class_of store) (G.estimate_of guide.now) (G.is_dead guide.now) (G.fits guide.now) L.states L.class_of L.width_of (T.width_of system.now) max_states search) }
 {
-    let room = guide.room(alloc)?;
-    let mut buffers = Buffers::new(alloc, system.width(), room)?;
-    let progress = Progress::start(alloc, system, guide, &mut buffers.room, store)?;
+    let scratch = guide.scratch(alloc)?;
+    let mut buffers = Buffers::new(alloc, system.width(), scratch)?;
+    let progress = Progress::start(alloc, system, guide, &mut buffers.scratch, store)?;
     Ok(Search { progress, buffers })
 }
 
@@ -101,10 +101,10 @@ pub fn go_on<T: TransitionSystem, G: Guide, L: StateListing>(
     alloc: Global,
     system: &T,
     guide: &G,
-    search: Search<L, G::Room>,
+    search: Search<L, G::Scratch>,
     pause: u32,
     max_states: u32,
-) -> Result<Halt<L, G::Room>, NoMemory>
+) -> Result<Halt<L, G::Scratch>, NoMemory>
     requires made_for { G.system_of guide.now ≡ T.means system.now }
     requires guide_width { G.width_of guide.now ≡ T.width_of system.now }
     requires under_way { IsUnderWay (T.means system.now) (L.class_of (store_in search)) (G.estimate_of guide.now) (G.is_dead guide.now) (G.fits guide.now) L.states L.class_of L.width_of (T.width_of system.now) max_states search }
@@ -148,7 +148,7 @@ pub fn finish<T: TransitionSystem, G: Guide, L: StateListing>(
     alloc: Global,
     system: &T,
     guide: &G,
-    search: Search<L, G::Room>,
+    search: Search<L, G::Scratch>,
     max_states: u32,
 ) -> Result<Outcome<L>, NoMemory>
     requires made_for { G.system_of guide.now ≡ T.means system.now }

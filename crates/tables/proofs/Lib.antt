@@ -3,6 +3,8 @@ pub mod FairnessLemmas
 pub mod SeveralLemmas
 pub mod TotalLemmas
 pub mod UnfairLemmas
-pub mod StateRowsLemmas
-pub mod RoomLemmas
+pub mod ScopePlacesLemmas
+pub mod ProjectionsLemmas
+pub mod RowSumsLemmas
+pub mod KnownRowsLemmas
 pub mod ValueLemmas

@@ -2,10 +2,13 @@
 #![tactic(auto)]
 
 mod fairness;
+mod known_rows;
+mod known_state;
 mod losses;
-mod rooms;
+mod projections;
+mod row_sums;
+mod scope_places;
 mod several;
-mod state_rows;
 mod tables;
 #[cfg(test)]
 mod tests;
@@ -13,7 +16,6 @@ mod unfair;
 mod values;
 
 pub use fairness::is_instance_shut_out;
-pub use rooms::Room;
+pub use known_state::KnownState;
 pub use several::{TableFunctions, ValuesFairness};
-pub use state_rows::StateRows;
 pub use tables::IndexedTables;

@@ -5,8 +5,10 @@ ghost use Rattle.table_functions.specs.Laws.{are_over};
 ghost use Rattle.table_losses.specs.declared.indexed.IndexedTable as declared;
 ghost use Rattle.table_losses.specs.Losses.{indexed_of, indexed_count_of};
 ghost use Rattle.tables.specs.ByAtom.{IsByAtom};
+ghost use Rattle.tables.specs.ScopePlaces.{scopes_of, AreScopePlaces};
 
 use crate::losses::{Losses, add_up, clear};
+use crate::scope_places::{ScopePlace, ScopePlaces};
 use faults::NoMemory;
 use grounding::{CountingChange, NumberedLiteral};
 use packed_state::Packed;
@@ -20,9 +22,11 @@ pub struct IndexedTables<'a> {
     tables: Vec<IndexedTable<'a>>,
     count: u32,
     by_atom: Lists,
+    scope_places: ScopePlaces,
     ghost few: { length tables.items < 2 ^ 24 },
     ghost counts: { All (λ (t : declared.IndexedTable). indexed_count_of t ≡ count) tables.items } by { Prim.hlevel props },
     ghost named: { IsByAtom (map indexed_of tables.items) (length tables.items) by_atom } by { Prim.hlevel props },
+    ghost placed: { AreScopePlaces (scopes_of (map indexed_of tables.items)) scope_places } by { Prim.hlevel props },
 }
 
 impl<'a> IndexedTables<'a> {
@@ -41,6 +45,7 @@ impl<'a> IndexedTables<'a> {
     ghost use Rattle.tables.specs.AllTables.{tables_of, count_of};
     ghost use Rattle.tables.specs.ByAtom.{AreMarked};
     ghost use Rattle.tables.specs.TotalLosses.{HasLosses, IsSmall, AddsLosses, LosesByEachOfAll};
+    ghost use Rattle.tables.specs.ScopePlaces.{places_of};
 
     /// These tables over so many atoms, whose rows have so many weights.
     ///
@@ -59,10 +64,12 @@ impl<'a> IndexedTables<'a> {
         ensures count { IfOk result (λ all. count_of all ≡ count) }
     {
         let by_atom = by_atom(alloc, width, &tables)?;
+        let scope_places = ScopePlaces::new(alloc, width, &tables)?;
         Ok(IndexedTables {
             tables,
             count,
             by_atom,
+            scope_places,
         })
     }
 
@@ -95,6 +102,23 @@ impl<'a> IndexedTables<'a> {
         ensures { result.now ≡ self.now.tables.items }
     {
         &self.tables
+    }
+
+    /// The table at this place, from 0.
+    pub(crate) fn table(&self, place: usize) -> &'a Table
+        requires { place < length (tables_of self.now) }
+        ensures table { slice_get (tables_of self.now) place ≡ Some (table_of result.now) }
+        ensures count { weight_count_of result.now ≡ count_of self.now }
+        ensures range { All (λ (r : Row). All IsInRange r.weights) (table_of result.now).rows }
+    {
+        self.tables[place].table()
+    }
+
+    /// The places of the atom of this number in the scopes of tables.
+    pub(crate) fn places_of(&self, number: u32) -> &[ScopePlace]
+        ensures { result.now ≡ places_of self.now.scope_places number }
+    {
+        self.scope_places.of(number)
     }
 
     /// How many tables there are.
@@ -240,7 +264,7 @@ impl<'a> IndexedTables<'a> {
     }
 
     /// The tables that have an atom of one of the changes in their scope.
-    pub(crate) fn named_by_changes(
+    fn named_by_changes(
         &self,
         alloc: Global,
         changes: &[CountingChange<'_>],

@@ -104,13 +104,6 @@ expand-requires-clause-turn g c =
           (All-among (IsEntryOf (g.G.Guide.estimate_of c.args.guide.now) (g.G.Guide.is_dead c.args.guide.now) (found_of (g.L.StateListing.states c.turns.progress.store) c.turns.progress.nodes.items)) _ _ c.in-Some.ensures.kept search.nodes.entries);
     })
 
-pub expand-requires-clause-value : goal.expand-requires-clause-value
-expand-requires-clause-value g c =
-    let search = c.turns.invariant.search in
-    let next = at_turn _ _ _ _ _ _ _ search.one_each search.nodes _ c.in-Some.turn c.in-Some.ensures.some in
-    let got : slice_get (g.L.StateListing.states c.turns.progress.store) c.in-Some.turn.id.0 ≡ Some (bits_of c.get.new.into) = rw c.in-Some.ensures.store at c.get.ensures.state in
-    next.estimate ∙ ap (g.G.Guide.estimate_of c.args.guide.now) (sym (same_Some (bits_of c.get.new.into) next.found.state (sym got ∙ next.state)))
-
 pub expand-requires-clause-no_goal : goal.expand-requires-clause-no_goal
 expand-requires-clause-no_goal g c = sym c.meets_goal.ensures ∙ c.if-meets_goal.false
 
@@ -145,7 +138,7 @@ turns-preserved g c =
     let listed : c.in_ok-expand.field-0 ≡ true = c.if-not-branch.false in
     let same = same_classes g (goal.at.turns-preserved g c).In-Some in
     let expands = rw (same, listed) at c.in_ok-expand.ensures.listed in
-    record { search = expands.search; are_open = expands.are_open; within = expands.within; store_classes = c.in_ok-expand.ensures.class ∙ same; store_width = c.in_ok-expand.ensures.width; buffers = c.in_ok-expand.ensures.buffers; room = c.in_ok-expand.ensures.room }
+    record { search = expands.search; are_open = expands.are_open; within = expands.within; store_classes = c.in_ok-expand.ensures.class ∙ same; store_width = c.in_ok-expand.ensures.width; buffers = c.in_ok-expand.ensures.buffers; scratch = c.in_ok-expand.ensures.scratch }
 
 pub returns-then-not-branch : goal.returns-then-not-branch
 returns-then-not-branch g c =

@@ -10,7 +10,7 @@ use Rattle.table_rows.specs.declared.table.Table.{Table}
 use Rattle.table_losses.specs.Losses.{indexed_of, indexed_count_of}
 use Rattle.table_losses.specs.declared.indexed.IndexedTable.{IndexedTable}
 use Rattle.table_losses.proofs.FateLemmas.{taken-more}
-use Rattle.tables.proofs.RoomLemmas.{each-at}
+use Rattle.tables.proofs.TablesLemmas.{each-at}
 use Rattle.tables.proofs.tables.IndexedTables.index.Goals as goal
 
 pub new-requires : goal.new-requires
