@@ -111,10 +111,3 @@ module _ (task : Task) (atoms : List Atom) (h : TableFunction) where
           unfair = λ fair. not_so (λ _. fair);
           earlier = before;
         }
-
--- asked, since it is not shut out
-pub if-asked : (answer out : Bool) (P : Type 0) → out ≡ false → (IsTrue answer ↔ P) → (IsTrue answer ↔ (IsTrue (not out) → P))
-if-asked answer out P is decides = (λ passes _. decides.0 passes, λ fair. decides.1 (fair (ap not is)))
-
-pub not-asked : (out : Bool) (P : Type 0) → out ≡ true → (IsTrue true ↔ (IsTrue (not out) → P))
-not-asked out P is = (λ _ asked. absurd (true≢false (sym asked ∙ ap not is)), λ _. refl)

@@ -55,7 +55,11 @@ impl TableValue<'_, '_> {
     }
 
     /// Whether it is fair at goals: it is at most 0, or some table has no row that agrees with the goal's literals.
-    pub(crate) fn is_fair_at_goals(&self, alloc: Global, ground: &Ground<'_>) -> Result<bool, NoMemory>
+    pub(crate) fn is_fair_at_goals(
+        &self,
+        alloc: Global,
+        ground: &Ground<'_>,
+    ) -> Result<bool, NoMemory>
         requires { FitsGround ground.now self.now }
         ensures { IfOk result (λ fair. IsTrue fair ↔ model.IsFairAtGoals (task_in ground.now) (atoms_in ground.now) (function_of self.now)) }
     {

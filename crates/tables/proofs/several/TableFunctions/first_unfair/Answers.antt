@@ -5,15 +5,9 @@ use Rattle.grounding.specs.Ground.{task_in, atoms_in}
 use Rattle.model.specs.StaticallyFalse.{kept_instances}
 use Rattle.potentials.specs.Potentials.{potentials_of}
 use Rattle.tables.specs.Several.{several_of}
-use Rattle.tables.proofs.UnfairLemmas.{IsFirstSoFar, none-so-far, first-next, first-is}
+use Rattle.tables.proofs.UnfairLemmas.{IsFirstSoFar, first-next, first-is}
 use Rattle.tables.proofs.several.TableFunctions.first_unfair.Goals.{After-earlier-first}
 use Rattle.tables.proofs.several.TableFunctions.first_unfair.Goals as goal
-
-pub loop-number-init : goal.loop-number-init
-loop-number-init c = record {
-  room = c.in_ok-losses.ensures;
-  first = none-so-far (task_in c.args.ground.now) (atoms_in c.args.ground.now) (several_of c.args.self.now);
-}
 
 -- with one instance more
 next : (c : After-earlier-first) → IsFirstSoFar (task_in c.args.ground.now) (atoms_in c.args.ground.now) (several_of c.args.self.now) (c.loop-number.number + 1) c.earlier-first.result
