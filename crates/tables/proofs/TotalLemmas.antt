@@ -8,10 +8,10 @@ use Rattle.model.specs.NumberedLiterals.{NumberedLiteral}
 use Rattle.table_functions.specs.TableFunctions.{Table, sum_over}
 use Rattle.table_functions.specs.FairTables.{ConditionalChange, touches_scope, is_closed, table_loses}
 use Rattle.table_losses.specs.Fates.{IsLoss}
-use Rattle.table_losses.specs.Losses.{LosesByTable, LosesByEach}
+use Rattle.table_losses.specs.Losses.{LosesByEach}
 use Rattle.table_losses.proofs.LossLemmas.{loses-nothing}
 use Rattle.tables.specs.ByAtom.{LosesByAll}
-use Rattle.tables.specs.TotalLosses.{IsSmall, AreCleared, AreAddedUp, IsLossAdded, AreLossesAdded, AreLossesByAll}
+use Rattle.tables.specs.TotalLosses.{IsSmall, AreCleared, AreAddedUp, AreLossesAdded, AreLossesByAll}
 use Rattle.tables.proofs.TablesLemmas.{all-more, loses-more}
 
 -- what is lost at the place is added

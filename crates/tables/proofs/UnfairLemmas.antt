@@ -1,7 +1,7 @@
 -- The first of several values that is not fair, instance by instance, and what is reported of it.
-use Rattle.std.proofs.Common.{◌≡◌, ◌∙◌, ℕ, zero, suc, ◌+◌, ◌<◌, ◌≤◌, inl, inr, Bool, true, false, true≢false, not, List, length, take, get_or, Option, None, Some, refl, sym, ap, subst, arith}
+use Rattle.std.proofs.Common.{◌≡◌, ◌∙◌, ℕ, zero, suc, ◌+◌, ◌<◌, ◌≤◌, Bool, true, false, true≢false, not, List, length, take, get_or, Option, None, Some, refl, sym, ap, subst, arith}
 use Rattle.std.specs.Prelude.{◌↔◌, All, IsTrue, slice_get, nat_lt, if◌then◌else◌}
-use Rattle.std.proofs.lemmas.Bool.{cases_eq, lt-ltb, ltb-true, ltb-false}
+use Rattle.std.proofs.lemmas.Bool.{lt-ltb, ltb-true, ltb-false}
 use Rattle.std.proofs.lemmas.List.{get_or_past, take_all}
 use Rattle.std.proofs.lemmas.List.Elements.{All-nil}
 use Rattle.std.proofs.lemmas.Option.{slice_get-get_or}
@@ -10,7 +10,7 @@ use Rattle.model.specs.Meaning.{cost_of}
 use Rattle.model.specs.StaticallyFalse.{kept_instances}
 use Rattle.potential_functions.specs.Fair.{nothing}
 use Rattle.table_functions.specs.TableFunctions.{TableFunction, SeveralValues, functions_of, dead_ends_of}
-use Rattle.table_functions.specs.FairTables.{is_asked, is_instance_shut_out, IsFair, IsFairAt, IsFairAtGoals, AreFairAt, IsFirstUnfairAt}
+use Rattle.table_functions.specs.FairTables.{is_asked, is_instance_shut_out, IsFair, IsFairAt, IsFairAtGoals, IsFirstUnfairAt}
 use Rattle.table_losses.proofs.FateLemmas.{row-there}
 use Rattle.tables.specs.Fairness.{AreInstancesFairAt}
 use Rattle.tables.specs.Reports.{goals_report, instance_report, first_report}

@@ -1,5 +1,5 @@
 -- Which tables have an atom in their scope, as the code keeps it, and what all tables lose.
-use Rattle.std.specs.Prelude.{◌≡◌, ℕ, ◌+◌, ◌*◌, ◌<◌, ◌==◌, Bool, true, false, ◌&&◌, ◌||◌, ℤ, pos, neg_ℤ, ◌≤ℤ◌, List, [], ◌∷◌, length, map, slice_get, Some}
+use Rattle.std.specs.Prelude.{◌≡◌, ℕ, ◌*◌, ◌<◌, Bool, true, ℤ, pos, neg_ℤ, ◌≤ℤ◌, List, length, slice_get, Some}
 use Rattle.std.specs.List.{list_all}
 use Rattle.packed_state.specs.Sets.{has}
 use Rattle.model.specs.NumberedLiterals.{NumberedLiteral}

@@ -1,5 +1,5 @@
 -- Of several values and that for dead ends, which comes after them, the first that is not fair for an instance.
-use Rattle.std.specs.Prelude.{◌≡◌, ℕ, ◌+◌, ◌<◌, nat_lt, if◌then◌else◌, IsTrue, List, length, get_or, Option, None, Some}
+use Rattle.std.specs.Prelude.{ℕ, ◌+◌, ◌<◌, nat_lt, if◌then◌else◌, IsTrue, List, length, get_or, Option, None, Some}
 use Rattle.model.specs.Task.{Atom, Task, Instance}
 use Rattle.model.specs.Meaning.{cost_of}
 use Rattle.potential_functions.specs.Fair.{nothing}

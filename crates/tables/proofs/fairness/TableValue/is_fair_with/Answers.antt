@@ -1,4 +1,4 @@
-use Rattle.std.proofs.Common.{rules, ◌≡◌, ◌∙◌, List, length, map, sym, ap, subst, arith, to_z, of_z, w64}
+use Rattle.std.proofs.Common.{◌∙◌, List, length, map, sym, ap, subst, arith}
 use Rattle.std.specs.Prelude.{All}
 use Rattle.std.proofs.lemmas.Int.{ints}
 use Rattle.std.proofs.lemmas.List.{length-map}

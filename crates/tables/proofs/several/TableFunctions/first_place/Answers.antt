@@ -1,6 +1,4 @@
-use Rattle.std.proofs.Common.{◌≡◌, ◌∙◌, ◌≤◌, false, true, List, length, map, take, Some, None, sym, ap, subst, arith, ℤ}
-use Rattle.std.specs.Prelude.{slice_get}
-use Rattle.std.proofs.lemmas.List.{take_all}
+use Rattle.std.proofs.Common.{◌∙◌, List, length, map, sym, ap, subst}
 use Rattle.grounding.specs.Ground.{task_in, atoms_in}
 use Rattle.grounding.specs.Views.{numbered_of}
 use Rattle.grounding.specs.Changes.{conditional_of}

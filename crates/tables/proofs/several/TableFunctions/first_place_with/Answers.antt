@@ -1,4 +1,4 @@
-use Rattle.std.proofs.Common.{◌≡◌, ◌∙◌, ◌+◌, ◌<◌, inl, inr, false, true, length, map, get_or, Some, sym, ap, subst, arith, ℤ, pos, to_z, of_z, w64}
+use Rattle.std.proofs.Common.{◌≡◌, ◌∙◌, ◌<◌, inl, inr, length, get_or, Some, sym, subst, arith, pos, to_z, of_z, w64}
 use Rattle.std.specs.Prelude.{◌↔◌, IsTrue, slice_get}
 use Rattle.std.proofs.lemmas.Bool.{cases_eq, iff_false}
 use Rattle.std.proofs.lemmas.List.{length-map}
@@ -14,7 +14,7 @@ use Rattle.tables.specs.AllTables.{tables_of, count_of}
 use Rattle.tables.specs.ByAtom.{LosesByAll}
 use Rattle.tables.specs.Fairness.{function_of, allowed_by}
 use Rattle.tables.specs.Several.{several_of}
-use Rattle.tables.specs.Unfair.{places_in, function_in, allowance_in}
+use Rattle.tables.specs.Unfair.{function_in, allowance_in}
 use Rattle.tables.specs.declared.tables.IndexedTables.{IndexedTables}
 use Rattle.tables.proofs.TotalLemmas.{total-read}
 use Rattle.tables.proofs.UnfairLemmas.{fair-as}

@@ -1,9 +1,6 @@
-use Rattle.std.proofs.Common.{◌≡◌, ◌∙◌, ◌+◌, ◌<◌, length, map, Some, sym, ap, subst, arith}
-use Rattle.std.specs.Prelude.{slice_get}
-use Rattle.std.proofs.lemmas.List.{length-map}
+use Rattle.std.proofs.Common.{◌+◌, ◌<◌, length, sym, subst, arith}
 use Rattle.grounding.specs.Ground.{task_in, atoms_in}
 use Rattle.model.specs.StaticallyFalse.{kept_instances}
-use Rattle.potentials.specs.Potentials.{potentials_of}
 use Rattle.tables.specs.Several.{several_of}
 use Rattle.tables.proofs.UnfairLemmas.{IsFirstSoFar, first-next, first-is}
 use Rattle.tables.proofs.several.TableFunctions.first_unfair.Goals.{After-earlier-first}

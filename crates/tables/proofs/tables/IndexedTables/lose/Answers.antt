@@ -1,4 +1,4 @@
-use Rattle.std.proofs.Common.{◌<◌, ◌^◌, length, map, subst, arith}
+use Rattle.std.proofs.Common.{◌<◌, ◌^◌, map, subst, arith}
 use Rattle.std.proofs.lemmas.List.{length-map}
 use Rattle.grounding.specs.Views.{numbered_of}
 use Rattle.grounding.specs.Changes.{conditional_of}
