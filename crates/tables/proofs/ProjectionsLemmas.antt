@@ -12,7 +12,7 @@ use Rattle.std.proofs.lemmas.Nat.Bits.{bit_at-zero, bit_at-lt, bit_at_xor, bit_a
 use Rattle.packed_state.specs.Packed.{bits_of}
 use Rattle.packed_state.specs.declared.packed.Packed.{Packed}
 use Rattle.packed_state.specs.Sets.{has, set_of}
-use Rattle.packed_state.specs.Words.{bits_in, AreWordsOf}
+use Rattle.packed_state.specs.Words.{bits_in, word_has, AreWordsOf}
 use Rattle.packed_state.proofs.NumberLemmas.{without_lowest}
 use Rattle.packed_state.proofs.PackedLemmas.{bit_of, length-set_of}
 use Rattle.packed_state.proofs.WordLemmas.{in_word}

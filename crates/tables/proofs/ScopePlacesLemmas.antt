@@ -1,8 +1,8 @@
 -- Places of atoms in the scopes of tables, one after another.
-use Rattle.std.proofs.Common.{◌≡◌, ◌∙◌, ◌≢◌, ℕ, zero, suc, ◌≤◌, inl, inr, Bool, true, false, true≢false, ◌&&◌, ◌||◌, List, [], ◌∷◌, ◌++◌, length, Some, refl, sym, ap, subst, arith}
-use Rattle.std.specs.Prelude.{◌==◌, slice_get, if◌then◌else◌}
+use Rattle.std.proofs.Common.{◌≡◌, ◌∙◌, ◌≢◌, ℕ, zero, suc, ◌+◌, ◌<◌, ◌≤◌, inl, inr, Bool, true, false, true≢false, ◌&&◌, ◌||◌, List, [], ◌∷◌, ◌++◌, length, take, map, None, Some, refl, sym, ap, subst, arith}
+use Rattle.std.specs.Prelude.{IsTrue, All, ◌==◌, slice_get, if◌then◌else◌}
 use Rattle.std.proofs.lemmas.Bool.{cases_eq, eq-eqb, ne_eqb}
-use Rattle.table_functions.specs.TableFunctions.{Table}
+use Rattle.table_functions.specs.TableFunctions.{Table, is_among}
 use Rattle.tables.specs.declared.scope_places.ScopePlace.{ScopePlace}
 use Rattle.tables.specs.declared.scope_places.ScopePlaces.{ScopePlaces}
 use Rattle.tables.specs.ScopePlaces.{places_of, scopes_of, is_listed, passes_at, is_placed, AreScopePlaces}

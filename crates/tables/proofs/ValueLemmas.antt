@@ -1,6 +1,6 @@
 -- The greatest of several values of a state, one after another.
-use Rattle.std.proofs.Common.{◌≡◌, ◌∙◌, ℕ, suc, ◌+◌, ◌<◌, ◌≤◌, ◌^◌, inl, inr, Bool, true, false, List, [], ◌∷◌, ◌++◌, length, take, get_or, Some, refl, sym, ap, subst, arith, ℤ, pos, ◌+ℤ◌, neg_ℤ, ◌≤ℤ◌}
-use Rattle.std.specs.Prelude.{max, nat_le, slice_get, slice_set, if◌then◌else◌}
+use Rattle.std.proofs.Common.{◌≡◌, ◌∙◌, ℕ, zero, suc, ◌+◌, ◌*◌, ◌<◌, ◌≤◌, ◌^◌, inl, inr, Bool, true, false, List, [], ◌∷◌, ◌++◌, length, take, get_or, Some, refl, sym, ap, subst, arith, ℤ, pos, ◌+ℤ◌, neg_ℤ, ◌≤ℤ◌}
+use Rattle.std.specs.Prelude.{max, nat_le, nat_lt, slice_get, slice_set, if◌then◌else◌}
 use Rattle.std.proofs.lemmas.Int.{ints}
 use Rattle.std.proofs.lemmas.Bool.{cases_eq, cases_lt}
 use Rattle.std.proofs.lemmas.List.{length-append, length-set, get_or_append_left, get_or-set_same, get_or-set_other}
@@ -11,7 +11,7 @@ use Rattle.potential_functions.specs.PotentialFunctions.{PotentialFunction, or_z
 use Rattle.potentials.specs.Potentials.{potentials_of}
 use Rattle.potentials.specs.declared.potentials.Potentials.{Potentials}
 use Rattle.potentials.proofs.WordLemmas.{so_far-range}
-use Rattle.table_functions.specs.TableFunctions.{Table, TableFunction, over_tables, has_rows, row_in, given_by, sum_over, total, value, greatest_value, is_dead_by}
+use Rattle.table_functions.specs.TableFunctions.{Table, TableFunction, over_tables, has_rows, row_in, given_by, sum_over, total, score_by_tables, value, greatest_value, is_dead_by}
 use Rattle.table_losses.proofs.FateLemmas.{row-there, take-at}
 use Rattle.tables.specs.AllTables.{count_of}
 use Rattle.tables.specs.KnownRows.{IsKnown}

@@ -1,5 +1,6 @@
 use Rattle.tables.specs.AllTables.{tables_of}
 use Rattle.packed_state.specs.Packed.{bits_of}
+use Rattle.std.proofs.Common.{◌∙◌, ap}
 use Rattle.tables.proofs.KnownRowsLemmas.{all-or-lacking}
 use Rattle.tables.proofs.known_rows.KnownRows.are_all.Goals as goal
 

@@ -1,10 +1,11 @@
-use Rattle.std.proofs.Common.{◌∙◌, ◌<◌, length, false, refl, sym, ap, subst, arith}
+use Rattle.std.proofs.Common.{◌≡◌, ◌∙◌, ◌<◌, length, false, refl, sym, ap, subst, arith}
 use Rattle.std.specs.Prelude.{slice_set}
 use Rattle.std.proofs.lemmas.List.{length-set}
 use Rattle.packed_state.specs.Packed.{bits_of}
+use Rattle.table_functions.specs.TableFunctions.{Table}
 use Rattle.tables.specs.AllTables.{tables_of}
 use Rattle.tables.specs.KnownRows.{AreKnown}
-use Rattle.tables.proofs.KnownRowsLemmas.{place-within, known-more, left-more, none-left}
+use Rattle.tables.proofs.KnownRowsLemmas.{place-within, known-more, left-more, left-later, none-left}
 use Rattle.tables.proofs.known_rows.KnownRows.find_touched.Goals as goal
 use Rattle.tables.proofs.known_rows.KnownRows.find_touched.Goals.{In-touched}
 

@@ -1,5 +1,5 @@
 use mir.Facts.{Fits-lt-pow}
-use Rattle.std.proofs.Common.{◌+◌, ◌*◌, ◌<◌, length, refl, sym, arith}
+use Rattle.std.proofs.Common.{◌≡◌, ◌∙◌, ◌+◌, ◌*◌, ◌<◌, ◌^◌, length, refl, sym, arith}
 use Rattle.std.specs.Prelude.{slice_set}
 use Rattle.std.specs.Int.{trailing_zeros, w64}
 use Rattle.packed_state.specs.Packed.{bits_of}

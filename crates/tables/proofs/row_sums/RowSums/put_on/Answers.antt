@@ -1,4 +1,4 @@
-use Rattle.std.proofs.Common.{◌≡◌, ◌∙◌, List, length, refl, sym, ap, subst, arith, ℤ}
+use Rattle.std.proofs.Common.{◌≡◌, ◌∙◌, ◌<◌, None, List, length, refl, sym, ap, subst, arith, ℤ}
 use Rattle.std.specs.Prelude.{All}
 use Rattle.potential_functions.specs.PotentialFunctions.{IsInRange}
 use Rattle.table_functions.specs.TableFunctions.{Row}

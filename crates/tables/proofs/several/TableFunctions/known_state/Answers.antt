@@ -1,4 +1,4 @@
-use Rattle.std.proofs.Common.{◌≡◌, ◌∙◌, [], length, ap, subst, arith}
+use Rattle.std.proofs.Common.{◌≡◌, ◌∙◌, [], length, sym, ap, subst, arith}
 use Rattle.packed_state.specs.Packed.{bits_of}
 use Rattle.packed_state.proofs.PackedLemmas.{length-set_of}
 use Rattle.tables.specs.Several.{width_of, AreScores}

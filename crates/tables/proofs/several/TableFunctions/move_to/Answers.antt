@@ -1,4 +1,4 @@
-use Rattle.std.proofs.Common.{◌≡◌, ◌∙◌, ◌<◌, Some, length, pos, get_or, refl, sym, ap, subst, arith}
+use Rattle.std.proofs.Common.{◌≡◌, ◌∙◌, ◌<◌, ◌≤◌, Some, length, pos, get_or, refl, sym, ap, subst, arith}
 use Rattle.std.specs.Prelude.{slice_get}
 use Rattle.std.proofs.lemmas.Option.{slice_get_read}
 use Rattle.packed_state.specs.Packed.{bits_of}
@@ -6,7 +6,7 @@ use Rattle.potential_functions.specs.PotentialFunctions.{score}
 use Rattle.potentials.specs.Potentials.{potentials_of}
 use Rattle.potentials.specs.declared.potentials.Potentials.{Potentials}
 use Rattle.tables.specs.AllTables.{tables_of, count_of}
-use Rattle.tables.specs.Several.{width_of, AreScores}
+use Rattle.tables.specs.Several.{state_of, width_of, AreScores}
 use Rattle.tables.proofs.TablesLemmas.{each-at}
 use Rattle.tables.proofs.ValueLemmas.{scores-unmoved, scores-moved, scores-all-moved}
 use Rattle.tables.proofs.several.TableFunctions.move_to.Goals as goal

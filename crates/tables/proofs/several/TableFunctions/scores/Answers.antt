@@ -1,4 +1,4 @@
-use Rattle.std.proofs.Common.{◌<◌, length, refl, ap, arith}
+use Rattle.std.proofs.Common.{◌≡◌, ◌<◌, ◌≤◌, length, refl, ap, arith, to_z, of_z, w64}
 use Rattle.std.proofs.lemmas.Int.{ints}
 use Rattle.std.proofs.lemmas.Option.{slice_get_read}
 use Rattle.packed_state.specs.Packed.{bits_of}
