@@ -1,8 +1,8 @@
 -- The greatest of several values of a state, one after another.
 use Rattle.std.proofs.Common.{◌≡◌, ◌∙◌, ℕ, zero, suc, ◌+◌, ◌*◌, ◌<◌, ◌≤◌, ◌^◌, inl, inr, Bool, true, false, List, [], ◌∷◌, ◌++◌, length, take, get_or, Some, refl, sym, ap, subst, arith, ℤ, pos, ◌+ℤ◌, neg_ℤ, ◌≤ℤ◌}
-use Rattle.std.specs.Prelude.{max, nat_le, nat_lt, slice_get, slice_set, if◌then◌else◌}
+use Rattle.std.specs.Prelude.{◌==◌, max, nat_le, nat_lt, slice_get, slice_set, if◌then◌else◌}
 use Rattle.std.proofs.lemmas.Int.{ints}
-use Rattle.std.proofs.lemmas.Bool.{cases_eq, cases_lt}
+use Rattle.std.proofs.lemmas.Bool.{cases_eq, cases_lt, le-leb, leb-true, ne_eqb, false_from_ne_true}
 use Rattle.std.proofs.lemmas.List.{length-append, length-set, get_or_append_left, get_or-set_same, get_or-set_other}
 use Rattle.std.proofs.lemmas.Option.{slice_get_within, same_Some}
 use Rattle.std.proofs.Math.Seq.{get_or-append_seam}
@@ -142,3 +142,25 @@ scores-small f bits scores place few below are = elim (cases_lt place (length f.
 -- what the rows give at a place
 pub rows-give : (tables : List Table) (count place : ℕ) (k : KnownRows) → place < count → IsKnown tables count k → get_or k.sums.totals.items place (pos 0) ≡ sum_over tables (λ t. given_by place (row_in (bits_of k.projections.state) t))
 rows-give tables count place k below known = known.sums.totals place below ∙ given-known (bits_of k.projections.state) place tables k.sums.rows.items known.sums.rows known.rows
+
+-- ---- whether it is at least so much
+
+-- each value is at most the greatest
+pub greatest-least : (functions : List TableFunction) (k : ℕ) (h : TableFunction) (bits : List Bool) → slice_get functions k ≡ Some h → value h bits ≤ greatest_value functions bits
+greatest-least [] k h bits at = absurd (cc)
+greatest-least (g ∷ functions) zero h bits at =
+    let same : g ≡ h = cc in
+    subst (λ (f : TableFunction). value f bits ≤ max (value g bits) (greatest_value functions bits)) same (omega arith)
+greatest-least (g ∷ functions) (suc k) h bits at = let rest = greatest-least functions k h bits at in omega (arith, rest)
+
+pub greatest-below : (functions : List TableFunction) (k : ℕ) (h : TableFunction) (bits : List Bool) (least : ℕ) → slice_get functions k ≡ Some h → greatest_value (take k functions) bits < least → value h bits < least
+    → greatest_value (take (k + 1) functions) bits < least
+greatest-below functions k h bits least at before here =
+    let is = greatest-more functions k h bits (greatest_value (take k functions) bits) (max (greatest_value (take k functions) bits) (value h bits)) (value h bits) at refl refl refl in
+    omega (arith, is, before, here)
+
+pub worth-is : (least greatest : ℕ) → (0 < least → greatest < least) → (least == 0) ≡ nat_le least greatest
+worth-is zero greatest below = sym (le-leb 0 greatest (omega arith))
+worth-is (suc least) greatest below =
+    let less = below (omega arith) in
+    ne_eqb (suc least) 0 (λ e. absurd (omega (arith, e))) ∙ sym (false_from_ne_true (nat_le (suc least) greatest) (λ is. let e = leb-true (suc least) greatest is in absurd (omega (arith, e, less))))

@@ -1,8 +1,8 @@
 //! The rows of a state, found by what they are in another.
-ghost use Rattle.std.specs.Prelude.{◌≡◌, [], IfOk, length};
+ghost use Rattle.std.specs.Prelude.{◌≡◌, ℕ, List, [], IfOk, length};
 ghost use Rattle.packed_state.specs.Packed.{bits_of};
 ghost use Rattle.packed_state.specs.Sets.{set_of};
-ghost use Rattle.table_functions.specs.TableFunctions.{has_rows};
+ghost use Rattle.table_functions.specs.TableFunctions.{Table, has_rows};
 ghost use Rattle.tables.specs.AllTables.{tables_of, count_of};
 ghost use Rattle.tables.specs.KnownRows.{AreKnown, IsKnown};
 ghost use Rattle.tables.specs.Projections.{AreProjections};
@@ -48,9 +48,8 @@ impl KnownRows {
     }
 
     /// Whether each table has a row for the state.
-    pub(crate) fn are_all(&self, _tables: &IndexedTables<'_>) -> bool
-        requires { IsKnown (tables_of _tables.now) (count_of _tables.now) self.now }
-        ensures { result ≡ has_rows (tables_of _tables.now) (bits_of self.now.projections.state) }
+    pub(crate) fn are_all(&self) -> bool
+        ensures { (tables : List Table) (count : ℕ) → IsKnown tables count self.now → result ≡ has_rows tables (bits_of self.now.projections.state) }
     {
         self.sums.missing == 0
     }

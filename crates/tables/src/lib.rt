@@ -1,4 +1,4 @@
-//! Values over several tables: the test whether they are fair, and the value of a state or of its successor.
+//! Values over several tables: the test whether they are fair, and the value of a state, found by what is known of another.
 #![tactic(auto)]
 
 mod fairness;

@@ -1,7 +1,7 @@
 //! The values of states.
-ghost use Rattle.std.specs.Prelude.{◌≡◌, ◌<◌, ◌^◌, ◌+ℤ◌, ◌≤ℤ◌, pos, IsTrue, MatchOption, false, true, length, max, slice_index_or};
+ghost use Rattle.std.specs.Prelude.{◌≡◌, ◌<◌, ◌^◌, ◌+ℤ◌, ◌≤ℤ◌, pos, IsTrue, MatchOption, Some, false, true, length, max, nat_le, slice_get, slice_index_or};
 ghost use Rattle.packed_state.specs.Packed.{bits_of};
-ghost use Rattle.table_functions.specs.TableFunctions.{functions_of, dead_ends_of, greatest_value, is_dead_by, has_rows};
+ghost use Rattle.table_functions.specs.TableFunctions.{TableFunction, functions_of, dead_ends_of, greatest_value, is_dead_by, has_rows, value};
 ghost use Rattle.tables.specs.AllTables.{tables_of, count_of};
 ghost use Rattle.tables.specs.Several.{several_of, state_of, width_of, Knows};
 
@@ -20,10 +20,25 @@ impl TableFunctions<'_> {
         ensures known { Knows self.now known.new }
     {
         self.move_to(state, known);
-        if !known.rows.are_all(&self.tables) {
+        if !known.rows.are_all() {
             return 0;
         }
         self.greatest(known)
+    }
+
+    /// Whether the greatest of the values of the state is at least this: they are asked one after another until one is. What is
+    /// known is moved to the state. No memory is taken.
+    pub fn is_worth(&self, least: u64, state: &Packed, known: &mut KnownState) -> bool
+        requires width { length (bits_of state.now) ≡ width_of self.now }
+        requires known { Knows self.now known.old }
+        ensures worth { result ≡ nat_le least (greatest_value (functions_of (several_of self.now)) (bits_of state.now)) }
+        ensures known { Knows self.now known.new }
+    {
+        self.move_to(state, known);
+        if !known.rows.are_all() {
+            return least == 0;
+        }
+        self.is_worth_with_rows(least, known)
     }
 
     /// The greatest of the values of the state, unless it is dead. What is known is moved to the state. No memory is taken.
@@ -36,7 +51,7 @@ impl TableFunctions<'_> {
         ensures known { Knows self.now known.new }
     {
         self.move_to(state, known);
-        if !known.rows.are_all(&self.tables) {
+        if !known.rows.are_all() {
             return Some(0);
         }
         self.value_with_rows(known)
@@ -51,7 +66,7 @@ impl TableFunctions<'_> {
         ensures known { Knows self.now known.new }
     {
         self.move_to(state, known);
-        if !known.rows.are_all(&self.tables) {
+        if !known.rows.are_all() {
             return false;
         }
         self.is_dead_with_rows(known)
@@ -71,6 +86,31 @@ impl TableFunctions<'_> {
         Some(self.greatest(known))
     }
 
+    /// Whether the greatest of the values of a state that has all its rows is at least this.
+    fn is_worth_with_rows(&self, least: u64, known: &KnownState) -> bool
+        requires known { Knows self.now known.now }
+        requires rows { has_rows (tables_of self.now.tables) (state_of known.now) ≡ true }
+        ensures { result ≡ nat_le least (greatest_value (functions_of (several_of self.now)) (state_of known.now)) }
+    {
+        for place in 0..self.values.len() {
+            if self.value_with_all(place, known) >= least {
+                return true;
+            }
+        }
+        least == 0
+    }
+
+    /// The value at this place of a state that has all its rows.
+    fn value_with_all(&self, place: usize, known: &KnownState) -> u64
+        requires known { Knows self.now known.now }
+        requires place { place < length self.now.values.items }
+        requires rows { has_rows (tables_of self.now.tables) (state_of known.now) ≡ true }
+        ensures value { (h : TableFunction) → slice_get (functions_of (several_of self.now)) place ≡ Some h → result ≡ value h (state_of known.now) }
+        ensures small { result < 2 ^ 63 }
+    {
+        or_zero(self.total(place, known))
+    }
+
     /// The greatest of the values of a state that has all its rows.
     fn greatest(&self, known: &KnownState) -> u64
         requires known { Knows self.now known.now }
@@ -80,7 +120,7 @@ impl TableFunctions<'_> {
     {
         let mut greatest = 0;
         for place in 0..self.values.len() {
-            greatest = greater(greatest, or_zero(self.total(place, known)));
+            greatest = greater(greatest, self.value_with_all(place, known));
         }
         greatest
     }

@@ -34,7 +34,7 @@ pub(super) struct PackedListing<'a, 't> {
 }
 
 impl<'a, 't> PackedListing<'a, 't> {
-    ghost use Rattle.std.specs.Prelude.{◌≡◌, ℕ, ◌<◌, IfOk, MatchOption};
+    ghost use Rattle.std.specs.Prelude.{◌≡◌, ℕ, ◌<◌, ◌≤◌, ◌↔◌, IsTrue, IfOk, MatchOption};
     ghost use Rattle.model.specs.Claims.{Mark};
     ghost use Rattle.packed_state.specs.PooledView.{pooled_width};
     ghost use Rattle.cert_checker.specs.FluentAtoms.{AreFluent};
@@ -113,14 +113,14 @@ impl<'a, 't> PackedListing<'a, 't> {
         self.values.known_state(alloc)
     }
 
-    /// The state's value, which what is still to pay from it on does not fall short of.
-    pub(super) fn value(&self, state: &Packed, known: &mut KnownState) -> u64
+    /// Whether the state's value, which what is still to pay from it on does not fall short of, is at least this.
+    pub(super) fn is_worth(&self, least: u64, state: &Packed, known: &mut KnownState) -> bool
         requires state { IsPacked self.now state.now }
         requires known { IsKnownIn self.now known.old }
-        ensures value { result ≡ value_of (task_at self.now) (certificate_at self.now) (state_at self.now state.now) }
+        ensures worth { IsTrue result ↔ (least ≤ value_of (task_at self.now) (certificate_at self.now) (state_at self.now state.now)) }
         ensures known { IsKnownIn self.now known.new }
     {
-        self.values.value(state, known)
+        self.values.is_worth(least, state, known)
     }
 
     /// Whether the certificate's value for dead ends says that the state is one.

@@ -306,7 +306,7 @@ fn check_cut(
     ensures first { IfErr result (λ e. (plan : Option (List model_task.Instance)) (most : ℕ) → IsRightUpTo (task_at listing.now) (certificate_at listing.now) most place
         → IsFirstRefusal (task_at listing.now) (certificate_at listing.now) plan most e) }
 {
-    if rest <= listing.value(state, known) && allows(listing.cert.claim(), cost + rest) {
+    if listing.is_worth(rest, state, known) && allows(listing.cert.claim(), cost + rest) {
         Ok(())
     } else {
         Err(state_line(RefusalCode::CutWeak, listing.cert, place))
