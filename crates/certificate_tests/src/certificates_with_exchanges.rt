@@ -1,6 +1,6 @@
 //! Tests of certificates with exchanges, built in memory and written.
-use crate::certificates::{START, Weights, atoms, bounds, line};
-use certificate::{Cert, Claim, Header, Version, write_cert};
+use crate::certificates::{Line, Weights, atoms, bounds, line};
+use certificate::{Cert, Claim, Header, Mark, Version, write_cert};
 use devices::Memory;
 use faults::NoMemory;
 use std::alloc::{AllocError, Global};
@@ -24,6 +24,9 @@ static LIT: [Application; 1] = [(0, &[0])];
 const VALUE: Weights = (1, &[-1]);
 
 const NO_DEAD_END: Weights = (0, &[0]);
+
+/// The state in which the first lamp is lit.
+const START: Line = (0, Mark::Open, &[0]);
 
 /// The exchanges of these pairs.
 fn exchanges(alloc: Global, all: &[Pairs]) -> Result<Vec<Vec<(ObjectId, ObjectId)>>, AllocError> {
