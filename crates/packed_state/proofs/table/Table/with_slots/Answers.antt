@@ -28,8 +28,7 @@ pub entries-preserved : goal.entries-preserved
 entries-preserved c =
     let t = c.args.self.now in
     let new = c.entries.table in
-    let after = c.take_in.new.self in
-    (
+    let after = c.take_in.new.self in (
       taken_in_length _ new.entries.items new.count after.entries.items after.count c.take_in.ensures ∙ c.entries.invariant.0,
       moved_next t.entries.items new.entries.items after.entries.items c.entries.place new.count _ after.count c.entries.invariant.1 (omega arith) (get_or_read t.entries.items c.entries.place _ (omega arith) c.index.ensures 0) c.take_in.ensures,
     )
