@@ -1,4 +1,4 @@
-use Rattle.std.proofs.Common.{◌≡◌, ◌∙◌, ◌-◌, ◌<◌, ◌++◌, ◌∷◌, [], ap, map, drop, take, length, subst, sym, arith}
+use Rattle.std.proofs.Common.{◌≡◌, ◌∙◌, ◌-◌, ◌<◌, ◌++◌, ◌∷◌, [], ℕ, ap, map, drop, take, length, subst, sym, arith}
 use Rattle.std.specs.List.{All}
 use Rattle.std.proofs.lemmas.List.{length-drop, take_all}
 use Rattle.std.proofs.lemmas.List.Sorted.{All-permutation}
@@ -35,8 +35,10 @@ in_groups-groups-preserved t c =
 
 pub subtree-in_groups-requires : goal.subtree-in_groups-requires
 subtree-in_groups-requires t c =
-    let within = λ n. n < length c.args.self.now.conditions.now in
-    subst (All within) (sym c.deref.ensures.value) (All-permutation within c.args.numbers.now c.in_ok-sorted.sorted.items c.in_ok-sorted.ensures c.requires)
+    let within : ℕ → Type 0 = λ n. n < length c.args.self.now.conditions.now in (
+      omega arith,
+      subst (All within) (sym c.deref.ensures.value) (All-permutation within c.args.numbers.now c.in_ok-sorted.sorted.items c.in_ok-sorted.ensures c.requires),
+    )
 
 pub subtree-returns : goal.subtree-returns
 subtree-returns t c =
