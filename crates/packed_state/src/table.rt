@@ -1,5 +1,5 @@
 //! Numbers in an open table: each is in a slot that its key leads to.
-ghost use Rattle.std.specs.Prelude.{◌≡◌, ◌+◌, ◌<◌, ◌≤◌, [], length, replicate, slice_set, IfOk};
+ghost use Rattle.std.specs.Prelude.{◌≡◌, ◌+◌, ◌<◌, ◌≤◌, length, replicate, slice_set, IfOk};
 ghost use Rattle.packed_state.specs.Table.{slot_at, entry_of, number_of, key_in, free_in, IsFirstFree, IsTakenIn, AreMoved};
 
 use faults::NoMemory;

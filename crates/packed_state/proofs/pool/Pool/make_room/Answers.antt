@@ -1,4 +1,4 @@
-use Rattle.std.proofs.Common.{◌≡◌, ◌∙◌, ◌*◌, ◌<◌, ◌≤◌, length, ap, sym, subst, ℕ, arith}
+use Rattle.std.proofs.Common.{◌∙◌, ◌*◌, ◌<◌, ◌≤◌, length, ap, sym, subst, ℕ, arith}
 use Rattle.packed_state.specs.Pool.{row_at, key_of}
 use Rattle.packed_state.specs.Table.{IsTable}
 use Rattle.packed_state.proofs.PoolLemmas.{key_small}

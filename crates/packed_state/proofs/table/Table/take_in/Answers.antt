@@ -1,5 +1,5 @@
-use Rattle.std.proofs.Common.{◌≡◌, ◌∙◌, refl, subst, ap, ℕ, set}
-use Rattle.packed_state.specs.Table.{key_in, IsFirstFree, IsTakenIn}
+use Rattle.std.proofs.Common.{refl, subst, ℕ}
+use Rattle.packed_state.specs.Table.{IsFirstFree}
 use Rattle.packed_state.proofs.TableLemmas.{first_within}
 use Rattle.packed_state.proofs.table.Table.take_in.Goals as goal
 

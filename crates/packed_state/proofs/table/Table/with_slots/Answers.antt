@@ -1,6 +1,6 @@
-use Rattle.std.proofs.Common.{◌≡◌, ◌∙◌, ◌<◌, ◌≤◌, length, get_or, ap, sym, subst, ℕ, arith}
+use Rattle.std.proofs.Common.{◌∙◌, ◌<◌, length, ap, sym, subst, ℕ, arith}
 use Rattle.std.proofs.lemmas.List.{get_or_read, length-replicate}
-use Rattle.packed_state.specs.Table.{free_in, AreMoved}
+use Rattle.packed_state.specs.Table.{AreMoved}
 use Rattle.packed_state.proofs.TableLemmas.{none_moved, moved_room, moved_next, taken_in_length}
 use Rattle.packed_state.proofs.table.Table.with_slots.Goals as goal
 
