@@ -1,5 +1,5 @@
 -- Fairness of a value by tables, instance by instance.
-use Rattle.std.proofs.Common.{◌≡◌, ◌∙◌, ℕ, ◌+◌, ◌*◌, ◌<◌, ◌≤◌, inl, inr, Bool, true, false, true≢false, not, List, [], length, get_or, Some, refl, sym, ap, subst, arith, ℤ, pos, ◌+ℤ◌, neg_ℤ, ◌≤ℤ◌}
+use Rattle.std.proofs.Common.{◌≡◌, ◌∙◌, ℕ, ◌+◌, ◌*◌, ◌<◌, ◌≤◌, inl, inr, Bool, true, false, true≢false, List, [], length, get_or, Some, refl, sym, ap, subst, arith, ℤ, pos, ◌+ℤ◌, neg_ℤ, ◌≤ℤ◌}
 use Rattle.std.specs.Prelude.{◌↔◌, All, IsTrue, slice_get}
 use Rattle.std.specs.List.{list_all}
 use Rattle.std.specs.Option.{option_map_or}
@@ -110,10 +110,3 @@ module _ (task : Task) (atoms : List Atom) (h : TableFunction) where
           unfair = λ fair. not_so (λ _. fair);
           earlier = before;
         }
-
--- asked, since it is not shut out
-pub if-asked : (answer out : Bool) (P : Type 0) → out ≡ false → (IsTrue answer ↔ P) → (IsTrue answer ↔ (IsTrue (not out) → P))
-if-asked answer out P is decides = (λ passes _. decides.0 passes, λ fair. decides.1 (fair (ap not is)))
-
-pub not-asked : (out : Bool) (P : Type 0) → out ≡ true → (IsTrue true ↔ (IsTrue (not out) → P))
-not-asked out P is = (λ _ asked. absurd (true≢false (sym asked ∙ ap not is)), λ _. refl)

@@ -1,6 +1,8 @@
 pub mod TablesLemmas
 pub mod FairnessLemmas
 pub mod SeveralLemmas
+pub mod TotalLemmas
+pub mod UnfairLemmas
 pub mod ScopePlacesLemmas
 pub mod ProjectionsLemmas
 pub mod RowSumsLemmas

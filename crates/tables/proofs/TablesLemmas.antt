@@ -1,5 +1,5 @@
 -- All tables: which of them an atom names, and sums over them.
-use Rattle.std.proofs.Common.{◌≡◌, ◌∙◌, ℕ, zero, suc, ◌+◌, ◌*◌, ◌<◌, inl, inr, Bool, true, false, true≢false, not, ◌&&◌, ◌||◌, List, [], ◌∷◌, ◌++◌, length, take, map, get_or, Option, None, Some, refl, sym, ap, subst, arith, ℤ, pos, ◌+ℤ◌, neg_ℤ, ◌≤ℤ◌}
+use Rattle.std.proofs.Common.{◌≡◌, ◌∙◌, ℕ, zero, suc, ◌+◌, ◌*◌, ◌<◌, inl, inr, Bool, true, false, true≢false, not, ◌&&◌, ◌||◌, List, [], ◌∷◌, ◌++◌, length, take, map, get_or, Some, refl, sym, ap, subst, arith, ℤ, pos, ◌+ℤ◌, neg_ℤ, ◌≤ℤ◌}
 use Rattle.std.specs.Prelude.{IsTrue, All, ◌==◌, slice_get, nat_lt}
 use Rattle.std.specs.Bool.{beq}
 use Rattle.std.specs.List.{list_any, list_all}
@@ -19,7 +19,7 @@ use Rattle.table_functions.proofs.Lists.{all-from, all-at, none-passes}
 use Rattle.table_losses.specs.declared.lists.Lists.{Lists}
 use Rattle.tables.specs.ByAtom.{IsByAtom, AreMarked}
 use Rattle.table_losses.specs.Lists.{list_at, IsFiledAt}
-use Rattle.table_losses.specs.Losses.{indexed_of, LosesByTable, IsLossByTable}
+use Rattle.table_losses.specs.Losses.{indexed_of, LosesByTable}
 use Rattle.table_losses.specs.Fates.{IsLoss}
 use Rattle.table_functions.specs.Laws.{are_over}
 use Rattle.table_losses.specs.declared.indexed.IndexedTable.{IndexedTable}
@@ -151,10 +151,6 @@ loses-more place literals changes tables k t total lost new at closed so_far lea
 
 pub by-all : (all : IndexedTables) → IsByAtom (tables_of all) (length (tables_of all)) all.by_atom
 by-all all = subst (λ n. IsByAtom (tables_of all) n all.by_atom) (sym (length-map all.tables.items indexed_of)) all.named
-
-pub none-lost : (place : ℕ) (literals : List NumberedLiteral) (changes : List ConditionalChange) (t : Table) (o : Option ℤ) → ((z : ℤ) → o ≡ Some z → ⊥) → IsLossByTable place literals changes t o → is_closed literals changes t ≡ false
-none-lost place literals changes t None not_some is = is
-none-lost place literals changes t (Some z) not_some is = absurd (not_some z refl)
 
 -- the scope is of so many atoms
 pub scope-below : (width : ℕ) (tables : List Table) (k : ℕ) (t : Table) → IsTrue (are_over width tables) → slice_get tables k ≡ Some t → All (λ n. n < width) t.scope

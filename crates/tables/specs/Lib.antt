@@ -1,6 +1,9 @@
 pub mod ByAtom
 pub mod AllTables
+pub mod TotalLosses
 pub mod Fairness
+pub mod Unfair
+pub mod Reports
 pub mod Together
 pub mod ScopePlaces
 pub mod Projections

@@ -4,6 +4,7 @@
 mod fairness;
 mod known_rows;
 mod known_state;
+mod losses;
 mod projections;
 mod row_sums;
 mod scope_places;
@@ -11,9 +12,10 @@ mod several;
 mod tables;
 #[cfg(test)]
 mod tests;
+mod unfair;
 mod values;
 
-pub use fairness::{TableValue, is_instance_shut_out};
+pub use fairness::is_instance_shut_out;
 pub use known_state::KnownState;
 pub use several::{TableFunctions, ValuesFairness};
 pub use tables::IndexedTables;

@@ -7,6 +7,7 @@ ghost use Rattle.table_losses.specs.Losses.{indexed_of, indexed_count_of};
 ghost use Rattle.tables.specs.ByAtom.{IsByAtom};
 ghost use Rattle.tables.specs.ScopePlaces.{scopes_of, AreScopePlaces};
 
+use crate::losses::{Losses, add_up, clear};
 use crate::scope_places::{ScopePlace, ScopePlaces};
 use faults::NoMemory;
 use grounding::{CountingChange, NumberedLiteral};
@@ -42,9 +43,9 @@ impl<'a> IndexedTables<'a> {
     ghost use Rattle.table_rows.specs.Tables.{table_of, weight_count_of};
     ghost use Rattle.table_functions.specs.FairTables as model;
     ghost use Rattle.tables.specs.AllTables.{tables_of, count_of};
-    ghost use Rattle.tables.specs.ByAtom.{AreMarked, IsLossByAll};
+    ghost use Rattle.tables.specs.ByAtom.{AreMarked};
+    ghost use Rattle.tables.specs.TotalLosses.{HasLosses, IsSmall, AddsLosses, LosesByEachOfAll};
     ghost use Rattle.tables.specs.ScopePlaces.{places_of};
-    ghost use Rattle.table_losses.specs.Losses.{IsLossByTable};
 
     /// These tables over so many atoms, whose rows have so many weights.
     ///
@@ -169,52 +170,60 @@ impl<'a> IndexedTables<'a> {
         self.tables[table].some_agrees(alloc, literals)
     }
 
-    /// The most that an instance of these literals and changes may lose by all tables, by the weights at this place. None where
-    /// it leads from a row of one of them that agrees to what is no row.
+    /// Whether an instance of these literals and changes leads from rows that agree to rows only, of each table. If so, the total
+    /// at each place is the most that it may lose by all tables, by the weights there.
     ///
     /// # Errors
     /// Where memory is refused.
-    pub fn lose(
+    pub(crate) fn lose(
         &self,
         alloc: Global,
         literals: &[NumberedLiteral],
         changes: &[CountingChange<'_>],
-        place: u32,
-    ) -> Result<Option<i64>, NoMemory>
-        requires { place < count_of self.now }
-        ensures { IfOk result (IsLossByAll place (map numbered_of literals.now) (map conditional_of changes.now) (tables_of self.now)) }
+        losses: &mut Losses,
+    ) -> Result<bool, NoMemory>
+        requires { HasLosses (count_of self.now) losses.old }
+        ensures lost { IfOk result (LosesByEachOfAll (count_of self.now) (map numbered_of literals.now) (map conditional_of changes.now) (tables_of self.now) losses.new.total.items) }
+        ensures room { OnOk result (HasLosses (count_of self.now) losses.new) }
     {
         let named = self.named_by_changes(alloc, changes)?;
-        let mut total = 0i64;
+        clear(&mut losses.total);
         for table in 0..self.tables.len() {
-            let Some(lost) = self.lost_by(alloc, table, &named, literals, changes, place)? else {
-                return Ok(None);
-            };
-            total += lost;
+            if !self.add_lost(alloc, table, &named, literals, changes, losses)? {
+                return Ok(false);
+            }
         }
-        Ok(Some(total))
+        Ok(true)
     }
 
-    /// What it may lose by the table at this place, where these tables may have atoms of the changes in their scope.
-    fn lost_by(
+    /// Whether it leads from rows that agree to rows only, of the table at this place, where these tables may have atoms of the
+    /// changes in their scope. If so, what it may lose by this table is added to the totals.
+    fn add_lost(
         &self,
         alloc: Global,
         table: usize,
         named: &Packed,
         literals: &[NumberedLiteral],
         changes: &[CountingChange<'_>],
-        place: u32,
-    ) -> Result<Option<i64>, NoMemory>
+        losses: &mut Losses,
+    ) -> Result<bool, NoMemory>
         requires there { table < length (tables_of self.now) }
-        requires place { place < count_of self.now }
         requires named { AreMarked self.now.by_atom (length (tables_of self.now)) (map (λ (c : numbered.NumberedChange). c.atom) (map counting_of changes.now)) (bits_of named.now) }
-        ensures { (t : functions.Table) → slice_get (tables_of self.now) table ≡ Some t
-            → IfOk result (IsLossByTable place (map numbered_of literals.now) (map conditional_of changes.now) t) }
+        requires room { HasLosses (count_of self.now) losses.old }
+        requires small { All IsSmall losses.old.total.items }
+        ensures added { (t : functions.Table) → slice_get (tables_of self.now) table ≡ Some t
+            → IfOk result (AddsLosses (count_of self.now) (map numbered_of literals.now) (map conditional_of changes.now) t losses.old.total.items losses.new.total.items) }
+        ensures room { OnOk result (HasLosses (count_of self.now) losses.new) }
     {
         if !named.has(table as u32) {
-            return Ok(Some(0));
+            return Ok(true);
         }
-        self.tables[table].loses(alloc, literals, changes, place)
+        let indexed = &self.tables[table];
+        if !indexed.loses_by_each(alloc, literals, changes, &mut losses.by_table)? {
+            return Ok(false);
+        }
+        add_up(&mut losses.total, &losses.by_table);
+        Ok(true)
     }
 
     /// The most that rows that agree with the literals give, one of each table, by the weights at this place.
