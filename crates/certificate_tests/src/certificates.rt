@@ -11,7 +11,7 @@ use std::process::Abort;
 use std::test::Fail;
 use task::Atom;
 use task_certificates::RefusalCode;
-use test_texts::{GO, Texts, UNTIED, atom, on_task};
+use test_texts::{Application, GO, Texts, UNTIED, atom, on_task};
 
 /// Tasks, certificates of them, and what the checker answers where no instance may be kept: `GO` keeps one, and `UNTIED` none.
 #[rattlefmt::skip]
@@ -33,10 +33,10 @@ fn no_instance_may_be_kept(rt: HostRuntime) -> Result<(), Fail> {
 }
 
 /// A constant, and the weights of the atoms.
-type Weights = (i64, &'static [i64]);
+pub(crate) type Weights = (i64, &'static [i64]);
 
 /// What it costs to reach a state, what is said of it, and its atoms.
-type Line = (u64, Mark, &'static [u32]);
+pub(crate) type Line = (u64, Mark, &'static [u32]);
 
 /// A version, a claim, what values and dead ends weigh, and a state: the parts of a certificate with two atoms, and whether they
 /// keep its limits.
@@ -51,7 +51,7 @@ const ZERO: Weights = (0, &[0, 0]);
 const LARGEST: Weights = (2_147_483_647, &[-2_147_483_647, 3]);
 
 /// The state without an atom.
-const START: Line = (0, Mark::Open, &[]);
+pub(crate) const START: Line = (0, Mark::Open, &[]);
 
 /// Claims and states.
 #[rattlefmt::skip]
@@ -99,7 +99,7 @@ static VERSIONS: [Row; 10] = [
 ];
 
 /// The potential function of this constant and these weights.
-fn potential(alloc: Global, weights: &Weights) -> Result<Potential, AllocError> {
+pub(crate) fn potential(alloc: Global, weights: &Weights) -> Result<Potential, AllocError> {
     Ok(Potential {
         constant: weights.0,
         weights: Vec::from_slice(alloc, weights.1)?,
@@ -107,40 +107,47 @@ fn potential(alloc: Global, weights: &Weights) -> Result<Potential, AllocError> 
 }
 
 /// The two atoms of each certificate.
-pub(crate) fn both_atoms(alloc: Global) -> Result<IndexSet<Atom>, NoMemory> {
+pub(crate) static BOTH: [Application; 2] = [(0, &[]), (1, &[])];
+
+/// These atoms, by their predicates and objects.
+pub(crate) fn atoms(alloc: Global, rows: &[Application]) -> Result<IndexSet<Atom>, NoMemory> {
     let mut atoms = IndexSet::new(alloc);
-    atoms.insert(atom(0, &[]))?;
-    atoms.insert(atom(1, &[]))?;
+    for row in rows {
+        atoms.insert(atom(row.0, row.1))?;
+    }
     Ok(atoms)
 }
 
 /// The state line of this one.
-fn line(alloc: Global, line: &Line) -> Result<StateLine, AllocError> {
+pub(crate) fn line(alloc: Global, line: &Line) -> Result<StateLine, AllocError> {
     let (cost, mark, numbers) = *line;
     let atoms = numbers.to_vec(alloc)?;
     Ok(StateLine { cost, mark, atoms })
 }
 
-/// What values and dead ends weigh.
-fn bounds(alloc: Global, row: &Row) -> Result<Bounds, NoMemory> {
-    let mut values = Vec::new(alloc);
-    values.push(potential(alloc, &row.2)?)?;
+/// One value and dead ends of these weights, and no table.
+pub(crate) fn bounds(
+    alloc: Global,
+    value: &Weights,
+    dead_ends: &Weights,
+) -> Result<Bounds, NoMemory> {
+    let values = vec![in alloc; potential(alloc, value)?]?;
     Ok(Bounds {
         values,
-        dead_ends: potential(alloc, &row.3)?,
+        dead_ends: potential(alloc, dead_ends)?,
         tables: Vec::new(alloc),
     })
 }
 
 /// What comes before the states.
 fn header(alloc: Global, row: &Row) -> Result<Header, NoMemory> {
-    let atoms = both_atoms(alloc)?;
+    let atoms = atoms(alloc, &BOTH)?;
     Ok(Header {
         version: row.0,
         claim: row.1,
         exchanges: Vec::new(alloc),
         atoms,
-        bounds: bounds(alloc, row)?,
+        bounds: bounds(alloc, &row.2, &row.3)?,
     })
 }
 

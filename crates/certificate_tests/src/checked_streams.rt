@@ -1,7 +1,6 @@
-//! The checker over sources that fail, and that never end.
-use crate::helpers::Reported::{Device, Line as At};
+//! The checker over sources that never end.
+use crate::helpers::Reported::Line as At;
 use crate::helpers::{Answer, check_source};
-use cert_checker::Accepted;
 use devices::Memory;
 use std::alloc::{AllocError, Global};
 use std::process::Abort;
@@ -9,7 +8,7 @@ use std::test::Fail;
 use task::Task;
 use task_certificates::RefusalCode;
 use task_certificates::RefusalCode::{CertForm, NotFluent, Repeated};
-use test_devices::{Endless, FailsAt, InPieces};
+use test_devices::Endless;
 use test_texts::{PAIRS, on_task};
 
 /// There is no plan.
@@ -24,40 +23,9 @@ fn memory(alloc: Global, bytes: &[u8]) -> Result<Memory, AllocError> {
     Ok(Memory::new(bytes.to_vec(alloc)?))
 }
 
-/// What the checker answers where bytes come one by one, and the read after so many fails.
-fn failing(alloc: Global, task: &Task, bytes: &[u8], reads: u64) -> Result<Answer, AllocError> {
-    let source = FailsAt::source(InPieces::new(memory(alloc, bytes)?, 1), Some(reads));
-    Ok(check_source(alloc, task, source, 6))
-}
-
-/// A failure is reported before the end of the text.
-fn failures_are_reported(rt: &impl Abort, alloc: Global, task: &Task) -> Result<(), Fail> {
-    for reads in 0..=NO_PLAN.len() as u64 {
-        let answer = failing(alloc, task, NO_PLAN, reads)?;
-        assert_eq!(rt; answer, Err(Device), "{reads}");
-    }
-    Ok(())
-}
-
 /// The answer to a text with this fault.
 fn at_line(code: RefusalCode, line: u64) -> Answer {
     Err(At { code, line })
-}
-
-/// A failure is reported unless the end of the text was read, or a fault of a line that came comes before it.
-fn only_failures_are_reported(rt: &impl Abort, alloc: Global, task: &Task) -> Result<(), Fail> {
-    failures_are_reported(rt, alloc, task)?;
-    let answers = [
-        failing(alloc, task, NO_PLAN, NO_PLAN.len().saturating_add(1) as u64)?,
-        failing(alloc, task, AGAIN, AGAIN.len() as u64)?,
-    ];
-    assert_eq!(rt; answers, [Ok(Accepted::Unsolvable), at_line(Repeated, 5)]);
-    Ok(())
-}
-
-#[test]
-fn a_failure_is_reported_where_it_comes(rt: HostRuntime) -> Result<(), Fail> {
-    on_task(&rt, rt.alloc(), &PAIRS, only_failures_are_reported)
 }
 
 /// What comes before the first atom.

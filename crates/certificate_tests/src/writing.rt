@@ -1,16 +1,16 @@
 //! Certificates that are written to sinks that fail.
 ghost use Rattle.std.specs.Prelude.{◌<◌};
 
-use certificate::{Bounds, Cert, Claim, Header, Mark, Potential, StateLine, Version, write_cert};
+use crate::certificates::{Weights, atoms, bounds};
+use certificate::{Cert, Claim, Header, Mark, StateLine, Version, write_cert};
 use devices::{IoFault, Memory};
 use faults::NoMemory;
-use indexmap::IndexSet;
 use std::alloc::{AllocError, Global};
 use std::process::Abort;
 use std::test::Fail;
-use task::{Atom, Task};
+use task::Task;
 use test_devices::{FailsAt, InPieces};
-use test_texts::{GO, atom, on_task};
+use test_texts::{Application, GO, on_task};
 
 /// How many atoms the certificates have: the two of `GO`, and others, which the task has no names for.
 const ATOMS: u32 = 12;
@@ -40,41 +40,26 @@ fn lines(alloc: Global, count: u32) -> Result<Vec<StateLine>, AllocError> {
 }
 
 /// The atoms, each of a predicate of its own.
-fn atoms(alloc: Global) -> Result<IndexSet<Atom>, NoMemory> {
-    let mut atoms = IndexSet::new(alloc);
-    for predicate in 0..ATOMS {
-        atoms.insert(atom(predicate as usize, &[]))?;
-    }
-    Ok(atoms)
-}
-
-/// The potential function of this constant, in which each atom has this weight.
-fn potential(alloc: Global, constant: i64, weight: i64) -> Result<Potential, AllocError> {
-    Ok(Potential {
-        constant,
-        weights: vec![in alloc; weight; ATOMS as usize]?,
-    })
-}
+#[rattlefmt::skip]
+static NAMED: [Application; 12] = [
+    (0, &[]), (1, &[]), (2, &[]), (3, &[]), (4, &[]), (5, &[]),
+    (6, &[]), (7, &[]), (8, &[]), (9, &[]), (10, &[]), (11, &[]),
+];
 
 /// A value of 0, and no state without an atom is a dead end.
-fn bounds(alloc: Global) -> Result<Bounds, AllocError> {
-    let values = vec![in alloc; potential(alloc, 0, 0)?]?;
-    Ok(Bounds {
-        values,
-        dead_ends: potential(alloc, 1, -1)?,
-        tables: Vec::new(alloc),
-    })
-}
+const VALUE: Weights = (0, &[0, 0, 0, 0, 0, 0, 0, 0, 0, 0, 0, 0]);
+
+const DEAD_ENDS: Weights = (1, &[-1, -1, -1, -1, -1, -1, -1, -1, -1, -1, -1, -1]);
 
 /// What comes before the states.
 fn header(alloc: Global) -> Result<Header, NoMemory> {
-    let atoms = atoms(alloc)?;
+    let atoms = atoms(alloc, &NAMED)?;
     Ok(Header {
         version: Version::Two,
         claim: Claim::Bound(0),
         exchanges: Vec::new(alloc),
         atoms,
-        bounds: bounds(alloc)?,
+        bounds: bounds(alloc, &VALUE, &DEAD_ENDS)?,
     })
 }
 

@@ -114,11 +114,14 @@ fn are_represented(
     Ok(())
 }
 
-/// The exchanges of each ball with the next one.
-fn of_neighbours(alloc: Global, task: &Task) -> Result<Vec<Exchange>, NoMemory> {
+/// Each ball and the next one.
+static NEIGHBOURS: [&[u32]; 3] = [&[2, 3], &[3, 4], &[4, 5]];
+
+/// The exchanges of these objects, one of each row.
+fn exchanges_of(alloc: Global, task: &Task, rows: &[&[u32]]) -> Result<Vec<Exchange>, NoMemory> {
     let mut exchanges = Vec::new(alloc);
-    for pair in BALLS.windows(2) {
-        if let Some(exchange) = exchange_of(alloc, task, pair)? {
+    for numbers in rows {
+        if let Some(exchange) = exchange_of(alloc, task, *numbers)? {
             exchanges.push(exchange)?;
         }
     }
@@ -144,7 +147,7 @@ fn represents(
 fn balls_are_represented(rt: HostRuntime) -> Result<(), Fail> {
     on_task(&rt, rt.alloc(), &FOUR_BALLS, |rt, alloc, task| {
         let ground = Ground::new(alloc, task, &[], 100)?;
-        let exchanges = of_neighbours(alloc, task)?;
+        let exchanges = exchanges_of(alloc, task, &NEIGHBOURS)?;
         represents(rt, alloc, &ground, &exchanges)
     })
 }
@@ -208,14 +211,16 @@ fn are_listed(
     Ok(())
 }
 
-/// Whether all images by the exchange of these objects have numbers.
+/// Whether all images by these exchanges have numbers.
+fn are_made(alloc: Global, ground: &Ground<'_>, exchanges: &[Exchange]) -> Result<bool, NoMemory> {
+    Ok(Representatives::new(alloc, ground, exchanges)?.is_some())
+}
+
+/// The same of the exchange of these objects.
 fn has_numbers(alloc: Global, task: &Task, numbers: &[u32]) -> Result<bool, Fail> {
+    let exchanges = exchanges_of(alloc, task, &[numbers])?;
     let ground = Ground::new(alloc, task, &[], 100)?;
-    let mut exchanges = Vec::new(alloc);
-    if let Some(exchange) = exchange_of(alloc, task, numbers)? {
-        exchanges.push(exchange)?;
-    }
-    Ok(Representatives::new(alloc, &ground, &exchanges)?.is_some())
+    Ok(are_made(alloc, &ground, &exchanges)?)
 }
 
 #[test]

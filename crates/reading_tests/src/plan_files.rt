@@ -3,7 +3,7 @@ ghost use Rattle.std.specs.Prelude.{◌<◌};
 
 use devices::{IoFault, Memory};
 use formulas::Plan;
-use plan_file::{read_plan, step_text, write_plan};
+use plan_file::{read_plan, write_plan};
 use std::alloc::Global;
 use std::process::Abort;
 use std::test::Fail;
@@ -85,33 +85,6 @@ fn has_texts(rt: &impl Abort, alloc: Global, task: &Task) -> Result<(), Fail> {
 #[test]
 fn written_plans_are_read_back(rt: HostRuntime) -> Result<(), Fail> {
     on_task(&rt, rt.alloc(), &HOP, has_texts)
-}
-
-/// Names in letters of either case, and an action without a parameter.
-const NAMES: [&str; 2] = [
-    "(define (domain n) (:constants Here_1) (:predicates (p))
- (:action Stay :parameters () :effect (p)) (:action GO-to :parameters (?x ?y) :effect (p)))",
-    "(define (problem n) (:domain N) (:objects THERE-2) (:init) (:goal (p)))",
-];
-
-/// Steps, and how they are written.
-static STEPS: [(Application, &str); 3] = [
-    ((0, &[]), "(stay)"),
-    ((1, &[0, 1]), "(go-to here_1 there-2)"),
-    ((1, &[1, 1]), "(go-to there-2 there-2)"),
-];
-
-fn has_step_texts(rt: &impl Abort, alloc: Global, task: &Task) -> Result<(), Fail> {
-    for ((schema, objects), wanted) in &STEPS {
-        let text = step_text(alloc, task, &instance(*schema, *objects))?;
-        assert_eq!(rt; text.as_str(), *wanted);
-    }
-    Ok(())
-}
-
-#[test]
-fn steps_are_written_in_lower_case(rt: HostRuntime) -> Result<(), Fail> {
-    on_task(&rt, rt.alloc(), &NAMES, has_step_texts)
 }
 
 /// Whether the two hops are written, and what is taken of them, where the write after so many fails.
