@@ -51,7 +51,7 @@ const ZERO: Weights = (0, &[0, 0]);
 const LARGEST: Weights = (2_147_483_647, &[-2_147_483_647, 3]);
 
 /// The state without an atom.
-pub(crate) const START: Line = (0, Mark::Open, &[]);
+const START: Line = (0, Mark::Open, &[]);
 
 /// Claims and states.
 #[rattlefmt::skip]
