@@ -1,12 +1,6 @@
-<<<<<<< ours
 //! Certificates with exchanges, made in memory and written.
-use crate::certificates::{START, Weights, atoms, bounds, line};
-use certificate::{Cert, Claim, Header, Version, write_cert};
-=======
-//! Tests of certificates with exchanges, built in memory and written.
 use crate::certificates::{Line, Weights, atoms, bounds, line};
 use certificate::{Cert, Claim, Header, Mark, Version, write_cert};
->>>>>>> theirs
 use devices::Memory;
 use faults::NoMemory;
 use std::alloc::{AllocError, Global};
@@ -31,14 +25,10 @@ const VALUE: Weights = (1, &[-1]);
 
 const NO_DEAD_END: Weights = (0, &[0]);
 
-<<<<<<< ours
-/// The exchanges of these objects.
-=======
 /// The state in which the first lamp is lit.
 const START: Line = (0, Mark::Open, &[0]);
 
-/// The exchanges of these pairs.
->>>>>>> theirs
+/// The exchanges of these objects.
 fn exchanges(alloc: Global, all: &[Pairs]) -> Result<Vec<Vec<(ObjectId, ObjectId)>>, AllocError> {
     let mut exchanges = Vec::new(alloc);
     for pairs in all {

@@ -2,8 +2,8 @@
 ghost use Rattle.std.specs.Prelude.{IsTrue};
 ghost use Rattle.table_rows.specs.Rows.{are_rising};
 
-use crate::certificates::{BOTH, Line, Weights, atoms, line, potential};
-use certificate::{Bounds, Cert, Claim, Header, Mark, Potential, Version, write_cert};
+use crate::certificates::{BOTH, START, Weights, atoms, line, potential};
+use certificate::{Bounds, Cert, Claim, Header, Potential, Version, write_cert};
 use devices::Memory;
 use faults::NoMemory;
 use std::alloc::Global;
@@ -63,14 +63,7 @@ fn bounds(alloc: Global) -> Result<Bounds, NoMemory> {
     })
 }
 
-<<<<<<< ours
 /// What comes before the state.
-=======
-/// The state in which the first atom is true.
-const START: Line = (0, Mark::Open, &[0]);
-
-/// The header of the certificate.
->>>>>>> theirs
 fn header(alloc: Global, version: Version) -> Result<Header, NoMemory> {
     let atoms = atoms(alloc, &BOTH)?;
     Ok(Header {
