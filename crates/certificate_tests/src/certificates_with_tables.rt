@@ -2,8 +2,8 @@
 ghost use Rattle.std.specs.Prelude.{IsTrue};
 ghost use Rattle.table_rows.specs.Rows.{are_rising};
 
-use crate::certificates::{BOTH, START, Weights, atoms, line, potential};
-use certificate::{Bounds, Cert, Claim, Header, Potential, Version, write_cert};
+use crate::certificates::{BOTH, Line, Weights, atoms, line, potential};
+use certificate::{Bounds, Cert, Claim, Header, Mark, Potential, Version, write_cert};
 use devices::Memory;
 use faults::NoMemory;
 use std::alloc::Global;
@@ -62,6 +62,9 @@ fn bounds(alloc: Global) -> Result<Bounds, NoMemory> {
         tables,
     })
 }
+
+/// The state in which the first atom is true.
+const START: Line = (0, Mark::Open, &[0]);
 
 /// What comes before the state.
 fn header(alloc: Global, version: Version) -> Result<Header, NoMemory> {
